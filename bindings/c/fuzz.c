@@ -13,12 +13,14 @@
 //     event was refused, no row and no count has changed.
 //   - A draw and an unlock have the reply that this file's own lottery comes to, over the rows that the kernel showed
 //     before. A thread is removed if these rows say so, and is gone then.
+//   - A command by number is refused if these rows have nothing of that number. Otherwise the ticket that it made or
+//     that it funds by has the currency or the target with that number.
 //   - A sleep, a wake, a preemption and an overrun have the reply that these rows lead to, and the thread's row
 //     follows. Each thread weighs what its value makes with the compensation that this file has kept for it.
 //
-// At the end of a kernel a fresh one gets all events that were done, with 0 in the fields that they don't read. It
-// gives the same replies and shows the same rows, though its blocks held other bytes at first and nobody read its rows
-// between.
+// At the end of a kernel a fresh one gets all events that were done, with 0 in the fields that they don't read, and
+// with the name in place of the number that was given of a currency or a thread. It gives the same replies and shows
+// the same rows, though its blocks held other bytes at first and nobody read its rows between.
 //
 // The steps depend on the seed alone. A kernel that begins after SECONDS isn't begun, so that a slow machine ends the
 // test early, and says so.
@@ -604,7 +606,7 @@ static bool is_in_use(const struct view *view, uint32_t thread) {
     return is_used;
 }
 
-static unsigned long removals, sleeps, wakes, preemptions, overruns;
+static unsigned long removals, sleeps, wakes, preemptions, overruns, numbered;
 
 // The reply that a sleep must have in the kernel of this view.
 static lot_reply reply_to_sleep(const struct view *view, const lot_sizes *sizes, const lot_event *event) {
@@ -657,9 +659,25 @@ static lot_reply reply_to_wake(const struct view *view, const lot_event *event) 
     return (lot_reply){.kind = LOT_REPLY_DONE};
 }
 
+static bool is_currency(const struct view *view, uint32_t currency) {
+    return currency < view->currency_count && view->has_currency[currency];
+}
+
+static bool is_thread(const struct view *view, uint32_t thread) {
+    return thread != 0 && thread <= view->thread_count && view->has_thread[thread - 1];
+}
+
+// The thread that a removal means, or 0.
+static uint32_t thread_meant(const struct view *view, const lot_event *event) {
+    if (event->kind == LOT_REMOVE_THREAD) {
+        return thread_named(view, &event->name);
+    }
+    return is_thread(view, event->object) ? event->object : 0;
+}
+
 // The reply that a removal must have in the kernel of this view.
 static lot_reply reply_to_removal(const struct view *view, const lot_event *event) {
-    uint32_t thread = thread_named(view, &event->name);
+    uint32_t thread = thread_meant(view, event);
     if (thread == 0) {
         return refused(LOT_REFUSAL_NO_THREAD);
     }
@@ -671,6 +689,48 @@ static lot_reply reply_to_removal(const struct view *view, const lot_event *even
     }
     removals++;
     return (lot_reply){.kind = LOT_REPLY_DONE};
+}
+
+// Whether what a command by number refers to is there, in the kernel of this view.
+static bool is_number_there(const struct view *view, const lot_event *event) {
+    bool is_of_thread = event->kind == LOT_FUND_THREAD || event->kind == LOT_REMOVE_THREAD_NUMBERED;
+    return is_of_thread ? is_thread(view, event->object) : is_currency(view, event->object);
+}
+
+// The reply that a command by number must have if nothing has the number. The checks before this one are of the amount
+// and of the ticket.
+static lot_reply reply_to_no_number(const struct view *view, const lot_event *event) {
+    switch (event->kind) {
+    case LOT_MAKE_TICKET_IN:
+    case LOT_MAKE_FUNDED_IN:
+        return refused(event->amount == 0 || event->amount > UINT32_MAX ? LOT_REFUSAL_BAD_AMOUNT
+                                                                        : LOT_REFUSAL_NO_CURRENCY);
+    case LOT_FUND_CURRENCY:
+    case LOT_FUND_THREAD: {
+        bool is_ticket = event->ticket != 0 && event->ticket <= view->ticket_count &&
+                         view->has_ticket[event->ticket - 1];
+        return refused(is_ticket ? LOT_REFUSAL_NO_TARGET : LOT_REFUSAL_NO_TICKET);
+    }
+    default: return refused(LOT_REFUSAL_NO_CURRENCY);
+    }
+}
+
+// The same command by name, if what has the number is there; otherwise the event itself.
+static lot_event by_name(const struct view *view, const lot_event *event) {
+    uint32_t object = event->object;
+    uint64_t ticket = event->ticket, amount = event->amount;
+    if (event->kind < LOT_MAKE_TICKET_IN || !is_number_there(view, event)) {
+        return *event;
+    }
+    numbered++;
+    switch (event->kind) {
+    case LOT_MAKE_TICKET_IN: return lot_make_ticket(amount, view->currencies[object].name);
+    case LOT_REMOVE_CURRENCY_NUMBERED: return lot_remove_currency(view->currencies[object].name);
+    case LOT_FUND_CURRENCY: return lot_fund(ticket, view->currencies[object].name);
+    case LOT_FUND_THREAD: return lot_fund(ticket, view->threads[object - 1].name);
+    case LOT_REMOVE_THREAD_NUMBERED: return lot_remove_thread(view->threads[object - 1].name);
+    default: return lot_make_funded(amount, view->currencies[object].name, event->name, event->script);
+    }
 }
 
 // ---- the statuses that bytes deserve
@@ -725,6 +785,12 @@ static lot_event only_read(const lot_event *event) {
     case LOT_PREEMPT: return lot_preempt(processor, ticks);
     case LOT_OVERRUN: return lot_overrun(processor, ticks);
     case LOT_WAKE: return lot_wake(object);
+    case LOT_MAKE_TICKET_IN: return lot_make_ticket_in(event->amount, object);
+    case LOT_REMOVE_CURRENCY_NUMBERED: return lot_remove_currency_numbered(object);
+    case LOT_FUND_CURRENCY: return lot_fund_currency(event->ticket, object);
+    case LOT_FUND_THREAD: return lot_fund_thread(event->ticket, object);
+    case LOT_REMOVE_THREAD_NUMBERED: return lot_remove_thread_numbered(object);
+    case LOT_MAKE_FUNDED_IN: return lot_make_funded_in(event->amount, object, event->name, event->script);
     }
     return *event;
 }
@@ -750,13 +816,13 @@ static bool reads_currency(uint32_t kind) {
 
 static bool reads_name(uint32_t kind) {
     return kind == LOT_MAKE_CURRENCY || kind == LOT_FUND || kind == LOT_MAKE_THREAD || kind == LOT_MAKE_FUNDED ||
-           kind == LOT_REMOVE_THREAD;
+           kind == LOT_REMOVE_THREAD || kind == LOT_MAKE_FUNDED_IN;
 }
 
 // Whether an event may have this status. Where two names are wrong, it has that of either.
 static bool deserves(const lot_event *event, uint32_t status) {
     uint32_t kind = event->kind, currency = LOT_DONE, name = LOT_DONE;
-    if (kind == 0 || kind > LOT_WAKE) {
+    if (kind == 0 || kind > LOT_MAKE_FUNDED_IN) {
         return status == LOT_BAD_KIND;
     }
     if (reads_currency(kind)) {
@@ -839,10 +905,28 @@ static lot_event some_removal(void) {
         const lot_thread_row *row = &now.threads[i];
         if (now.has_thread[i] && row->status.kind == LOT_STATUS_DEAD && !one_in(4)) {
             uint32_t place = ticket_funding(&now, &row->name);
-            return place < now.ticket_count && !one_in(4) ? lot_unfund(place + 1) : lot_remove_thread(row->name);
+            return place < now.ticket_count && !one_in(4) ? lot_unfund(place + 1)
+                   : one_in(2)                            ? lot_remove_thread(row->name)
+                                                          : lot_remove_thread_numbered(i + 1);
         }
     }
     return lot_remove_thread(some_name());
+}
+
+// A command by number, most often one that something has.
+static lot_event some_numbered(uint64_t ticket, lot_name name, uint32_t script) {
+    uint32_t currency = one_in(16) ? (uint32_t)random_bits() : (uint32_t)below((uint64_t)now.currency_count + 1);
+    uint32_t thread = one_in(16) ? (uint32_t)random_bits() : (uint32_t)below((uint64_t)now.thread_count + 2);
+    switch (below(8)) {
+    case 0: return lot_remove_currency_numbered(currency);
+    case 1: return lot_remove_thread_numbered(thread);
+    case 2:
+    case 3: return lot_make_ticket_in(some_amount(), currency);
+    case 4: return lot_fund_currency(ticket, currency);
+    case 5:
+    case 6: return lot_fund_thread(ticket, thread);
+    default: return lot_make_funded_in(some_amount(), currency, name, script);
+    }
 }
 
 static lot_event some_command(void) {
@@ -850,6 +934,9 @@ static lot_event some_command(void) {
     lot_name currency = one_in(16) ? some_name() : one_in(2) ? lot_name_of("base") : name_of_currency();
     lot_name name = one_in(16) ? some_name() : new_name();
     uint32_t script = one_in(16) ? (uint32_t)random_bits() : 1;
+    if (one_in(4)) {
+        return some_numbered(ticket, name, script);
+    }
     switch (below(17)) {
     case 0: return lot_remove_ticket(ticket);
     case 1: return lot_set_ticket(ticket, some_amount());
@@ -982,7 +1069,7 @@ static lot_event some_event(void) {
     uint64_t way = below(8);
     if (way == 0) {
         fill(&event, sizeof event);
-        event.kind = one_in(2) ? event.kind : (uint32_t)below(LOT_WAKE + 2);
+        event.kind = one_in(2) ? event.kind : (uint32_t)below(LOT_MAKE_FUNDED_IN + 2);
         return event;
     }
     event = with_rest(some_meaning());
@@ -1003,11 +1090,11 @@ static unsigned long failed, answered, kernels, replayed;
 static unsigned long outcomes[LOT_OUTCOME_SLEPT + 1], kinds[LOT_REPLY_REFUSED + 1];
 static unsigned long reasons[LOT_TRAP_REFUSAL_LOCK_CYCLE + 1];
 
-static void record(const lot_event *event, const lot_reply *reply) {
+static void record(const lot_event *event, const lot_event *again, const lot_reply *reply) {
     CHECK(reply->kind <= LOT_REPLY_REFUSED && reply->outcome <= LOT_OUTCOME_SLEPT);
     CHECK(reply->reason <= LOT_TRAP_REFUSAL_LOCK_CYCLE);
     learn(event, reply, sizes.quantum);
-    records[record_count].event = *event;
+    records[record_count].event = *again;
     records[record_count++].reply = *reply;
     answered++;
     kinds[reply->kind]++;
@@ -1041,10 +1128,14 @@ static bool changes_nothing(const lot_reply *reply) {
 // Compares the reply to an event with what the kernel showed before, where these rows and our own lottery say it all.
 static void compare(const lot_event *event, const lot_reply *reply) {
     lot_reply expected = *reply;
+    if (event->kind >= LOT_MAKE_TICKET_IN && !is_number_there(&now, event)) {
+        expected = reply_to_no_number(&now, event);
+    }
     switch ((lot_event_kind)event->kind) {
     case LOT_DRAW: expected = reply_to_draw(&now, &sizes, event); break;
     case LOT_UNLOCK: expected = reply_to_unlock(&now, &sizes, event); break;
-    case LOT_REMOVE_THREAD: expected = reply_to_removal(&now, event); break;
+    case LOT_REMOVE_THREAD:
+    case LOT_REMOVE_THREAD_NUMBERED: expected = reply_to_removal(&now, event); break;
     case LOT_SLEEP: expected = reply_to_sleep(&now, &sizes, event); break;
     case LOT_PREEMPT:
     case LOT_OVERRUN: expected = reply_to_stop(&now, &sizes, event); break;
@@ -1070,6 +1161,30 @@ static void check_row_follows(const lot_event *event, const lot_reply *reply, ui
     }
     if (event->kind == LOT_WAKE && reply->kind == LOT_REPLY_DONE) {
         CHECK(now.threads[event->object - 1].status.kind == LOT_STATUS_READY);
+    }
+}
+
+static bool is_same(const lot_name *name, const lot_name *other) {
+    return memcmp(name, other, sizeof *name) == 0;
+}
+
+// The rows after a command by number that wasn't refused: what it made or changed has to do with what has the number.
+static void check_number_follows(const lot_event *event, const lot_reply *reply) {
+    const uint32_t object = event->object;
+    switch (event->kind) {
+    case LOT_MAKE_TICKET_IN:
+    case LOT_MAKE_FUNDED_IN:
+        CHECK(is_same(&now.tickets[reply->ticket - 1].issuer, &now.currencies[object].name));
+        break;
+    case LOT_FUND_CURRENCY:
+        CHECK(is_same(&now.tickets[event->ticket - 1].target, &now.currencies[object].name));
+        break;
+    case LOT_FUND_THREAD:
+        CHECK(is_same(&now.tickets[event->ticket - 1].target, &now.threads[object - 1].name));
+        break;
+    case LOT_REMOVE_CURRENCY_NUMBERED: CHECK(object != 0 && !is_currency(&now, object)); break;
+    case LOT_REMOVE_THREAD_NUMBERED: CHECK(!is_thread(&now, object)); break;
+    default: break;
     }
 }
 
@@ -1103,10 +1218,14 @@ static void step_event(void) {
     if (status == LOT_DONE) {
         compare(&given, reply);
         uint64_t ticks = ticks_before(reply->thread);
-        record(&given, reply);
+        const lot_event again = by_name(&now, &given);
+        record(&given, &again, reply);
         look(handle, changes_nothing(reply));
         check_runner(&given, reply);
         check_row_follows(&given, reply, ticks);
+        if (reply->kind != LOT_REPLY_REFUSED) {
+            check_number_follows(&given, reply);
+        }
         bool is_removal = given.kind == LOT_REMOVE_THREAD && reply->kind == LOT_REPLY_DONE;
         CHECK(!is_removal || thread_named(&now, &given.name) == 0);
     } else {
@@ -1149,7 +1268,7 @@ static void step_run(void) {
     size_t written = first * sizeof *replies;
     CHECK(memcmp(output.at + written, output.before + written, output.size - written) == 0);
     for (size_t i = 0; i < first; i++) {
-        record(&events[i], &replies[i]);
+        record(&events[i], &events[i], &replies[i]);
     }
     look(handle, first == 0);
 }
@@ -1518,7 +1637,7 @@ static void check_all_seen(void) {
         CHECK(reasons[reason] != 0 || strcmp(lot_refusal_text(reason), "unknown refusal") == 0);
     }
     CHECK(draws_held != 0 && unlocks_held != 0 && removals != 0 && failed != 0);
-    CHECK(sleeps != 0 && wakes != 0 && preemptions != 0 && overruns != 0);
+    CHECK(sleeps != 0 && wakes != 0 && preemptions != 0 && overruns != 0 && numbered != 0);
 }
 
 int main(int argc, char **argv) {
@@ -1548,6 +1667,7 @@ int main(int argc, char **argv) {
            (unsigned long long)first_seed, steps, kernels, answered, failed);
     printf("ok: fuzz: %lu draws and %lu unlocks as our own lottery has them, %lu removals, %lu events replayed\n",
            draws_held, unlocks_held, removals, replayed);
-    printf("ok: fuzz: %lu sleeps, %lu wakes, %lu preemptions, %lu overruns\n", sleeps, wakes, preemptions, overruns);
+    printf("ok: fuzz: %lu sleeps, %lu wakes, %lu preemptions, %lu overruns, %lu commands by number\n", sleeps, wakes,
+           preemptions, overruns, numbered);
     return 0;
 }

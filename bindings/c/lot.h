@@ -1,90 +1,95 @@
 // lot.h: a lottery-scheduled kernel, proved, as a static library. For C11 and C++11, and later ones.
 //
-// A kernel holds tickets, currencies, threads, ports and lottery mutexes. It is given events, one at a time: commands
-// that make and fund things, draws, ends of quanta, traps of the threads that run, and wakes of those that sleep. It
-// answers each event with a reply. It runs nothing itself: who is to run is in the replies, and running it is yours.
-// docs/MACHINE.md of the repository says what each event does.
+// A kernel holds tickets, currencies, threads, ports and lottery mutexes. You pass it events, one at a time: commands
+// that make and fund things, draws, ends of quanta, traps of running threads, and wakes of sleeping ones. It returns a
+// reply to each event. It runs nothing itself: the replies name the threads to run, and your program runs them.
+// docs/MACHINE.md of the repository defines the effect of each event.
 //
-// examples/embed/first_draw.c draws among two threads. It links the release, or the archive that dist/build makes:
+// examples/embed/first_draw.c draws between two threads. It links the release, or the archive that dist/build makes:
 //
 //     cc -Ibindings/c examples/embed/first_draw.c dist/x86_64-linux/liblot.a
 //
-// WHAT A CALL ANSWERS. Each call of the library returns a status, except lot_weight and lot_version, which cannot
-// fail. LOT_DONE says that it was done; any other says that the call has changed nothing: neither the kernel nor what
-// its pointers point to. (lot_kernel_run is the one exception: it does the events before the one that is at fault.)
+// STATUS. Each call of the library returns a status, except lot_weight and lot_version, which cannot fail. LOT_DONE
+// means success. Any other status means that the call has changed nothing: neither the kernel nor the memory behind its
+// pointers. (lot_kernel_run is the one exception: it makes the events before the faulty one.)
 //
-// A REFUSED EVENT has the status LOT_DONE, since the kernel has answered it. The reply's kind is LOT_REPLY_REFUSED,
-// its reason says why, and nothing has changed.
+// A REFUSED EVENT has the status LOT_DONE, since the kernel has replied to it. The reply's kind is LOT_REPLY_REFUSED,
+// its reason gives the cause, and nothing has changed.
 //
-// A REFUSED TRAP is an event that the kernel has done. The reply's kind is LOT_REPLY_TRAPPED, its outcome is
-// LOT_OUTCOME_REFUSED, and its reason says why. The trap costs its ticks, and its thread goes on unless its quantum is
-// used up. Nothing else has changed. So there are three things to look at: the status, the kind and the outcome.
+// A REFUSED TRAP is an event that has taken place. The reply's kind is LOT_REPLY_TRAPPED, its outcome is
+// LOT_OUTCOME_REFUSED, and its reason gives the cause. The trap costs its ticks, and its thread goes on unless its
+// quantum is used up. Nothing else has changed. So check three things: the status, the kind and the outcome.
 //
-// WHAT IS CHECKED. Structs that are handed in may have any bytes in any field: an unknown kind, a name that is
-// too long or has bytes that no name has, sizes out of their bounds, a seed out of its range, and a lot_kernel that
-// holds no kernel each have a status. Fields that a kind doesn't read may have any value.
+// WHAT THE LIBRARY CHECKS. Struct arguments may have any bytes in any field: a nonexistent kind, a name that is too
+// long or has invalid bytes, sizes out of their bounds, a seed out of its range, and a lot_kernel without a kernel each
+// have a status. Fields that a kind doesn't read may have any value.
 //
-// WHAT IS YOUR DUTY, since nothing can check it:
-//   - A pointer points to a whole struct of its type, or to as many as the count beside it says. It isn't NULL, unless
-//     that count is 0. No two pointers of a call overlap.
+// WHAT YOU MUST ENSURE, since nothing can check it:
+//   - Each pointer points to a whole struct of its type, or to as many as the count beside it says. It isn't NULL,
+//     unless that count is 0. No two pointers of a call overlap.
 //   - A pointer is aligned as the compiler aligns its type: to 4 bytes for a lot_sizes, lot_name, lot_runner,
-//     lot_generator or uint32_t, to 8 for any other struct and uint64_t. The library asks for no more.
-//   - A lot_kernel was LOT_KERNEL_NONE at first, and is changed by nothing except lot_kernel_new and lot_kernel_free.
-//     Where it is copied, only one of the copies may be used from there on.
-//   - No two calls of one kernel overlap, in time or from a signal handler. Different kernels have nothing in common.
-//   - Any thread may call, and a kernel may go from one thread to another, if a lock, a thread's start or end or the
-//     like puts the calls in order.
-//   - What malloc returns is aligned as C says.
+//     lot_generator or uint32_t, to 8 for any other struct and uint64_t. The library requires no more.
+//   - A lot_kernel starts as LOT_KERNEL_NONE, and only lot_kernel_new and lot_kernel_free change it. After copying it,
+//     use only one of the copies.
+//   - No two calls on one kernel overlap, in time or from a signal handler. Different kernels share nothing.
+//   - Any thread may call, and a kernel may move from one thread to another, if a lock, a thread's start or end or the
+//     like orders the calls.
+//   - malloc aligns its blocks as C requires.
 //
-// SIGNAL HANDLERS. lot_kernel_new, lot_kernel_free and lot_winner call malloc and free, so they are not for signal
-// handlers, nor for the forked child of a process with threads. The other calls take no memory and no lock, and keep
-// nothing between them, so a handler may make them. It must not use a kernel that the interrupted code may just be
-// calling: block the signal around the calls of that kernel, or set a flag in the handler and give the event later.
+// SIGNAL HANDLERS. lot_kernel_new, lot_kernel_free and lot_winner call malloc and free, so don't call them from signal
+// handlers, nor in the forked child of a process with threads. The other calls take no memory and no lock, and keep no
+// state between calls, so a handler may make them. It must not use a kernel that the interrupted code may be using:
+// block the signal around the calls on that kernel, or set a flag in the handler and pass the event later.
 //
-// MEMORY. lot_kernel_new takes all the memory that a kernel will ever use: 12 kilobytes for 16 threads, 5.4 megabytes
-// at the largest sizes. lot_kernel_bytes says how many bytes for any sizes. No event, row or count takes any.
-// lot_kernel_free gives it back. lot_winner takes memory for a copy of the weights, and gives it back before it
-// returns. No other call takes memory.
+// MEMORY. lot_kernel_new allocates all the memory that a kernel will ever use: 12 kilobytes for 16 threads, 5.4
+// megabytes at the largest sizes. lot_kernel_bytes gives the number of bytes for any sizes. Events, rows and counts
+// allocate nothing. lot_kernel_free frees the memory. lot_winner allocates a copy of the weights, and frees it before
+// it returns. No other call allocates.
 //
-// STACK. Measured on x86-64 by bindings/c/stack_tests.c: an event takes at most 2.3 kilobytes of stack at any size of
-// the kernel, a row 1.4, lot_kernel_new 10.5, lot_kernel_free 4.4, lot_winner 3.4. The last three are those of glibc's
-// malloc too, and of the dynamic linker, which runs at its first call. Without the linker they are 7.9, 4.0 and 0.6.
+// STACK. Measured on x86-64 by bindings/c/stack_tests.c: an event takes at most 2.4 kilobytes of stack at any size of
+// the kernel, a row 1.4, lot_kernel_new 10.5, lot_kernel_free 4.4, lot_winner 3.4. The last three include glibc's
+// malloc, and the dynamic linker, which runs at malloc's first call. Without the linker they are 7.9, 4.0 and 0.6.
 //
-// WHAT THE ARCHIVE NEEDS. Its member lot_c.o calls memcpy and memset, __udivti3 and __umodti3 (divisions of 128 bits,
-// which the compiler's own library has), and the three functions at the end of this header. Its member heap.o defines
-// these three, and calls malloc, realloc and free. The archive needs no other symbol. Its code for x86-64 needs a
-// processor of level x86-64-v2, and uses SSE4.1. Its code for aarch64 needs NEON.
+// SYMBOLS. The archive's member lot_c.o calls memcpy and memset, __udivti3 and __umodti3 (divisions of 128 bits, in the
+// compiler's own library), and the three functions at the end of this header. Its member heap.o defines these three,
+// and calls malloc, realloc and free. The archive needs no other symbol. Its code for x86-64 needs a processor of level
+// x86-64-v2, and uses SSE4.1. Its code for aarch64 needs NEON.
 //
 // NUMBERS. Tickets, threads, processors, ports, mutexes and scripts are numbered from 1. Currencies are numbered from
-// 0, which is base. Numbers are given in order of making. The number of what was removed has no row, and is never given
-// again.
+// 0, which is base. Numbers follow the order of making. A removed number has no row, and is never used again. So a
+// number is a handle: keep the one in the reply to a making for as long as the made thing exists.
 //
 // NAMES. Currencies and threads share one set of names. A dead thread keeps its name and its row until it is removed:
-// to make another thing of that name is refused, LOT_REFUSAL_NAME_TAKEN. LOT_REMOVE_THREAD frees the name of a thread,
-// and LOT_REMOVE_CURRENCY that of a currency. What was removed goes on counting for the limits of lot_sizes, which say
-// how many may be made in all.
+// the kernel refuses to make a currency or another thread with that name, LOT_REFUSAL_NAME_TAKEN. LOT_REMOVE_THREAD
+// frees the name of a thread, and LOT_REMOVE_CURRENCY that of a currency. The limits of lot_sizes are on all that were
+// ever made, including removed ones.
+//
+// BY NAME OR BY NUMBER. A command refers to a currency or a thread by its name or by its number. lot_fund takes the
+// name of either. lot_fund_currency and lot_fund_thread take a number, and so do lot_make_ticket_in,
+// lot_make_funded_in, lot_remove_currency_numbered and lot_remove_thread_numbered. Each has the effect and the
+// refusals of the event by name. A lookup by number takes constant time; a lookup by name searches all currencies and
+// then all threads.
 //
 // SLEEP AND WAKE. A thread that runs goes to sleep by a trap, LOT_SLEEP, and no draw picks it until LOT_WAKE names its
 // number. It is ready then, with the compensation of a thread that blocks: if it used 20 of 100 ticks it weighs 5 times
-// its value until it next wins. What it waits for, a clock or a device, is yours to know. A thread that isn't asleep
-// can't be woken (LOT_REFUSAL_NOT_ASLEEP), and the kernel keeps no wake for later: give LOT_SLEEP before whatever may
-// wake the thread. While it sleeps its tickets are inactive, so that others with tickets of its currencies are worth
-// more. It keeps its mutexes and its clients, and those who wait for them wait on.
+// its value until it next wins. Your program keeps track of the clock or device for which it waits. A thread that isn't
+// asleep can't be woken (LOT_REFUSAL_NOT_ASLEEP), and the kernel keeps no wake for later: pass LOT_SLEEP before any
+// event source may wake the thread. While it sleeps its tickets are inactive, so that others with tickets of its
+// currencies are worth more. It keeps its mutexes and its clients, and threads that wait for them continue to wait.
 //
-// HOW A QUANTUM ENDS. LOT_EXPIRE ends it in time: what is left of it counts as used. LOT_PREEMPT ends it before its
-// time, since the processor is wanted for something else: the thread is charged the ticks that it ran, and gets no
-// compensation. LOT_OVERRUN ends it late, since the host's clock was: the thread is charged the late ticks too, and
-// weighs value * quantum / (quantum + late) until it next wins, rounded down, but at least 1 if its value is. So a
-// thread that keeps its processor for twice the quantum wins half as often. With 0 ticks late it is as after
-// LOT_EXPIRE. In all three the thread is ready, and the reply is LOT_REPLY_EXPIRED with the ticks that it is charged.
+// ENDS OF A QUANTUM. LOT_EXPIRE ends it in time: the rest of it counts as used. LOT_PREEMPT ends it early, to free the
+// processor: the thread is charged the ticks that it ran, and gets no compensation. LOT_OVERRUN ends it late, because
+// the host's clock was late: the thread is charged the late ticks too, and weighs value * quantum / (quantum + late)
+// until it next wins, rounded down, but at least 1 if its value is. So a thread that keeps its processor for twice the
+// quantum wins half as often. With 0 ticks late the effect is that of LOT_EXPIRE. After all three the thread is ready,
+// and the reply is LOT_REPLY_EXPIRED with the ticks that it is charged.
 //
-// A SERVER WITHOUT TICKETS never reaches its first LOT_RECEIVE: nobody lends it anything yet, so it weighs nothing,
-// and no draw picks it. Give it a ticket. Once it waits at its port it needs none, since its clients lend it theirs.
-// It then replies and takes the next call in one trap, LOT_SERVE.
+// A SERVER WITHOUT TICKETS never reaches its first LOT_RECEIVE: nobody lends to it yet, so it weighs nothing, and no
+// draw picks it. Give it a ticket. Once it waits at its port it needs none, since its clients lend it theirs. From then
+// on it replies and takes the next call in one trap, LOT_SERVE.
 //
-// ENUMS. Fields and returns are uint32_t, which has the same size for every compiler, and each has an enum of its
-// values. Switch over the enum and write no default: then the compiler names a case that is missing (-Wswitch, part
-// of -Wall).
+// ENUMS. Fields and return values are uint32_t, which has one size for every compiler, and each has an enum of its
+// values. Switch over the enum without a default: then the compiler names any missing case (-Wswitch, part of -Wall).
 //
 //     switch ((lot_refusal)reply.reason) {               // C
 //     switch (static_cast<lot_refusal>(reply.reason)) {  // C++
@@ -96,8 +101,8 @@
 #include <stddef.h>
 #include <stdint.h>
 
-// Both are for this header alone, which undefines them at its end. In C++ each enum has uint32_t below it, so that any
-// number may be cast to it.
+// Both are only for this header, which undefines them at its end. In C++ the underlying type of each enum is uint32_t,
+// so that any number may be cast to it.
 #ifdef __cplusplus
 #define LOT_CAST(type, value) static_cast<type>(value)
 #define LOT_OF_UINT32 : uint32_t
@@ -112,28 +117,28 @@ extern "C" {
 // The version of this header, 0.1.0: major << 16 | minor << 8 | patch.
 #define LOT_VERSION 0x000100u
 
-// The version of the library, to be compared with LOT_VERSION.
+// Returns the version of the library, to compare with LOT_VERSION.
 uint32_t lot_version(void);
 
-// ---- what a call answers
+// ---- status
 
 typedef enum lot_status LOT_OF_UINT32 {
     LOT_DONE = 0,
     LOT_NO_KERNEL = 1,     // the lot_kernel holds no kernel
     LOT_KERNEL_THERE = 2,  // the lot_kernel holds a kernel already
     LOT_BAD_LIMITS = 3,    // a size is out of its bounds
-    LOT_NO_MEMORY = 4,     // malloc had no memory
-    LOT_BAD_KIND = 5,      // an event of an unknown kind
+    LOT_NO_MEMORY = 4,     // out of memory
+    LOT_BAD_KIND = 5,      // an event of a nonexistent kind
     LOT_LONG_NAME = 6,     // a name of more than 16 bytes
-    LOT_BAD_NAME = 7,      // a name that isn't a letter a to z, and then letters a to z, digits, '_' or '-'
-    LOT_NOT_THERE = 8,     // nothing has this number
-    LOT_COUNTS_DIFFER = 9, // there are not as many replies as events
+    LOT_BAD_NAME = 7,      // a name that isn't a letter a to z, followed by letters a to z, digits, '_' or '-'
+    LOT_NOT_THERE = 8,     // nothing exists with this number
+    LOT_COUNTS_DIFFER = 9, // the numbers of events and replies differ
     LOT_BAD_SEED = 10,     // a seed or a generator's value that is 0 or above 2147483646
     LOT_NO_WINNER = 11,    // the weights sum to 0
     LOT_TOO_LARGE = 12     // the weights sum to 2 ^ 128 or more
 } lot_status;
 
-// The status in words, to be printed: a string that stays, and "unknown status" for any other number.
+// Returns the status in words, for printing: a static string, "unknown status" for any other number.
 static inline const char *lot_status_text(uint32_t status) {
     switch (LOT_CAST(lot_status, status)) {
     case LOT_DONE: return "done";
@@ -155,17 +160,17 @@ static inline const char *lot_status_text(uint32_t status) {
 
 // ---- names and wide numbers
 
-// A name of a currency or a thread: the first `length` of the bytes, at most 16, with no 0 at its end. A name that is
-// handed out has 0 in the bytes after it.
+// A name of a currency or a thread: the first `length` of the bytes, at most 16, without a terminating 0. The library
+// pads the names that it stores with 0.
 typedef struct lot_name {
     uint32_t length;
     uint8_t bytes[16];
 } lot_name;
 
-// Writes the name that has these bytes. LOT_LONG_NAME, LOT_BAD_NAME.
+// Stores the name with these bytes. LOT_LONG_NAME, LOT_BAD_NAME.
 uint32_t lot_name_new(const uint8_t *bytes, size_t count, lot_name *name);
 
-// The name that has the bytes of a string. One that is too long is refused by the call that it is handed to.
+// Returns the name with the bytes of a string. If it is too long, the call to which you pass it refuses it.
 static inline lot_name lot_name_of(const char *text) {
     lot_name name = {0, {0}};
     while (name.length <= sizeof name.bytes && text[name.length] != 0) {
@@ -183,7 +188,7 @@ typedef struct lot_wide {
     uint64_t high;
 } lot_wide;
 
-// The wide number that is this one.
+// Returns this number as a wide one.
 static inline lot_wide lot_wide_of(uint64_t low) {
     lot_wide wide = {low, 0};
     return wide;
@@ -191,39 +196,39 @@ static inline lot_wide lot_wide_of(uint64_t low) {
 
 // ---- a kernel
 
-// What holds a kernel, or none. What it points to is the library's.
+// A handle of a kernel, or of none. Only the library may access the memory to which it points.
 typedef struct lot_kernel {
     void *at;
 } lot_kernel;
 
-// Initialises a lot_kernel that holds none.
+// The initialiser of a lot_kernel that holds no kernel.
 #ifdef __cplusplus
 #define LOT_KERNEL_NONE {nullptr}
 #else
 #define LOT_KERNEL_NONE {NULL}
 #endif
 
-// The same as an expression, to be assigned.
+// Returns LOT_KERNEL_NONE, to be assigned.
 static inline lot_kernel lot_kernel_none(void) {
     lot_kernel kernel = LOT_KERNEL_NONE;
     return kernel;
 }
 
-// How large a kernel is. It never grows.
+// The sizes of a kernel. It never grows.
 typedef struct lot_sizes {
-    uint32_t tickets;    // how many may be made in all, 1 to 65535
-    uint32_t currencies; // how many may be made in all, without base, 1 to 4096
-    uint32_t threads;    // how many may be made in all, 1 to 4096
+    uint32_t tickets;    // the largest number ever made, 1 to 65535
+    uint32_t currencies; // the largest number ever made, not counting base, 1 to 4096
+    uint32_t threads;    // the largest number ever made, 1 to 4096
     uint32_t ports;      // at most 256
     uint32_t mutexes;    // at most 256
     uint32_t processors; // 1 to 64
     uint32_t scripts;    // at most 256; a thread's script is a number that the kernel keeps for you
     uint32_t quantum;    // in ticks, 1 to 1000
-    uint32_t unit;       // how much one of base is worth: 1, or 256 for finer shares
+    uint32_t unit;       // the value of one of base: 1, or 256 for finer shares
 } lot_sizes;
 
-// Sizes to begin with, for 16 threads: 64 tickets, 16 currencies, 2 ports, mutexes and processors, 1 script, a
-// quantum of 100 ticks and a unit of 1. Change what you want otherwise.
+// Returns sizes to begin with, for 16 threads: 64 tickets, 16 currencies, 2 ports, mutexes and processors, 1 script, a
+// quantum of 100 ticks and a unit of 1. Change any of them.
 static inline lot_sizes lot_sizes_small(void) {
     lot_sizes sizes = {64, 16, 16, 2, 2, 2, 1, 100, 1};
     return sizes;
@@ -232,18 +237,18 @@ static inline lot_sizes lot_sizes_small(void) {
 // Makes a kernel with base alone, for a lot_kernel that holds none. LOT_KERNEL_THERE, LOT_BAD_LIMITS, LOT_NO_MEMORY.
 uint32_t lot_kernel_new(const lot_sizes *sizes, lot_kernel *kernel);
 
-// Writes how many bytes lot_kernel_new asks of the heap in all for these sizes. It asks for them in at most
-// LOT_KERNEL_BLOCKS blocks, and gives none of them up until lot_kernel_free. So `*bytes + 16 * LOT_KERNEL_BLOCKS` bytes
+// Stores the total of bytes that lot_kernel_new requests from the heap for these sizes. It requests them in at most
+// LOT_KERNEL_BLOCKS blocks, and frees none of them before lot_kernel_free. So `*bytes + 16 * LOT_KERNEL_BLOCKS` bytes
 // are enough for a heap of your own that aligns each block to 16 bytes. LOT_BAD_LIMITS.
 uint32_t lot_kernel_bytes(const lot_sizes *sizes, uint64_t *bytes);
 #define LOT_KERNEL_BLOCKS 40
 
-// Frees the kernel, which is then LOT_KERNEL_NONE again. One that holds none stays so, and that is LOT_DONE too.
+// Frees the kernel, and sets the handle to LOT_KERNEL_NONE. Freeing a handle without a kernel is LOT_DONE too.
 uint32_t lot_kernel_free(lot_kernel *kernel);
 
 // ---- events
 
-// The kinds of events, with the fields that each reads. Each has a function below that makes such an event.
+// The kinds of events, with the fields that each reads. For each there is a function below that makes such an event.
 typedef enum lot_event_kind LOT_OF_UINT32 {
     LOT_MAKE_TICKET = 1,     // amount (1 to 4294967295), currency
     LOT_REMOVE_TICKET = 2,   // ticket
@@ -253,11 +258,11 @@ typedef enum lot_event_kind LOT_OF_UINT32 {
     LOT_UNFUND = 6,          // ticket
     LOT_MAKE_THREAD = 7,     // name, script (1 to `scripts`)
     LOT_MAKE_FUNDED = 8,     // amount, currency, name, script: a thread, and a new ticket that funds it
-    LOT_LIST_TICKETS = 9,    // no field; a listing is read row by row below
+    LOT_LIST_TICKETS = 9,    // no field; read a listing row by row with the calls below
     LOT_LIST_CURRENCIES = 10,
     LOT_LIST_THREADS = 11,
     LOT_DRAW = 12,    // processor, number: a drawn number, any 128 bits
-    LOT_EXPIRE = 13,  // processor: the running thread's quantum is over, and what is left of it counts as used
+    LOT_EXPIRE = 13,  // processor: the running thread's quantum is over, and the rest of it counts as used
     LOT_YIELD = 14,   // processor, ticks. From here to LOT_SERVE, and LOT_SLEEP: traps of the running thread, after
     LOT_CALL = 15,    // processor, ticks, object: a port, sent     `ticks` ticks of work; the trap costs one tick more
     LOT_RECEIVE = 16, // processor, ticks, object: a port
@@ -265,13 +270,20 @@ typedef enum lot_event_kind LOT_OF_UINT32 {
     LOT_LOCK = 18,    // processor, ticks, object: a mutex
     LOT_UNLOCK = 19,  // processor, ticks, object: a mutex, number: a drawn number
     LOT_EXIT = 20,    // processor, ticks
-    LOT_SERVE = 21,   // processor, ticks, object: a port, sent: a reply, and then a receipt at the port
+    LOT_SERVE = 21,   // processor, ticks, object: a port, sent: a reply, and then a receive at the port
     LOT_SET_TICKET = 22,    // ticket, amount (1 to 4294967295): inflation and deflation (3.2)
     LOT_REMOVE_THREAD = 23, // name: a dead thread that no ticket funds, and that has no client and owns no mutex
     LOT_SLEEP = 24,         // processor, ticks: a trap, as LOT_YIELD is
     LOT_PREEMPT = 25,       // processor, ticks: the running thread loses its processor after `ticks` ticks of work
     LOT_OVERRUN = 26,       // processor, ticks: the running thread's quantum is over, and ended `ticks` ticks late
-    LOT_WAKE = 27           // object: a thread that sleeps, by its number
+    LOT_WAKE = 27,          // object: a sleeping thread, by its number
+    // From here on: commands from above, with the number of the currency or thread in place of its name.
+    LOT_MAKE_TICKET_IN = 28,           // amount, object: the currency
+    LOT_REMOVE_CURRENCY_NUMBERED = 29, // object: the currency
+    LOT_FUND_CURRENCY = 30,            // ticket, object: the currency to fund
+    LOT_FUND_THREAD = 31,              // ticket, object: the thread to fund
+    LOT_REMOVE_THREAD_NUMBERED = 32,   // object: the thread
+    LOT_MAKE_FUNDED_IN = 33            // amount, object: the currency, name, script
 } lot_event_kind;
 
 // An event. A struct that is all 0 has no kind.
@@ -291,22 +303,27 @@ typedef struct lot_event {
 
 // ---- events, made by functions
 
-// The event with these fields, in the order of lot_event. For this header alone. An expression is built in place,
-// where gcc would copy a variable that a function returns, and so make a draw slower.
+// The event with these fields, in the order of lot_event. Only for this header. The compiler builds an expression in
+// place, whereas gcc would copy a variable that a function returns, which makes a draw slower.
 #ifdef __cplusplus
 #define LOT_EVENT(...) lot_event{__VA_ARGS__}
 #else
 #define LOT_EVENT(...) ((lot_event){__VA_ARGS__})
 #endif
 
-// An event of this kind whose other fields are 0.
+// Returns an event of this kind with all other fields 0.
 static inline lot_event lot_event_of(uint32_t kind) {
     return LOT_EVENT(kind, 0, 0, 0, 0, 0, {0, 0}, 0, 0, {0, {0}}, {0, {0}});
 }
 
-// Makes a ticket of this amount, 1 to 4294967295, that the currency issues. It funds nothing yet.
+// Makes a ticket of this amount, 1 to 4294967295, issued in the currency. It funds nothing yet.
 static inline lot_event lot_make_ticket(uint64_t amount, lot_name currency) {
     return LOT_EVENT(LOT_MAKE_TICKET, 0, 0, 0, 0, 0, {0, 0}, amount, 0, currency, {0, {0}});
+}
+
+// Makes a ticket of this amount, 1 to 4294967295, issued in the currency with this number. It funds nothing yet.
+static inline lot_event lot_make_ticket_in(uint64_t amount, uint32_t currency) {
+    return LOT_EVENT(LOT_MAKE_TICKET_IN, 0, 0, currency, 0, 0, {0, 0}, amount, 0, {0, {0}}, {0, {0}});
 }
 
 // Removes a ticket that funds nothing.
@@ -314,15 +331,20 @@ static inline lot_event lot_remove_ticket(uint64_t ticket) {
     return LOT_EVENT(LOT_REMOVE_TICKET, 0, 0, 0, 0, 0, {0, 0}, 0, ticket, {0, {0}}, {0, {0}});
 }
 
-// Gives a ticket another amount, 1 to 4294967295, which counts at once. The ticket goes on funding what it funds.
+// Sets a ticket's amount, 1 to 4294967295, which counts at once. The ticket keeps its target.
 static inline lot_event lot_set_ticket(uint64_t ticket, uint64_t amount) {
     return LOT_EVENT(LOT_SET_TICKET, 0, 0, 0, 0, 0, {0, 0}, amount, ticket, {0, {0}}, {0, {0}});
 }
 
-// Removes the dead thread of this name, which no ticket funds, and which has no client and owns no mutex. Its name may
-// be given again, its number isn't.
+// Removes the dead thread with this name, which no ticket funds, and which has no client and owns no mutex. Its name
+// may be used again, its number isn't.
 static inline lot_event lot_remove_thread(lot_name thread) {
     return LOT_EVENT(LOT_REMOVE_THREAD, 0, 0, 0, 0, 0, {0, 0}, 0, 0, {0, {0}}, thread);
+}
+
+// Removes the dead thread with this number, like lot_remove_thread.
+static inline lot_event lot_remove_thread_numbered(uint32_t thread) {
+    return LOT_EVENT(LOT_REMOVE_THREAD_NUMBERED, 0, 0, thread, 0, 0, {0, 0}, 0, 0, {0, {0}}, {0, {0}});
 }
 
 // Makes a currency with this name.
@@ -335,12 +357,27 @@ static inline lot_event lot_remove_currency(lot_name currency) {
     return LOT_EVENT(LOT_REMOVE_CURRENCY, 0, 0, 0, 0, 0, {0, 0}, 0, 0, currency, {0, {0}});
 }
 
-// Has a ticket that funds nothing fund the currency or thread of this name.
+// Removes the currency with this number, like lot_remove_currency.
+static inline lot_event lot_remove_currency_numbered(uint32_t currency) {
+    return LOT_EVENT(LOT_REMOVE_CURRENCY_NUMBERED, 0, 0, currency, 0, 0, {0, 0}, 0, 0, {0, {0}}, {0, {0}});
+}
+
+// Makes a ticket that funds nothing fund the currency or thread with this name.
 static inline lot_event lot_fund(uint64_t ticket, lot_name target) {
     return LOT_EVENT(LOT_FUND, 0, 0, 0, 0, 0, {0, 0}, 0, ticket, {0, {0}}, target);
 }
 
-// Has a ticket fund nothing any more.
+// Makes a ticket that funds nothing fund the currency with this number.
+static inline lot_event lot_fund_currency(uint64_t ticket, uint32_t currency) {
+    return LOT_EVENT(LOT_FUND_CURRENCY, 0, 0, currency, 0, 0, {0, 0}, 0, ticket, {0, {0}}, {0, {0}});
+}
+
+// Makes a ticket that funds nothing fund the thread with this number.
+static inline lot_event lot_fund_thread(uint64_t ticket, uint32_t thread) {
+    return LOT_EVENT(LOT_FUND_THREAD, 0, 0, thread, 0, 0, {0, 0}, 0, ticket, {0, {0}}, {0, {0}});
+}
+
+// Takes away the target of a ticket that funds something.
 static inline lot_event lot_unfund(uint64_t ticket) {
     return LOT_EVENT(LOT_UNFUND, 0, 0, 0, 0, 0, {0, 0}, 0, ticket, {0, {0}}, {0, {0}});
 }
@@ -350,23 +387,28 @@ static inline lot_event lot_make_thread(lot_name name, uint32_t script) {
     return LOT_EVENT(LOT_MAKE_THREAD, 0, 0, 0, 0, script, {0, 0}, 0, 0, {0, {0}}, name);
 }
 
-// Makes a thread with this name and script, 1 to `scripts`, and a ticket of this amount, 1 to 4294967295, that the
-// currency issues and that funds the thread.
+// Makes a thread with this name and script, 1 to `scripts`, and a ticket of this amount, 1 to 4294967295, which is
+// issued in the currency and funds the thread.
 static inline lot_event lot_make_funded(uint64_t amount, lot_name currency, lot_name name, uint32_t script) {
     return LOT_EVENT(LOT_MAKE_FUNDED, 0, 0, 0, 0, script, {0, 0}, amount, 0, currency, name);
 }
 
-// Asks for the tickets. The reply has none of them: lot_kernel_ticket_row reads each.
+// Makes a thread and a ticket that funds it, like lot_make_funded, given the number of the currency.
+static inline lot_event lot_make_funded_in(uint64_t amount, uint32_t currency, lot_name name, uint32_t script) {
+    return LOT_EVENT(LOT_MAKE_FUNDED_IN, 0, 0, currency, 0, script, {0, 0}, amount, 0, {0, {0}}, name);
+}
+
+// Requests a listing of the tickets. The reply contains no rows: read them with lot_kernel_ticket_row.
 static inline lot_event lot_list_tickets(void) {
     return LOT_EVENT(LOT_LIST_TICKETS, 0, 0, 0, 0, 0, {0, 0}, 0, 0, {0, {0}}, {0, {0}});
 }
 
-// Asks for the currencies. The reply has none of them: lot_kernel_currency_row reads each.
+// Requests a listing of the currencies. The reply contains no rows: read them with lot_kernel_currency_row.
 static inline lot_event lot_list_currencies(void) {
     return LOT_EVENT(LOT_LIST_CURRENCIES, 0, 0, 0, 0, 0, {0, 0}, 0, 0, {0, {0}}, {0, {0}});
 }
 
-// Asks for the threads. The reply has none of them: lot_kernel_thread_row reads each.
+// Requests a listing of the threads. The reply contains no rows: read them with lot_kernel_thread_row.
 static inline lot_event lot_list_threads(void) {
     return LOT_EVENT(LOT_LIST_THREADS, 0, 0, 0, 0, 0, {0, 0}, 0, 0, {0, {0}}, {0, {0}});
 }
@@ -377,20 +419,20 @@ static inline lot_event lot_draw(uint32_t processor, lot_wide number) {
     return LOT_EVENT(LOT_DRAW, processor, 0, 0, 0, 0, number, 0, 0, {0, {0}}, {0, {0}});
 }
 
-// Ends the quantum of the thread that runs on the processor. What is left of the quantum counts as used.
+// Ends the quantum of the thread that runs on the processor. The rest of the quantum counts as used.
 static inline lot_event lot_expire(uint32_t processor) {
     return LOT_EVENT(LOT_EXPIRE, processor, 0, 0, 0, 0, {0, 0}, 0, 0, {0, {0}}, {0, {0}});
 }
 
-// Takes the processor from the thread that runs on it, after `ticks` ticks of work, which must fit in what is left of
-// the quantum. The thread is ready, and isn't compensated.
+// Preempts the thread that runs on the processor, after `ticks` ticks of work, which must fit in the rest of the
+// quantum. The thread becomes ready, without compensation.
 static inline lot_event lot_preempt(uint32_t processor, uint32_t ticks) {
     return LOT_EVENT(LOT_PREEMPT, processor, ticks, 0, 0, 0, {0, 0}, 0, 0, {0, {0}}, {0, {0}});
 }
 
 // Ends the quantum of the thread that runs on the processor, `late` ticks after its time. The quantum and these ticks
-// are at most 4294967295. What was left of the quantum and the late ticks count as used, and the thread weighs the
-// less until it next wins a draw.
+// together are at most 4294967295. The rest of the quantum and the late ticks count as used, so the thread weighs less
+// until it next wins a draw.
 static inline lot_event lot_overrun(uint32_t processor, uint32_t late) {
     return LOT_EVENT(LOT_OVERRUN, processor, late, 0, 0, 0, {0, 0}, 0, 0, {0, {0}}, {0, {0}});
 }
@@ -401,14 +443,14 @@ static inline lot_event lot_wake(uint32_t thread) {
 }
 
 // From here on: traps of the thread that runs on the processor, after `ticks` ticks of work. The trap itself costs one
-// tick more, and all of these must fit in what is left of the quantum.
+// tick more, and all of these must fit in the rest of the quantum.
 
-// The thread gives up its processor, and is compensated for what is left of its quantum.
+// The thread gives up its processor, and is compensated for the rest of its quantum.
 static inline lot_event lot_yield(uint32_t processor, uint32_t ticks) {
     return LOT_EVENT(LOT_YIELD, processor, ticks, 0, 0, 0, {0, 0}, 0, 0, {0, {0}}, {0, {0}});
 }
 
-// The thread sleeps until lot_wake, and is compensated for what is left of its quantum.
+// The thread sleeps until lot_wake, and is compensated for the rest of its quantum.
 static inline lot_event lot_sleep(uint32_t processor, uint32_t ticks) {
     return LOT_EVENT(LOT_SLEEP, processor, ticks, 0, 0, 0, {0, 0}, 0, 0, {0, {0}}, {0, {0}});
 }
@@ -450,7 +492,7 @@ static inline lot_event lot_exit(uint32_t processor, uint32_t ticks) {
 
 // ---- replies
 
-// The kinds of replies, with the fields that each writes. The others are 0.
+// The kinds of replies, with the fields that each sets. All other fields are 0.
 typedef enum lot_reply_kind LOT_OF_UINT32 {
     LOT_REPLY_TICKET = 1,   // ticket: made
     LOT_REPLY_CURRENCY = 2, // currency: made
@@ -462,30 +504,30 @@ typedef enum lot_reply_kind LOT_OF_UINT32 {
     LOT_REPLY_LIST_THREADS = 8,
     LOT_REPLY_WINNER = 9,   // thread: runs now, goes_on; number, total, has_draw; sent, has_sent: delivered to it
     LOT_REPLY_IDLE = 10,    // no thread has any weight, and nothing has changed
-    LOT_REPLY_EXPIRED = 11, // thread, ticks: what it is charged. The answer to LOT_PREEMPT and LOT_OVERRUN too
-    LOT_REPLY_TRAPPED = 12, // thread, ticks: what it ran; outcome; goes_on; ends: it would, but its quantum is used up
+    LOT_REPLY_EXPIRED = 11, // thread, ticks: its charge; also the reply to LOT_PREEMPT and LOT_OVERRUN
+    LOT_REPLY_TRAPPED = 12, // thread, ticks: its run; outcome; goes_on; ends: it would, but its quantum is used up
     LOT_REPLY_REFUSED = 13  // reason; nothing has changed
 } lot_reply_kind;
 
-// What a trap comes to, with the fields that it writes. lot_goes_on says whether its thread still runs.
+// The outcomes of traps, with the fields that each sets. lot_goes_on tells whether the thread still runs.
 typedef enum lot_outcome LOT_OF_UINT32 {
-    LOT_OUTCOME_YIELDED = 1,   // it runs no more
-    LOT_OUTCOME_SERVED_BY = 2, // other: the thread that serves it; it runs no more
-    LOT_OUTCOME_QUEUED = 3,    // it waits for a server, and runs no more
-    LOT_OUTCOME_WAITS = 4,     // it waits for a call or a mutex, and runs no more
+    LOT_OUTCOME_YIELDED = 1,   // the thread no longer runs
+    LOT_OUTCOME_SERVED_BY = 2, // other: the thread that serves it; it no longer runs
+    LOT_OUTCOME_QUEUED = 3,    // it waits for a server, and no longer runs
+    LOT_OUTCOME_WAITS = 4,     // it waits for a call or a mutex, and no longer runs
     LOT_OUTCOME_RECEIVED = 5,  // other: the client; sent, has_sent
     LOT_OUTCOME_REPLIED = 6,   // other: the client
     LOT_OUTCOME_LOCKED = 7,
     LOT_OUTCOME_FREED = 8,
-    LOT_OUTCOME_PASSED = 9,   // other: the new owner; number, total, has_draw if a lottery was held; it runs no more
-    LOT_OUTCOME_EXITED = 10,  // it runs no more
+    LOT_OUTCOME_PASSED = 9,   // other: the new owner; number, total, has_draw if a lottery was held; no longer runs
+    LOT_OUTCOME_EXITED = 10,  // it no longer runs
     LOT_OUTCOME_REFUSED = 11, // reason; nothing has changed except its ticks
-    LOT_OUTCOME_REPLIED_THEN_RECEIVED = 12, // replied_to; other: the client whose call was taken then; sent, has_sent
-    LOT_OUTCOME_REPLIED_THEN_WAITS = 13,    // replied_to; it waits for a call, and runs no more
-    LOT_OUTCOME_SLEPT = 14                  // it sleeps, and runs no more
+    LOT_OUTCOME_REPLIED_THEN_RECEIVED = 12, // replied_to; other: the client whose call it took then; sent, has_sent
+    LOT_OUTCOME_REPLIED_THEN_WAITS = 13,    // replied_to; it waits for a call, and no longer runs
+    LOT_OUTCOME_SLEPT = 14                  // it sleeps, and no longer runs
 } lot_outcome;
 
-// The outcome in words, to be printed: a string that stays, and "unknown outcome" for any other number.
+// Returns the outcome in words, for printing: a static string, "unknown outcome" for any other number.
 static inline const char *lot_outcome_text(uint32_t outcome) {
     switch (LOT_CAST(lot_outcome, outcome)) {
     case LOT_OUTCOME_YIELDED: return "yielded";
@@ -506,8 +548,8 @@ static inline const char *lot_outcome_text(uint32_t outcome) {
     return "unknown outcome";
 }
 
-// Why an event or a trap is refused. The numbers are those of docs/FORMATS.md, as in the program's output. The kernel
-// checks in this order, and the first check that fails is the reason:
+// The reasons for refusing an event or a trap. The numbers are those of docs/FORMATS.md, as in the program's output.
+// The kernel checks in this order, and the first check that fails is the reason:
 //
 //     LOT_MAKE_TICKET        BAD_AMOUNT, NO_CURRENCY, FULL
 //     LOT_REMOVE_TICKET      NO_TICKET, FUNDING
@@ -519,6 +561,8 @@ static inline const char *lot_outcome_text(uint32_t outcome) {
 //     LOT_UNFUND             NO_TICKET, NOT_FUNDING
 //     LOT_MAKE_THREAD        NAME_TAKEN, NO_SCRIPT, FULL
 //     LOT_MAKE_FUNDED        BAD_AMOUNT, NO_CURRENCY, NAME_TAKEN, NO_SCRIPT, FULL
+//     the kinds by number    as by name; LOT_FUND_THREAD has neither BASE_FIXED nor CYCLE, LOT_FUND_CURRENCY no
+//                            DEAD_THREAD
 //     the three listings     never refused
 //     LOT_DRAW               BAD_PROCESSOR, BUSY
 //     LOT_EXPIRE             BAD_PROCESSOR, NOT_RUNNING
@@ -534,11 +578,11 @@ static inline const char *lot_outcome_text(uint32_t outcome) {
 //     LOT_YIELD, LOT_SLEEP   no more
 //     LOT_EXIT               no more
 typedef enum lot_refusal LOT_OF_UINT32 {
-    LOT_REFUSAL_BAD_NAME = 1,    // never in a reply: such a name has a status
-    LOT_REFUSAL_NAME_TAKEN = 2,  // a currency or a thread, dead ones too, has the name; removed ones don't
-    LOT_REFUSAL_NO_CURRENCY = 3, // no currency has the name
+    LOT_REFUSAL_BAD_NAME = 1,    // never in a reply: the status is LOT_BAD_NAME or LOT_LONG_NAME
+    LOT_REFUSAL_NAME_TAKEN = 2,  // a currency or a thread, even a dead one, has the name; removed ones don't count
+    LOT_REFUSAL_NO_CURRENCY = 3, // no currency has the name or the number
     LOT_REFUSAL_NO_TICKET = 4,   // no ticket has the number now
-    LOT_REFUSAL_NO_TARGET = 5,   // neither a currency nor a thread has the name
+    LOT_REFUSAL_NO_TARGET = 5,   // no currency or thread has the name, or none of that kind has the number
     LOT_REFUSAL_BAD_AMOUNT = 6,  // 0 or above 4294967295
     LOT_REFUSAL_IN_USE = 7,      // a ticket funds the currency or thread, or the currency issues one, or the thread has
                                  // a client or owns a mutex
@@ -547,17 +591,17 @@ typedef enum lot_refusal LOT_OF_UINT32 {
     LOT_REFUSAL_CYCLE = 10,      // currencies would fund each other in a cycle
     LOT_REFUSAL_BASE_FIXED = 11, // base can't be removed or funded
     LOT_REFUSAL_DEAD_THREAD = 12,
-    LOT_REFUSAL_FULL = 13,          // as many were made as lot_sizes allows
+    LOT_REFUSAL_FULL = 13,          // the limit of lot_sizes is reached
     LOT_REFUSAL_NO_SCRIPT = 14,     // 0 or above the number of scripts
     LOT_REFUSAL_NO_THREAD = 15,     // no thread has the name or the number; a dead one has both until it is removed
-    LOT_REFUSAL_ALIVE = 16,         // the thread isn't dead, also if it waits for good
+    LOT_REFUSAL_ALIVE = 16,         // the thread isn't dead, though it may wait for good
     LOT_REFUSAL_BAD_PROCESSOR = 20, // 0 or above the number of processors
     LOT_REFUSAL_BUSY = 21,          // a thread runs on the processor
     LOT_REFUSAL_NOT_RUNNING = 22,   // no thread runs on the processor
     LOT_REFUSAL_BAD_TICKS = 23,     // the ticks of work, with the trap's own, are more than the quantum has left; or a
                                     // quantum with the ticks that it ended late is above 4294967295
-    LOT_REFUSAL_NOT_ASLEEP = 24,    // the thread doesn't sleep: it is ready, runs, waits or is dead
-    LOT_TRAP_REFUSAL_NO_PORT = 30,  // from here on of traps: 0 or above the number of ports
+    LOT_REFUSAL_NOT_ASLEEP = 24,    // the thread isn't asleep: it is ready, runs, waits or is dead
+    LOT_TRAP_REFUSAL_NO_PORT = 30,  // from here on for traps: 0 or above the number of ports
     LOT_TRAP_REFUSAL_NOTHING_TO_REPLY = 32, // the thread serves no client
     LOT_TRAP_REFUSAL_NO_MUTEX = 33,         // 0 or above the number of mutexes
     LOT_TRAP_REFUSAL_NOT_OWNER = 34,        // the thread doesn't own the mutex
@@ -565,14 +609,14 @@ typedef enum lot_refusal LOT_OF_UINT32 {
     LOT_TRAP_REFUSAL_LOCK_CYCLE = 36        // the wait would close a cycle: a deadlock
 } lot_refusal;
 
-// The reason in words, to be printed: a string that stays, and "unknown refusal" for any other number.
+// Returns the reason in words, for printing: a static string, "unknown refusal" for any other number.
 static inline const char *lot_refusal_text(uint32_t reason) {
     switch (LOT_CAST(lot_refusal, reason)) {
     case LOT_REFUSAL_BAD_NAME: return "bad name";
     case LOT_REFUSAL_NAME_TAKEN: return "the name is taken";
     case LOT_REFUSAL_NO_CURRENCY: return "no such currency";
     case LOT_REFUSAL_NO_TICKET: return "no such ticket";
-    case LOT_REFUSAL_NO_TARGET: return "no currency or thread has the name";
+    case LOT_REFUSAL_NO_TARGET: return "no such currency or thread";
     case LOT_REFUSAL_BAD_AMOUNT: return "the amount is out of its range";
     case LOT_REFUSAL_IN_USE: return "the currency or thread is in use";
     case LOT_REFUSAL_FUNDING: return "the ticket funds something";
@@ -600,8 +644,8 @@ static inline const char *lot_refusal_text(uint32_t reason) {
 }
 
 typedef struct lot_reply {
-    lot_wide number; // what was drawn in a lottery, below the total
-    lot_wide total;  // the sum of the weights in a lottery
+    lot_wide number; // the drawn number of a lottery, below the total
+    lot_wide total;  // the sum of a lottery's weights
     uint32_t kind;   // lot_reply_kind
     uint32_t reason; // lot_refusal
     uint32_t ticket;
@@ -618,9 +662,9 @@ typedef struct lot_reply {
     bool goes_on; // the thread runs on its processor now: it has won a draw, or its trap and its quantum leave it there
 } lot_reply;
 
-// Whether the thread that made a trap still runs on its processor, by the reply to the trap. If it doesn't, draw
-// there. A trap, a preemption or an overrun that is refused with LOT_REFUSAL_BAD_TICKS has changed nothing, so its
-// thread still runs. It is false for the reply to any other event.
+// Returns whether the thread that made a trap still runs on its processor, given the reply to the trap. If it doesn't,
+// draw there. A trap, a preemption or an overrun refused with LOT_REFUSAL_BAD_TICKS has changed nothing, so its thread
+// still runs. For the reply to any other event the result is false.
 static inline bool lot_goes_on(const lot_reply *reply) {
     if (reply->kind == LOT_REPLY_REFUSED) {
         return reply->reason == LOT_REFUSAL_BAD_TICKS;
@@ -628,20 +672,20 @@ static inline bool lot_goes_on(const lot_reply *reply) {
     return reply->kind == LOT_REPLY_TRAPPED && reply->goes_on;
 }
 
-// One event, and its reply. LOT_NO_KERNEL, LOT_BAD_KIND, LOT_LONG_NAME, LOT_BAD_NAME. Of two bad names the currency's
-// is told.
+// Makes one event and stores its reply. LOT_NO_KERNEL, LOT_BAD_KIND, LOT_LONG_NAME, LOT_BAD_NAME. Of two bad names the
+// status is the currency's.
 uint32_t lot_kernel_event(lot_kernel *kernel, const lot_event *event, lot_reply *reply);
 
-// Events in order, and the reply to each in its place, up to the first event that has a status of its own: the call
-// returns that status, and `done` says how many were done before it. If all were done, LOT_DONE. LOT_COUNTS_DIFFER
-// and LOT_NO_KERNEL leave all as it was, `done` too.
+// Makes events in order and stores the reply to each at its index, up to the first event with a status other than
+// LOT_DONE: the call returns that status, and stores in `done` how many events it made before. If it made all events,
+// it returns LOT_DONE. LOT_COUNTS_DIFFER and LOT_NO_KERNEL change nothing, `done` included.
 uint32_t lot_kernel_run(lot_kernel *kernel, const lot_event *events, size_t event_count, lot_reply *replies,
                         size_t reply_count, size_t *done);
 
-// ---- rows: what is there
+// ---- rows of listings
 
 typedef struct lot_ticket_row {
-    uint64_t value; // in units of base; 0 if it is inactive
+    uint64_t value; // in base units; 0 if it is inactive
     uint32_t amount;
     lot_name issuer; // the currency that issues it
     lot_name target; // the currency or thread that it funds, if has_target
@@ -651,13 +695,13 @@ typedef struct lot_ticket_row {
 
 typedef struct lot_currency_row {
     uint64_t active_amount; // the sum of the amounts of its active issued tickets
-    uint64_t value;         // in units of base
-    uint32_t backing;       // how many tickets fund it, active or not
-    uint32_t issued;        // how many tickets it issues, active or not
+    uint64_t value;         // in base units
+    uint32_t backing;       // the number of tickets that fund it, active or not
+    uint32_t issued;        // the number of tickets that it issues, active or not
     lot_name name;
 } lot_currency_row;
 
-// What a thread is doing.
+// The statuses of threads.
 typedef enum lot_thread_status_kind LOT_OF_UINT32 {
     LOT_STATUS_READY = 1,
     LOT_STATUS_RUNNING = 2,   // processor, used: the ticks of its quantum, below the quantum
@@ -677,16 +721,16 @@ typedef struct lot_thread_status {
 } lot_thread_status;
 
 typedef struct lot_thread_row {
-    lot_wide weight; // what it weighs in a draw, in units of base
-    uint64_t value;  // in units of base
+    lot_wide weight; // its weight in a draw, in base units
+    uint64_t value;  // in base units
     uint64_t quanta; // the draws that it has won
-    uint64_t ticks;  // the ticks that it has run in all
+    uint64_t ticks;  // the total of ticks that it has run
     lot_thread_status status;
     lot_name name;
 } lot_thread_row;
 
-// The row of the ticket, currency or thread with this number. LOT_NO_KERNEL, LOT_NOT_THERE. They compute values that
-// are out of date, and count that, so the kernel isn't const; its replies stay the same.
+// Store the row of the ticket, currency or thread with this number. LOT_NO_KERNEL, LOT_NOT_THERE. They recompute stale
+// values, and count that, so the kernel isn't const; later replies don't depend on it.
 uint32_t lot_kernel_ticket_row(lot_kernel *kernel, uint32_t ticket, lot_ticket_row *row);
 uint32_t lot_kernel_currency_row(lot_kernel *kernel, uint32_t currency, lot_currency_row *row);
 uint32_t lot_kernel_thread_row(lot_kernel *kernel, uint32_t thread, lot_thread_row *row);
@@ -696,30 +740,30 @@ typedef struct lot_runner {
     uint32_t used; // the ticks of its quantum that it has used, below the quantum
 } lot_runner;
 
-// Who runs on the processor. LOT_NO_KERNEL, LOT_NOT_THERE: nobody does.
+// Stores the thread that runs on the processor. LOT_NO_KERNEL, LOT_NOT_THERE: none does.
 uint32_t lot_kernel_runner(lot_kernel *kernel, uint32_t processor, lot_runner *runner);
 
-// The script that the thread was made with. LOT_NO_KERNEL, LOT_NOT_THERE.
+// Stores the thread's script, which was fixed when it was made. LOT_NO_KERNEL, LOT_NOT_THERE.
 uint32_t lot_kernel_script_of(lot_kernel *kernel, uint32_t thread, uint32_t *script);
 
-// How many tickets or currencies were made, removed ones too: their numbers are 1 to the count, and 0 to below the
-// count. Threads have the numbers 1 to the one of the last LOT_REPLY_THREAD or LOT_REPLY_FUNDED, which is at most
-// `threads` of lot_sizes. Among them those without a row were removed. LOT_NO_KERNEL.
+// Store the number of tickets or currencies ever made, including removed ones. Ticket numbers go from 1 to this count,
+// currency numbers from 0 to one below it. Thread numbers go from 1 to that of the last LOT_REPLY_THREAD or
+// LOT_REPLY_FUNDED, which is at most `threads` of lot_sizes. Any of them without a row was removed. LOT_NO_KERNEL.
 uint32_t lot_kernel_ticket_count(lot_kernel *kernel, uint32_t *count);
 uint32_t lot_kernel_currency_count(lot_kernel *kernel, uint32_t *count);
 
-// The sizes that the kernel was made with. LOT_NO_KERNEL.
+// Stores the sizes with which the kernel was made. LOT_NO_KERNEL.
 uint32_t lot_kernel_limits(lot_kernel *kernel, lot_sizes *sizes);
 
 typedef struct lot_meter {
-    uint64_t ticket_reads; // how many tickets, lends and owners were read for values
-    uint64_t tree_visits;  // how many places of the tree of weights were visited by draws
+    uint64_t ticket_reads; // the number of tickets, lends and owners read to compute values
+    uint64_t tree_visits;  // the number of places of the tree of weights that draws visited
 } lot_meter;
 
-// What the kernel has counted of its own work. LOT_NO_KERNEL.
+// Stores the kernel's counts of its own work. LOT_NO_KERNEL.
 uint32_t lot_kernel_meter(lot_kernel *kernel, lot_meter *meter);
 
-// ---- the lottery alone
+// ---- the lottery by itself
 
 // The generator of Park and Miller, whose values are 1 to 2147483646: each is 16807 times the one before, modulo
 // 2147483647.
@@ -730,21 +774,21 @@ typedef struct lot_generator {
 // Makes a generator with this seed. LOT_BAD_SEED.
 uint32_t lot_generator_new(uint32_t seed, lot_generator *generator);
 
-// Goes on to the next value, and writes it. LOT_BAD_SEED: the generator's value is out of its range.
+// Advances to the next value and stores it. LOT_BAD_SEED: the generator's value is out of its range.
 uint32_t lot_generator_next(lot_generator *generator, uint32_t *value);
 
-// Writes the number that is drawn from the next two values, 0 to 4611686009837453315, and goes on to the second.
+// Stores the number drawn from the next two values, 0 to 4611686009837453315, and advances to the second.
 // LOT_BAD_SEED.
 uint32_t lot_generator_number(lot_generator *generator, uint64_t *number);
 
-// Writes the wide number that is drawn from the next four values, below 2 ^ 124, and goes on to the fourth.
+// Stores the wide number drawn from the next four values, below 2 ^ 124, and advances to the fourth.
 // LOT_BAD_SEED.
 uint32_t lot_generator_wide_number(lot_generator *generator, lot_wide *number);
 
-// Writes what a thread of this value weighs in a draw. `compensation` is 0 for none; or how many ticks of its quantum
-// it had used when it yielded, blocked or went to sleep before the quantum's end; or the quantum and the ticks that it
-// ended late. With a compensation the weight is value * quantum / compensation, rounded down, but at least 1 if the
-// value is; otherwise it is the value.
+// Stores the weight of a thread with this value in a draw. `compensation` is 0 for none; or the ticks of its quantum
+// that it had used when it yielded, blocked or went to sleep before the quantum's end; or the sum of the quantum and
+// the ticks by which it ended late. With a compensation the weight is value * quantum / compensation, rounded down, but
+// at least 1 if the value is; otherwise it is the value.
 void lot_weight(uint64_t value, uint32_t compensation, uint32_t quantum, lot_wide *weight);
 
 typedef struct lot_drawn {
@@ -753,27 +797,28 @@ typedef struct lot_drawn {
     uint64_t place;  // the winner's, from 0: the first weight whose running sum is greater than the number
 } lot_drawn;
 
-// Holds a lottery over the weights with this number, any 128 bits. LOT_NO_WINNER, LOT_TOO_LARGE, LOT_NO_MEMORY.
+// Holds a lottery over the weights with this number, any 128 bits, and stores its result. LOT_NO_WINNER, LOT_TOO_LARGE,
+// LOT_NO_MEMORY.
 uint32_t lot_winner(const lot_wide *weights, size_t count, const lot_wide *number, lot_drawn *drawn);
 
 // ---- the heap, for a host without malloc
 
-// A block of memory, or that there is none.
+// A block of memory, or the failure to get one.
 typedef struct lot_block {
-    bool ok;  // whether there was memory
-    void *at; // the block; not NULL, even if there was no memory
+    bool ok;  // whether the allocation succeeded
+    void *at; // the block; not NULL, even if out of memory
 } lot_block;
 
-// The library takes memory by these three functions; they are not for you to call. The archive's heap.o defines them
-// by malloc, realloc and free. A program that defines all three itself links its own, and then needs no malloc.
+// The library allocates memory with these three functions; don't call them yourself. The archive's heap.o defines them
+// with malloc, realloc and free. A program that defines all three itself links its own, and then needs no malloc.
 //
 //   - rattle_alloc returns a block of `size` bytes, or of at least one byte if `size` is 0.
 //   - rattle_realloc returns a block of `size` bytes that begins with the first `kept` bytes of the block `at`. It
-//     gives up that block, unless there was no memory.
-//   - rattle_dealloc gives up a block.
+//     frees that block, unless out of memory.
+//   - rattle_dealloc frees a block.
 //
 // `align` is a power of two, at most 16. A block is aligned to every power of two up to 16 that divides its size, and
-// to `align`. It stays where it is until it is given up.
+// to `align`. It stays at its address until it is freed.
 lot_block rattle_alloc(size_t size, size_t align);
 lot_block rattle_realloc(void *at, size_t kept, size_t size, size_t align);
 void rattle_dealloc(void *at);

@@ -80,7 +80,7 @@ static uint64_t below(uint64_t bound) {
 static lot_event some_event(void) {
     static const char *const names[8] = {"base", "a", "b", "c", "d", "e", "f", "g"};
     lot_event made = lot_make_funded(below(1000), lot_name_of(names[below(8)]), lot_name_of(names[below(8)]), 1);
-    made.kind = (uint32_t)below(LOT_WAKE) + 1;
+    made.kind = (uint32_t)below(LOT_MAKE_FUNDED_IN) + 1;
     made.processor = 1;
     made.ticks = (uint32_t)below(40);
     made.object = (uint32_t)below(2) + 1;

@@ -212,6 +212,34 @@ static void removal(void) {
     puts("ok: removal");
 }
 
+// Commands by number, where 1 is both a currency and a thread. 100 of base back the currency, whose 40 are a's and b's.
+static void numbered(void) {
+    lot_kernel kernel = made(&SMALL);
+    CHECK(answer(&kernel, lot_make_currency(lot_name_of("alice"))).currency == 1);
+    CHECK(answer(&kernel, lot_make_ticket_in(100, 0)).ticket == 1);
+    CHECK(answer(&kernel, lot_fund_currency(1, 1)).kind == LOT_REPLY_DONE);
+    lot_reply reply = answer(&kernel, lot_make_funded_in(10, 1, lot_name_of("a"), 1));
+    CHECK(reply.kind == LOT_REPLY_FUNDED && reply.ticket == 2 && reply.thread == 1);
+    CHECK(answer(&kernel, lot_make_thread(lot_name_of("b"), 1)).thread == 2);
+    CHECK(answer(&kernel, lot_make_ticket_in(30, 1)).ticket == 3);
+    CHECK(answer(&kernel, lot_fund_thread(3, 2)).kind == LOT_REPLY_DONE);
+    CHECK(is_worth(&kernel, 1, 25) && is_worth(&kernel, 2, 75) && has_won(drawn(&kernel, 1, 24), 1, 24, 100));
+    CHECK(came_to(answer(&kernel, lot_exit(1, 0)), 1, LOT_OUTCOME_EXITED, 0));
+    CHECK(answer(&kernel, lot_unfund(2)).kind == LOT_REPLY_DONE);
+    CHECK(answer(&kernel, lot_remove_thread_numbered(1)).kind == LOT_REPLY_DONE && is_gone(&kernel, 1));
+    CHECK(is_refused(answer(&kernel, lot_remove_thread_numbered(1)), LOT_REFUSAL_NO_THREAD));
+    CHECK(is_refused(answer(&kernel, lot_fund_thread(2, 1)), LOT_REFUSAL_NO_TARGET));
+    CHECK(answer(&kernel, lot_remove_ticket(2)).kind == LOT_REPLY_DONE);
+    CHECK(answer(&kernel, lot_unfund(3)).kind == LOT_REPLY_DONE);
+    CHECK(answer(&kernel, lot_remove_ticket(3)).kind == LOT_REPLY_DONE);
+    CHECK(answer(&kernel, lot_unfund(1)).kind == LOT_REPLY_DONE);
+    CHECK(answer(&kernel, lot_remove_currency_numbered(1)).kind == LOT_REPLY_DONE);
+    CHECK(is_refused(answer(&kernel, lot_fund_currency(1, 1)), LOT_REFUSAL_NO_TARGET));
+    CHECK(is_refused(answer(&kernel, lot_make_ticket_in(1, 1)), LOT_REFUSAL_NO_CURRENCY));
+    CHECK(lot_kernel_free(&kernel) == LOT_DONE);
+    puts("ok: numbered");
+}
+
 // A dead thread with a client, or with a mutex, stays.
 static void removal_in_use(void) {
     lot_kernel kernel = made(&SMALL);
@@ -469,12 +497,48 @@ static void refused_commands(lot_kernel *kernel) {
     }
 }
 
+// The same by number, in the same kernel: currencies 0 to 2, tickets 1 to 3 and thread 1 are there.
+static void refused_by_number(lot_kernel *kernel) {
+    const lot_name x = lot_name_of("x"), u = lot_name_of("u");
+    const struct {
+        lot_event event;
+        uint32_t reason;
+    } rows[] = {
+        {lot_make_ticket_in(0, 3), LOT_REFUSAL_BAD_AMOUNT},
+        {lot_make_ticket_in(1, 3), LOT_REFUSAL_NO_CURRENCY},
+        {lot_make_ticket_in(1, UINT32_MAX), LOT_REFUSAL_NO_CURRENCY},
+        {lot_remove_currency_numbered(3), LOT_REFUSAL_NO_CURRENCY},
+        {lot_remove_currency_numbered(0), LOT_REFUSAL_BASE_FIXED},
+        {lot_remove_currency_numbered(1), LOT_REFUSAL_IN_USE},
+        {lot_fund_currency(99, 3), LOT_REFUSAL_NO_TICKET},
+        {lot_fund_currency(2, 3), LOT_REFUSAL_NO_TARGET},
+        {lot_fund_currency(2, 0), LOT_REFUSAL_BASE_FIXED},
+        {lot_fund_currency(1, 2), LOT_REFUSAL_FUNDING},
+        {lot_fund_currency(2, 1), LOT_REFUSAL_CYCLE},
+        {lot_fund_thread(99, 2), LOT_REFUSAL_NO_TICKET},
+        {lot_fund_thread(2, 0), LOT_REFUSAL_NO_TARGET},
+        {lot_fund_thread(2, 2), LOT_REFUSAL_NO_TARGET},
+        {lot_fund_thread(1, 1), LOT_REFUSAL_FUNDING},
+        {lot_remove_thread_numbered(0), LOT_REFUSAL_NO_THREAD},
+        {lot_remove_thread_numbered(2), LOT_REFUSAL_NO_THREAD},
+        {lot_remove_thread_numbered(1), LOT_REFUSAL_ALIVE},
+        {lot_make_funded_in(0, 3, x, 2), LOT_REFUSAL_BAD_AMOUNT},
+        {lot_make_funded_in(1, 3, x, 2), LOT_REFUSAL_NO_CURRENCY},
+        {lot_make_funded_in(1, 0, x, 2), LOT_REFUSAL_NAME_TAKEN},
+        {lot_make_funded_in(1, 0, u, 2), LOT_REFUSAL_NO_SCRIPT},
+    };
+    for (size_t i = 0; i < sizeof rows / sizeof rows[0]; i++) {
+        CHECK(is_refused(answer(kernel, rows[i].event), rows[i].reason));
+    }
+}
+
 // Each reason for which a draw, an expiry or a trap is refused, and what listings are answered.
 static void refusals(void) {
     lot_sizes sizes = SMALL;
     sizes.currencies = 2;
     lot_kernel kernel = made(&sizes);
     refused_commands(&kernel);
+    refused_by_number(&kernel);
     CHECK(is_refused(drawn(&kernel, 3, 0), LOT_REFUSAL_BAD_PROCESSOR));
     CHECK(is_refused(answer(&kernel, lot_expire(1)), LOT_REFUSAL_NOT_RUNNING));
     CHECK(has_won(drawn(&kernel, 1, 0), 1, 0, 7) && is_refused(drawn(&kernel, 1, 0), LOT_REFUSAL_BUSY));
@@ -482,6 +546,8 @@ static void refusals(void) {
     CHECK(is_refused(answer(&kernel, lot_exit(1, 100)), LOT_REFUSAL_BAD_TICKS));
     CHECK(came_to(answer(&kernel, lot_exit(1, 99)), 1, LOT_OUTCOME_EXITED, 0));
     CHECK(is_refused(answer(&kernel, lot_fund(2, lot_name_of("t"))), LOT_REFUSAL_DEAD_THREAD));
+    CHECK(is_refused(answer(&kernel, lot_fund_thread(2, 1)), LOT_REFUSAL_DEAD_THREAD));
+    CHECK(is_refused(answer(&kernel, lot_remove_thread_numbered(1)), LOT_REFUSAL_IN_USE));
     CHECK(is_refused(answer(&kernel, lot_remove_thread(lot_name_of("t"))), LOT_REFUSAL_IN_USE));
     static const uint32_t lists[3][2] = {{LOT_LIST_TICKETS, LOT_REPLY_LIST_TICKETS},
                                          {LOT_LIST_CURRENCIES, LOT_REPLY_LIST_CURRENCIES},
@@ -621,6 +687,13 @@ static void made_events(void) {
     CHECK(is_event(lot_preempt(1, 2), (lot_event){.kind = 25, .processor = 1, .ticks = 2}));
     CHECK(is_event(lot_overrun(1, 2), (lot_event){.kind = 26, .processor = 1, .ticks = 2}));
     CHECK(is_event(lot_wake(3), (lot_event){.kind = 27, .object = 3}));
+    CHECK(is_event(lot_make_ticket_in(5, 3), (lot_event){.kind = 28, .amount = 5, .object = 3}));
+    CHECK(is_event(lot_remove_currency_numbered(3), (lot_event){.kind = 29, .object = 3}));
+    CHECK(is_event(lot_fund_currency(5, 3), (lot_event){.kind = 30, .ticket = 5, .object = 3}));
+    CHECK(is_event(lot_fund_thread(5, 3), (lot_event){.kind = 31, .ticket = 5, .object = 3}));
+    CHECK(is_event(lot_remove_thread_numbered(3), (lot_event){.kind = 32, .object = 3}));
+    CHECK(is_event(lot_make_funded_in(5, 3, b, 2),
+                   (lot_event){.kind = 33, .amount = 5, .object = 3, .name = b, .script = 2}));
     const lot_sizes sizes = lot_sizes_small();
     CHECK(memcmp(&sizes, &SMALL, sizeof sizes) == 0);
     lot_kernel kernel = {&kernel};
@@ -833,15 +906,16 @@ static void limits(void) {
 
 // Each kind that there isn't, and each name that isn't one: a status of its own, no reply, and nothing changed.
 static void kinds_and_names(void) {
-    static const uint32_t kinds[6] = {0, LOT_WAKE + 1, LOT_WAKE + 2, 255, 1u << 31, UINT32_MAX};
+    static const uint32_t kinds[6] = {0, LOT_MAKE_FUNDED_IN + 1, LOT_MAKE_FUNDED_IN + 2, 255, 1u << 31, UINT32_MAX};
     static const struct {
         const char *text;
         uint32_t length, status;
     } names[9] = {{"", 0, LOT_BAD_NAME},          {"a b", 3, LOT_BAD_NAME},  {"Base", 4, LOT_BAD_NAME},
                   {"9a", 2, LOT_BAD_NAME},        {"a\xff", 2, LOT_BAD_NAME}, {"-a", 2, LOT_BAD_NAME},
                   {"base", 17, LOT_LONG_NAME},    {"base", UINT32_MAX, LOT_LONG_NAME}, {"base", 5, LOT_BAD_NAME}};
-    static const uint32_t naming[8] = {LOT_MAKE_TICKET, LOT_REMOVE_CURRENCY, LOT_MAKE_FUNDED, LOT_MAKE_CURRENCY,
-                                       LOT_FUND, LOT_MAKE_THREAD, LOT_MAKE_FUNDED, 0};
+    static const uint32_t naming[9] = {LOT_MAKE_TICKET, LOT_REMOVE_CURRENCY, LOT_MAKE_FUNDED,
+                                       LOT_MAKE_CURRENCY, LOT_FUND, LOT_MAKE_THREAD,
+                                       LOT_MAKE_FUNDED, LOT_REMOVE_THREAD, LOT_MAKE_FUNDED_IN};
     lot_kernel kernel = made(&SMALL);
     lot_reply reply;
     memset(&reply, 0x5a, sizeof reply);
@@ -851,7 +925,7 @@ static void kinds_and_names(void) {
         CHECK(lot_kernel_event(&kernel, &event, &reply) == LOT_BAD_KIND);
         CHECK(memcmp(&reply, &before, sizeof reply) == 0);
     }
-    for (size_t k = 0; k < 7; k++) {
+    for (size_t k = 0; k < 9; k++) {
         for (size_t i = 0; i < 9; i++) {
             lot_event event = lot_make_funded(1, lot_name_of("base"), lot_name_of("fresh"), 1);
             event.kind = naming[k];
@@ -885,7 +959,7 @@ static void names(void) {
 static void runs(void) {
     lot_kernel kernel = made(&SMALL);
     lot_event events[4] = {lot_make_currency(lot_name_of("x")), lot_make_currency(lot_name_of("y")),
-                           lot_event_of(LOT_WAKE + 1), lot_make_currency(lot_name_of("z"))};
+                           lot_event_of(LOT_MAKE_FUNDED_IN + 1), lot_make_currency(lot_name_of("z"))};
     lot_reply replies[4], before;
     memset(replies, 0x5a, sizeof replies);
     before = replies[2];
@@ -923,7 +997,7 @@ static lot_event random_event(void) {
     if (random_bits() % 2 == 0) {
         return event;
     }
-    event.kind = (uint32_t)(random_bits() % (LOT_WAKE + 2));
+    event.kind = (uint32_t)(random_bits() % (LOT_MAKE_FUNDED_IN + 2));
     event.processor = (uint32_t)(random_bits() % 4);
     event.ticks = (uint32_t)(random_bits() % 120);
     event.object = (uint32_t)(random_bits() % 4);
@@ -1036,6 +1110,7 @@ int main(int argc, char **argv) {
     currency_graph();
     inflation();
     removal();
+    numbered();
     removal_in_use();
     sleeping();
     sleepers_tickets();

@@ -158,6 +158,31 @@ class Worked(unittest.TestCase):
             self.assertEqual(kernel.make_thread("a"), Reply(ReplyKind.THREAD, thread=3))
             self.assertEqual([kernel.thread_row(thread).name for thread in (2, 3)], ["b", "a"])
 
+    def test_numbered(self):
+        """Commands by number, where 1 is a currency and a thread. 100 of base back alice, whose 40 are a's and b's."""
+        done = Reply(ReplyKind.DONE)
+        with lot.Kernel() as kernel:
+            self.assertEqual(kernel.make_currency("alice").currency, 1)
+            self.assertEqual(kernel.make_ticket(100, 0), Reply(ReplyKind.TICKET, ticket=1))
+            self.assertEqual(kernel.fund_currency(1, 1), done)
+            self.assertEqual(kernel.make_funded("a", 10, 1), Reply(ReplyKind.FUNDED, ticket=2, thread=1))
+            self.assertEqual(kernel.make_thread("b").thread, 2)
+            self.assertEqual(kernel.make_ticket(30, currency=1).ticket, 3)
+            self.assertEqual(kernel.fund_thread(3, 2), done)
+            self.assertEqual([kernel.thread_row(thread).value for thread in (1, 2)], [25, 75])
+            self.assertEqual([kernel.ticket_row(ticket).target for ticket in (1, 2, 3)], ["alice", "a", "b"])
+            kernel.draw(1, 24)
+            kernel.exit(1)
+            self.assertEqual(kernel.remove_thread(1, check=False), refused_for(Refusal.IN_USE))
+            kernel.unfund(2)
+            self.assertEqual(kernel.fund_thread(2, 1, check=False), refused_for(Refusal.DEAD_THREAD))
+            self.assertEqual(kernel.remove_thread(1), done)
+            self.assertIsNone(kernel.thread_row(1))
+            kernel.run([lot.events.unfund(ticket) for ticket in (3, 1)])
+            kernel.run([lot.events.remove_ticket(ticket) for ticket in (2, 3)])
+            self.assertEqual(kernel.remove_currency(1), done)
+            self.assertEqual(kernel.fund_currency(1, 1, check=False), refused_for(Refusal.NO_TARGET))
+
     def test_sleeping(self):
         """A thread that sleeps is in no draw. It used 20 of 100 ticks, so it is woken with 5 times its weight."""
         with funded(lot.Kernel(), ("a", 400), ("b", 100)) as kernel:
@@ -370,8 +395,31 @@ class Refusals(unittest.TestCase):
             Refusal.ALREADY_OWNER: [make.draw(1, 0), make.lock(1, 1), make.lock(1, 1)],
         }
         self.assertEqual(set(Refusal) - set(rows), {Refusal.BAD_NAME, Refusal.LOCK_CYCLE})
+        self.assert_refused(start, rows)
+
+    def test_by_number(self):
+        """What differs from commands by name: numbers that nothing has, and a currency or a thread by its kind."""
+        make = lot.events
+        start = [make.make_currency("u"), make.make_ticket(5, "u"), make.make_funded("a", 9)]
+        for refusal, events in {
+            Refusal.NO_CURRENCY: [
+                make.make_ticket(1, 2), make.make_funded("b", 1, NARROW - 1), make.remove_currency(2),
+            ],
+            Refusal.NO_TARGET: [make.fund_currency(1, 2), make.fund_thread(1, 0), make.fund_thread(1, 2)],
+            Refusal.NO_THREAD: [make.remove_thread(0), make.remove_thread(2)],
+            Refusal.BASE_FIXED: [make.fund_currency(1, 0), make.remove_currency(0)],
+            Refusal.IN_USE: [make.remove_currency(1)],
+            Refusal.CYCLE: [make.fund_currency(1, 1)],
+            Refusal.ALIVE: [make.remove_thread(1)],
+            Refusal.FUNDING: [make.fund_thread(2, 1)],
+        }.items():
+            for event in events:
+                self.assert_refused(start, {refusal: [event]})
+
+    def assert_refused(self, start, rows):
+        """The last event of each row is refused by what the row is for."""
         for refusal, row in rows.items():
-            with self.subTest(refusal=refusal), lot.Kernel(currencies=2) as kernel:
+            with self.subTest(refusal=refusal, event=row[-1]), lot.Kernel(currencies=2) as kernel:
                 for event in start + row[:-1]:
                     kernel.event(event)
                 with self.assertRaises(Refused) as raised:
@@ -416,17 +464,41 @@ class Taken(unittest.TestCase):
         self.assertEqual(lot.Event(12, processor=1, number=9), lot.events.draw(1, 9))
         self.assertRaises(ValueError, lot.Event, len(EventKind) + 1)
 
+    NAMED = {
+        EventKind.MAKE_TICKET_IN: "make_ticket",
+        EventKind.REMOVE_CURRENCY_NUMBERED: "remove_currency",
+        EventKind.REMOVE_THREAD_NUMBERED: "remove_thread",
+        EventKind.MAKE_FUNDED_IN: "make_funded",
+        EventKind.YIELD: "yield_",
+    }
+
     def test_one_method_for_each_event(self):
         """It has the name of its kind, and the parameters of the function that makes the event."""
         for kind in EventKind:
-            name = "yield_" if kind is EventKind.YIELD else kind.name.lower()
+            name = self.NAMED.get(kind, kind.name.lower())
             method, function = getattr(lot.Kernel, name), getattr(lot.events, name)
             *fields, check = list(inspect.signature(method).parameters.values())[1:]
             self.assertEqual(fields, list(inspect.signature(function).parameters.values()), name)
             self.assertEqual((check.name, check.kind, check.default), ("check", inspect.Parameter.KEYWORD_ONLY, None))
             self.assertTrue(method.__doc__ and function.__doc__)
-            wanted = lot.events.READS[kind]
+            wanted = ["currency" if it == "currency_number" else it for it in lot.events.READS[kind]]
+            if kind is EventKind.REMOVE_THREAD:
+                wanted = ["thread"]
             self.assertEqual(sorted(field.name for field in fields), sorted(wanted), name)
+
+    def test_name_or_number(self):
+        """A str makes the event by name, and an int the one by number."""
+        make = lot.events
+        for call, kinds in {
+            lambda it: make.make_ticket(5, it): (EventKind.MAKE_TICKET, EventKind.MAKE_TICKET_IN),
+            lambda it: make.make_funded("a", 5, it): (EventKind.MAKE_FUNDED, EventKind.MAKE_FUNDED_IN),
+            make.remove_currency: (EventKind.REMOVE_CURRENCY, EventKind.REMOVE_CURRENCY_NUMBERED),
+            make.remove_thread: (EventKind.REMOVE_THREAD, EventKind.REMOVE_THREAD_NUMBERED),
+        }.items():
+            self.assertEqual((call("3").kind, call(3).kind), kinds)
+        self.assertEqual(make.make_ticket(5, 3), lot.Event(EventKind.MAKE_TICKET_IN, amount=5, currency_number=3))
+        self.assertRaises(TypeError, lot.Event, EventKind.MAKE_TICKET, amount=5, currency=3)
+        self.assertRaises(TypeError, lot.Event, EventKind.MAKE_TICKET_IN, amount=5, currency_number="u")
 
     def test_numbers_out_of_range(self):
         make = lot.events
@@ -435,9 +507,12 @@ class Taken(unittest.TestCase):
                 lambda it: make.expire(it), lambda it: make.yield_(1, it), lambda it: make.call(1, it, 0),
                 lambda it: make.call(1, 1, it), lambda it: make.lock(1, it), lambda it: make.make_thread("a", it),
                 lambda it: make.sleep(1, it), lambda it: make.preempt(1, it), lambda it: make.overrun(1, it),
-                lambda it: make.wake(it),
+                lambda it: make.wake(it), lambda it: make.fund_thread(1, it), lambda it: make.fund_currency(1, it),
             ],
-            WIDE: [lambda it: make.make_ticket(it), lambda it: make.unfund(it), lambda it: make.set_ticket(1, it)],
+            WIDE: [
+                lambda it: make.make_ticket(it), lambda it: make.unfund(it), lambda it: make.set_ticket(1, it),
+                lambda it: make.fund_thread(it, 1), lambda it: make.make_ticket(it, 1),
+            ],
             WIDEST: [lambda it: make.draw(1, it), lambda it: make.unlock(1, 1, it)],
         }.items():
             for call in calls:
@@ -447,6 +522,12 @@ class Taken(unittest.TestCase):
                     self.assertRaises(TypeError, call, number)
                 call(0)
                 call(end - 1)
+        for call in [make.remove_thread, make.remove_currency, lambda it: make.make_funded("a", 1, it)]:
+            for number in [-1, NARROW]:
+                self.assertRaises(OverflowError, call, number)
+            for number in [True, 1.0, None, b"1", 1j]:
+                self.assertRaises(TypeError, call, number)
+            call(NARROW - 1)
         with lot.Kernel() as kernel:
             self.assertRaises(OverflowError, kernel.draw, NARROW + 1, 0)
             self.assertRaises(TypeError, kernel.draw, 1, 0.5)

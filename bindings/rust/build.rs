@@ -1,5 +1,5 @@
-//! Finds the archive and has it linked: `liblot.a` in the folder that `LOT_ARCHIVE` names, otherwise the release's for
-//! the target, in `dist` of the repository. Without an archive it fails, so that `cargo check` tells too.
+//! Finds the archive and links it: `liblot.a` in the folder that `LOT_ARCHIVE` names, otherwise the release's for the
+//! target, in `dist` of the repository. Without an archive the build fails, even under `cargo check`.
 
 use std::env;
 use std::path::{Path, PathBuf};
@@ -8,18 +8,18 @@ use std::process::exit;
 /// The targets for which the release has an archive.
 const RELEASED: [&str; 2] = ["x86_64-linux", "aarch64-linux"];
 
-/// What cargo says of the build.
+/// A variable that cargo sets for the build.
 fn told(name: &str) -> String {
     env::var(name).unwrap_or_else(|_| panic!("cargo sets {name}"))
 }
 
-/// The release's folder for a target. The crate stands in `bindings/rust` of the repository.
+/// The release's folder for a target. The crate is in `bindings/rust` of the repository.
 fn release(package: &Path, target: &str) -> PathBuf {
     let repository = package.ancestors().nth(2).unwrap_or(package);
     repository.join("dist").join(target)
 }
 
-/// Two lines: which file is missing, and what to do.
+/// Two lines: the missing file, and the remedy.
 fn say_missing(archive: &Path, target: &str) {
     eprintln!("lot: {} is missing, the archive of the kernel for {target}.", archive.display());
     if RELEASED.contains(&target) {

@@ -1,7 +1,7 @@
 """A lottery-scheduled kernel, proved, from Python.
 
-A `Kernel` holds tickets, currencies, threads, ports and lottery mutexes. It is given events and replies to each. It
-runs nothing itself: who is to run is in the replies. docs/MACHINE.md of the repository says what each event does.
+A `Kernel` holds tickets, currencies, threads, ports and lottery mutexes. It takes events and replies to each. It runs
+nothing itself: the replies name the threads to run. docs/MACHINE.md of the repository defines the effect of each event.
 
 >>> import lot
 >>> with lot.Kernel() as kernel:
@@ -10,7 +10,7 @@ runs nothing itself: who is to run is in the replies. docs/MACHINE.md of the rep
 ...     print(kernel.draw(processor=1, number=9).thread)
 1
 
-What the kernel refuses raises `Refused`:
+A refused event raises `Refused`:
 
 >>> with lot.Kernel() as kernel:
 ...     try:
@@ -19,8 +19,8 @@ What the kernel refuses raises `Refused`:
 ...         print(refused)
 BAD_PROCESSOR: Event(kind=EventKind.DRAW, processor=3, number=9)
 
-This package is a layer over the shared object liblot.so, and is itself only tested. `lot.library` says where it is
-looked for.
+This package is a layer over the shared object liblot.so. The layer itself is only tested. `lot.library` lists the
+places in which it looks for the shared object.
 """
 
 from . import events

@@ -1,4 +1,4 @@
-"""What calls raise. Each error can be pickled, so it passes between the processes of a pool."""
+"""The errors of this package. Each can be pickled, so it passes between the processes of a pool."""
 
 from __future__ import annotations
 
@@ -32,7 +32,7 @@ class Error(Exception):
 
 
 class LotError(Error):
-    """A call that failed, and has changed nothing. `status` says why."""
+    """A failed call, which has changed nothing. `status` gives the reason."""
 
     status: Status
 
@@ -45,9 +45,9 @@ class LotError(Error):
 
 
 class RunError(LotError):
-    """A run that came to a faulty event. It has made the events before that one, and changed nothing after them.
+    """A run with a faulty event. It has made the events before that one, and no others.
 
-    `done` says how many were made, and so which is the faulty one, counted from 0. `replies` has their replies.
+    `done` is their number, and so the faulty event's index. `replies` has their replies.
     """
 
     replies: "tuple[Reply, ...]"
@@ -68,8 +68,8 @@ class RunError(LotError):
 class Refused(Error):
     """The kernel refused an event or a trap. A refused event has changed nothing; a refused trap has cost its ticks.
 
-    `refusal` says why, `reply` is the kernel's reply, and `event` the event. `replies` is empty, unless the event was
-    one of a run: a run goes on after a refusal, so there it has the replies to all events.
+    `refusal` is the reason, `reply` the kernel's reply, and `event` the event. `replies` is empty, except after a run:
+    a run continues after a refusal, so there it has the replies to all events.
     """
 
     def __init__(self, event: Event, reply: Reply, replies: Sequence[Reply] = ()) -> None:

@@ -1,5 +1,11 @@
-"""Events as values, for `Kernel.run` and `Kernel.event`. The methods of `Kernel` of the same names say what each does.
+"""Events as values, for `Kernel.run` and `Kernel.event`. See the methods of `Kernel` with the same names for each.
 
+Give a currency or a thread by its name, a `str`, or by its number, an `int`. The kind of the event depends on which.
+
+>>> make_ticket(amount=5, currency="alice")
+Event(kind=EventKind.MAKE_TICKET, amount=5, currency='alice')
+>>> make_ticket(amount=5, currency=3)
+Event(kind=EventKind.MAKE_TICKET_IN, amount=5, currency_number=3)
 >>> draw(processor=1, number=9)
 Event(kind=EventKind.DRAW, processor=1, number=9)
 >>> draw(processor=-1, number=9)
@@ -8,7 +14,7 @@ OverflowError: processor is 0 to 4294967295, and -1 was given
 """
 
 from dataclasses import dataclass
-from typing import Optional
+from typing import Optional, Union
 
 from .numbers import EventKind
 from .ranges import NARROW, WIDE, WIDEST, checked, checked_text
@@ -43,13 +49,20 @@ READS = {
     EventKind.PREEMPT: ("processor", "ticks"),
     EventKind.OVERRUN: ("processor", "late"),
     EventKind.WAKE: ("thread",),
+    EventKind.MAKE_TICKET_IN: ("amount", "currency_number"),
+    EventKind.REMOVE_CURRENCY_NUMBERED: ("currency_number",),
+    EventKind.FUND_CURRENCY: ("ticket", "currency_number"),
+    EventKind.FUND_THREAD: ("ticket", "thread"),
+    EventKind.REMOVE_THREAD_NUMBERED: ("thread",),
+    EventKind.MAKE_FUNDED_IN: ("amount", "currency_number", "name", "script"),
 }
-# What each field that is a number is below. The others are names.
+# The exclusive upper bound of each numeric field. The others are names.
 ENDS = {
     "processor": NARROW,
     "ticks": NARROW,
     "late": NARROW,
     "thread": NARROW,
+    "currency_number": NARROW,
     "port": NARROW,
     "mutex": NARROW,
     "sent": NARROW,
@@ -64,8 +77,8 @@ ENDS = {
 class Event:
     """An event: its kind, and the fields that this kind reads. The functions below make them.
 
-    `TypeError` if one of these is missing or of another type, or if there is another field; `OverflowError` for a
-    number out of its field's range; `ValueError` for an unknown kind.
+    Raises `TypeError` if one of these is missing or of another type, or if another field is given; `OverflowError` for
+    a number out of its field's range; `ValueError` for a nonexistent kind.
     """
 
     kind: EventKind
@@ -78,14 +91,15 @@ class Event:
     number: Optional[int] = None  # a drawn number, any 128 bits
     amount: Optional[int] = None
     ticket: Optional[int] = None
-    currency: Optional[str] = None
+    currency: Optional[str] = None  # by its name
     name: Optional[str] = None
-    target: Optional[str] = None  # the currency or thread to be funded
-    thread: Optional[int] = None  # the thread to be woken, by its number
-    late: Optional[int] = None  # how many ticks late a quantum ended
+    target: Optional[str] = None  # the currency or thread to fund
+    thread: Optional[int] = None  # the number of the thread to wake, fund or remove
+    late: Optional[int] = None  # the ticks by which a quantum ended late
+    currency_number: Optional[int] = None  # by its number
 
     def __post_init__(self) -> None:
-        fields = self.__dict__  # what is frozen is set there
+        fields = self.__dict__  # sets fields of the frozen dataclass
         if type(self.kind) is not EventKind:
             fields["kind"] = EventKind(self.kind)
         reads = READS[self.kind]
@@ -101,8 +115,10 @@ class Event:
     __repr__ = shown
 
 
-def make_ticket(amount: int, currency: str = "base") -> Event:
+def make_ticket(amount: int, currency: Union[str, int] = "base") -> Event:
     """The event of `Kernel.make_ticket`."""
+    if not isinstance(currency, str):
+        return Event(EventKind.MAKE_TICKET_IN, amount=amount, currency_number=currency)
     return Event(EventKind.MAKE_TICKET, amount=amount, currency=currency)
 
 
@@ -116,9 +132,11 @@ def set_ticket(ticket: int, amount: int) -> Event:
     return Event(EventKind.SET_TICKET, ticket=ticket, amount=amount)
 
 
-def remove_thread(name: str) -> Event:
+def remove_thread(thread: Union[str, int]) -> Event:
     """The event of `Kernel.remove_thread`."""
-    return Event(EventKind.REMOVE_THREAD, name=name)
+    if not isinstance(thread, str):
+        return Event(EventKind.REMOVE_THREAD_NUMBERED, thread=thread)
+    return Event(EventKind.REMOVE_THREAD, name=thread)
 
 
 def make_currency(name: str) -> Event:
@@ -126,14 +144,26 @@ def make_currency(name: str) -> Event:
     return Event(EventKind.MAKE_CURRENCY, name=name)
 
 
-def remove_currency(currency: str) -> Event:
+def remove_currency(currency: Union[str, int]) -> Event:
     """The event of `Kernel.remove_currency`."""
+    if not isinstance(currency, str):
+        return Event(EventKind.REMOVE_CURRENCY_NUMBERED, currency_number=currency)
     return Event(EventKind.REMOVE_CURRENCY, currency=currency)
 
 
 def fund(ticket: int, target: str) -> Event:
     """The event of `Kernel.fund`."""
     return Event(EventKind.FUND, ticket=ticket, target=target)
+
+
+def fund_currency(ticket: int, currency: int) -> Event:
+    """The event of `Kernel.fund_currency`."""
+    return Event(EventKind.FUND_CURRENCY, ticket=ticket, currency_number=currency)
+
+
+def fund_thread(ticket: int, thread: int) -> Event:
+    """The event of `Kernel.fund_thread`."""
+    return Event(EventKind.FUND_THREAD, ticket=ticket, thread=thread)
 
 
 def unfund(ticket: int) -> Event:
@@ -146,8 +176,10 @@ def make_thread(name: str, script: int = 1) -> Event:
     return Event(EventKind.MAKE_THREAD, name=name, script=script)
 
 
-def make_funded(name: str, amount: int, currency: str = "base", script: int = 1) -> Event:
+def make_funded(name: str, amount: int, currency: Union[str, int] = "base", script: int = 1) -> Event:
     """The event of `Kernel.make_funded`."""
+    if not isinstance(currency, str):
+        return Event(EventKind.MAKE_FUNDED_IN, amount=amount, currency_number=currency, name=name, script=script)
     return Event(EventKind.MAKE_FUNDED, amount=amount, currency=currency, name=name, script=script)
 
 

@@ -14,26 +14,40 @@ from .records import CurrencyRow, Meter, Reply, Runner, Sizes, ThreadRow, Ticket
 
 
 class Kernel:
-    """A kernel. It takes all its memory when it is made, and gives it back by `close` or at the end of a `with`.
+    """A kernel. It allocates all its memory when it is made, and frees it in `close` or at the end of a `with`.
 
     Its sizes are those of `Sizes`. It begins with the currency base alone. Each event has a method, which returns the
-    kernel's reply; docs/MACHINE.md of the repository says what each event does.
+    kernel's reply; docs/MACHINE.md of the repository defines the effect of each event.
 
     Refusals: a refused event raises `Refused`, and so does a refused trap. With `check=False`, for the kernel or for
-    one event, the reply is returned instead.
+    one event, the method returns the reply instead.
 
-    Names have 1 to 16 bytes, a letter a to z, and then letters a to z, digits, '_' or '-'. Otherwise `LotError` is
-    raised, with `Status.LONG_NAME` or `Status.BAD_NAME`.
+    Names have 1 to 16 bytes: a letter a to z, followed by letters a to z, digits, '_' or '-'. Other names raise
+    `LotError`, with `Status.LONG_NAME` or `Status.BAD_NAME`.
 
-    Numbers: `TypeError` for what is no integer, a bool too, and `OverflowError` for a number that is negative or too
-    large for its field: below 2 ** 32, but 2 ** 64 for amounts and tickets, and 2 ** 128 for drawn numbers. Whether
-    there is such a processor, ticket, port and so on is the kernel's to say. Tickets, threads, processors, ports,
-    mutexes and scripts are numbered from 1, currencies from 0, which is base.
+    Numbers: `TypeError` for a value that is no integer, or a bool, and `OverflowError` for a number that is negative or
+    too large for its field: it must be below 2 ** 32, or below 2 ** 64 for amounts and tickets, or below 2 ** 128 for
+    drawn numbers. The kernel checks whether the processor, ticket, port and so on exists. Tickets, threads, processors,
+    ports, mutexes and scripts are numbered from 1, currencies from 0, which is base.
 
-    Threads of Python may share a kernel: calls wait for each other. A signal handler must not call one, since the call
+    By name or by number: where a method takes a currency or a thread as `Union[str, int]`, a `str` is its name and an
+    `int` its number, with equal effects and refusals. A lookup by number takes constant time; a lookup by name
+    searches.
+
+    >>> with Kernel() as kernel:
+    ...     alice = kernel.make_currency("alice").currency
+    ...     kernel.fund_currency(kernel.make_ticket(100).ticket, alice)
+    ...     kernel.make_funded("worker", 10, alice)
+    ...     kernel.thread_row(1).value
+    Reply(kind=ReplyKind.DONE)
+    Reply(kind=ReplyKind.FUNDED, ticket=2, thread=1)
+    100
+
+    Python threads may share a kernel: calls wait for each other. A signal handler must not call one, since the call
     that it interrupts may hold the lock. Each call of a closed kernel raises `LotError` with `Status.NO_KERNEL`.
 
-    `LotError` with `Status.BAD_LIMITS` for sizes out of their bounds, and with `Status.NO_MEMORY`.
+    The constructor raises `LotError` with `Status.BAD_LIMITS` for sizes out of their bounds, and with
+    `Status.NO_MEMORY`.
 
     >>> with Kernel() as kernel:
     ...     kernel.make_funded("first", 10)
@@ -68,9 +82,9 @@ class Kernel:
 
     @staticmethod
     def bytes_of(sizes: Sizes) -> int:
-        """How many bytes the library takes in all for a kernel with these sizes. Python's own objects are not counted.
+        """The total of bytes that the library allocates for a kernel with these sizes, without Python's own objects.
 
-        `LotError` with `Status.BAD_LIMITS` for sizes out of their bounds.
+        Raises `LotError` with `Status.BAD_LIMITS` for sizes out of their bounds.
         """
         raw, count = library.RawSizes(), c_uint64()
         raw.set(sizes)
@@ -78,7 +92,7 @@ class Kernel:
         return count.value
 
     def close(self) -> None:
-        """Gives the memory back, once the calls of other threads have returned. A closed kernel stays closed."""
+        """Frees the memory, once the calls of other threads have returned. Closing a closed kernel does nothing."""
         with self._lock:
             calls.lot_kernel_free(byref(self._handle))
 
@@ -95,7 +109,7 @@ class Kernel:
         self.close()
 
     def __del__(self) -> None:
-        # Without a handle the constructor has raised, and without calls the interpreter ends.
+        # There is no handle if the constructor raised, and there are no calls while the interpreter ends.
         if hasattr(self, "_handle") and calls is not None:
             self.close()
 
@@ -119,9 +133,9 @@ class Kernel:
     def run(self, run: Iterable[Event], *, check: Optional[bool] = None) -> List[Reply]:
         """Makes many events of `lot.events` in one call, in order, and returns their replies.
 
-        A run goes on after a refusal. At its end, unless `check` is false, it raises `Refused` for the first that was
-        refused, with the replies to all. It stops at an event with a faulty name, and raises `RunError`, which says
-        how many were made. On a closed kernel no event is made, and it raises `LotError`.
+        A run continues after a refusal. At its end, unless `check` is false, it raises `Refused` for the first refused
+        event, with the replies to all events. At an event with a faulty name it stops and raises `RunError`, which has
+        the number of events made. On a closed kernel it makes no event and raises `LotError`.
 
         >>> with Kernel() as kernel:
         ...     replies = kernel.run([events.make_funded("a", 3), events.draw(1, 2), events.expire(1)])
@@ -145,8 +159,10 @@ class Kernel:
     def _checks(self, check: Optional[bool]) -> bool:
         return self.check if check is None else check
 
-    def make_ticket(self, amount: int, currency: str = "base", *, check: Optional[bool] = None) -> Reply:
-        """Makes a ticket of 1 to 4294967295 of the currency, which funds nothing yet. Replies `TICKET`.
+    def make_ticket(
+        self, amount: int, currency: Union[str, int] = "base", *, check: Optional[bool] = None
+    ) -> Reply:
+        """Makes a ticket of this amount, 1 to 4294967295, of the currency. It funds nothing yet. Replies `TICKET`.
 
         Refused: BAD_AMOUNT, NO_CURRENCY, FULL.
         """
@@ -157,7 +173,7 @@ class Kernel:
         return self.event(events.remove_ticket(ticket), check=check)
 
     def set_ticket(self, ticket: int, amount: int, *, check: Optional[bool] = None) -> Reply:
-        """Inflation and deflation: the ticket gets another amount, 1 to 4294967295, and goes on funding what it funds.
+        """Inflation and deflation: sets the ticket's amount, 1 to 4294967295. The ticket keeps its target.
 
         The amount counts at once. Replies `DONE`. Refused: BAD_AMOUNT, NO_TICKET.
         """
@@ -170,7 +186,7 @@ class Kernel:
         """
         return self.event(events.make_currency(name), check=check)
 
-    def remove_currency(self, currency: str, *, check: Optional[bool] = None) -> Reply:
+    def remove_currency(self, currency: Union[str, int], *, check: Optional[bool] = None) -> Reply:
         """Removes a currency that issues no ticket and is funded by none. Replies `DONE`.
 
         Refused: NO_CURRENCY, BASE_FIXED, IN_USE.
@@ -178,27 +194,41 @@ class Kernel:
         return self.event(events.remove_currency(currency), check=check)
 
     def fund(self, ticket: int, target: str, *, check: Optional[bool] = None) -> Reply:
-        """Has a ticket that funds nothing fund the currency or thread of this name. Replies `DONE`.
+        """Makes a ticket that funds nothing fund the currency or thread with this name. Replies `DONE`.
 
         Refused: NO_TICKET, NO_TARGET, BASE_FIXED, DEAD_THREAD, FUNDING, CYCLE.
         """
         return self.event(events.fund(ticket, target), check=check)
 
+    def fund_currency(self, ticket: int, currency: int, *, check: Optional[bool] = None) -> Reply:
+        """Makes a ticket that funds nothing fund the currency with this number. Replies `DONE`.
+
+        Refused: NO_TICKET, NO_TARGET, BASE_FIXED, FUNDING, CYCLE.
+        """
+        return self.event(events.fund_currency(ticket, currency), check=check)
+
+    def fund_thread(self, ticket: int, thread: int, *, check: Optional[bool] = None) -> Reply:
+        """Makes a ticket that funds nothing fund the thread with this number. Replies `DONE`.
+
+        Refused: NO_TICKET, NO_TARGET, DEAD_THREAD, FUNDING.
+        """
+        return self.event(events.fund_thread(ticket, thread), check=check)
+
     def unfund(self, ticket: int, *, check: Optional[bool] = None) -> Reply:
-        """Has a ticket fund nothing. Replies `DONE`. Refused: NO_TICKET, NOT_FUNDING."""
+        """Takes away a ticket's target. Replies `DONE`. Refused: NO_TICKET, NOT_FUNDING."""
         return self.event(events.unfund(ticket), check=check)
 
     def make_thread(self, name: str, script: int = 1, *, check: Optional[bool] = None) -> Reply:
-        """Makes a thread that nothing funds yet. Replies `THREAD`.
+        """Makes an unfunded thread. Replies `THREAD`.
 
         The script is a number that the kernel keeps for its caller. Refused: NAME_TAKEN, NO_SCRIPT, FULL.
         """
         return self.event(events.make_thread(name, script), check=check)
 
-    def remove_thread(self, name: str, *, check: Optional[bool] = None) -> Reply:
+    def remove_thread(self, thread: Union[str, int], *, check: Optional[bool] = None) -> Reply:
         """Removes a dead thread that no ticket funds, and that has no client and owns no mutex.
 
-        Its name may be given again, its number isn't. Replies `DONE`. Refused: NO_THREAD, ALIVE, IN_USE.
+        Its name may be used again, its number isn't. Replies `DONE`. Refused: NO_THREAD, ALIVE, IN_USE.
 
         >>> with Kernel() as kernel:
         ...     replies = kernel.run([events.make_funded("job", 10), events.draw(1, 0), events.exit(1)])
@@ -208,12 +238,18 @@ class Kernel:
         Refusal.IN_USE
         None 2
         """
-        return self.event(events.remove_thread(name), check=check)
+        return self.event(events.remove_thread(thread), check=check)
 
     def make_funded(
-        self, name: str, amount: int, currency: str = "base", script: int = 1, *, check: Optional[bool] = None
+        self,
+        name: str,
+        amount: int,
+        currency: Union[str, int] = "base",
+        script: int = 1,
+        *,
+        check: Optional[bool] = None,
     ) -> Reply:
-        """Makes a thread, and a ticket of 1 to 4294967295 of the currency that funds it. Replies `FUNDED`.
+        """Makes a thread, and a ticket of this amount of the currency, which funds the thread. Replies `FUNDED`.
 
         Refused: BAD_AMOUNT, NO_CURRENCY, NAME_TAKEN, NO_SCRIPT, FULL.
         """
@@ -232,21 +268,21 @@ class Kernel:
         return self.event(events.list_threads(), check=check)
 
     def draw(self, processor: int, number: int, *, check: Optional[bool] = None) -> Reply:
-        """Draws the thread that runs on the processor next, by a number of 128 bits, such as `ParkMiller` draws.
+        """Draws the thread to run next on the processor, with a number of 128 bits, such as `ParkMiller` gives.
 
-        Replies `WINNER`, or `IDLE` if no thread that is ready has any weight. Refused: BAD_PROCESSOR, BUSY.
+        Replies `WINNER`, or `IDLE` if no ready thread has any weight. Refused: BAD_PROCESSOR, BUSY.
         """
         return self.event(events.draw(processor, number), check=check)
 
     def expire(self, processor: int, *, check: Optional[bool] = None) -> Reply:
-        """The running thread's quantum is over. Replies `EXPIRED`. Refused: BAD_PROCESSOR, NOT_RUNNING."""
+        """Ends the running thread's quantum. Replies `EXPIRED`. Refused: BAD_PROCESSOR, NOT_RUNNING."""
         return self.event(events.expire(processor), check=check)
 
     def preempt(self, processor: int, ticks: int = 0, *, check: Optional[bool] = None) -> Reply:
-        """Takes the processor from the running thread, after `ticks` ticks of work, before its quantum is over.
+        """Preempts the running thread, after `ticks` ticks of work, before its quantum is over.
 
-        The thread is ready, is charged these ticks, and isn't compensated. Replies `EXPIRED`. Refused: BAD_PROCESSOR,
-        NOT_RUNNING, BAD_TICKS if the ticks are more than the quantum has left.
+        The thread becomes ready, is charged these ticks, and isn't compensated. Replies `EXPIRED`. Refused:
+        BAD_PROCESSOR, NOT_RUNNING, BAD_TICKS if the ticks are more than the rest of the quantum.
 
         >>> with Kernel() as kernel:
         ...     replies = kernel.run([events.make_funded("job", 10), events.draw(1, 0)])
@@ -258,11 +294,11 @@ class Kernel:
         return self.event(events.preempt(processor, ticks), check=check)
 
     def overrun(self, processor: int, late: int, *, check: Optional[bool] = None) -> Reply:
-        """The running thread's quantum is over, and ended `late` ticks late, which count as used too.
+        """Ends the running thread's quantum, `late` ticks late. The late ticks count as used too.
 
-        Until it next wins it weighs value * quantum / (quantum + late), rounded down, but at least 1 if it is worth
-        something. Replies `EXPIRED`. Refused: BAD_PROCESSOR, NOT_RUNNING, BAD_TICKS if the quantum and the late ticks
-        are above 4294967295.
+        Until it next wins it weighs value * quantum / (quantum + late), rounded down, but at least 1 if its value is.
+        Replies `EXPIRED`. Refused: BAD_PROCESSOR, NOT_RUNNING, BAD_TICKS if the sum of the quantum and the late ticks
+        is above 4294967295.
 
         >>> with Kernel(quantum=100) as kernel:
         ...     replies = kernel.run([events.make_funded("slow", 10), events.draw(1, 0)])
@@ -274,7 +310,7 @@ class Kernel:
         return self.event(events.overrun(processor, late), check=check)
 
     def wake(self, thread: int, *, check: Optional[bool] = None) -> Reply:
-        """The sleeping thread with this number is ready, with the compensation that it got when it went to sleep.
+        """Makes the sleeping thread with this number ready, with the compensation from when it went to sleep.
 
         Replies `DONE`. Refused: NO_THREAD, NOT_ASLEEP.
         """
@@ -284,16 +320,16 @@ class Kernel:
     # as events with BAD_PROCESSOR, NOT_RUNNING, and BAD_TICKS if these ticks are more than the rest of the quantum.
 
     def yield_(self, processor: int, ticks: int = 0, *, check: Optional[bool] = None) -> Reply:
-        """The running thread gives its processor back, after `ticks` ticks of work and one tick for the trap.
+        """The running thread gives up its processor, after `ticks` ticks of work and one tick for the trap.
 
         Replies `TRAPPED` with `YIELDED`. Refused: BAD_PROCESSOR, NOT_RUNNING, BAD_TICKS.
         """
         return self.event(events.yield_(processor, ticks), check=check)
 
     def sleep(self, processor: int, ticks: int = 0, *, check: Optional[bool] = None) -> Reply:
-        """The running thread sleeps until `wake`. What funds it is inactive meanwhile.
+        """The running thread sleeps until `wake`. Its tickets are inactive meanwhile.
 
-        It keeps its mutexes and its clients, and is compensated for what is left of its quantum.
+        It keeps its mutexes and its clients, and is compensated for the rest of its quantum.
 
         Replies `TRAPPED` with `SLEPT`. Refused: BAD_PROCESSOR, NOT_RUNNING, BAD_TICKS.
 
@@ -309,7 +345,7 @@ class Kernel:
         return self.event(events.sleep(processor, ticks), check=check)
 
     def call(self, processor: int, port: int, sent: int, ticks: int = 0, *, check: Optional[bool] = None) -> Reply:
-        """The running thread calls the port with a number, and lends to whoever serves it until the reply.
+        """The running thread calls the port with a number, and lends to the thread that serves it until the reply.
 
         Replies `TRAPPED` with `SERVED_BY` or `QUEUED`. Refused: BAD_PROCESSOR, NOT_RUNNING, BAD_TICKS; NO_PORT.
         """
@@ -348,7 +384,7 @@ class Kernel:
     def unlock(
         self, processor: int, mutex: int, number: int, ticks: int = 0, *, check: Optional[bool] = None
     ) -> Reply:
-        """The running thread frees the mutex, or passes it on to the waiter that is drawn by a number of 128 bits.
+        """The running thread frees the mutex, or passes it to a waiter drawn with this number, of 128 bits.
 
         Replies `TRAPPED` with `FREED` or `PASSED`. Refused: BAD_PROCESSOR, NOT_RUNNING, BAD_TICKS; NO_MUTEX,
         NOT_OWNER.
@@ -356,16 +392,16 @@ class Kernel:
         return self.event(events.unlock(processor, mutex, number, ticks), check=check)
 
     def exit(self, processor: int, ticks: int = 0, *, check: Optional[bool] = None) -> Reply:
-        """The running thread ends, and is dead. Its tickets, mutexes and clients stay as they are.
+        """The running thread ends, and is dead. Its tickets, mutexes and clients stay unchanged.
 
         Replies `TRAPPED` with `EXITED`. Refused: BAD_PROCESSOR, NOT_RUNNING, BAD_TICKS.
         """
         return self.event(events.exit(processor, ticks), check=check)
 
-    # ---- what is there
+    # ---- rows and counts
 
     def _read(self, call: Any, row: Union[Structure, c_uint32], *numbers: int) -> bool:
-        """Has a call write a row. Whether there is one."""
+        """Reads a row with this call. Returns whether there is one."""
         given = [checked(number, NARROW, "number") for number in numbers]
         with self._lock:
             status = call(byref(self._handle), *given, byref(row))
@@ -385,40 +421,40 @@ class Kernel:
         return row.plain() if self._read(calls.lot_kernel_currency_row, row, currency) else None
 
     def thread_row(self, thread: int) -> Optional[ThreadRow]:
-        """The row of the thread with this number, or `None`. Numbers go up to `threads` of `sizes` at most."""
+        """The row of the thread with this number, or `None`. Numbers are at most `threads` of `sizes`."""
         row = library.RawThreadRow()
         return row.plain() if self._read(calls.lot_kernel_thread_row, row, thread) else None
 
     def runner(self, processor: int) -> Optional[Runner]:
-        """Who runs on the processor, or `None`."""
+        """The thread that runs on the processor, or `None`."""
         row = library.RawRunner()
         return row.plain() if self._read(calls.lot_kernel_runner, row, processor) else None
 
     def script_of(self, thread: int) -> Optional[int]:
-        """The number of the script that the thread was made with, or `None`."""
+        """The number of the thread's script, fixed when it was made, or `None`."""
         number = c_uint32()
         return number.value if self._read(calls.lot_kernel_script_of, number, thread) else None
 
     def ticket_count(self) -> int:
-        """How many tickets were made, removed ones too. They have the numbers 1 to the count."""
+        """The number of tickets ever made, including removed ones. They are numbered from 1 to this number."""
         count = c_uint32()
         self._read(calls.lot_kernel_ticket_count, count)
         return count.value
 
     def currency_count(self) -> int:
-        """How many currencies were made, removed ones and base too. They have the numbers 0 to below the count."""
+        """The number of currencies ever made, with base and removed ones. They are numbered from 0 to one below it."""
         count = c_uint32()
         self._read(calls.lot_kernel_currency_count, count)
         return count.value
 
     def sizes(self) -> Sizes:
-        """The sizes that the kernel was made with."""
+        """The sizes with which the kernel was made."""
         sizes = library.RawSizes()
         self._read(calls.lot_kernel_limits, sizes)
         return sizes.plain()
 
     def meter(self) -> Meter:
-        """What the kernel has counted of its own work."""
+        """The kernel's counts of its own work."""
         meter = library.RawMeter()
         self._read(calls.lot_kernel_meter, meter)
         return meter.plain()

@@ -1,10 +1,10 @@
-"""The shared object, by ctypes: its structures, its calls, and how plain values cross.
+"""The shared object through ctypes: its structures, its calls, and the conversion of plain values.
 
-bindings/c/lot.h says what each call does. The shared object is looked for in this order:
+bindings/c/lot.h documents each call. The package looks for the shared object in this order:
 
-1. the file that the environment's LOT_SHARED names;
-2. liblot.so in this package, as a wheel has it;
-3. the release's for this processor, dist/x86_64-linux/liblot.so, if the package lies in the repository.
+1. the file named by the environment variable LOT_SHARED;
+2. liblot.so in this package, as in a wheel;
+3. the release's for this processor, such as dist/x86_64-linux/liblot.so, if the package is in the repository.
 """
 
 import ctypes
@@ -24,18 +24,18 @@ LONGEST_NAME = 16
 
 
 class Name(Structure):
-    """lot_name. One that is too long keeps no more than that it is."""
+    """lot_name. For a name that is too long, only the fact that it is remains."""
 
     _fields_ = [("length", c_uint32), ("bytes", c_char * LONGEST_NAME)]
 
     def set(self, text: str) -> None:
-        """Writes a text, which the library then takes or refuses."""
+        """Stores a text, which the library then accepts or refuses."""
         raw = text.encode("utf-8", "surrogatepass")
         self.length = min(len(raw), LONGEST_NAME + 1)
         self.bytes = raw[:LONGEST_NAME]
 
     def plain(self) -> str:
-        """The text of a name that was handed out."""
+        """The text of a name from the library."""
         return bytes(self.bytes).decode("ascii")
 
 
@@ -45,7 +45,7 @@ class Wide(Structure):
     _fields_ = [("low", c_uint64), ("high", c_uint64)]
 
     def set(self, number: int) -> None:
-        """Writes a number below 2 ** 128."""
+        """Stores a number below 2 ** 128."""
         self.low = number & LOW_BITS
         self.high = number >> 64
 
@@ -76,7 +76,7 @@ class RawSizes(Structure):
     ]
 
     def set(self, sizes: records.Sizes) -> None:
-        """Writes the sizes."""
+        """Stores the sizes."""
         for field, _ in self._fields_:
             setattr(self, field, getattr(sizes, field))
 
@@ -103,7 +103,7 @@ class RawEvent(Structure):
     ]
 
     def set(self, event: Event) -> None:
-        """Writes the fields that the event's kind reads. `TypeError` for what is no `Event`."""
+        """Stores the fields that the event's kind reads. Raises `TypeError` for a value that is no `Event`."""
         if not isinstance(event, Event):
             raise TypeError(f"an Event is to be made, and {event!r} was given")
         self.kind = event.kind
@@ -116,8 +116,15 @@ class RawEvent(Structure):
                 setattr(self, to, value)
 
 
-# Of a field of `Event` the one of lot_event, if it has another name.
-_FIELD_OF = {"port": "object", "mutex": "object", "thread": "object", "late": "ticks", "target": "name"}
+# The field of lot_event for a field of `Event`, where the names differ.
+_FIELD_OF = {
+    "port": "object",
+    "mutex": "object",
+    "thread": "object",
+    "currency_number": "object",
+    "late": "ticks",
+    "target": "name",
+}
 _STRUCTURES = {"number", "currency", "name"}
 
 
@@ -144,8 +151,8 @@ class RawReply(Structure):
     ]
 
     def plain(self) -> records.Reply:
-        """The reply. A field that isn't written is 0. One that may be written as 0 has a flag beside it, or the kind
-        says that it is written.
+        """The reply. An unset field is 0. For a field that may be set to 0 there is a flag, or the kind tells whether
+        it is set.
         """
         kind = _REPLY_KINDS[self.kind]
         return records.Reply(
@@ -166,7 +173,7 @@ class RawReply(Structure):
         )
 
 
-# A look into a table takes a tenth of the time of `ReplyKind(number)`.
+# A table lookup takes a tenth of the time of `ReplyKind(number)`.
 _REPLY_KINDS: Dict[int, ReplyKind] = {int(kind): kind for kind in ReplyKind}
 _HAVE_TICKS = (ReplyKind.EXPIRED, ReplyKind.TRAPPED)
 _OUTCOMES: Dict[int, Optional[Outcome]] = {0: None, **{int(outcome): outcome for outcome in Outcome}}
@@ -213,7 +220,7 @@ class RawThreadStatus(Structure):
     _fields_ = [("kind", c_uint32), ("processor", c_uint32), ("used", c_uint32), ("other", c_uint32)]
 
     def plain(self) -> records.ThreadStatus:
-        """What the thread is doing."""
+        """The thread's status."""
         state = ThreadState(self.kind)
         if state is ThreadState.RUNNING:
             return records.ThreadStatus(state, processor=self.processor, used=self.used)
@@ -275,7 +282,7 @@ class RawDrawn(Structure):
 
 
 def _arguments() -> Dict[str, List[type]]:
-    """What each call takes, of those that return a status."""
+    """The argument types of each call that returns a status."""
     kernel = POINTER(Handle)
     return {
         "lot_kernel_new": [POINTER(RawSizes), kernel],
@@ -301,7 +308,7 @@ def _arguments() -> Dict[str, List[type]]:
 
 
 def found() -> Path:
-    """The file that is loaded. `ImportError` if there is none."""
+    """The file to load. Raises `ImportError` if there is none."""
     package = Path(__file__).resolve().parent
     named = os.environ.get("LOT_SHARED")
     if named:
@@ -331,7 +338,7 @@ def load(path: Path) -> ctypes.CDLL:
 
 
 def must(status: int) -> None:
-    """Raises `LotError` unless a call was done."""
+    """Raises `LotError` unless the status is that of success."""
     if status != Status.DONE:
         raise LotError(status)
 

@@ -1,4 +1,4 @@
-"""The lottery alone, without a kernel."""
+"""The lottery by itself, without a kernel."""
 
 import threading
 from ctypes import byref, c_uint32, c_uint64
@@ -11,12 +11,12 @@ from .records import Drawn
 
 
 class ParkMiller:
-    """The generator of Park and Miller, and an iterator over its numbers, without an end.
+    """The generator of Park and Miller, which is also an endless iterator over its numbers.
 
     Its values are 1 to 2147483646. Each is 16807 times the one before, modulo 2147483647. Threads may share a
     generator.
 
-    `LotError` with `Status.BAD_SEED` for a seed that is 0 or above 2147483646.
+    Raises `LotError` with `Status.BAD_SEED` for a seed that is 0 or above 2147483646.
 
     >>> numbers = ParkMiller(1)
     >>> next(numbers)
@@ -47,14 +47,14 @@ class ParkMiller:
         return value.value
 
     def number(self) -> int:
-        """The number that is drawn from the next two values, 0 to 4611686009837453315."""
+        """The number drawn from the next two values, 0 to 4611686009837453315."""
         number = c_uint64()
         with self._lock:
             must(calls.lot_generator_number(byref(self._generator), byref(number)))
         return number.value
 
     def wide_number(self) -> int:
-        """The wide number that is drawn from the next four values, below 2 ** 124."""
+        """The wide number drawn from the next four values, below 2 ** 124."""
         number = Wide()
         with self._lock:
             must(calls.lot_generator_wide_number(byref(self._generator), byref(number)))
@@ -62,11 +62,12 @@ class ParkMiller:
 
 
 def weight(value: int, compensation: int, quantum: int) -> int:
-    """What a thread of this value, below 2 ** 64, weighs in a draw.
+    """The weight of a thread with this value, below 2 ** 64, in a draw.
 
-    The compensation is how many ticks of its quantum the thread had used when it yielded, blocked or went to sleep
-    before the quantum's end, or the quantum and the ticks that it ended late, or 0 for none. With one the weight is
-    value * quantum / compensation, rounded down, but at least 1 if the value is; otherwise it is the value.
+    The compensation is the ticks of its quantum that the thread had used when it yielded, blocked or went to sleep
+    before the quantum's end, or the sum of the quantum and the ticks by which it ended late, or 0 for none. With one
+    the weight is value * quantum / compensation, rounded down, but at least 1 if the value is; otherwise it is the
+    value.
 
     >>> weight(400, 20, 100), weight(400, 0, 100), weight(400, 160, 100), weight(1, 200, 100)
     (2000, 400, 250, 1)
@@ -79,9 +80,9 @@ def weight(value: int, compensation: int, quantum: int) -> int:
 
 
 def winner(weights: Sequence[int], number: int) -> Optional[Drawn]:
-    """Holds a lottery over the weights with this number, any 128 bits. `None` if the weights sum to 0.
+    """Holds a lottery over the weights with this number, any 128 bits. Returns `None` if the weights sum to 0.
 
-    The winner is the first whose running sum is greater than the number modulo the total. `LotError` with
+    The winner is the first whose running sum is greater than the number modulo the total. Raises `LotError` with
     `Status.TOO_LARGE` if the weights sum to 2 ** 128 or more, and with `Status.NO_MEMORY`.
 
     >>> winner([10, 2, 5, 1, 2], 35)

@@ -1,18 +1,18 @@
-"""Checks of what callers hand in. ctypes would keep the lowest bits of a number that is out of its range."""
+"""Checks of arguments. ctypes would keep the lowest bits of a number that is out of its range."""
 
 import operator
 from typing import SupportsIndex
 
-NARROW = 1 << 32  # the fields of 32 bits are below it
+NARROW = 1 << 32  # the bound of fields of 32 bits
 WIDE = 1 << 64
 WIDEST = 1 << 128
 
 
 def checked(number: SupportsIndex, end: int, name: str) -> int:
-    """The number, if it is 0 or more and below the end.
+    """Returns the number, if it is 0 or more and below the end.
 
-    Other integers than `int`, of numpy say, are converted. `TypeError` for a bool and whatever is no integer,
-    `OverflowError` out of the range.
+    It converts integers of other types, such as numpy's. Raises `TypeError` for a bool or a value that is no integer,
+    and `OverflowError` for a number out of the range.
 
     >>> checked(5, NARROW, "ticks")
     5
@@ -32,7 +32,7 @@ def checked(number: SupportsIndex, end: int, name: str) -> int:
 
 
 def checked_text(text: str, name: str) -> str:
-    """The text. `TypeError` for whatever is no `str`."""
+    """Returns the text. Raises `TypeError` for a value that is no `str`."""
     if not isinstance(text, str):
         raise TypeError(f"{name} is a str, and {text!r} was given")
     return text

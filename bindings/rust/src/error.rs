@@ -1,17 +1,17 @@
-//! Why a call fails.
+//! Failures of calls.
 
 use crate::numbers::CallStatus;
 use std::fmt;
 
-/// Why a call fails. A call that fails has changed nothing.
+/// The failure of a call. A failed call has changed nothing.
 ///
-/// That the kernel refuses an event is no failure of the call: the refusal is in the [`Reply`](crate::Reply).
+/// A refused event is no failure of the call: the refusal is in the [`Reply`](crate::Reply).
 #[derive(Clone, Copy, Debug, PartialEq, Eq, Hash)]
 #[non_exhaustive]
 pub enum Error {
-    /// A size of the kernel is out of its bounds, which [`Sizes`](crate::Sizes) has.
+    /// A size of the kernel is out of the bounds given in [`Sizes`](crate::Sizes).
     BadLimits,
-    /// The system gave no memory.
+    /// Out of memory.
     NoMemory,
     /// A name has more than 16 bytes.
     LongName,
@@ -24,8 +24,8 @@ pub enum Error {
 }
 
 impl Error {
-    /// The failure that a status stands for. `None` for `Done`, and for statuses that are answers or that no call here
-    /// can have.
+    /// The failure for a status, or `None` for `Done`, and for statuses that are results or that no call here can
+    /// return.
     pub(crate) fn of(status: CallStatus) -> Option<Error> {
         match status {
             CallStatus::BadLimits => Some(Error::BadLimits),

@@ -1,10 +1,10 @@
-//! What a kernel is given.
+//! The events of a kernel.
 
 use crate::numbers::EventKind;
-use crate::{ffi, Name};
+use crate::{ffi, CurrencyRef, Name, TargetRef, ThreadRef};
 
-/// What a listing is of. The rows are read one by one, by [`Kernel::ticket_row`](crate::Kernel::ticket_row) and its
-/// like.
+/// The kind of rows in a listing. Read the rows one by one, with [`Kernel::ticket_row`](crate::Kernel::ticket_row) or
+/// the like.
 #[derive(Clone, Copy, Debug, PartialEq, Eq, Hash)]
 pub enum Listing {
     /// Tickets.
@@ -15,22 +15,23 @@ pub enum Listing {
     Threads,
 }
 
-/// A command of the console. Each says its refusals, [`EventRefusal`](crate::EventRefusal)s, in the order of the
-/// checks: the first check that fails is the refusal.
+/// A command of the console. For each its refusals, [`EventRefusal`](crate::EventRefusal)s, are listed in the order of
+/// the checks: the first check that fails is the refusal.
 ///
 /// Amounts of tickets are 1 to 4294967295, scripts are numbered from 1 to [`Sizes::scripts`](crate::Sizes::scripts).
+/// Give a currency or a thread by its name or by its number; effects and refusals are equal.
 #[derive(Clone, Copy, Debug, PartialEq, Eq, Hash)]
 pub enum Command {
-    /// Makes a ticket, which funds nothing yet. Answered by [`Reply::Ticket`](crate::Reply::Ticket).
+    /// Makes a ticket, which funds nothing yet. Reply: [`Reply::Ticket`](crate::Reply::Ticket).
     ///
     /// Refusals: `BadAmount`, `NoCurrency`, `Full`.
     MakeTicket {
         /// 1 to 4294967295.
         amount: u64,
         /// The currency that issues it.
-        currency: Name,
+        currency: CurrencyRef,
     },
-    /// Removes a ticket that funds nothing. Its number is never used again. Answered by
+    /// Removes a ticket that funds nothing. Its number is never used again. Reply:
     /// [`Reply::Done`](crate::Reply::Done).
     ///
     /// Refusals: `NoTicket`, `Funding`.
@@ -38,38 +39,38 @@ pub enum Command {
         /// The ticket's number, from 1.
         ticket: u64,
     },
-    /// Makes a currency, which has no tickets yet. Answered by [`Reply::Currency`](crate::Reply::Currency).
+    /// Makes a currency, without tickets. Reply: [`Reply::Currency`](crate::Reply::Currency).
     ///
     /// Refusals: `NameTaken`, `Full`.
     MakeCurrency {
         /// A name that no currency and no thread has, ended threads included.
         name: Name,
     },
-    /// Removes a currency that no ticket is issued in and none funds. Answered by [`Reply::Done`](crate::Reply::Done).
+    /// Removes a currency that issues no ticket and that no ticket funds. Reply: [`Reply::Done`](crate::Reply::Done).
     ///
     /// Refusals: `NoCurrency`, `BaseFixed`, `InUse`.
     RemoveCurrency {
-        /// A currency but base.
-        currency: Name,
+        /// A currency other than base.
+        currency: CurrencyRef,
     },
-    /// Has a ticket fund a currency or a thread. Answered by [`Reply::Done`](crate::Reply::Done).
+    /// Gives a ticket a target, a currency or a thread. Reply: [`Reply::Done`](crate::Reply::Done).
     ///
     /// Refusals: `NoTicket`, `NoTarget`, `BaseFixed`, `DeadThread`, `Funding`, `Cycle`.
     Fund {
         /// The number of a ticket that funds nothing.
         ticket: u64,
-        /// A currency but base, or a thread that hasn't ended.
-        target: Name,
+        /// A currency other than base, or a thread that hasn't ended.
+        target: TargetRef,
     },
-    /// Has a ticket fund nothing. Answered by [`Reply::Done`](crate::Reply::Done).
+    /// Takes away a ticket's target. Reply: [`Reply::Done`](crate::Reply::Done).
     ///
     /// Refusals: `NoTicket`, `NotFunding`.
     Unfund {
         /// The number of a ticket that funds something.
         ticket: u64,
     },
-    /// Gives a ticket another amount, which counts at once: inflation and deflation (3.2). It goes on funding what it
-    /// funds. Answered by [`Reply::Done`](crate::Reply::Done).
+    /// Sets a ticket's amount, which counts at once: inflation and deflation (3.2). The ticket keeps its target. Reply:
+    /// [`Reply::Done`](crate::Reply::Done).
     ///
     /// Refusals: `BadAmount`, `NoTicket`.
     SetTicket {
@@ -79,14 +80,14 @@ pub enum Command {
         amount: u64,
     },
     /// Removes a thread that has ended, that no ticket funds, and that has no client and owns no mutex. Its name may be
-    /// given again, its number isn't. Answered by [`Reply::Done`](crate::Reply::Done).
+    /// used again, its number isn't. Reply: [`Reply::Done`](crate::Reply::Done).
     ///
     /// Refusals: `NoThread`, `Alive`, `InUse`.
     RemoveThread {
-        /// The thread's name.
-        thread: Name,
+        /// A thread that has ended.
+        thread: ThreadRef,
     },
-    /// Makes a thread, which is ready, and which nothing funds yet. Answered by
+    /// Makes a thread, which is ready and unfunded. Reply:
     /// [`Reply::Thread`](crate::Reply::Thread).
     ///
     /// Refusals: `NameTaken`, `NoScript`, `Full`.
@@ -96,42 +97,42 @@ pub enum Command {
         /// The number of its script, from 1.
         script: u32,
     },
-    /// Makes a thread, and a ticket that funds it. Answered by [`Reply::Funded`](crate::Reply::Funded).
+    /// Makes a thread, and a ticket that funds it. Reply: [`Reply::Funded`](crate::Reply::Funded).
     ///
     /// Refusals: `BadAmount`, `NoCurrency`, `NameTaken`, `NoScript`, `Full`.
     MakeFunded {
         /// 1 to 4294967295.
         amount: u64,
         /// The currency that issues the ticket.
-        currency: Name,
+        currency: CurrencyRef,
         /// A name that no currency and no thread has, ended threads included.
         name: Name,
         /// The number of its script, from 1.
         script: u32,
     },
-    /// Asks for a listing. Answered by [`Reply::List`](crate::Reply::List), and never refused.
+    /// Requests a listing. Reply: [`Reply::List`](crate::Reply::List). It is never refused.
     List(Listing),
 }
 
-/// What a trap of a running thread asks for. Each says its refusals, [`TrapRefusal`](crate::TrapRefusal)s, in the
-/// order of the checks, and its outcomes, [`Outcome`](crate::Outcome)s.
+/// The request of a running thread's trap. For each its refusals, [`TrapRefusal`](crate::TrapRefusal)s, are listed in
+/// the order of the checks, and its outcomes, [`Outcome`](crate::Outcome)s.
 ///
-/// Ports are numbered from 1 to [`Sizes::ports`](crate::Sizes::ports), mutexes likewise. A number that is sent is any
-/// 32 bits.
+/// Ports are numbered from 1 to [`Sizes::ports`](crate::Sizes::ports), mutexes likewise. The number to send is any 32
+/// bits.
 #[derive(Clone, Copy, Debug, PartialEq, Eq, Hash)]
 pub enum Action {
     /// Gives up the rest of the quantum: `Yielded`. It is never refused.
     Yield,
-    /// Sleeps until [`Event::Wake`]: `Slept`. It is never refused. What funds the thread is inactive meanwhile, and its
-    /// mutexes and its clients stay as they are. It is compensated for what is left of its quantum.
+    /// Sleeps until [`Event::Wake`]: `Slept`. It is never refused. The thread's tickets are inactive meanwhile; it
+    /// keeps its mutexes and its clients. It is compensated for the rest of its quantum.
     Sleep,
-    /// Sends a number to a port, and waits for the answer: `ServedBy` or `Queued`.
+    /// Sends a number to a port, and waits for the reply: `ServedBy` or `Queued`.
     ///
     /// Refusal: `NoPort`.
     Call {
         /// The port's number, from 1.
         port: u32,
-        /// What is sent.
+        /// The number to send.
         number: u32,
     },
     /// Receives a call at a port, or waits for one: `Received` or `Waits`.
@@ -141,21 +142,21 @@ pub enum Action {
         /// The port's number, from 1.
         port: u32,
     },
-    /// Answers the client that was taken first: `Replied`.
+    /// Replies to the client that it took first: `Replied`.
     ///
     /// Refusal: `NothingToReply`.
     Reply {
-        /// What is sent.
+        /// The number to send.
         number: u32,
     },
-    /// Answers the client that was taken first, and then receives a call at a port or waits for one:
+    /// Replies to the client that it took first, and then receives a call at a port or waits for one:
     /// `RepliedThenReceived` or `RepliedThenWaits`.
     ///
     /// Refusals: `NoPort`, `NothingToReply`.
     Serve {
         /// The port's number, from 1.
         port: u32,
-        /// What is sent.
+        /// The number to send.
         number: u32,
     },
     /// Takes a mutex, or waits for it: `Locked` or `Waits`.
@@ -181,14 +182,16 @@ pub enum Action {
 /// One event. There is a function for each kind, so that `Event::draw(1, 9)` is
 /// `Event::Draw { processor: 1, number: 9 }`.
 ///
-/// Each says its refusals, [`EventRefusal`](crate::EventRefusal)s, in the order of the checks. Processors are numbered
-/// from 1 to [`Sizes::processors`](crate::Sizes::processors).
+/// For each its refusals, [`EventRefusal`](crate::EventRefusal)s, are listed in the order of the checks. Processors are
+/// numbered from 1 to [`Sizes::processors`](crate::Sizes::processors).
 ///
 /// ```
-/// use lot::{Action, Command, Event, Name};
+/// use lot::{Action, Command, Event, Name, TargetRef};
 ///
-/// let fund = Event::fund(1, "alice".parse()?);
-/// assert_eq!(fund, Event::Command(Command::Fund { ticket: 1, target: "alice".parse()? }));
+/// let alice: Name = "alice".parse()?;
+/// assert_eq!(Event::fund(1, alice), Event::Command(Command::Fund { ticket: 1, target: alice.into() }));
+/// let fund = Event::fund_thread(1, 3);
+/// assert_eq!(fund, Event::Command(Command::Fund { ticket: 1, target: TargetRef::Thread(3) }));
 /// assert_eq!(Event::draw(1, 9), Event::Draw { processor: 1, number: 9 });
 /// let lock = Event::trap(1, 20, Action::Lock { mutex: 2 });
 /// assert_eq!(lock, Event::Trap { processor: 1, ticks: 20, action: Action::Lock { mutex: 2 } });
@@ -196,9 +199,9 @@ pub enum Action {
 /// ```
 #[derive(Clone, Copy, Debug, PartialEq, Eq, Hash)]
 pub enum Event {
-    /// A command of the console, with the refusals that it says.
+    /// A command of the console, with the refusals listed there.
     Command(Command),
-    /// A draw by a processor on which nobody runs. Answered by [`Reply::Winner`](crate::Reply::Winner) or
+    /// A draw by an idle processor. Reply: [`Reply::Winner`](crate::Reply::Winner) or
     /// [`Reply::Idle`](crate::Reply::Idle).
     ///
     /// Refusals: `BadProcessor`, `Busy`.
@@ -208,50 +211,50 @@ pub enum Event {
         /// A drawn number, any 128 bits. The kernel takes it modulo the sum of the weights.
         number: u128,
     },
-    /// The end of the quantum of the thread that runs on a processor. What was left of the quantum counts as used.
-    /// Answered by [`Reply::Expired`](crate::Reply::Expired).
+    /// The end of the quantum of the thread that runs on a processor. The rest of the quantum counts as used.
+    /// Reply: [`Reply::Expired`](crate::Reply::Expired).
     ///
     /// Refusals: `BadProcessor`, `NotRunning`.
     Expire {
         /// The processor's number, from 1.
         processor: u32,
     },
-    /// A trap of the thread that runs on a processor. Answered by [`Reply::Trapped`](crate::Reply::Trapped), also
-    /// where what it asks for is refused by a [`TrapRefusal`](crate::TrapRefusal).
+    /// A trap of the thread that runs on a processor. Reply: [`Reply::Trapped`](crate::Reply::Trapped), even if its
+    /// request is refused with a [`TrapRefusal`](crate::TrapRefusal).
     ///
     /// Refusals: `BadProcessor`, `NotRunning`, `BadTicks`.
     Trap {
         /// The processor's number, from 1.
         processor: u32,
-        /// The ticks of work before the trap, which costs one tick more itself. Together they are at most what the
-        /// quantum has left.
+        /// The ticks of work before the trap, which itself costs one tick more. Together they must fit in the rest of
+        /// the quantum.
         ticks: u32,
-        /// What it asks for.
+        /// Its request.
         action: Action,
     },
-    /// The processor is taken from the thread that runs on it, before its quantum's end. The thread is ready, is
-    /// charged the ticks that it ran, and isn't compensated. Answered by [`Reply::Expired`](crate::Reply::Expired).
+    /// The preemption of the thread that runs on a processor, before its quantum's end. The thread becomes ready, is
+    /// charged the ticks that it ran, and isn't compensated. Reply: [`Reply::Expired`](crate::Reply::Expired).
     ///
     /// Refusals: `BadProcessor`, `NotRunning`, `BadTicks`.
     Preempt {
         /// The processor's number, from 1.
         processor: u32,
-        /// The ticks of work since the thread's last event, at most what the quantum has left.
+        /// The ticks of work since the thread's last event, at most the rest of the quantum.
         ticks: u32,
     },
-    /// The end of the quantum of the thread that runs on a processor, some ticks late. What was left of the quantum and
-    /// the late ticks count as used. Until the thread next wins a draw it weighs its value times the quantum over the
-    /// quantum and the late ticks, but at least 1 if it is worth something. With 0 late ticks this is
-    /// [`Event::Expire`]. Answered by [`Reply::Expired`](crate::Reply::Expired).
+    /// The end of the quantum of the thread that runs on a processor, some ticks late. The rest of the quantum and
+    /// the late ticks count as used. Until the thread next wins a draw, its weight is its value times the quantum,
+    /// divided by the sum of the quantum and the late ticks, but at least 1 if its value is. With 0 late ticks this
+    /// is [`Event::Expire`]. Reply: [`Reply::Expired`](crate::Reply::Expired).
     ///
     /// Refusals: `BadProcessor`, `NotRunning`, `BadTicks`.
     Overrun {
         /// The processor's number, from 1.
         processor: u32,
-        /// How many ticks late it is. With the quantum it is at most 4294967295.
+        /// The late ticks. Their sum with the quantum is at most 4294967295.
         late: u32,
     },
-    /// A thread that sleeps is ready again, with the compensation that it got when it went to sleep. Answered by
+    /// The wake of a sleeping thread: it is ready, with the compensation from when it went to sleep. Reply:
     /// [`Reply::Done`](crate::Reply::Done).
     ///
     /// Refusals: `NoThread`, `NotAsleep`.
@@ -261,12 +264,31 @@ pub enum Event {
     },
 }
 
-/// A function for each kind of event. The variants say what each does, its ranges and its refusals.
+/// A function for each kind of event. See the variants for effects, ranges and refusals. For a currency or a thread
+/// given by its name and by its number there are separate functions.
 impl Event {
-    /// [`Command::MakeTicket`].
+    /// [`Command::MakeTicket`] of the currency with this name.
     #[must_use]
     pub const fn make_ticket(amount: u64, currency: Name) -> Event {
-        Event::Command(Command::MakeTicket { amount, currency })
+        Event::Command(Command::MakeTicket { amount, currency: CurrencyRef::Named(currency) })
+    }
+
+    /// [`Command::MakeTicket`] of the currency with this number.
+    ///
+    /// ```
+    /// use lot::{Event, Kernel, Name, Reply, Sizes};
+    ///
+    /// let mut kernel = Kernel::new(Sizes::default())?;
+    /// let made = kernel.event(&Event::make_currency("alice".parse()?)).ok()?;
+    /// let Reply::Currency(alice) = made else { unreachable!("a currency is made") };
+    /// let ticket = kernel.event(&Event::make_ticket_in(7, alice)).ok()?;
+    /// assert_eq!(ticket, Reply::Ticket(1));
+    /// assert_eq!(kernel.ticket_row(1).map(|row| row.issuer), Some("alice".parse()?));
+    /// # Ok::<(), Box<dyn std::error::Error>>(())
+    /// ```
+    #[must_use]
+    pub const fn make_ticket_in(amount: u64, currency: u32) -> Event {
+        Event::Command(Command::MakeTicket { amount, currency: CurrencyRef::Numbered(currency) })
     }
 
     /// [`Command::RemoveTicket`].
@@ -281,16 +303,34 @@ impl Event {
         Event::Command(Command::MakeCurrency { name })
     }
 
-    /// [`Command::RemoveCurrency`].
+    /// [`Command::RemoveCurrency`] of the currency with this name.
     #[must_use]
     pub const fn remove_currency(currency: Name) -> Event {
-        Event::Command(Command::RemoveCurrency { currency })
+        Event::Command(Command::RemoveCurrency { currency: CurrencyRef::Named(currency) })
     }
 
-    /// [`Command::Fund`].
+    /// [`Command::RemoveCurrency`] of the currency with this number.
+    #[must_use]
+    pub const fn remove_currency_numbered(currency: u32) -> Event {
+        Event::Command(Command::RemoveCurrency { currency: CurrencyRef::Numbered(currency) })
+    }
+
+    /// [`Command::Fund`] of the currency or thread with this name.
     #[must_use]
     pub const fn fund(ticket: u64, target: Name) -> Event {
-        Event::Command(Command::Fund { ticket, target })
+        Event::Command(Command::Fund { ticket, target: TargetRef::Named(target) })
+    }
+
+    /// [`Command::Fund`] of the currency with this number.
+    #[must_use]
+    pub const fn fund_currency(ticket: u64, currency: u32) -> Event {
+        Event::Command(Command::Fund { ticket, target: TargetRef::Currency(currency) })
+    }
+
+    /// [`Command::Fund`] of the thread with this number.
+    #[must_use]
+    pub const fn fund_thread(ticket: u64, thread: u32) -> Event {
+        Event::Command(Command::Fund { ticket, target: TargetRef::Thread(thread) })
     }
 
     /// [`Command::Unfund`].
@@ -305,10 +345,16 @@ impl Event {
         Event::Command(Command::SetTicket { ticket, amount })
     }
 
-    /// [`Command::RemoveThread`].
+    /// [`Command::RemoveThread`] of the thread with this name.
     #[must_use]
     pub const fn remove_thread(thread: Name) -> Event {
-        Event::Command(Command::RemoveThread { thread })
+        Event::Command(Command::RemoveThread { thread: ThreadRef::Named(thread) })
+    }
+
+    /// [`Command::RemoveThread`] of the thread with this number.
+    #[must_use]
+    pub const fn remove_thread_numbered(thread: u32) -> Event {
+        Event::Command(Command::RemoveThread { thread: ThreadRef::Numbered(thread) })
     }
 
     /// [`Command::MakeThread`].
@@ -317,10 +363,16 @@ impl Event {
         Event::Command(Command::MakeThread { name, script })
     }
 
-    /// [`Command::MakeFunded`].
+    /// [`Command::MakeFunded`] by a ticket of the currency with this name.
     #[must_use]
     pub const fn make_funded(amount: u64, currency: Name, name: Name, script: u32) -> Event {
-        Event::Command(Command::MakeFunded { amount, currency, name, script })
+        Event::Command(Command::MakeFunded { amount, currency: CurrencyRef::Named(currency), name, script })
+    }
+
+    /// [`Command::MakeFunded`] by a ticket of the currency with this number.
+    #[must_use]
+    pub const fn make_funded_in(amount: u64, currency: u32, name: Name, script: u32) -> Event {
+        Event::Command(Command::MakeFunded { amount, currency: CurrencyRef::Numbered(currency), name, script })
     }
 
     /// [`Command::List`].
@@ -406,27 +458,27 @@ impl From<Command> for Event {
 }
 
 impl Command {
-    /// The event as the archive takes it.
+    /// The event in the archive's form.
     fn plain(&self) -> ffi::Event {
         match *self {
             Command::MakeTicket { amount, currency } => {
-                ffi::Event { amount, currency: currency.plain(), ..EventKind::MakeTicket.event() }
+                ffi::Event { amount, ..currency.event(EventKind::MakeTicket, EventKind::MakeTicketIn) }
             }
             Command::RemoveTicket { ticket } => ffi::Event { ticket, ..EventKind::RemoveTicket.event() },
             Command::MakeCurrency { name } => ffi::Event { name: name.plain(), ..EventKind::MakeCurrency.event() },
             Command::RemoveCurrency { currency } => {
-                ffi::Event { currency: currency.plain(), ..EventKind::RemoveCurrency.event() }
+                currency.event(EventKind::RemoveCurrency, EventKind::RemoveCurrencyNumbered)
             }
-            Command::Fund { ticket, target } => ffi::Event { ticket, name: target.plain(), ..EventKind::Fund.event() },
+            Command::Fund { ticket, target } => target.funding(ticket),
             Command::Unfund { ticket } => ffi::Event { ticket, ..EventKind::Unfund.event() },
             Command::SetTicket { ticket, amount } => ffi::Event { amount, ticket, ..EventKind::SetTicket.event() },
-            Command::RemoveThread { thread } => ffi::Event { name: thread.plain(), ..EventKind::RemoveThread.event() },
+            Command::RemoveThread { thread } => thread.removal(),
             Command::MakeThread { name, script } => {
                 ffi::Event { name: name.plain(), script, ..EventKind::MakeThread.event() }
             }
             Command::MakeFunded { amount, currency, name, script } => {
-                let (currency, name) = (currency.plain(), name.plain());
-                ffi::Event { script, amount, currency, name, ..EventKind::MakeFunded.event() }
+                let event = currency.event(EventKind::MakeFunded, EventKind::MakeFundedIn);
+                ffi::Event { script, amount, name: name.plain(), ..event }
             }
             Command::List(Listing::Tickets) => EventKind::ListTickets.event(),
             Command::List(Listing::Currencies) => EventKind::ListCurrencies.event(),
@@ -436,7 +488,7 @@ impl Command {
 }
 
 impl Action {
-    /// The event as the archive takes it, without its processor and ticks.
+    /// The event in the archive's form, without its processor and ticks.
     fn plain(&self) -> ffi::Event {
         match *self {
             Action::Yield => EventKind::Yield.event(),
@@ -455,7 +507,7 @@ impl Action {
 }
 
 impl Event {
-    /// The event as the archive takes it.
+    /// The event in the archive's form.
     pub(crate) fn plain(&self) -> ffi::Event {
         match self {
             Event::Command(command) => command.plain(),

@@ -1,6 +1,6 @@
-//! The archive's calls and structs, as `bindings/c/lot.h` has them.
+//! The archive's calls and structs, as declared in `bindings/c/lot.h`.
 //!
-//! Left out is `lot_kernel_run`: it stops only at an event of no kind or with a bad name, and this crate has no such
+//! `lot_kernel_run` is left out: it stops only at an event of no kind or with a bad name, and this crate has no such
 //! events.
 
 use crate::numbers::CallStatus;
@@ -23,7 +23,7 @@ pub struct Wide {
 }
 
 impl Wide {
-    // The low half is what the cast is to keep.
+    // The cast keeps the low half, as intended.
     #[allow(clippy::cast_possible_truncation)]
     pub fn of(number: u128) -> Wide {
         Wide { low: number as u64, high: (number >> 64) as u64 }
@@ -34,7 +34,7 @@ impl Wide {
     }
 }
 
-/// What holds a kernel.
+/// A handle of a kernel.
 #[repr(C)]
 pub struct Handle {
     pub at: *mut c_void,
@@ -132,7 +132,7 @@ pub struct Drawn {
     pub place: u64,
 }
 
-// The sizes that the structs of one call have in lot.h.
+// The sizes in lot.h of the structs of one call.
 const _: () = assert!(size_of::<Event>() == 96 && size_of::<Reply>() == 80);
 
 extern "C" {
@@ -159,7 +159,7 @@ extern "C" {
     pub fn lot_winner(weights: *const Wide, count: usize, number: *const Wide, drawn: *mut Drawn) -> u32;
 }
 
-/// What a call with this status came to, for one that has no other statuses than `Done` and those of [`Error`].
+/// The result of a call with this status, for a call whose only statuses are `Done` and those of [`Error`].
 pub fn done(status: u32) -> Result<(), Error> {
     let status = CallStatus::of(status);
     if let Some(error) = Error::of(status) {
@@ -169,12 +169,12 @@ pub fn done(status: u32) -> Result<(), Error> {
     Ok(())
 }
 
-/// For a call that cannot fail as this crate makes it.
+/// Checks the status of a call that cannot fail with the arguments that this crate passes.
 pub fn must_be_done(status: u32) {
     assert_eq!(CallStatus::of(status), CallStatus::Done, "a call of the archive that cannot fail");
 }
 
-/// What the call has found, or `None` if it says that nothing is there.
+/// The value that the call stored, or `None` if its status is that nothing is there.
 pub fn if_there<T>(status: u32, found: T) -> Option<T> {
     if CallStatus::of(status) == CallStatus::NotThere {
         return None;

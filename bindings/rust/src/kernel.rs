@@ -17,20 +17,20 @@ pub struct Runner {
     pub used: u32,
 }
 
-/// What a kernel has counted of its own work since it was made.
+/// A kernel's counts of its own work since it was made.
 #[repr(C)]
 #[derive(Clone, Copy, Debug, PartialEq, Eq, Hash)]
 pub struct Meter {
-    /// How many tickets, lends and owners were read for values.
+    /// The number of tickets, lends and owners read to compute values.
     pub ticket_reads: u64,
-    /// How many places of the tree of weights were visited by draws.
+    /// The number of places of the tree of weights that draws visited.
     pub tree_visits: u64,
 }
 
-/// A lottery-scheduled kernel. It takes all its memory when it is made, and gives it back when it is dropped.
+/// A lottery-scheduled kernel. [`Kernel::new`] allocates all its memory, and dropping it frees that.
 ///
 /// It may move to another thread. Threads that share one need a lock around it, such as a [`Mutex`](std::sync::Mutex),
-/// since readers change the kernel inside too:
+/// since even readers change the kernel inside:
 ///
 /// ```compile_fail,E0277
 /// fn needs_sync<T: Sync>() {}
@@ -42,14 +42,14 @@ pub struct Meter {
 /// needs_sync::<std::sync::Mutex<lot::Kernel>>();
 /// ```
 pub struct Kernel {
-    // Readers have `&self`, and the archive's readers take a mutable pointer: each takes the kernel out of the handle
-    // for the time of the call, and rows compute the values that are out of date. So the handle changes behind a
-    // shared reference, which only an `UnsafeCell` allows.
+    // Readers have `&self`, but the archive's readers take a mutable pointer: each takes the kernel out of the handle
+    // during the call, and rows recompute stale values. So the handle changes behind a shared reference, which only an
+    // `UnsafeCell` allows.
     handle: UnsafeCell<ffi::Handle>,
 }
 
-// SAFETY: lot.h lets a kernel go from one thread to another, and different kernels have nothing in common. It isn't
-// `Sync`: of two readers at once both would take the kernel out of the handle.
+// SAFETY: lot.h lets a kernel move from one thread to another, and different kernels share nothing. It isn't `Sync`:
+// two readers at once would both take the kernel out of the handle.
 unsafe impl Send for Kernel {}
 
 const _: () = {
@@ -58,8 +58,8 @@ const _: () = {
 };
 
 impl Kernel {
-    /// Makes a kernel with base alone. This takes all the memory that it will ever use: 12 kilobytes for 16 threads,
-    /// 5.4 megabytes at the largest sizes. [`Kernel::bytes`] says how much for any.
+    /// Makes a kernel with base alone. This allocates all the memory that it will ever use: 12 kilobytes for 16
+    /// threads, 5.4 megabytes at the largest sizes. [`Kernel::bytes`] returns the number for any sizes.
     ///
     /// ```
     /// use lot::{Error, Kernel, Sizes};
@@ -72,8 +72,7 @@ impl Kernel {
     ///
     /// # Errors
     ///
-    /// [`Error::BadLimits`] if a size is out of its bounds, otherwise [`Error::NoMemory`] if the system gave no
-    /// memory.
+    /// [`Error::BadLimits`] if a size is out of its bounds, otherwise [`Error::NoMemory`] if out of memory.
     pub fn new(sizes: Sizes) -> Result<Kernel, Error> {
         let mut handle = ffi::Handle { at: null_mut() };
         // SAFETY: both are whole and apart, and the handle holds no kernel.
@@ -81,7 +80,7 @@ impl Kernel {
         Ok(Kernel { handle: UnsafeCell::new(handle) })
     }
 
-    /// How many bytes [`Kernel::new`] asks of the system in all for these sizes, in at most 40 blocks.
+    /// The total of bytes that [`Kernel::new`] requests from the system for these sizes, in at most 40 blocks.
     ///
     /// ```
     /// use lot::{Error, Kernel, Sizes};
@@ -101,10 +100,10 @@ impl Kernel {
         Ok(bytes)
     }
 
-    /// Gives the kernel one event, and returns its reply. It takes no memory.
+    /// Makes one event, and returns the kernel's reply. It allocates nothing.
     ///
-    /// A refused event has changed nothing, and a refused trap nothing but its thread's ticks. Only the reply tells,
-    /// and [`Reply::ok`] makes an error of it:
+    /// A refused event has changed nothing, and a refused trap nothing except its thread's ticks. Only the reply
+    /// tells of a refusal, and [`Reply::ok`] turns it into an error:
     ///
     /// ```
     /// use lot::{Event, Kernel, Name, Reply, Sizes};
@@ -116,23 +115,24 @@ impl Kernel {
     /// # Ok::<(), Box<dyn std::error::Error>>(())
     /// ```
     ///
-    /// The compiler warns of a reply that is dropped, or doesn't compile it if the caller says so:
+    /// The compiler warns about an unused reply, or rejects it if the caller denies the warning:
     ///
     /// ```compile_fail
     /// #![deny(unused_must_use)]
     /// let mut kernel = lot::Kernel::new(lot::Sizes::default()).unwrap();
     /// kernel.event(&lot::Event::expire(1)); // refused: nobody runs
     /// ```
-    // It is the call that must be used and not the type `Reply`: `event(..).ok()?;`, which has looked, would warn too.
+    // `must_use` is on the call and not on the type `Reply`: otherwise `event(..).ok()?;`, which checks, would warn
+    // too.
     #[must_use = "only the reply tells if the event was refused, and who is to run"]
     pub fn event(&mut self, event: &Event) -> Reply {
         let mut reply = ffi::Reply::default();
-        // SAFETY: `here` says it of the handle; the event and the reply are whole, and the three are apart.
+        // SAFETY: for the handle see `here`; the event and the reply are whole, and the three are apart.
         ffi::must_be_done(unsafe { ffi::lot_kernel_event(self.here(), &event.plain(), &mut reply) });
         Reply::of(&reply)
     }
 
-    /// Gives the kernel events in order, up to the first that is refused, and returns the replies.
+    /// Makes events in order, up to the first that is refused, and returns the replies.
     ///
     /// ```
     /// use lot::{Event, EventRefusal, Kernel, Name, Refusal, Sizes};
@@ -147,8 +147,8 @@ impl Kernel {
     ///
     /// # Errors
     ///
-    /// [`Stopped`] if an event or a trap is refused: it has the replies before, and so how many events were done, the
-    /// refused one's reply and why. The events after it weren't given.
+    /// [`Stopped`] if an event or a trap is refused: it has the replies before, and so the number of events made, the
+    /// refused one's reply, and the refusal. The events after it aren't made.
     pub fn run(&mut self, events: &[Event]) -> Result<Vec<Reply>, Stopped> {
         let mut replies = Vec::with_capacity(events.len());
         for reply in self.replies(events) {
@@ -160,7 +160,7 @@ impl Kernel {
         Ok(replies)
     }
 
-    /// Gives the kernel events in order, each when its reply is asked for, and goes on after refused ones.
+    /// Makes events in order, each when the iterator is asked for its reply, and continues after refused ones.
     ///
     /// ```
     /// use lot::{Event, EventRefusal, Kernel, Reply, Sizes};
@@ -174,26 +174,26 @@ impl Kernel {
         Replies { kernel: self, events: events.iter() }
     }
 
-    /// The row of the ticket with this number, from 1. `None` if there is none, or it is removed.
+    /// The row of the ticket with this number, from 1. `None` if there is none, or if it was removed.
     #[must_use]
     pub fn ticket_row(&self, ticket: u32) -> Option<TicketRow> {
         let mut row = ffi::TicketRow::default();
-        // SAFETY: `here` says it of the handle; the row is whole and apart from it.
+        // SAFETY: for the handle see `here`; the row is whole and apart from it.
         let status = unsafe { ffi::lot_kernel_ticket_row(self.here(), ticket, &mut row) };
         ffi::if_there(status, row).map(TicketRow::of)
     }
 
-    /// The row of the currency with this number; base has 0. `None` if there is none, or it is removed.
+    /// The row of the currency with this number; base has 0. `None` if there is none, or if it was removed.
     #[must_use]
     pub fn currency_row(&self, currency: u32) -> Option<CurrencyRow> {
         let mut row = ffi::CurrencyRow::default();
-        // SAFETY: `here` says it of the handle; the row is whole and apart from it.
+        // SAFETY: for the handle see `here`; the row is whole and apart from it.
         let status = unsafe { ffi::lot_kernel_currency_row(self.here(), currency, &mut row) };
         ffi::if_there(status, row).map(CurrencyRow::of)
     }
 
-    /// The row of the thread with this number, from 1. `None` if there is none, or it is removed. A thread that has
-    /// ended has one until it is removed.
+    /// The row of the thread with this number, from 1. `None` if there is none, or if it was removed. A thread that has
+    /// ended has a row until it is removed.
     ///
     /// ```
     /// use lot::{Event, Kernel, Name, Runner, Sizes, Status};
@@ -210,23 +210,23 @@ impl Kernel {
     #[must_use]
     pub fn thread_row(&self, thread: u32) -> Option<ThreadRow> {
         let mut row = ffi::ThreadRow::default();
-        // SAFETY: `here` says it of the handle; the row is whole and apart from it.
+        // SAFETY: for the handle see `here`; the row is whole and apart from it.
         let status = unsafe { ffi::lot_kernel_thread_row(self.here(), thread, &mut row) };
         ffi::if_there(status, row).map(ThreadRow::of)
     }
 
-    /// The tickets that there are, with their numbers, by rising number.
+    /// The existing tickets with their numbers, in ascending order.
     pub fn tickets(&self) -> impl Iterator<Item = (u32, TicketRow)> + '_ {
         (1..=self.ticket_count()).filter_map(|ticket| Some((ticket, self.ticket_row(ticket)?)))
     }
 
-    /// The currencies that there are, with their numbers, by rising number. The first is base, 0.
+    /// The existing currencies with their numbers, in ascending order. The first is base, 0.
     pub fn currencies(&self) -> impl Iterator<Item = (u32, CurrencyRow)> + '_ {
         (0..self.currency_count()).filter_map(|currency| Some((currency, self.currency_row(currency)?)))
     }
 
-    /// The threads that there are, with their numbers, by rising number. Those that have ended are among them until
-    /// they are removed.
+    /// The existing threads with their numbers, in ascending order. They include threads that have ended, until these
+    /// are removed.
     ///
     /// ```
     /// use lot::{Event, Kernel, Name, Sizes};
@@ -242,63 +242,64 @@ impl Kernel {
         (1..=self.sizes().threads).filter_map(|thread| Some((thread, self.thread_row(thread)?)))
     }
 
-    /// Who runs on the processor with this number, from 1. `None` if nobody does, or there is no such processor.
+    /// The thread that runs on the processor with this number, from 1. `None` if it is idle or there is no such
+    /// processor.
     #[must_use]
     pub fn runner(&self, processor: u32) -> Option<Runner> {
         let mut runner = Runner { thread: 0, used: 0 };
-        // SAFETY: `here` says it of the handle; the runner is whole and apart from it.
+        // SAFETY: for the handle see `here`; the runner is whole and apart from it.
         let status = unsafe { ffi::lot_kernel_runner(self.here(), processor, &mut runner) };
         ffi::if_there(status, runner)
     }
 
-    /// The number of the script that the thread was made with. `None` if there is no such thread.
+    /// The number of the thread's script, fixed when it was made. `None` if there is no such thread.
     #[must_use]
     pub fn script_of(&self, thread: u32) -> Option<u32> {
         let mut script = 0;
-        // SAFETY: `here` says it of the handle; the number is whole and apart from it.
+        // SAFETY: for the handle see `here`; the number is whole and apart from it.
         let status = unsafe { ffi::lot_kernel_script_of(self.here(), thread, &mut script) };
         ffi::if_there(status, script)
     }
 
-    /// How many tickets were made, including those removed since. They have the numbers from 1 to this.
+    /// The number of tickets ever made, including removed ones. They are numbered from 1 to this number.
     #[must_use]
     pub fn ticket_count(&self) -> u32 {
         let mut count = 0;
-        // SAFETY: `here` says it of the handle; the number is whole and apart from it.
+        // SAFETY: for the handle see `here`; the number is whole and apart from it.
         ffi::must_be_done(unsafe { ffi::lot_kernel_ticket_count(self.here(), &mut count) });
         count
     }
 
-    /// How many currencies were made, including base and those removed since. They have the numbers from 0 to below
-    /// this.
+    /// The number of currencies ever made, including base and removed ones. They are numbered from 0 to one below this
+    /// number.
     #[must_use]
     pub fn currency_count(&self) -> u32 {
         let mut count = 0;
-        // SAFETY: `here` says it of the handle; the number is whole and apart from it.
+        // SAFETY: for the handle see `here`; the number is whole and apart from it.
         ffi::must_be_done(unsafe { ffi::lot_kernel_currency_count(self.here(), &mut count) });
         count
     }
 
-    /// The sizes that the kernel was made with.
+    /// The sizes with which the kernel was made.
     #[must_use]
     pub fn sizes(&self) -> Sizes {
         let mut sizes = Sizes::SMALL;
-        // SAFETY: `here` says it of the handle; the sizes are whole and apart from it.
+        // SAFETY: for the handle see `here`; the sizes are whole and apart from it.
         ffi::must_be_done(unsafe { ffi::lot_kernel_limits(self.here(), &mut sizes) });
         sizes
     }
 
-    /// What the kernel has counted of its own work. Rows count too, where they compute values that are out of date.
+    /// The kernel's counts of its own work. Rows count too, where they recompute stale values.
     #[must_use]
     pub fn meter(&self) -> Meter {
         let mut meter = Meter { ticket_reads: 0, tree_visits: 0 };
-        // SAFETY: `here` says it of the handle; the meter is whole and apart from it.
+        // SAFETY: for the handle see `here`; the meter is whole and apart from it.
         ffi::must_be_done(unsafe { ffi::lot_kernel_meter(self.here(), &mut meter) });
         meter
     }
 
-    /// The handle, for one call of the archive: it is whole, holds a kernel from `new` to `drop`, and no reference to
-    /// it is ever made. No two calls overlap, since the kernel isn't `Sync` and no call comes back into this crate.
+    /// The handle, for one call of the archive: it is whole, holds a kernel from `new` to `drop`, and there is never a
+    /// reference to it. No two calls overlap, since the kernel isn't `Sync` and no call comes back into this crate.
     fn here(&self) -> *mut ffi::Handle {
         self.handle.get()
     }
@@ -317,8 +318,8 @@ impl fmt::Debug for Kernel {
     }
 }
 
-/// The replies to events, each of which is given to the kernel when its reply is asked for. [`Kernel::replies`] makes
-/// it.
+/// An iterator over the replies to events, made by [`Kernel::replies`]. It makes each event when it is asked for the
+/// reply.
 #[derive(Debug)]
 #[must_use = "an event is given only when its reply is asked for"]
 pub struct Replies<'a> {

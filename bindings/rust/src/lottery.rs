@@ -1,4 +1,4 @@
-//! The lottery alone, without a kernel.
+//! The lottery by itself, without a kernel.
 
 use crate::ffi::{self, Wide};
 use crate::numbers::CallStatus;
@@ -6,10 +6,10 @@ use crate::Error;
 use std::iter::FusedIterator;
 use std::num::NonZeroU32;
 
-/// What a thread of this value weighs in a draw. The compensation is how many ticks of its quantum it had used when it
-/// yielded, blocked or went to sleep before the quantum's end, or the quantum and the ticks that it ended late: then
-/// the weight is the value times the quantum divided by it, rounded down, but at least 1 if the value is. Otherwise
-/// the weight is the value.
+/// The weight of a thread with this value in a draw. The compensation is the ticks of its quantum that it had used when
+/// it yielded, blocked or went to sleep before the quantum's end, or the sum of the quantum and the ticks by which it
+/// ended late. With a compensation the weight is the value times the quantum, divided by the compensation and rounded
+/// down, but at least 1 if the value is. Otherwise the weight is the value.
 ///
 /// ```
 /// use std::num::NonZeroU32;
@@ -27,12 +27,12 @@ pub fn weight(value: u64, compensation: Option<NonZeroU32>, quantum: u32) -> u12
     weight.number()
 }
 
-/// Who won a lottery.
+/// The winner of a lottery.
 #[derive(Clone, Copy, Debug, PartialEq, Eq, Hash)]
 pub struct Drawn {
     /// The winner's index among the weights.
     pub place: usize,
-    /// The number that was drawn, below the total.
+    /// The drawn number, below the total.
     pub number: u128,
     /// The sum of the weights.
     pub total: u128,
@@ -48,9 +48,9 @@ fn index_of(place: u64) -> usize {
     usize::try_from(place).expect("an index of a slice")
 }
 
-/// Holds a lottery over the weights with this number, any 128 bits. The winner is the first place whose running sum is
-/// greater than the number modulo the sum of the weights. `None` if the weights sum to 0. It takes memory for a copy
-/// of the weights, and gives it back.
+/// Holds a lottery over the weights with this number, any 128 bits. The winner is the first index whose running sum
+/// is greater than the number modulo the sum of the weights. Returns `None` if the weights sum to 0. It allocates a
+/// copy of the weights, and frees it.
 ///
 /// ```
 /// let drawn = lot::winner(&[10, 2, 5, 1, 2], 15)?.expect("some weight");
@@ -61,7 +61,7 @@ fn index_of(place: u64) -> usize {
 ///
 /// # Errors
 ///
-/// [`Error::TooLarge`] if the weights sum to 2 ^ 128 or more, [`Error::NoMemory`] if the system gave no memory.
+/// [`Error::TooLarge`] if the weights sum to 2 ^ 128 or more, [`Error::NoMemory`] if out of memory.
 pub fn winner(weights: &[u128], number: u128) -> Result<Option<Drawn>, Error> {
     let weights: Vec<Wide> = weights.iter().map(|weight| Wide::of(*weight)).collect();
     let mut drawn = ffi::Drawn::default();
@@ -93,7 +93,7 @@ pub struct ParkMiller {
 }
 
 impl ParkMiller {
-    /// The generator whose value is the seed, 1 to 2147483646.
+    /// A generator with this seed as its value, 1 to 2147483646.
     ///
     /// # Errors
     ///
@@ -105,7 +105,7 @@ impl ParkMiller {
         Ok(ParkMiller { value: generator.value })
     }
 
-    /// Goes on to the next value, and returns it: 1 to 2147483646.
+    /// Advances to the next value and returns it: 1 to 2147483646.
     pub fn next_value(&mut self) -> u32 {
         let mut value = 0;
         // SAFETY: both are whole and apart.
@@ -113,7 +113,7 @@ impl ParkMiller {
         value
     }
 
-    /// Returns the number that is drawn from the next two values, 0 to 4611686009837453315, and goes on to the second.
+    /// Returns the number drawn from the next two values, 0 to 4611686009837453315, and advances to the second.
     pub fn number(&mut self) -> u64 {
         let mut number = 0;
         // SAFETY: both are whole and apart.
@@ -121,7 +121,7 @@ impl ParkMiller {
         number
     }
 
-    /// Returns the wide number that is drawn from the next four values, below 2 ^ 124, and goes on to the fourth.
+    /// Returns the wide number drawn from the next four values, below 2 ^ 124, and advances to the fourth.
     pub fn wide_number(&mut self) -> u128 {
         let mut number = Wide::default();
         // SAFETY: both are whole and apart.
@@ -129,7 +129,7 @@ impl ParkMiller {
         number.number()
     }
 
-    /// Makes a call that changes the generator's value. It can't fail, since the value is always one of a generator.
+    /// Makes a call that changes the generator's value. It can't fail, since the value is always in range.
     fn go_on(&mut self, call: impl FnOnce(&mut ffi::Generator) -> u32) {
         let mut generator = ffi::Generator { value: self.value };
         ffi::must_be_done(call(&mut generator));

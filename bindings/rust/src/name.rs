@@ -6,8 +6,8 @@ use std::fmt;
 use std::hash::{Hash, Hasher};
 use std::str::FromStr;
 
-/// A name of a currency or a thread: a letter a to z, followed by letters a to z, digits, `_` or `-`, in all 1 to 16
-/// bytes. Names compare, sort and hash as their texts do.
+/// A name of a currency or a thread: a letter a to z, followed by letters a to z, digits, `_` or `-`, 1 to 16 bytes in
+/// all. Names compare, sort and hash as their texts do.
 ///
 /// ```
 /// use lot::{Error, Name};
@@ -18,7 +18,7 @@ use std::str::FromStr;
 /// assert_eq!(Name::new("Web"), Err(Error::BadName));
 /// # Ok::<(), lot::Error>(())
 /// ```
-// The bytes after the name are 0, and no name has a 0 in it. So the derived order, by bytes first, is that of texts.
+// The bytes after the name are 0, and no name contains a 0. So the derived order, by bytes first, is that of the texts.
 #[derive(Clone, Copy, PartialEq, Eq, PartialOrd, Ord)]
 pub struct Name {
     bytes: [u8; 16],
@@ -26,14 +26,14 @@ pub struct Name {
 }
 
 impl Name {
-    /// The name of the currency that every kernel has: `base`.
+    /// The name of the base currency, which every kernel has: `base`.
     pub const BASE: Name = Name { bytes: *b"base\0\0\0\0\0\0\0\0\0\0\0\0", length: 4 };
 
     /// The name with this text.
     ///
     /// # Errors
     ///
-    /// [`Error::LongName`] if the text has more than 16 bytes, otherwise [`Error::BadName`] if it isn't a name.
+    /// [`Error::LongName`] if the text has more than 16 bytes, otherwise [`Error::BadName`] if it isn't a valid name.
     pub fn new(text: &str) -> Result<Name, Error> {
         Name::try_from(text.as_bytes())
     }
@@ -44,7 +44,7 @@ impl Name {
         text_of(&self.bytes[..usize::from(self.length)])
     }
 
-    /// A name that the archive has made or checked.
+    /// A name that the archive made or checked.
     pub(crate) fn of(name: ffi::Name) -> Name {
         let length = u8::try_from(name.length).expect("a name of at most 16 bytes");
         Name { bytes: name.bytes, length }
@@ -92,7 +92,7 @@ impl AsRef<str> for Name {
     }
 }
 
-/// So that a map whose keys are names can be asked by text.
+/// Lets a map whose keys are names be looked up by text.
 impl Borrow<str> for Name {
     fn borrow(&self) -> &str {
         self.as_str()

@@ -1,10 +1,10 @@
-//! The numbers that the archive has for kinds, outcomes, refusals and statuses: all that this crate has stand here.
-//! `bindings/numbers` compares them with the table of the proofs, `crates/lot_c/specs/Numbers.antt`. It reads each
-//! line `Variant = number,` of an enum.
+//! The archive's numbers for kinds, outcomes, refusals and statuses; this crate has no others. `bindings/numbers`
+//! compares them with the table of the proofs, `crates/lot_c/specs/Numbers.antt`. It reads each line
+//! `Variant = number,` of an enum.
 
 use crate::ffi;
 
-/// An enum whose variants have these numbers, and the variant of a number.
+/// Defines an enum whose variants have these numbers, and the conversion from a number to its variant.
 macro_rules! numbered {
     (
         $(#[$outer:meta])*
@@ -17,7 +17,7 @@ macro_rules! numbered {
         }
 
         impl $name {
-            /// The one with this number. The archive has no others.
+            /// The variant with this number. The archive has no others.
             pub(crate) fn of(number: u32) -> $name {
                 match number {
                     $($number => $name::$variant,)+
@@ -29,7 +29,7 @@ macro_rules! numbered {
 }
 
 numbered! {
-    /// What a call answers.
+    /// The status of a call.
     pub(crate) enum CallStatus {
         Done = 0,
         NoKernel = 1,
@@ -77,6 +77,12 @@ pub(crate) enum EventKind {
     Preempt = 25,
     Overrun = 26,
     Wake = 27,
+    MakeTicketIn = 28,
+    RemoveCurrencyNumbered = 29,
+    FundCurrency = 30,
+    FundThread = 31,
+    RemoveThreadNumbered = 32,
+    MakeFundedIn = 33,
 }
 
 impl EventKind {
@@ -106,7 +112,7 @@ numbered! {
 }
 
 numbered! {
-    /// What a trap comes to.
+    /// The outcome of a trap.
     pub(crate) enum OutcomeKind {
         Yielded = 1,
         ServedBy = 2,
@@ -126,21 +132,21 @@ numbered! {
 }
 
 numbered! {
-    /// Why the kernel refuses an event, which then has changed nothing.
+    /// The reason why the kernel refuses an event. A refused event has changed nothing.
     ///
-    /// The numbers are those of docs/FORMATS.md and of outputs. Each event has its checks in an order, which
-    /// [`Command`](crate::Command) and [`Event`](crate::Event) say, and the first that fails is the refusal.
+    /// The numbers are those of docs/FORMATS.md and of outputs. [`Command`](crate::Command) and [`Event`](crate::Event)
+    /// list each event's checks in their order, and the first that fails is the refusal.
     pub enum EventRefusal {
-        /// The name isn't a good one. A [`Name`](crate::Name) always is, so the kernel never refuses one of this
-        /// crate.
+        /// The name isn't a good one. A [`Name`](crate::Name) always is, so events of this crate never get this
+        /// refusal.
         BadName = 1,
         /// A currency or a thread has the name already. A thread that has ended keeps its name until it is removed.
         NameTaken = 2,
-        /// No currency has the name.
+        /// No currency has the name or the number.
         NoCurrency = 3,
-        /// No ticket has the number, or the one that had it is removed.
+        /// No ticket has the number, or its ticket was removed.
         NoTicket = 4,
-        /// Neither a currency nor a thread has the name.
+        /// No currency or thread has the name, or none of that kind has the number.
         NoTarget = 5,
         /// The amount is 0 or above 4294967295.
         BadAmount = 6,
@@ -153,38 +159,38 @@ numbered! {
         NotFunding = 9,
         /// The funding would close a cycle of currencies.
         Cycle = 10,
-        /// Base is to be removed or funded.
+        /// Base can't be removed or funded.
         BaseFixed = 11,
-        /// The thread to be funded has ended.
+        /// The thread to fund has ended.
         DeadThread = 12,
-        /// As many were made as [`Sizes`](crate::Sizes) allows, removed ones and ended threads included.
+        /// The limit of [`Sizes`](crate::Sizes) is reached, counting removed ones and ended threads.
         Full = 13,
         /// The script's number is 0 or above the number of scripts.
         NoScript = 14,
         /// No thread has the name or the number. A thread that has ended has both until it is removed.
         NoThread = 15,
-        /// The thread hasn't ended. One that waits for good hasn't either.
+        /// The thread hasn't ended, though it may wait for good.
         Alive = 16,
         /// The processor's number is 0 or above the number of processors.
         BadProcessor = 20,
-        /// A thread runs on the processor already, so it can't draw.
+        /// A thread runs on the processor already.
         Busy = 21,
         /// No thread runs on the processor.
         NotRunning = 22,
-        /// The ticks of work, with the trap's own, are more than what the quantum has left; or a quantum with the ticks
-        /// that it ended late is above 4294967295.
+        /// The ticks of work, with the trap's own, are more than the rest of the quantum; or the sum of the quantum and
+        /// its late ticks is above 4294967295.
         BadTicks = 23,
-        /// The thread to be woken doesn't sleep: it is ready, runs, waits or has ended.
+        /// The thread to wake isn't asleep: it is ready, runs, waits or has ended.
         NotAsleep = 24,
     }
 }
 
 numbered! {
-    /// Why the kernel refuses a trap. The thread has run the trap's ticks all the same, and goes on unless its quantum
-    /// is used up.
+    /// The reason why the kernel refuses a trap. The thread is charged the trap's ticks even so, and goes on unless its
+    /// quantum is used up.
     ///
-    /// The numbers are those of docs/FORMATS.md and of outputs. Each trap has its checks in an order, which
-    /// [`Action`](crate::Action) says, and the first that fails is the refusal.
+    /// The numbers are those of docs/FORMATS.md and of outputs. [`Action`](crate::Action) lists each trap's checks in
+    /// their order, and the first that fails is the refusal.
     pub enum TrapRefusal {
         /// The port's number is 0 or above the number of ports.
         NoPort = 30,
@@ -196,7 +202,7 @@ numbered! {
         NotOwner = 34,
         /// The thread owns the mutex already.
         AlreadyOwner = 35,
-        /// The owner waits for the thread already, perhaps through others, so the wait would close a cycle.
+        /// The owner already waits for the thread, perhaps through others, so the wait would close a cycle.
         LockCycle = 36,
     }
 }
@@ -205,7 +211,7 @@ numbered! {
 macro_rules! number {
     ($($name:ident),+) => {
         $(impl $name {
-            /// The number that docs/FORMATS.md and outputs have for it.
+            /// Its number in docs/FORMATS.md and in outputs.
             #[must_use]
             pub const fn number(self) -> u32 {
                 self as u32
@@ -217,7 +223,7 @@ macro_rules! number {
 number!(EventRefusal, TrapRefusal);
 
 numbered! {
-    /// What a thread is doing.
+    /// The status of a thread.
     pub(crate) enum StatusKind {
         Ready = 1,
         Running = 2,

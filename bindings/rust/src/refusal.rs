@@ -1,11 +1,11 @@
-//! Why the kernel refuses an event or a trap.
+//! Refusals of events and traps.
 
 use crate::numbers::{EventRefusal, TrapRefusal};
 use crate::Reply;
 use std::error::Error;
 use std::fmt;
 
-/// Why the kernel refuses what an event asks for.
+/// The reason why the kernel refuses an event or its trap.
 ///
 /// ```
 /// use lot::{Event, Kernel, EventRefusal, Refusal, Sizes};
@@ -21,12 +21,12 @@ use std::fmt;
 pub enum Refusal {
     /// The event is refused, and has changed nothing.
     Event(EventRefusal),
-    /// The trap is refused. Its thread has run its ticks all the same, and goes on unless its quantum is used up.
+    /// The trap is refused. Its thread is charged its ticks even so, and goes on unless its quantum is used up.
     Trap(TrapRefusal),
 }
 
 impl Refusal {
-    /// The number that docs/FORMATS.md and outputs have for it. No two refusals share one.
+    /// Its number in docs/FORMATS.md and in outputs. Each refusal has its own.
     #[must_use]
     pub const fn number(self) -> u32 {
         match self {
@@ -62,9 +62,9 @@ impl fmt::Display for EventRefusal {
         f.write_str(match self {
             EventRefusal::BadName => "the name isn't a good one",
             EventRefusal::NameTaken => "a currency or a thread, perhaps a dead one, has the name already",
-            EventRefusal::NoCurrency => "no currency has the name",
+            EventRefusal::NoCurrency => "no currency has the name or the number",
             EventRefusal::NoTicket => "no ticket has the number",
-            EventRefusal::NoTarget => "neither a currency nor a thread has the name",
+            EventRefusal::NoTarget => "no currency or thread has the name or the number",
             EventRefusal::BadAmount => "the amount is 0 or above 4294967295",
             EventRefusal::InUse => "tickets are in it or fund it, or the thread has a client or owns a mutex",
             EventRefusal::Funding => "the ticket funds something already",
@@ -102,19 +102,19 @@ impl Error for Refusal {}
 impl Error for EventRefusal {}
 impl Error for TrapRefusal {}
 
-/// Why [`Kernel::run`](crate::Kernel::run) stopped before the end: an event was refused.
+/// The error of [`Kernel::run`](crate::Kernel::run) when it stops before the end because an event is refused.
 #[derive(Clone, Debug, PartialEq, Eq, Hash)]
 pub struct Stopped {
     /// The replies to the events before the refused one, in order.
     pub replies: Vec<Reply>,
-    /// The reply to the refused one. That of a refused trap says what its thread ran, and whether it goes on.
+    /// The reply to the refused event. For a refused trap it has the ticks that the thread ran, and whether it goes on.
     pub reply: Reply,
-    /// Why it is refused.
+    /// The refusal.
     pub refusal: Refusal,
 }
 
 impl Stopped {
-    /// How many events were done before the refused one, which is also its index.
+    /// The number of events made before the refused one, which is also its index.
     #[must_use]
     pub fn done(&self) -> usize {
         self.replies.len()

@@ -1,63 +1,63 @@
-//! What a kernel answers.
+//! The replies of a kernel.
 
 use crate::numbers::{EventRefusal, OutcomeKind, ReplyKind, TrapRefusal};
 use crate::{ffi, Listing, Refusal};
 
-/// What a trap comes to. Where it doesn't say that the thread runs no more, the thread goes on, unless the reply says
-/// that its quantum `ends`. The reply's `goes_on` says both.
+/// The outcome of a trap. The thread goes on, unless noted otherwise below or the reply says that its quantum `ends`.
+/// The reply's `goes_on` combines both.
 #[derive(Clone, Copy, Debug, PartialEq, Eq, Hash)]
 pub enum Outcome {
-    /// The thread gave up the rest of its quantum. It runs no more.
+    /// The thread gave up the rest of its quantum. It no longer runs.
     Yielded,
-    /// The thread with this number serves the call. The caller runs no more.
+    /// The thread with this number serves the call. The caller no longer runs.
     ServedBy(u32),
-    /// The call waits for a server. The caller runs no more.
+    /// The call waits for a server. The caller no longer runs.
     Queued,
-    /// The thread waits for a call or for a mutex. It runs no more.
+    /// The thread waits for a call or for a mutex. It no longer runs.
     Waits,
     /// A call was taken.
     Received {
         /// The number of the thread that called.
         client: u32,
-        /// What it sent.
+        /// The number that it sent.
         number: u32,
     },
-    /// The client with this number is answered.
+    /// The client with this number got a reply.
     Replied(u32),
-    /// A client is answered, and then a call was taken.
+    /// A client got a reply, and then a call was taken.
     RepliedThenReceived {
-        /// The number of the client that is answered.
+        /// The number of the client that got the reply.
         to: u32,
         /// The number of the thread that called.
         client: u32,
-        /// What it sent.
+        /// The number that it sent.
         number: u32,
     },
-    /// The client with this number is answered, and the thread waits for a call. It runs no more.
+    /// The client with this number got a reply, and the thread waits for a call. It no longer runs.
     RepliedThenWaits(u32),
-    /// The thread sleeps until it is woken. It runs no more.
+    /// The thread sleeps until it is woken. It no longer runs.
     Slept,
     /// The thread owns the mutex.
     Locked,
-    /// Nobody owns the mutex.
+    /// The mutex is free.
     Freed,
-    /// The mutex was passed on. The thread that unlocked it runs no more.
+    /// The mutex was passed on. The thread that unlocked it no longer runs.
     Passed {
-        /// The number of the thread that owns it now.
+        /// The number of the new owner.
         to: u32,
-        /// The number and the total of the lottery. `None` if the waiters were worth nothing, and the one that had
-        /// waited longest got it.
+        /// The number and the total of the lottery. `None` if the waiters were worth nothing, so that the one that had
+        /// waited longest got the mutex.
         draw: Option<(u64, u64)>,
     },
     /// The thread has ended.
     Exited,
-    /// The trap is refused. It has cost its ticks all the same.
+    /// The trap is refused. It cost its ticks even so.
     Refused(TrapRefusal),
 }
 
-/// The answer to an event.
+/// The reply to an event.
 ///
-/// A refusal is an answer too. [`ok`](Reply::ok) makes an error of it.
+/// A refusal is a reply too. [`ok`](Reply::ok) turns it into an error.
 #[derive(Clone, Copy, Debug, PartialEq, Eq, Hash)]
 pub enum Reply {
     /// The ticket with this number was made.
@@ -75,38 +75,38 @@ pub enum Reply {
     },
     /// The command is done.
     Done,
-    /// A listing is asked for.
+    /// A listing was requested.
     List(Listing),
-    /// A thread has won the draw, and runs on the processor from now on.
+    /// A thread won the draw, and now runs on the processor.
     Winner {
         /// The thread's number.
         thread: u32,
-        /// The number that was drawn, below the total.
+        /// The drawn number, below the total.
         number: u128,
-        /// The sum of the weights, in units of base.
+        /// The sum of the weights, in base units.
         total: u128,
-        /// What was sent to the thread while it waited, by a call or a reply.
+        /// The number sent to the thread while it waited, by a call or a reply.
         delivered: Option<u32>,
     },
-    /// No thread weighs anything, and nothing has changed.
+    /// No thread has any weight, and nothing has changed.
     Idle,
-    /// A thread's quantum is over, or its processor was taken from it, and it runs no more.
+    /// A thread's quantum is over, or it was preempted, and it no longer runs.
     Expired {
         /// The thread's number.
         thread: u32,
-        /// The ticks that it is charged for this: what was left of its quantum, and those that it ended late; or, where
-        /// its processor was taken from it, those that it ran.
+        /// The ticks that it is charged: the rest of its quantum and any late ticks; or, if it was preempted, the ticks
+        /// that it ran.
         ticks: u32,
     },
     /// A thread has made a trap.
     Trapped {
         /// The thread's number.
         thread: u32,
-        /// The ticks that it ran for this, the trap's own included.
+        /// The ticks that it ran since its last event, the trap's own included.
         ticks: u32,
-        /// What came of it.
+        /// The trap's outcome.
         outcome: Outcome,
-        /// Whether its quantum is used up, so that it runs no more though the outcome would have it go on.
+        /// Whether its quantum is used up, so that it no longer runs though the outcome would let it go on.
         ends: bool,
         /// Whether it runs on: its outcome leaves it on its processor, and its quantum isn't used up.
         goes_on: bool,
@@ -142,7 +142,7 @@ impl Outcome {
 }
 
 impl Reply {
-    /// This reply, or why the event or its trap is refused.
+    /// This reply, or the reason why the event or its trap is refused.
     ///
     /// ```
     /// use lot::{Event, Kernel, Name, Sizes};
@@ -157,8 +157,8 @@ impl Reply {
     ///
     /// # Errors
     ///
-    /// [`Refusal::Event`] for [`Reply::Refused`], [`Refusal::Trap`] for [`Outcome::Refused`]. What a refused trap's
-    /// thread ran, and whether its quantum ends, is in the reply alone. It is `Copy`, so keep it where that matters.
+    /// [`Refusal::Event`] for [`Reply::Refused`], [`Refusal::Trap`] for [`Outcome::Refused`]. For a refused trap only
+    /// the reply has the ticks and whether the quantum ends. It is `Copy`, so keep it if you need them.
     pub const fn ok(self) -> Result<Reply, Refusal> {
         match self.refusal() {
             Some(why) => Err(why),
@@ -166,7 +166,7 @@ impl Reply {
         }
     }
 
-    /// Why the event or its trap is refused. `None` if neither is.
+    /// The reason why the event or its trap is refused, or `None` if neither is.
     #[must_use]
     pub const fn refusal(&self) -> Option<Refusal> {
         match *self {

@@ -1,4 +1,4 @@
-//! What is there.
+//! Rows of listings.
 
 use crate::numbers::StatusKind;
 use crate::{ffi, Name};
@@ -12,9 +12,9 @@ pub struct TicketRow {
     pub issuer: Name,
     /// The currency or thread that it funds. `None` if it funds nothing.
     pub target: Option<Name>,
-    /// Whether it leads to a thread that competes or runs.
+    /// Whether it is active: a chain of tickets and lends leads from it to a thread that competes or runs.
     pub is_active: bool,
-    /// What it is worth, in units of base. 0 if it is inactive.
+    /// Its value, in base units. 0 if it is inactive.
     pub value: u64,
 }
 
@@ -23,17 +23,17 @@ pub struct TicketRow {
 pub struct CurrencyRow {
     /// Its name.
     pub name: Name,
-    /// How many tickets fund it, active or not.
+    /// The number of tickets that fund it, active or not.
     pub backing: u32,
-    /// How many tickets it issues, active or not.
+    /// The number of tickets that it issues, active or not.
     pub issued: u32,
     /// The sum of the amounts of its active issued tickets.
     pub active_amount: u64,
-    /// What it is worth, in units of base.
+    /// Its value, in base units.
     pub value: u64,
 }
 
-/// What a thread is doing.
+/// The status of a thread.
 #[derive(Clone, Copy, Debug, PartialEq, Eq, Hash)]
 pub enum Status {
     /// It competes in draws.
@@ -64,15 +64,15 @@ pub enum Status {
 pub struct ThreadRow {
     /// Its name.
     pub name: Name,
-    /// What it is doing.
+    /// Its status.
     pub status: Status,
-    /// What it is worth with what others lend it, in units of base.
+    /// Its value, including what others lend to it, in base units.
     pub value: u64,
-    /// What it weighs in a draw, in units of base.
+    /// Its weight in a draw, in base units.
     pub weight: u128,
     /// The draws that it has won.
     pub quanta: u64,
-    /// The ticks that it has run in all.
+    /// The total of ticks that it has run.
     pub ticks: u64,
 }
 

@@ -15,7 +15,7 @@ fn command(kernel: &mut Kernel, command: Command) -> Reply {
 }
 
 fn fund_thread(kernel: &mut Kernel, amount: u64, currency: &str, thread: &str) -> Reply {
-    command(kernel, Command::MakeFunded { amount, currency: name(currency), name: name(thread), script: 1 })
+    command(kernel, Command::MakeFunded { amount, currency: name(currency).into(), name: name(thread), script: 1 })
 }
 
 fn draw(kernel: &mut Kernel, number: u128) -> Reply {
@@ -58,11 +58,11 @@ fn currency_graph() {
     ];
     for (number, (amount, currency, target)) in (1..).zip(tickets) {
         assert_eq!(
-            command(&mut kernel, Command::MakeTicket { amount, currency: name(currency) }),
+            command(&mut kernel, Command::MakeTicket { amount, currency: name(currency).into() }),
             Reply::Ticket(number)
         );
         assert_eq!(
-            command(&mut kernel, Command::Fund { ticket: u64::from(number), target: name(target) }),
+            command(&mut kernel, Command::Fund { ticket: u64::from(number), target: name(target).into() }),
             Reply::Done
         );
     }
@@ -77,9 +77,9 @@ fn currency_graph() {
     assert_eq!((row.name, row.backing, row.issued, row.active_amount, row.value), (name("task2"), 1, 2, 500, 1000));
     let row = kernel.ticket_row(3).expect("there");
     assert_eq!((row.issuer, row.target, row.is_active, row.value), (name("alice"), Some(name("task1")), false, 0));
-    let cycle = Command::MakeTicket { amount: 1, currency: name("task2") };
+    let cycle = Command::MakeTicket { amount: 1, currency: name("task2").into() };
     assert_eq!(command(&mut kernel, cycle), Reply::Ticket(9));
-    let cycle = Command::Fund { ticket: 9, target: name("alice") };
+    let cycle = Command::Fund { ticket: 9, target: name("alice").into() };
     assert_eq!(command(&mut kernel, cycle), Reply::Refused(EventRefusal::Cycle));
     assert_eq!(command(&mut kernel, Command::List(Listing::Threads)), Reply::List(Listing::Threads));
     assert_eq!((kernel.ticket_count(), kernel.currency_count()), (9, 6));
@@ -91,8 +91,8 @@ fn currency_graph() {
 fn inflation() {
     let mut kernel = Kernel::new(Sizes::SMALL).expect("small");
     command(&mut kernel, Command::MakeCurrency { name: name("alice") });
-    command(&mut kernel, Command::MakeTicket { amount: 100, currency: name("base") });
-    command(&mut kernel, Command::Fund { ticket: 1, target: name("alice") });
+    command(&mut kernel, Command::MakeTicket { amount: 100, currency: name("base").into() });
+    command(&mut kernel, Command::Fund { ticket: 1, target: name("alice").into() });
     for (amount, currency, thread) in [(10, "alice", "a"), (10, "alice", "b"), (100, "base", "c")] {
         fund_thread(&mut kernel, amount, currency, thread);
     }
@@ -116,7 +116,7 @@ fn inflation() {
 #[test]
 fn removal() {
     let mut kernel = Kernel::new(Sizes::SMALL).expect("small");
-    let remove = |kernel: &mut Kernel| command(kernel, Command::RemoveThread { thread: name("a") });
+    let remove = |kernel: &mut Kernel| command(kernel, Command::RemoveThread { thread: name("a").into() });
     assert_eq!(remove(&mut kernel), Reply::Refused(EventRefusal::NoThread));
     fund_thread(&mut kernel, 10, "base", "a");
     fund_thread(&mut kernel, 5, "base", "b");
@@ -131,6 +131,39 @@ fn removal() {
     assert_eq!(fund_thread(&mut kernel, 20, "base", "a"), Reply::Funded { ticket: 3, thread: 3 });
     let threads: Vec<_> = kernel.threads().map(|(number, row)| (number, row.name, row.value)).collect();
     assert_eq!(threads, [(2, name("b"), 5), (3, name("a"), 20)]);
+}
+
+// Commands by number, where 1 is both a currency and a thread. 100 of base back the currency, whose 40 are a's and b's.
+#[test]
+fn by_number() {
+    let mut kernel = Kernel::new(Sizes::SMALL).expect("small");
+    let (a, b) = (name("a"), name("b"));
+    let events = [
+        (Event::make_currency(name("alice")), Reply::Currency(1)),
+        (Event::make_ticket_in(100, 0), Reply::Ticket(1)),
+        (Event::fund_currency(1, 1), Reply::Done),
+        (Event::make_funded_in(10, 1, a, 1), Reply::Funded { ticket: 2, thread: 1 }),
+        (Event::make_thread(b, 1), Reply::Thread(2)),
+        (Event::make_ticket_in(30, 1), Reply::Ticket(3)),
+        (Event::fund_thread(3, 2), Reply::Done),
+        (Event::fund_currency(3, 9), Reply::Refused(EventRefusal::NoTarget)),
+        (Event::fund_thread(3, 0), Reply::Refused(EventRefusal::NoTarget)),
+        (Event::make_ticket_in(1, 2), Reply::Refused(EventRefusal::NoCurrency)),
+        (Event::remove_currency_numbered(0), Reply::Refused(EventRefusal::BaseFixed)),
+        (Event::remove_currency_numbered(1), Reply::Refused(EventRefusal::InUse)),
+        (Event::draw(1, 24), Reply::Winner { thread: 1, number: 24, total: 100, delivered: None }),
+        (Event::trap(1, 0, Action::Exit), trapped(1, 1, Outcome::Exited, false)),
+        (Event::remove_thread_numbered(1), Reply::Refused(EventRefusal::InUse)),
+        (Event::unfund(2), Reply::Done),
+        (Event::remove_thread_numbered(1), Reply::Done),
+        (Event::fund_thread(2, 1), Reply::Refused(EventRefusal::NoTarget)),
+    ];
+    for (event, reply) in events {
+        assert_eq!(kernel.event(&event), reply, "{event:?}");
+    }
+    let targets: Vec<_> = kernel.tickets().map(|(number, row)| (number, row.issuer, row.target)).collect();
+    let alice = name("alice");
+    assert_eq!(targets, [(1, Name::BASE, Some(alice)), (2, alice, None), (3, alice, Some(b))]);
 }
 
 fn trapped(thread: u32, ticks: u32, outcome: Outcome, goes_on: bool) -> Reply {
@@ -160,8 +193,8 @@ fn sleeping() {
 fn sleepers_tickets() {
     let mut kernel = Kernel::new(Sizes::SMALL).expect("small");
     command(&mut kernel, Command::MakeCurrency { name: name("g") });
-    command(&mut kernel, Command::MakeTicket { amount: 200, currency: name("base") });
-    command(&mut kernel, Command::Fund { ticket: 1, target: name("g") });
+    command(&mut kernel, Command::MakeTicket { amount: 200, currency: name("base").into() });
+    command(&mut kernel, Command::Fund { ticket: 1, target: name("g").into() });
     fund_thread(&mut kernel, 2, "g", "a");
     fund_thread(&mut kernel, 1, "g", "b");
     let values = |kernel: &Kernel| [1, 2].map(|thread| kernel.thread_row(thread).expect("there").value);
@@ -186,7 +219,7 @@ fn sleep_refusals() {
     assert_eq!(trap(&mut kernel, 0, Action::Exit), trapped(1, 1, Outcome::Exited, false));
     assert_eq!(kernel.event(&Event::Wake { thread: 1 }), Reply::Refused(EventRefusal::NotAsleep));
     command(&mut kernel, Command::Unfund { ticket: 1 });
-    assert_eq!(command(&mut kernel, Command::RemoveThread { thread: name("a") }), Reply::Done);
+    assert_eq!(command(&mut kernel, Command::RemoveThread { thread: name("a").into() }), Reply::Done);
     assert_eq!(kernel.event(&Event::Wake { thread: 1 }), Reply::Refused(EventRefusal::NoThread));
 }
 
@@ -285,7 +318,7 @@ fn servings() {
 #[test]
 fn refusals() {
     let mut kernel = Kernel::new(Sizes::SMALL).expect("small");
-    let none = Command::MakeTicket { amount: 0, currency: name("base") };
+    let none = Command::MakeTicket { amount: 0, currency: name("base").into() };
     assert_eq!(command(&mut kernel, none), Reply::Refused(EventRefusal::BadAmount));
     for (ticket, amount, why) in [
         (1, 0, EventRefusal::BadAmount),

@@ -2,7 +2,7 @@
 use Rattle.std.specs.Prelude.{◌≡◌, ℕ, ◌^◌, ◌<◌, Option, Some, List, [], ◌∷◌}
 use Rattle.lot_active.specs.declared.edge_ends.EdgePlaces.{EdgePlaces}
 
--- how many nodes there are, how many edges there may be, and where each edge leads, if it is there
+-- the number of nodes, the largest number of edges, and the ends of each edge, if it exists
 pub record Net : Type 0 where
   pub nodes : ℕ
   pub edges : ℕ
@@ -21,7 +21,7 @@ pub record IsNet (g : Net) : Type 0 where
 abbrev pub HasEdge : Net → ℕ → ℕ → Type 0
 HasEdge g from to = (e : ℕ) × (a : EdgePlaces) × (g.places e ≡ Some a) × (a.from ≡ from) × (a.to ≡ to)
 
--- edges lead from the first node, over these in order, to the last
+-- edges lead from the first node, through these in order, to the last
 abbrev pub IsWay : Net → ℕ → List ℕ → ℕ → Type 0
 IsWay g from [] to = from ≡ to
 IsWay g from (next ∷ rest) to = HasEdge g from next × IsWay g next rest to
@@ -34,6 +34,6 @@ Reaches g from to = (way : List ℕ) × IsWay g from way to
 abbrev pub HasNoCycle : Net → Type 0
 HasNoCycle g = (from to : ℕ) → HasEdge g from to → ¬ Reaches g to from
 
--- the edge with this number is there, and leads to the node
+-- the edge with this number exists and leads to the node
 abbrev pub EntersAt : Net → ℕ → ℕ → Type 0
 EntersAt g node e = (a : EdgePlaces) × (g.places e ≡ Some a) × (a.to ≡ node)

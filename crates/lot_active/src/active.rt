@@ -1,4 +1,4 @@
-//! What is active, by the live threads.
+//! The activity of a graph, given its live threads.
 ghost use Rattle.std.specs.Prelude.{◌≡◌, ℕ, ◌<◌, ◌≤◌, ◌^◌, ◌↔◌, Bool, List, IfOk, IsTrue, Some, length, slice_set};
 ghost use Rattle.std.specs.Prelude.{◌+◌, ◌*◌, false, true};
 ghost use Rattle.lot_machine.specs.declared.funding.Edge.{Edge};
@@ -23,8 +23,8 @@ use lot_machine::{Edge, Node, Target};
 use std::alloc::{AllocError, Global};
 use std::marker::Model;
 
-/// Which threads are live, which tickets and threads are therefore active, and the sums of the amounts of the active
-/// tickets that each currency issues.
+/// The live threads, the tickets and threads that are therefore active, and for each currency the sum of the amounts
+/// of its active tickets.
 #[derive(Drop)]
 pub struct Active {
     marks: Marks,
@@ -63,14 +63,14 @@ impl Active {
         })
     }
 
-    /// How many bytes `new` asks of the allocator in all, for a graph with this layout.
+    /// The total of bytes that `new` requests from the allocator, for a graph with this layout.
     pub fn bytes(layout: Layout) -> u64
         ensures { result ≡ 25 * node_count layout + 24 }
     {
         Marks::bytes(layout.node_count())
     }
 
-    /// Whether a ticket with this target is active, in each graph that this is kept for.
+    /// Whether a ticket with this target is active, in each graph for which this activity is kept.
     pub fn is_active(&self, target: Target) -> bool
         requires target { (w : LimitedFunding) × (live : List Bool) × (ticket : ℕ) × IsKeptFor self.now w live
             × (target_of w.funding ticket ≡ Some target) }
@@ -83,7 +83,8 @@ impl Active {
         }
     }
 
-    /// Whether a chain of lends, perhaps empty, leads from a thread to a live one, in each graph that this is kept for.
+    /// Whether a chain of lends, perhaps empty, leads from a thread to a live one, in each graph for which this
+    /// activity is kept.
     pub fn is_backed(&self, thread: u32) -> bool
         requires thread { (w : LimitedFunding) × (live : List Bool) × IsKeptFor self.now w live
             × IsThread w.funding thread }
@@ -93,7 +94,7 @@ impl Active {
         self.is_on(self.layout.list_of(Node::Thread(thread)))
     }
 
-    /// The sum of the amounts of the active tickets that a currency issues, in each graph that this is kept for.
+    /// The sum of the amounts of a currency's active tickets, in each graph for which this activity is kept.
     pub fn active_amount(&self, currency: u32) -> u64
         requires currency { (w : LimitedFunding) × (live : List Bool) × IsKeptFor self.now w live
             × (currency ≤ w.currency_limit) }
@@ -103,7 +104,7 @@ impl Active {
         self.amount(currency as usize)
     }
 
-    /// A thread becomes live, or is no longer live.
+    /// Makes a thread live, or not.
     pub fn set_live(&mut self, graph: &Graph, thread: u32, live: bool)
         requires thread { IsThread graph.now.funding thread }
         requires kept { (before : List Bool) × IsKeptFor self.old graph.now before }
@@ -116,7 +117,7 @@ impl Active {
         self.set_awake(graph, node, live);
     }
 
-    /// Takes up an edge that was put into the graph.
+    /// Takes account of an edge added to the graph.
     pub fn attach(&mut self, graph: &Graph, edge: Edge)
         requires kept { (before : LimitedFunding) × (ends : EdgeEnds) × (live : List Bool)
             × AddsEdge before graph.now edge ends × IsKeptFor self.old before live }
@@ -132,7 +133,7 @@ impl Active {
         self.attach_places(graph, ends.places(graph.layout()));
     }
 
-    /// Gives up an edge that was taken out of the graph, by where it led.
+    /// Takes account of an edge removed from the graph, given its former ends.
     pub fn detach(&mut self, graph: &Graph, ends: EdgeEnds)
         requires sound { IsSound graph.now.funding }
         requires fits { FitsLimits graph.now }
@@ -147,7 +148,7 @@ impl Active {
         self.detach_places(graph, ends.places(graph.layout()));
     }
 
-    /// The nodes that the last call switched on or off.
+    /// The nodes that the last call switched between active and inactive.
     pub fn switched(&self) -> ChangedNodes<'_>
         requires kept { (w : LimitedFunding) × (live : List Bool) × IsKeptFor self.now w live }
         ensures nodes { (w : LimitedFunding) (live : List Bool) → IsKeptFor self.now w live
@@ -160,7 +161,7 @@ impl Active {
         }
     }
 
-    /// The nodes whose amount alone the last call changed.
+    /// The nodes that the last call left active or inactive, but with another amount.
     pub fn adjusted(&self) -> ChangedNodes<'_>
         requires kept { (w : LimitedFunding) × (live : List Bool) × IsKeptFor self.now w live }
         ensures nodes { (w : LimitedFunding) (live : List Bool) → IsKeptFor self.now w live
@@ -173,7 +174,7 @@ impl Active {
         }
     }
 
-    /// The number of edges that changes have been passed on along so far: a statistic, of which no clause speaks.
+    /// The number of edges along which changes have been passed on so far: a statistic without a contract.
     pub fn passed(&self) -> u64 {
         self.marks.passed()
     }

@@ -1,4 +1,4 @@
-//! The nodes that a call changed.
+//! The nodes changed by a call.
 ghost use Rattle.std.specs.Iterator.{YieldsFirst, item_count};
 
 use lot_graph::Layout;
@@ -6,7 +6,7 @@ use lot_lists::Nodes;
 use lot_machine::Node;
 use std::marker::Model;
 
-/// The remaining nodes that a call changed.
+/// The remaining nodes changed by a call.
 #[derive(Drop)]
 pub struct ChangedNodes<'a> {
     pub(crate) places: Nodes<'a>,

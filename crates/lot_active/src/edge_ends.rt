@@ -1,4 +1,4 @@
-//! An edge of the graph, by the nodes that it leads from and to.
+//! An edge of the graph, given by its ends.
 ghost use Rattle.std.specs.Prelude.{◌≡◌};
 ghost use Rattle.lot_machine.specs.Funding as funding;
 ghost use Rattle.lot_graph.specs.Graphs.{IsSound};
@@ -8,7 +8,7 @@ ghost use Rattle.lot_active.specs.Fundings as fundings;
 use lot_graph::{Graph, Layout};
 use lot_machine::{Edge, Lend, Node, Target};
 
-/// An existing edge: where it leads from and to, and its amount, which is its ticket's, or 1 if it has no ticket.
+/// An existing edge: its source, its target, and its amount, which is its ticket's, or 1 if it has no ticket.
 #[derive(Clone, Copy, Debug, PartialEq, Eq)]
 pub struct EdgeEnds {
     pub from: Node,
@@ -16,7 +16,7 @@ pub struct EdgeEnds {
     pub amount: u32,
 }
 
-/// The same by the places of the nodes.
+/// An edge, given by the places of its ends.
 #[derive(Clone, Copy)]
 pub(crate) struct EdgePlaces {
     pub(crate) from: usize,
@@ -36,14 +36,14 @@ impl EdgeEnds {
     }
 }
 
-/// Where an edge leads, and its amount, if it is there.
+/// The ends of an edge, and its amount, if the edge exists.
 #[inline(always)]
 pub fn ends_of_edge(graph: &Graph, edge: Edge) -> Option<EdgeEnds>
     ensures ends { result ≡ fundings.ends_of_edge graph.now.funding edge }
     ensures sound { IsSound graph.now.funding }
     ensures fits { FitsLimits graph.now }
 {
-    // Not every call below says that the graph is sound and fits its limits; this one does.
+    // Not every call below states that the graph is sound and fits its limits; this one does.
     let _layout = graph.layout();
     match edge {
         Edge::OfTicket(number) => {
@@ -67,7 +67,7 @@ pub fn ends_of_edge(graph: &Graph, edge: Edge) -> Option<EdgeEnds>
     }
 }
 
-/// The same by place.
+/// The ends of an edge by their places, and its amount, if the edge exists.
 pub(crate) fn places_of_edge(graph: &Graph, edge: Edge) -> Option<EdgePlaces>
     ensures places { result ≡ fundings.places_of_edge (layout_of graph.now) graph.now.funding edge }
     ensures sound { IsSound graph.now.funding }
@@ -88,7 +88,7 @@ pub fn funded_node(target: Target) -> Option<Node>
     }
 }
 
-/// The node of the thread or mutex that a lend goes to, if any.
+/// The node that receives a lend, a thread or a mutex, if any.
 fn lent_node(lend: Lend) -> Option<Node>
     ensures { result ≡ funding.lend_node lend }
 {

@@ -1,5 +1,5 @@
-//! What a caller needs of the calls of the graph: which make one edge more or less, and which change nothing that is
-//! kept. Laws of the definitions, with no code to run.
+//! The calls of the graph that add or remove one edge, and those that leave activity unchanged: laws of the
+//! definitions, without executable code.
 ghost use Rattle.std.specs.Prelude.{◌≡◌, ◌≢◌, ◌⊎◌, ℕ, ◌<◌, ◌≤◌, ◌↔◌, ◌++◌, ◌∷◌, [], Bool, List, Contains, None, Some};
 ghost use Rattle.std.specs.Prelude.{false};
 ghost use Rattle.lot_machine.specs.declared.ticket.Ticket.{Ticket};
@@ -22,8 +22,7 @@ ghost use Rattle.lot_active.specs.Fundings.{IsKeptFor, AddsEdge, edge_between};
 ghost use Rattle.lot_active.specs.Changes.{ChangesNodes, switched_nodes, adjusted_nodes};
 ghost use Rattle.lot_graph.specs.Changes.{with_currencies, with_lends, with_owners, with_tickets};
 
-/// A ticket that gets a target, a thread that lends, and a mutex that gets an owner make one edge more; undone, they
-/// make one less.
+/// Giving a ticket a target, a thread a lend, or a mutex an owner adds one edge; taking it away removes one.
 pub fn calls_change_one_edge()
     ensures fund { (w now : LimitedFunding) (n : ℕ) (t : Ticket) (to : Target) (node : Node)
         → ticket_at w.funding n ≡ Some t → t.target ≡ Unfunded → target_node to ≡ Some node
@@ -49,8 +48,8 @@ pub fn calls_change_one_edge()
         → AddsEdge now w (OfMutex m) (edge_between 1 (MutexNode m) (ThreadNode owner)) }
 {}
 
-/// A ticket without a target, a thread that isn't live yet and a currency, made or removed, change nothing kept, and
-/// neither does another amount of such a ticket.
+/// Making or removing a ticket without a target or a currency, adding a thread that isn't live, and changing the
+/// amount of a ticket without a target leave the kept activity right.
 pub fn others_keep()
     ensures issue { (v : Activity) (w now : LimitedFunding) (live : List Bool) (amount issuer : ℕ)
         → IsKeptFor v w live → IsSound now.funding → FitsLimits now
@@ -71,7 +70,7 @@ pub fn others_keep()
         → now ≡ with_currencies w currencies → IsKeptFor v now live }
 {}
 
-/// A currency stands in one of a call's two lists if and only if its active amount differs from before.
+/// A currency is in one of a call's two lists if and only if its active amount changed.
 pub fn listed_have_changed()
     ensures amounts { (begun : Node) (old new : Activity) (before now : LimitedFunding) (live after : List Bool)
         (c : ℕ) → ChangesNodes before live now after begun new → IsKeptFor old before live → IsKeptFor new now after

@@ -1,8 +1,8 @@
-//! Which tickets and threads are active, and each currency's active amount, kept up to date (4.4).
+//! Active tickets and threads, and each currency's active amount, kept up to date (4.4).
 //!
 //! A node of the graph is active if a path of edges, perhaps empty, leads from it to a live thread. An edge is active
-//! if the node that it leads to is. A change is passed on along the edges into a node, node by node, from a worklist of
-//! linked lists. So no call except `new` takes memory, and each reads the edges into a node at most once.
+//! if the node to which it leads is. A change is passed on along the edges into a node, node by node, from a worklist
+//! of linked lists. So only `new` allocates memory, and each call reads the edges into a node at most once.
 #![tactic(auto)]
 
 mod active;

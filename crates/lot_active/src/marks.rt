@@ -14,15 +14,15 @@ use std::alloc::{AllocError, Global};
 use std::marker::Model;
 use std::mem::size_of;
 
-// The nodes whose marks changed and aren't published yet, those whose changed marks were, and those whose amount alone
-// changed.
+// The nodes with changed marks that aren't published yet, those with changed marks that are, and those of which only
+// the amount changed.
 const PENDING: usize = 0;
 
 const SWITCHED: usize = 1;
 
 const ADJUSTED: usize = 2;
 
-// What a node's mark and its amount take.
+// The memory of one node's mark and amount.
 const MARK_BYTES: u64 = size_of::<bool>() as u64 + size_of::<u64>() as u64;
 
 #[derive(Drop)]
@@ -30,7 +30,7 @@ pub(crate) struct Marks {
     awake: Vec<bool>,
     amounts: Vec<u64>,
     lists: Lists,
-    // How many edges were passed on, for the tests. No clause sees it.
+    // The number of edges passed on, for tests. No clause mentions it.
     passed: u64,
 }
 
@@ -58,7 +58,7 @@ impl Marks {
         })
     }
 
-    /// How many bytes `new` asks of the allocator in all.
+    /// The total of bytes that `new` requests from the allocator.
     pub(crate) fn bytes(nodes: usize) -> u64
         requires few { nodes < 2 ^ 40 }
         ensures { result ≡ 25 * nodes + 24 }
@@ -97,7 +97,7 @@ impl Marks {
         self.lists.iter(ADJUSTED)
     }
 
-    /// Empties the lists of what the last call changed.
+    /// Empties the lists of nodes changed by the last call.
     pub(crate) fn clear(&mut self)
         requires pending { nodes_of self.old.lists 0 ≡ [] }
         ensures awake { self.new.awake ≡ self.old.awake }
@@ -120,7 +120,7 @@ impl Marks {
         }
     }
 
-    /// Moves an amount by that of one edge, up or down.
+    /// Adds one edge's amount to a node's, or subtracts it.
     pub(crate) fn adjust(&mut self, node: usize, amount: u32, on: bool)
         requires node { node < length self.old.amounts }
         requires may { MayMove on (held_at self.old node) amount }
@@ -133,7 +133,7 @@ impl Marks {
         self.passed = self.passed.saturating_add(1);
     }
 
-    /// The next node whose mark isn't published, if there is one; it counts as published from then on.
+    /// The next node whose mark isn't published, if there is one; it counts as published afterwards.
     fn take_pending(&mut self) -> Option<usize>
         ensures none { IfNone result (nodes_of self.old.lists 0 ≡ []) }
         ensures unchanged { IfNone result (self.new ≡ self.old) }
@@ -145,7 +145,7 @@ impl Marks {
         Some(node)
     }
 
-    /// Publishes a node's mark: the edges into it are counted, or no longer counted.
+    /// Publishes a node's mark: the edges into it count, or stop counting.
     #[inline(always)]
     fn publish(&mut self, graph: &Graph, node: usize, on: bool)
         requires nodes { length self.old.amounts ≡ node_count (layout_of graph.now) }
@@ -168,7 +168,7 @@ impl Marks {
         }
     }
 
-    /// Publishes marks until none is left that differs from what is published.
+    /// Publishes marks until none differs from its published one.
     #[inline(always)]
     pub(crate) fn propagate(&mut self, graph: &Graph, on: bool)
         requires nodes { length self.old.amounts ≡ node_count (layout_of graph.now) }
@@ -187,7 +187,7 @@ impl Marks {
     }
 }
 
-/// A sum with one edge's amount added, or subtracted.
+/// A sum after adding or subtracting one edge's amount.
 fn shifted(sum: u64, amount: u32, on: bool) -> u64
     requires may { MayMove on sum amount }
     ensures { result ≡ moved on sum amount }
@@ -199,7 +199,7 @@ fn shifted(sum: u64, amount: u32, on: bool) -> u64
     }
 }
 
-/// Takes all nodes out of a list.
+/// Empties a list.
 fn clear(lists: &mut Lists, list: usize)
     requires list { list < length lists.old.lists }
     ensures empty { nodes_of lists.new list ≡ [] }
@@ -212,7 +212,7 @@ fn clear(lists: &mut Lists, list: usize)
     }
 }
 
-/// Moves a node into a list, out of the one that it is in, if it is in one.
+/// Moves a node into a list, out of its present one, if any.
 fn relist(lists: &mut Lists, node: usize, list: usize)
     requires node { node < lists.old.nodes }
     requires list { list < length lists.old.lists }
@@ -229,7 +229,7 @@ fn relist(lists: &mut Lists, node: usize, list: usize)
     }
 }
 
-/// Lists a node whose amount changed, by what its mark was and is.
+/// Lists a node whose amount changed, according to its old and new mark.
 fn note(lists: &mut Lists, node: usize, was: bool, is: bool)
     requires node { node < lists.old.nodes }
     requires lists { length lists.old.lists ≡ 3 }

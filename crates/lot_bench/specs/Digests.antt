@@ -1,4 +1,4 @@
--- A number for all replies in order.
+-- A digest of all replies in order.
 use Rattle.std.specs.Prelude.{ℕ, ◌+◌, ◌*◌, ◌%◌, ◌^◌, List, [], ◌∷◌, fold}
 use Rattle.lot_machine.specs.declared.reply.Reply.{Reply}
 use Rattle.lot_machine.specs.declared.reply.Reply.TheVariants as answer
@@ -26,7 +26,7 @@ outcome_word (outcome.RepliedThenWaits to) = 12
 abbrev pub low_word : ℕ → ℕ
 low_word number = number % 2 ^ 64
 
--- a reply as four words, of which the first is its kind
+-- a reply as four words, the first of which is its kind
 abbrev pub words_of : Reply → List ℕ
 words_of (answer.Ticket ticket) = 1 ∷ ticket ∷ 0 ∷ 0 ∷ []
 words_of (answer.Currency currency) = 2 ∷ currency ∷ 0 ∷ 0 ∷ []

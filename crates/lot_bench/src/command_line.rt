@@ -1,18 +1,18 @@
-//! The words that the program is called with.
+//! The program's command line.
 
 use clap::{Arg, ArgAction, ArgMatches, Command, Error, value_parser};
 use std::alloc::Global;
 use std::convert::AsStr;
 
-/// How many events a digest is of, if the words don't say.
+/// The number of events in a digest, unless the command line gives one.
 const FEW_EVENTS: u32 = 10_000;
-/// How many events are timed, if the words don't say.
+/// The number of events timed, unless the command line gives one.
 const MANY_EVENTS: u32 = 10_000_000;
 
 const ABOUT: &str =
     "Gives events to the kernel by itself, and prints what it answered, which is the same each time";
 
-/// The options for other output, and that output.
+/// The options for other output, and the output of each.
 const FLAGS: [(&str, &str); 5] = [
     ("time", "Nanoseconds for each event"),
     (
@@ -45,8 +45,8 @@ pub(crate) enum Request {
     Million,
 }
 
-/// The request of a command line, with about how many events of each workload, and the one workload that it names, if
-/// any.
+/// The request of a command line, with the approximate number of events of each workload, and the one workload that
+/// it names, if any.
 #[derive(Clone, Copy)]
 pub(crate) struct Wish<'a> {
     pub(crate) request: Request,
@@ -54,7 +54,7 @@ pub(crate) struct Wish<'a> {
     pub(crate) only: Option<&'a str>,
 }
 
-/// An option that has no value.
+/// An option without a value.
 fn flag<'a>(alloc: Global, name: &'a str, help: &'a str) -> Arg<'a> {
     Arg::new(alloc, name)
         .long(name)
@@ -81,7 +81,7 @@ fn command<'a>(alloc: Global) -> Result<Command<'a>, Error> {
     Ok(command)
 }
 
-/// What the options ask for.
+/// The request of the options.
 fn requested(matches: &ArgMatches<'_>) -> Request {
     if matches.get_flag("time") {
         Request::Times
@@ -98,7 +98,7 @@ fn requested(matches: &ArgMatches<'_>) -> Request {
     }
 }
 
-/// Reads the words, the program's own name first.
+/// Parses the words, the program's own name first.
 pub(crate) fn wish_of<'a, S: AsStr>(alloc: Global, words: &'a [S]) -> Result<Wish<'a>, Error> {
     let matches = command(alloc)?.try_get_matches_from(words)?;
     let request = requested(&matches);

@@ -1,4 +1,4 @@
-//! A number for all replies in order.
+//! A digest of all replies in order.
 ghost use Rattle.std.specs.Prelude.{◌≡◌};
 ghost use Rattle.lot_bench.specs.Digests as digests;
 
@@ -25,7 +25,7 @@ fn with_word(digest: u64, word: u64) -> u64
     digest.wrapping_mul(1099511628211).wrapping_add(word)
 }
 
-/// A reply as four words, of which the first is its kind.
+/// A reply as four words, the first of which is its kind.
 fn words_of(reply: &Reply) -> [u64; 4]
     ensures { result ≡ digests.words_of reply.now }
 {

@@ -7,17 +7,18 @@ use crate::workload::{Workload, processors_of, threads_of};
 use anyhow::{Context, Result};
 use lot_draw::ParkMiller;
 use lot_kernel::{Action, Command, Event, Kernel, Name, Processor, Runner};
+use lot_machine::TargetRef;
 use std::alloc::Global;
 
-/// Makes the events of a workload, one after the other, by what the kernel has on its processors.
+/// Makes the events of a workload one after another, according to the threads on the kernel's processors.
 #[derive(Drop)]
 pub(crate) struct Driver {
     workload: Workload,
-    /// How many events were made.
+    /// The number of events made.
     made: u64,
     /// Each processor's generator.
     generators: Vec<ParkMiller>,
-    /// Where each thread is.
+    /// Each thread's place.
     places: Vec<Place>,
     /// The first currency of a chain.
     first_currency: Name,
@@ -35,7 +36,7 @@ impl Driver {
         })
     }
 
-    /// The next event, to be given to a kernel that has got all before it. Processors take turns; over a chain of
+    /// The next event, for a kernel that has made all events before it. Processors take turns; in a chain of
     /// currencies each third event is the console's.
     pub(crate) fn next_event(&mut self, kernel: &Kernel) -> Event {
         let turn = self.made;
@@ -48,12 +49,12 @@ impl Driver {
         }
     }
 
-    /// Has the loose ticket fund the first currency, and stop to do so in the next turn.
+    /// Makes the loose ticket fund the first currency, and in the next turn takes the target away.
     fn funding(&self, turn: u64) -> Command {
         if turn % 2 == 0 {
             return Command::Fund {
                 ticket: LOOSE_TICKET,
-                target: self.first_currency.copied(),
+                target: TargetRef::Named(self.first_currency.copied()),
             };
         }
         Command::Unfund {
@@ -61,7 +62,7 @@ impl Driver {
         }
     }
 
-    /// A draw by a processor on which no thread runs, or what its thread does.
+    /// A draw by an idle processor, or the next event of its thread.
     fn processor_event(&mut self, kernel: &Kernel, processor: u32) -> Event {
         match kernel.runner(Processor { number: processor }) {
             Some(runner) => {
@@ -72,7 +73,7 @@ impl Driver {
         }
     }
 
-    /// What a thread does with what is left of its quantum.
+    /// The event of a thread with the rest of its quantum.
     fn thread_event(&mut self, processor: u32, runner: Runner, budget: u32) -> Event {
         let thread = runner.thread.number;
         let role = role_of(self.workload, thread);
@@ -106,7 +107,8 @@ impl Driver {
     }
 }
 
-/// Gives base's first ticket as much as base's tickets for the first currency of a chain have together in this turn.
+/// Sets the amount of base's first ticket to the sum of the amounts of base's tickets for the first currency of a
+/// chain in this turn.
 fn inflation(turn: u64) -> Command {
     Command::SetTicket {
         ticket: FIRST_TICKET,
@@ -114,7 +116,7 @@ fn inflation(turn: u64) -> Command {
     }
 }
 
-/// The generators of processors 0 to the last, each with its number as its seed. The first is of no use.
+/// The generators of processors 0 to the last, each with its number as its seed. The first is unused.
 fn generators(alloc: Global, processors: u32) -> Result<Vec<ParkMiller>> {
     let mut generators = Vec::new(alloc);
     for processor in 0..=processors {
@@ -123,7 +125,7 @@ fn generators(alloc: Global, processors: u32) -> Result<Vec<ParkMiller>> {
     Ok(generators)
 }
 
-/// Where threads 0 to the last begin. The first is of no use.
+/// The first places of threads 0 to the last. The first is unused.
 fn places(alloc: Global, workload: Workload) -> Result<Vec<Place>> {
     let mut places = Vec::new(alloc);
     for thread in 0..=threads_of(workload) {

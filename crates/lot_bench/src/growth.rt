@@ -1,4 +1,4 @@
-//! How the time of an event grows with the threads and with the tables.
+//! The growth of an event's time with the threads and with the tables.
 
 use crate::timing::{PerEvent, time_workload};
 use crate::workload::{Workload, largest_limits, smallest_limits};
@@ -6,11 +6,11 @@ use anyhow::{Context, Result};
 use std::alloc::Global;
 use std::rt::Clock;
 
-/// How many threads there are in each line of the table.
+/// The number of threads in each line of the table.
 const THREADS: [u32; 5] = [16, 64, 256, 1024, 4096];
 
 /// Prints a line for each number of threads: the nanoseconds of an event with tables that just suffice and with the
-/// largest, where threads compute and where they yield.
+/// largest, for threads that compute and for threads that yield.
 pub(crate) fn print_growth(rt: &(impl Print + Clock), alloc: Global, events: u32) -> Result<()> {
     println!(rt; "threads draw-small draw-large yield-small yield-large")?;
     for threads in THREADS {

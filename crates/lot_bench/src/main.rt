@@ -1,4 +1,5 @@
-//! `lot_bench` gives events to the kernel by itself, with no texts between, to compare its replies and to time it.
+//! `lot_bench` passes events to the kernel by itself, without texts in between, to compare its replies and to time
+//! it.
 #![tactic(auto)]
 
 mod command_line;

@@ -1,22 +1,23 @@
-//! A million events of a kernel, as a caller in Rattle makes them. `bindings/check` compares what is printed, and the
-//! time that it takes, with callers in C and Rust that make the same events.
+//! A million events of a kernel, from a caller in Rattle. `bindings/check` compares the output and the time with
+//! those of callers in C and Rust that make the same events.
 
 use anyhow::{Context, Result};
 use lot_draw::ParkMiller;
 use lot_kernel::{Action, Command, Event, Kernel, Limits, Name, Reply, Sizes};
+use lot_machine::{CurrencyRef, TargetRef};
 use std::alloc::Global;
 
 /// Each round is a draw, and an expiry or a yield.
 const ROUNDS: u64 = 500000;
 
-/// Makes the events, and prints what their winners sum to.
+/// Makes the events, and prints the sum of their winners.
 pub(crate) fn print_million(rt: &impl Print, alloc: Global) -> Result<()> {
     let sum = play(alloc).context("a kernel")?;
     println!(rt; "1000000 events, sum {sum}")?;
     Ok(())
 }
 
-/// What the winners of all rounds sum to.
+/// The sum of the winners of all rounds.
 fn play(alloc: Global) -> Option<u64> {
     let mut kernel = opened(alloc)?;
     let mut generator = ParkMiller::new(1)?;
@@ -28,8 +29,8 @@ fn play(alloc: Global) -> Option<u64> {
     Some(sum)
 }
 
-/// A draw with this number, and then the winner's expiry, or its yield if its number is even. The winner, 0 if there
-/// is none.
+/// Makes a draw with this number, and then the winner's expiry, or its yield if its number is even. Returns the
+/// winner, or 0 if there is none.
 fn play_round(kernel: &mut Kernel, number: u64) -> u32 {
     let Reply::Winner { thread, .. } = kernel.event(&Event::Draw(1, u128::from(number))) else {
         return 0;
@@ -77,11 +78,11 @@ fn make_user(kernel: &mut Kernel, ticket: u64, user: &str, amount: u64) -> Optio
     }));
     kernel.event(&Event::Command(Command::MakeTicket {
         amount,
-        currency: Name::new("base")?,
+        currency: CurrencyRef::Named(Name::new("base")?),
     }));
     kernel.event(&Event::Command(Command::Fund {
         ticket,
-        target: Name::new(user)?,
+        target: TargetRef::Named(Name::new(user)?),
     }));
     Some(())
 }
@@ -90,7 +91,7 @@ fn make_user(kernel: &mut Kernel, ticket: u64, user: &str, amount: u64) -> Optio
 fn make_thread(kernel: &mut Kernel, amount: u64, currency: &str, name: &str) -> Option<()> {
     kernel.event(&Event::Command(Command::MakeFunded {
         amount,
-        currency: Name::new(currency)?,
+        currency: CurrencyRef::Named(Name::new(currency)?),
         name: Name::new(name)?,
         script: 1,
     }));

@@ -1,14 +1,14 @@
-//! The commands that come before a workload's own events: they make its currencies, its threads and their tickets.
+//! The commands before a workload's own events: they make its currencies, its threads and their tickets.
 ghost use Rattle.std.specs.Prelude.{◌≡◌, ◌+◌, ◌<◌, ◌≤◌, IfOk, OnOk};
 ghost use Rattle.lot_bench.specs.Openings as openings;
 ghost use Rattle.lot_bench.specs.Openings.{thread_made, threads_made};
 
 use crate::workload::{Workload, currencies_of, threads_of};
 use anyhow::{Context, Result};
-use lot_machine::{Command, Name};
+use lot_machine::{Command, CurrencyRef, Name, TargetRef};
 use std::alloc::Global;
 
-/// The ticket of a chain that goes to and from its first currency.
+/// The ticket of a chain that alternately funds the first currency and nothing.
 pub(crate) const LOOSE_TICKET: u64 = 67;
 
 /// Base's ticket that funds the first currency.
@@ -36,7 +36,7 @@ fn add(commands: &mut Vec<Command>, command: Command) -> Result<()>
     Ok(())
 }
 
-/// Adds the commands that make so many currencies.
+/// Adds the commands that make this many currencies.
 fn add_currencies(alloc: Global, commands: &mut Vec<Command>, count: u32) -> Result<()>
     ensures { OnOk result (threads_made commands.new.items ≡ threads_made commands.old.items) }
 {
@@ -49,7 +49,7 @@ fn add_currencies(alloc: Global, commands: &mut Vec<Command>, count: u32) -> Res
     Ok(())
 }
 
-/// Adds the commands that make a ticket for each currency, and have it fund that currency.
+/// Adds the commands that make a ticket for each currency, and fund it with that ticket.
 fn add_links(alloc: Global, commands: &mut Vec<Command>, workload: Workload) -> Result<()>
     ensures { OnOk result (threads_made commands.new.items ≡ threads_made commands.old.items) }
 {
@@ -80,17 +80,17 @@ fn currency_command(alloc: Global, currency: u32) -> Result<Command>
     })
 }
 
-/// Makes a ticket of this amount, which the currency with this number issues.
+/// Makes a ticket of this amount, issued in the currency with this number.
 fn ticket_command(alloc: Global, amount: u64, currency: u32) -> Result<Command>
     ensures { IfOk result (λ command. thread_made command ≡ 0) }
 {
     Ok(Command::MakeTicket {
         amount,
-        currency: currency_name(alloc, currency)?,
+        currency: CurrencyRef::Named(currency_name(alloc, currency)?),
     })
 }
 
-/// Makes the ticket that funds the currency after this one. In a chain this one issues it, otherwise base does.
+/// Makes the ticket that funds the currency after this one. In a chain this currency issues it, otherwise base does.
 fn link_command(alloc: Global, workload: Workload, currency: u32) -> Result<Command>
     ensures { IfOk result (λ command. thread_made command ≡ 0) }
 {
@@ -103,13 +103,13 @@ fn link_command(alloc: Global, workload: Workload, currency: u32) -> Result<Comm
     }
 }
 
-/// Has the ticket with this number fund the currency with the same number.
+/// Makes the ticket with this number fund the currency with the same number.
 fn fund_command(alloc: Global, currency: u32) -> Result<Command>
     ensures { IfOk result (λ command. thread_made command ≡ 0) }
 {
     Ok(Command::Fund {
         ticket: u64::from(currency),
-        target: currency_name(alloc, currency)?,
+        target: TargetRef::Named(currency_name(alloc, currency)?),
     })
 }
 
@@ -121,13 +121,13 @@ fn thread_command(alloc: Global, workload: Workload, thread: u32) -> Result<Comm
     let text = format!(in alloc; "t{thread}")?;
     Ok(Command::MakeFunded {
         amount: amount_of(workload, thread),
-        currency: currency_name(alloc, currency_of(workload, thread))?,
+        currency: CurrencyRef::Named(currency_name(alloc, currency_of(workload, thread))?),
         name: name(text.as_str())?,
         script: 1,
     })
 }
 
-/// How much the ticket of the thread with this number has.
+/// The amount of the ticket of the thread with this number.
 fn amount_of(workload: Workload, thread: u32) -> u64
     requires { 0 < thread }
     ensures { 0 < result }

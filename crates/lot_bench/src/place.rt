@@ -1,10 +1,10 @@
-//! Where a thread is in what it does.
+//! A thread's place in its role.
 ghost use Rattle.std.specs.Prelude.{◌<◌, IfSome};
 
 use crate::role::{Role, trap_of};
 use lot_machine::Action;
 
-/// Where a thread is: before which trap of its round, and how many ticks it has worked towards that.
+/// A thread's place: the next trap of its round, and the ticks of work done towards it.
 #[derive(Clone, Copy)]
 pub(crate) struct Place {
     is_second: bool,
@@ -12,7 +12,7 @@ pub(crate) struct Place {
 }
 
 impl Place {
-    /// Where a thread begins: one that locks has little work to do first.
+    /// A thread's first place: a thread that locks has little work to do at first.
     pub(crate) fn first(role: Role) -> Place {
         Place {
             is_second: false,
@@ -23,7 +23,7 @@ impl Place {
         }
     }
 
-    /// Goes on for at most so many ticks of its quantum. Returns the trap that is made, after how many ticks of work,
+    /// Continues for at most this many ticks of its quantum. Returns the next trap and the ticks of work before it,
     /// or `None` if the quantum ends first.
     pub(crate) fn go_on(&mut self, role: Role, budget: u32) -> Option<(u32, Action)>
         ensures { IfSome result (λ trap. trap.0 < budget) }

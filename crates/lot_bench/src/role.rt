@@ -3,7 +3,7 @@
 use crate::workload::Workload;
 use lot_machine::Action;
 
-/// What a thread does again and again.
+/// A thread's behaviour, which it repeats.
 #[derive(Clone, Copy)]
 pub(crate) enum Role {
     /// It computes without end.
@@ -31,8 +31,8 @@ pub(crate) fn role_of(workload: Workload, thread: u32) -> Role {
     }
 }
 
-/// The ticks of work before a thread's next trap, which is the second of its round or the first, and the trap; none
-/// if it never makes one. An unlock has yet to get a drawn number.
+/// The ticks of work before a thread's next trap, the second or the first of its round, and the trap; none if it
+/// never makes one. An unlock still needs a drawn number.
 pub(crate) fn trap_of(role: Role, is_second: bool) -> Option<(u32, Action)> {
     match role {
         Role::Computes => None,

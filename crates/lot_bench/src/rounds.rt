@@ -1,4 +1,4 @@
-//! Each workload in turn: its replies, or how long it takes.
+//! Each workload in turn: its replies, or its time.
 
 use crate::command_line::Wish;
 use crate::driver::Driver;
@@ -41,7 +41,7 @@ fn tally_of(alloc: Global, workload: Workload, events: u32) -> Result<(Tally, Me
     Ok((tally, kernel.meter()))
 }
 
-/// Whether the workload with this name is wanted: each is, if none is named.
+/// Whether the workload with this name is selected; all are, if none is named.
 fn is_wanted(name: &str, only: Option<&str>) -> bool {
     match only {
         None => true,
@@ -58,7 +58,7 @@ pub(crate) fn check_name(only: Option<&str>) -> Result<()> {
     Ok(())
 }
 
-/// Prints for each workload that is wanted the nanoseconds of an event, in the fastest of several rounds and in all.
+/// Prints for each selected workload the nanoseconds of an event, in the fastest of several rounds and in all.
 pub(crate) fn print_times(rt: &(impl Print + Clock), alloc: Global, wish: Wish<'_>) -> Result<()> {
     for (name, workload) in WORKLOADS {
         if !is_wanted(name, wish.only) {

@@ -1,4 +1,4 @@
-//! How the time of a draw grows with the edges that it reads, where a stale node stands before all of its stale
+//! The growth of a draw's time with the edges that it reads, where a stale node is listed before all of its stale
 //! sources.
 ghost use Rattle.std.specs.Prelude.{◌<◌};
 
@@ -6,15 +6,15 @@ use crate::opening::{currency_name, name};
 use crate::timing::PerEvent;
 use anyhow::{Context, Result, ensure};
 use lot_kernel::{Command, Event, Kernel, Limits, Reply};
-use lot_machine::{Name, Sizes};
+use lot_machine::{CurrencyRef, Name, Sizes, TargetRef};
 use std::alloc::Global;
 use std::rt::Clock;
 use std::time::Instant;
 
-/// How often each draw is timed.
+/// The number of times that each draw is timed.
 const ROUNDS: u32 = 10;
 
-/// How many of the tickets of a kernel with the largest tables are used: a 64th of them, a 16th, a quarter, all.
+/// The fractions of the tickets used in a kernel with the largest tables: a 64th, a 16th, a quarter, and all.
 const PARTS: [u32; 4] = [64, 16, 4, 1];
 
 /// A thread funded by tickets of base and by one ticket of each currency. One ticket of base funds each currency.
@@ -25,7 +25,7 @@ struct Fan {
 }
 
 impl Fan {
-    /// The largest one of which each table holds `part` copies.
+    /// The largest fan of which each table holds `part` copies.
     fn part_of_largest(part: u32) -> Fan
         requires { 0 < part }
     {
@@ -37,14 +37,14 @@ impl Fan {
         }
     }
 
-    /// How many edges lead into the thread and into the currencies.
+    /// The number of edges into the thread and into the currencies.
     fn edges(self) -> u64 {
         u64::from(self.tickets).saturating_add(u64::from(self.currencies).saturating_mul(2))
     }
 }
 
 /// Prints a line for each size: the edges that a draw reads, its nanoseconds, and its nanoseconds for each edge. The
-/// time grows as the edges if the last number stays about the same.
+/// time is proportional to the edges if the last number stays about constant.
 pub(crate) fn print_settling(rt: &(impl Print + Clock), alloc: Global) -> Result<()> {
     println!(rt; "edges draw edge")?;
     for part in PARTS {
@@ -133,7 +133,7 @@ fn touch_fan(alloc: Global, kernel: &mut Kernel, fan: Fan) -> Result<()> {
     Ok(())
 }
 
-/// Takes a ticket from what it funds, and has it fund that again.
+/// Takes away a ticket's target, and gives it back.
 fn fund_again(kernel: &mut Kernel, ticket: u32, target: Name) -> Result<()> {
     make(
         kernel,
@@ -144,13 +144,13 @@ fn fund_again(kernel: &mut Kernel, ticket: u32, target: Name) -> Result<()> {
     fund(kernel, ticket, target)
 }
 
-/// Has a ticket fund something.
+/// Gives a ticket a target.
 fn fund(kernel: &mut Kernel, ticket: u32, target: Name) -> Result<()> {
     make(
         kernel,
         Command::Fund {
             ticket: u64::from(ticket),
-            target,
+            target: TargetRef::Named(target),
         },
     )
 }
@@ -161,19 +161,19 @@ fn make_ticket(alloc: Global, kernel: &mut Kernel, currency: u32) -> Result<()> 
         kernel,
         Command::MakeTicket {
             amount: 10,
-            currency: currency_name(alloc, currency)?,
+            currency: CurrencyRef::Named(currency_name(alloc, currency)?),
         },
     )
 }
 
-/// Gives the kernel a command, which it must not refuse.
+/// Makes a command, which the kernel must not refuse.
 fn make(kernel: &mut Kernel, command: Command) -> Result<()> {
     let reply = kernel.event(&Event::Command(command));
     ensure!(!matches!(reply, Reply::Refused(_)), "a command is refused");
     Ok(())
 }
 
-/// Times a draw, which must count this many edges. The thread's quantum is over afterwards.
+/// Times a draw, which must count this many edges. Then ends the thread's quantum.
 fn time_draw(rt: &impl Clock, kernel: &mut Kernel, edges: u64) -> Result<u64> {
     let before = kernel.meter().ticket_reads;
     let start = Instant::now(rt)?;
@@ -184,7 +184,7 @@ fn time_draw(rt: &impl Clock, kernel: &mut Kernel, edges: u64) -> Result<u64> {
     Ok(u64::try_from(spent.as_nanos()).unwrap_or(u64::MAX))
 }
 
-/// Draws, and ends the quantum of the thread that wins.
+/// Draws, and ends the winner's quantum.
 fn make_draw(kernel: &mut Kernel) -> Result<()> {
     let reply = kernel.event(&Event::Draw(1, 0));
     ensure!(matches!(reply, Reply::Winner { .. }), "nobody wins");

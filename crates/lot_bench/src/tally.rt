@@ -6,7 +6,7 @@ use crate::digest::with_reply;
 use lot_machine::Reply;
 use std::fmt;
 
-/// How many replies there were of each kind, and a digest of all in order. Each count stops at the greatest `u64`.
+/// The number of replies of each kind, and a digest of all in order. Each count saturates at the largest `u64`.
 #[derive(Clone, Copy, Default)]
 pub(crate) struct Tally {
     won: u64,
@@ -14,7 +14,7 @@ pub(crate) struct Tally {
     expired: u64,
     trapped: u64,
     refused: u64,
-    /// Commands that were done.
+    /// Commands that succeeded.
     done: u64,
     digest: u64,
 }

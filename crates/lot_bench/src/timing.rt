@@ -1,4 +1,4 @@
-//! How long the events of a workload take.
+//! The time of a workload's events.
 ghost use Rattle.std.specs.Prelude.{◌≡◌, ◌*◌, ◌/◌, ◌<◌};
 
 use crate::track::{PART, Track};
@@ -9,10 +9,10 @@ use std::alloc::Global;
 use std::fmt;
 use std::rt::Clock;
 
-/// How often a workload is timed, each time where it was left before.
+/// The number of times that a workload is timed, each time from where it stopped before.
 const ROUNDS: u32 = 10;
 
-/// How long an event took in the fastest round, and in all rounds together.
+/// The time of an event in the fastest round, and in all rounds together.
 #[derive(Clone, Copy)]
 pub(crate) struct Timing {
     pub(crate) fastest: PerEvent,
@@ -24,7 +24,7 @@ pub(crate) struct Timing {
 pub(crate) struct PerEvent(u128);
 
 impl PerEvent {
-    /// So many nanoseconds for so many events.
+    /// This many nanoseconds divided by this many events.
     pub(crate) fn of(nanoseconds: u64, events: u64) -> PerEvent
         requires { 0 < events }
         ensures { result.0 ≡ nanoseconds * 10 / events }
@@ -41,7 +41,7 @@ impl fmt::Display for PerEvent {
     }
 }
 
-/// Times a workload of about so many events on kernels with these limits.
+/// Times a workload of about this many events on kernels with these limits.
 pub(crate) fn time_workload(
     rt: &impl Clock,
     alloc: Global,

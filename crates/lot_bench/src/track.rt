@@ -1,4 +1,4 @@
-//! A workload that goes on, on two kernels.
+//! A continuing workload, on two kernels.
 
 use crate::driver::Driver;
 use crate::opening::opening;
@@ -9,10 +9,10 @@ use std::alloc::Global;
 use std::rt::Clock;
 use std::time::Instant;
 
-/// How many events are made before they are timed.
+/// The number of events made before each timed part.
 pub(crate) const PART: u32 = 10_000;
 
-/// A kernel by which the events of a workload are made, and one that is given them afterwards, to be timed.
+/// A kernel that serves to make the events of a workload, and one that makes them afterwards, timed.
 #[derive(Drop)]
 pub(crate) struct Track {
     driver: Driver,
@@ -22,7 +22,7 @@ pub(crate) struct Track {
 }
 
 impl Track {
-    /// Two kernels that have got the workload's commands.
+    /// Two kernels that have made the workload's commands.
     pub(crate) fn new(alloc: Global, workload: Workload, limits: Limits) -> Result<Track> {
         Ok(Track {
             driver: Driver::new(alloc, workload)?,
@@ -32,7 +32,7 @@ impl Track {
         })
     }
 
-    /// Nanoseconds of so many parts of the workload's next events.
+    /// The nanoseconds of this many parts of the workload's next events.
     pub(crate) fn time_parts(&mut self, rt: &impl Clock, parts: u32) -> Result<u64> {
         let mut spent: u64 = 0;
         for _part in 0..parts {
@@ -58,7 +58,7 @@ impl Track {
         Ok(())
     }
 
-    /// Gives the events to the kernel that is timed, and returns the nanoseconds.
+    /// Makes the events on the timed kernel, and returns the nanoseconds.
     fn time_part(&mut self, rt: &impl Clock) -> Result<u64> {
         let start = Instant::now(rt)?;
         let refused = give(&mut self.follower, self.events.as_slice());
@@ -68,7 +68,7 @@ impl Track {
     }
 }
 
-/// Gives events to a kernel, and returns how many it refuses.
+/// Makes events on a kernel, and returns the number that it refuses.
 fn give(kernel: &mut Kernel, events: &[Event]) -> usize {
     let mut refused: usize = 0;
     for event in events {
@@ -84,7 +84,7 @@ fn is_refused(reply: &Reply) -> bool {
     matches!(reply, Reply::Refused(_))
 }
 
-/// A kernel that has got the workload's commands.
+/// A kernel that has made the workload's commands.
 pub(crate) fn opened_kernel(alloc: Global, workload: Workload, limits: Limits) -> Result<Kernel> {
     let mut kernel = Kernel::new(alloc, limits)?;
     for command in opening(alloc, workload)? {

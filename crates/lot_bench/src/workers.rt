@@ -13,16 +13,16 @@ use std::sync::Wait;
 use std::thread::Threads;
 use std::time::Instant;
 
-/// How often each run is timed.
+/// The number of times that each run is timed.
 const ROUNDS: u32 = 20;
 
-/// How many turns all processors of a run make together.
+/// The total number of turns of a run's processors.
 const TURNS: u32 = 10_000;
 
-/// How many processors there are in each line of the table.
+/// The number of processors in each line of the table.
 const PROCESSORS: [u32; 3] = [1, 2, 4];
 
-/// What the threads do, and the lines of their script.
+/// The threads' work, and the lines of their script.
 const SCRIPTS: [(&str, &str); 3] = [
     ("compute", "compute 4294967295\n"),
     ("yield", "loop 65535\ncompute 24\nyield\nend\n"),
@@ -32,15 +32,15 @@ const SCRIPTS: [(&str, &str); 3] = [
     ),
 ];
 
-/// How workers share a system.
+/// The way in which workers share a system.
 #[derive(Clone, Copy)]
 enum Sharing {
     Lock,
     Baton,
 }
 
-/// Prints a line for each script and each number of processors: the turns of a second by the lock and by the baton,
-/// each the most of several runs. Each processor has a worker, and the console has one.
+/// Prints a line for each script and each number of processors: the turns per second with the lock and with the
+/// baton, each the most of several runs. Each processor has a worker, and so does the console.
 pub(crate) fn print_workers<R: Print + Clock + Threads + Wait + Sync>(
     rt: &R,
     alloc: Global,
@@ -86,7 +86,7 @@ fn input(alloc: Global, script: &str, processors: u32) -> Result<String> {
     Ok(text)
 }
 
-/// The most turns of a second in several runs of the program.
+/// The most turns per second in several runs of the program.
 fn most_turns<R: Clock + Threads + Wait + Sync>(
     rt: &R,
     alloc: Global,
@@ -100,7 +100,7 @@ fn most_turns<R: Clock + Threads + Wait + Sync>(
     Ok(most)
 }
 
-/// The turns of a second in one run of the program, with all that opens and closes its system.
+/// The turns per second in one run of the program, including opening and closing its system.
 fn turns_for_each_second<R: Clock + Threads + Wait + Sync>(
     rt: &R,
     alloc: Global,
@@ -118,14 +118,14 @@ fn turns_for_each_second<R: Clock + Threads + Wait + Sync>(
     Ok((made as u64).saturating_mul(1_000_000_000) / spent.max(1))
 }
 
-/// How many turns a free run of the program has.
+/// The number of turns in a free run of the program.
 fn turns_in_all(program: &Program) -> u32 {
     let commands = u32::try_from(program.commands().len()).unwrap_or(u32::MAX);
     let each = program.limits().processors.saturating_mul(program.turns());
     commands.saturating_add(each)
 }
 
-/// Has the turns of the program made by workers that pass its system on, and gives the system back.
+/// Lets workers that pass its system on make the turns of the program, and returns the system.
 fn baton_run<R: Threads + Wait + Sync>(rt: &R, alloc: Global, program: &Program) -> Result<System> {
     let system = System::open(alloc, program, turns_in_all(program))?;
     let (station, mut seats) = BatonStation::open(alloc, system)?;

@@ -1,30 +1,31 @@
-//! The workloads that are timed.
+//! The timed workloads.
 ghost use Rattle.std.specs.Prelude.{◌≡◌, ◌<◌, ◌≤◌};
 ghost use Rattle.lot_bench.specs.Openings as openings;
 
 use lot_machine::{Limits, Sizes};
 
-/// What happens to the kernel.
+/// The kind of events that a workload makes.
 #[derive(Clone, Copy)]
 pub(crate) enum Workload {
-    /// So many threads that compute without end.
+    /// This many threads that compute without end.
     Draws(u32),
-    /// A thread at the end of 64 currencies that fund each other, and a ticket that goes to and from the first of them.
+    /// A thread at the end of 64 currencies that fund each other, and a ticket that alternately funds the first of
+    /// them and nothing.
     Chain,
-    /// The same thread and currencies, and base's ticket for the first of them, which gets another amount again and
+    /// A thread and currencies as in `Chain`, and base's ticket for the first of them, whose amount changes again and
     /// again.
     Inflation,
-    /// So many threads over 64 currencies, each of which yields before a quarter of its quantum is used.
+    /// This many threads over 64 currencies, each of which yields before it has used a quarter of its quantum.
     Yields(u32),
     /// A server, a client that calls it, and 256 threads that compute.
     PingPong,
-    /// 16 threads that want the same mutex.
+    /// 16 threads that compete for one mutex.
     Contention,
     /// 512 threads that compute, on 64 processors.
     Processors,
 }
 
-/// The workloads that are compared, by name.
+/// The workloads compared, by name.
 pub(crate) const WORKLOADS: [(&str, Workload); 10] = [
     ("draw2", Workload::Draws(2)),
     ("draw16", Workload::Draws(16)),
@@ -38,7 +39,7 @@ pub(crate) const WORKLOADS: [(&str, Workload); 10] = [
     ("million", Workload::Processors),
 ];
 
-/// How many threads the workload has.
+/// The number of threads of the workload.
 pub(crate) fn threads_of(workload: Workload) -> u32
     ensures { result ≡ openings.threads_of workload }
 {
@@ -51,7 +52,7 @@ pub(crate) fn threads_of(workload: Workload) -> u32
     }
 }
 
-/// How many currencies it has in addition to base. Each is funded by one ticket.
+/// The number of its currencies other than base. Each is funded by one ticket.
 pub(crate) fn currencies_of(workload: Workload) -> u32
     ensures { result ≤ 64 }
 {
@@ -61,7 +62,7 @@ pub(crate) fn currencies_of(workload: Workload) -> u32
     }
 }
 
-/// How many processors it has.
+/// The number of its processors.
 pub(crate) fn processors_of(workload: Workload) -> u32
     ensures some { 0 < result }
     ensures few { result ≤ 64 }
@@ -72,7 +73,7 @@ pub(crate) fn processors_of(workload: Workload) -> u32
     }
 }
 
-/// The largest tables, as inputs have them that ask for no others.
+/// The largest tables, which an input has by default.
 pub(crate) fn largest_limits(workload: Workload) -> Option<Limits> {
     Limits::new(Sizes {
         ports: 1,

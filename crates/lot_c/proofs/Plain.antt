@@ -10,6 +10,9 @@ use Rattle.lot_machine.specs.declared.command.Command.TheVariants.{MakeTicket, R
 use Rattle.lot_machine.specs.declared.command.Kind.TheVariants.{Tickets, Currencies, Threads}
 use Rattle.lot_machine.specs.declared.event.Event.{Event}
 use Rattle.lot_machine.specs.declared.event.Event.TheVariants as event
+use Rattle.lot_machine.specs.declared.reference.CurrencyRef.TheVariants as currency_ref
+use Rattle.lot_machine.specs.declared.reference.ThreadRef.TheVariants as thread_ref
+use Rattle.lot_machine.specs.declared.reference.TargetRef.TheVariants as target_ref
 use Rattle.lot_machine.specs.declared.record.Status.{Status}
 use Rattle.lot_machine.specs.declared.record.Status.TheVariants as status
 use Rattle.lot_machine.specs.declared.refusal.Refusal.{Refusal}
@@ -45,18 +48,25 @@ pub wide : (n : ℕ) → wide_meant (plain_wide n) ≡ n
 wide n = div-add-mod' n (2 ^ 64)
 
 pub meant : (e : Event) → HasNames e → event_meant (plain_event e) ≡ Ok e
-meant (event.Command (MakeTicket amount currency)) (short, good) = ap (result_map (λ n. event.Command (MakeTicket amount n))) (named currency short good)
+meant (event.Command (MakeTicket amount (currency_ref.Named currency))) (short, good) = ap (result_map (λ n. event.Command (MakeTicket amount (currency_ref.Named n)))) (named currency short good)
+meant (event.Command (MakeTicket amount (currency_ref.Numbered currency))) has = refl
 meant (event.Command (RemoveTicket ticket)) has = refl
 meant (event.Command (MakeCurrency name)) (short, good) = ap (result_map (λ n. event.Command (MakeCurrency n))) (named name short good)
-meant (event.Command (RemoveCurrency currency)) (short, good) = ap (result_map (λ n. event.Command (RemoveCurrency n))) (named currency short good)
-meant (event.Command (Fund ticket target)) (short, good) = ap (result_map (λ n. event.Command (Fund ticket n))) (named target short good)
+meant (event.Command (RemoveCurrency (currency_ref.Named currency))) (short, good) = ap (result_map (λ n. event.Command (RemoveCurrency (currency_ref.Named n)))) (named currency short good)
+meant (event.Command (RemoveCurrency (currency_ref.Numbered currency))) has = refl
+meant (event.Command (Fund ticket (target_ref.Named target))) (short, good) = ap (result_map (λ n. event.Command (Fund ticket (target_ref.Named n)))) (named target short good)
+meant (event.Command (Fund ticket (target_ref.Currency currency))) has = refl
+meant (event.Command (Fund ticket (target_ref.Thread thread))) has = refl
 meant (event.Command (Unfund ticket)) has = refl
 meant (event.Command (SetTicket ticket amount)) has = refl
 meant (event.Command (MakeThread name script)) (short, good) = ap (result_map (λ n. event.Command (MakeThread n script))) (named name short good)
-meant (event.Command (RemoveThread name)) (short, good) = ap (result_map (λ n. event.Command (RemoveThread n))) (named name short good)
-meant (event.Command (MakeFunded amount currency name script)) ((short, good), (short', good')) =
-    ap (λ m. result_and_then m (λ c. result_map (λ n. event.Command (MakeFunded amount c n script)) (name_meant (plain_name name)))) (named currency short good)
-    ∙ ap (result_map (λ n. event.Command (MakeFunded amount currency n script))) (named name short' good')
+meant (event.Command (RemoveThread (thread_ref.Named thread))) (short, good) = ap (result_map (λ n. event.Command (RemoveThread (thread_ref.Named n)))) (named thread short good)
+meant (event.Command (RemoveThread (thread_ref.Numbered thread))) has = refl
+meant (event.Command (MakeFunded amount (currency_ref.Named currency) name script)) ((short, good), (short', good')) =
+    ap (λ m. result_and_then m (λ c. result_map (λ n. event.Command (MakeFunded amount (currency_ref.Named c) n script)) (name_meant (plain_name name)))) (named currency short good)
+    ∙ ap (result_map (λ n. event.Command (MakeFunded amount (currency_ref.Named currency) n script))) (named name short' good')
+meant (event.Command (MakeFunded amount (currency_ref.Numbered currency) name script)) (has, (short, good)) =
+    ap (result_map (λ n. event.Command (MakeFunded amount (currency_ref.Numbered currency) n script))) (named name short good)
 meant (event.Command (Listing Tickets)) has = refl
 meant (event.Command (Listing Currencies)) has = refl
 meant (event.Command (Listing Threads)) has = refl

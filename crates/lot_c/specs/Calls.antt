@@ -1,4 +1,4 @@
--- The effect of calls on a kernel that C holds.
+-- The effect of C's calls on a kernel.
 use Rattle.std.specs.Prelude.{◌≡◌, ◌⊎◌, ℕ, Option, None, Some, IfSome, IsSomeAnd, Ok, Err, List, [], ◌∷◌, Result, length, ◌+◌, ◌<◌, ◌≤◌}
 use Rattle.lot_machine.specs.declared.event.Event.{Event}
 use Rattle.lot_machine.specs.declared.row.TicketRow.{TicketRow}
@@ -31,38 +31,38 @@ use Rattle.lot_c.specs.Replies.{plain_reply}
 use Rattle.lot_c.specs.Rows.{plain_ticket_row, plain_currency_row, plain_thread_row}
 use Rattle.lot_c.specs.Numbers.{code}
 
--- A call of a handle that holds what is before it, and then what is after it: of one that holds no kernel the first
--- is true, and it still holds none; of one that holds a kernel the second is true of it before and after.
+-- A call through a handle, given its old and new contents: without a kernel the first statement holds, and there is
+-- still none; with one the second holds of the kernel before and after.
 abbrev pub Through : Option Snapshot → Option Snapshot → Type 0 → (Snapshot → Snapshot → Type 0) → Type 0
 Through None after none found = (after ≡ None) × none
 Through (Some before) after none found = IsSomeAnd after (found before)
 
--- How a kernel is made: not if one exists, not with limits out of their bounds, otherwise as a machine at its start,
--- or not at all if out of memory.
+-- The making of a kernel: refused if there is one already or if limits are out of bounds; otherwise it is in the
+-- opening state, or there is none if out of memory.
 pub record Opens (sizes : PlainSizes) (status : ℕ) (old new : Option Snapshot) : Type 0 where
   pub there : (k : Snapshot) → old ≡ Some k → (status ≡ code KernelThere) × (new ≡ Some k)
   pub limits : old ≡ None → ¬ IsWithinBounds (sizes_meant sizes) → (status ≡ code BadLimits) × (new ≡ None)
   pub made : old ≡ None → IsWithinBounds (sizes_meant sizes) → ((status ≡ code Done) × (new ≡ Some (starting (sizes_meant sizes)))) ⊎ ((status ≡ code NoMemory) × (new ≡ None))
 
--- the bytes of a kernel itself, which it takes in addition to those of its tables
+-- the bytes of a kernel itself, in addition to those of its tables
 abbrev pub box_bytes : ℕ
 box_bytes = 1168
 
--- how many bytes a kernel with these sizes takes, if they are within their bounds
+-- the status and the bytes of a kernel with these sizes, if they are within their bounds
 pub record TellsBytes (sizes : PlainSizes) (status before after : ℕ) : Type 0 where
   pub limits : ¬ IsWithinBounds (sizes_meant sizes) → (status ≡ code BadLimits) × (after ≡ before)
   pub bytes : IsWithinBounds (sizes_meant sizes) → (status ≡ code Done) × (after ≡ bytes_of (sizes_meant sizes) + box_bytes)
 
--- the kernel after an event: the machine's state, which is sound, and what is stale and was counted as a kernel's own
--- call says
+-- the kernel after an event: its state is the machine's and sound, and staleness and counts are those of
+-- `Kernel::event`
 pub record Answers (e : Event) (old new : Snapshot) : Type 0 where
   pub state : new.state ≡ (step old.state e).state
   pub sound : IsSound new.state
   pub stale : MakesStale old new
   pub counts : Counts e (step old.state e).reply old new
 
--- The fields are those of an event that the caller passes. If they mean one, its reply is written; otherwise nothing
--- is changed, and the status says why.
+-- The call with these fields: for a valid event it stores the reply; otherwise it changes nothing, and the status
+-- gives the reason.
 pub record IsAnswered (fields : PlainEvent) (status : ℕ) (old new : Snapshot) (before after : PlainReply) : Type 0 where
   pub reply : (e : Event) → event_meant fields ≡ Ok e → (status ≡ code Done) × (after ≡ plain_reply (step old.state e).reply)
   pub kernel : (e : Event) → event_meant fields ≡ Ok e → Answers e old new
@@ -70,38 +70,38 @@ pub record IsAnswered (fields : PlainEvent) (status : ℕ) (old new : Snapshot) 
 
 -- ---- many events
 
--- with one event more in front, if it is meant
+-- the events with one more in front if it is valid, and otherwise none
 abbrev pub in_front : Result Event Status → List Event → List Event
 in_front (Ok e) events = e ∷ events
 in_front (Err why) events = []
 
--- the events up to the first fields that mean none
+-- the events up to the first invalid fields
 abbrev pub events_meant : List PlainEvent → List Event
 events_meant [] = []
 events_meant (fields ∷ others) = in_front (event_meant fields) (events_meant others)
 
--- why it is none, otherwise this
+-- the status for an invalid event, or otherwise the given one
 abbrev pub fault_or : Result Event Status → Status → Status
 fault_or (Ok e) other = other
 fault_or (Err why) other = why
 
--- why the first fields that mean no event mean none, or Done
+-- the status for the first invalid fields, or `Done`
 abbrev pub first_fault : List PlainEvent → Status
 first_fault [] = Done
 first_fault (fields ∷ others) = fault_or (event_meant fields) (first_fault others)
 
--- the replies with the first one written by the machine, and the others so too, if an event is meant
+-- the machine's replies to an event and to those after it if it is valid, and otherwise the old replies
 abbrev pub written_by : State → Result Event Status → PlainReply → (State → List PlainReply) → List PlainReply → List PlainReply
 written_by s (Ok e) reply next others = plain_reply (step s e).reply ∷ next (step s e).state
 written_by s (Err why) reply next others = reply ∷ others
 
--- the replies to events in order up to the first fields that mean none, and what stood there before after them
+-- the replies to events in order up to the first invalid fields, followed by the old contents
 abbrev pub replies_written : State → List PlainEvent → List PlainReply → List PlainReply
 replies_written s (fields ∷ events) (reply ∷ others) = written_by s (event_meant fields) reply (λ after. replies_written after events others) others
 replies_written s events others = others
 
--- The fields are those of events that the caller passes in order. The events that are meant are done in turn, each as
--- a kernel's own call does it.
+-- The call with these fields in order: it makes the valid events before the first invalid one in turn, each as
+-- `Kernel::event` does.
 pub record AreAnswered (fields : List PlainEvent) (status done : ℕ) (old new : Snapshot) (before after : List PlainReply) : Type 0 where
   pub status_is : status ≡ code (first_fault fields)
   pub done_are : done ≡ length (events_meant fields)
@@ -109,34 +109,34 @@ pub record AreAnswered (fields : List PlainEvent) (status done : ℕ) (old new :
   pub state : new.state ≡ state_after old.state (events_meant fields)
   pub kernel : AreDone (events_meant fields) (machine.replies old.state (events_meant fields)) old new
 
--- ---- what is shown
+-- ---- rows and queries
 
--- the row of a ticket, if it is there; as at a kernel, what is stale is computed, and counted
+-- the row of a ticket, if it exists; as in `Kernel::ticket_row`, stale values are recomputed and counted
 pub record ShowsTicket (ticket status : ℕ) (old new : Snapshot) (before after : PlainTicketRow) : Type 0 where
   pub row : (t : TicketRow) → rows.ticket_row old.state ticket ≡ Some t → (status ≡ code Done) × (after ≡ plain_ticket_row t) × HasNoneTwice old.stale
   pub not_there : rows.ticket_row old.state ticket ≡ None → (status ≡ code NotThere) × (new ≡ old) × (after ≡ before)
   pub state : new.state ≡ old.state
   pub reads : (t : Ticket) → ticket_in old.state.tickets ticket ≡ Some t → new ≡ record (settled old) { meter = with_ticket_read (settled old).meter t }
 
--- the row of a currency, if it is there
+-- the row of a currency, if it exists
 pub record ShowsCurrency (currency status : ℕ) (old new : Snapshot) (before after : PlainCurrencyRow) : Type 0 where
   pub row : (r : CurrencyRow) → rows.currency_row old.state currency ≡ Some r → (status ≡ code Done) × (after ≡ plain_currency_row r) × HasNoneTwice old.stale × (new ≡ settled old)
   pub not_there : rows.currency_row old.state currency ≡ None → (status ≡ code NotThere) × (new ≡ old) × (after ≡ before)
   pub state : new.state ≡ old.state
 
--- the row of a thread, if there is one
+-- the row of a thread, if it exists
 pub record ShowsThread (thread status : ℕ) (old new : Snapshot) (before after : PlainThreadRow) : Type 0 where
   pub row : (r : ThreadRow) → rows.thread_row old.state thread ≡ Some r → (status ≡ code Done) × (after ≡ plain_thread_row r) × HasNoneTwice old.stale × (new ≡ settled old)
   pub not_there : rows.thread_row old.state thread ≡ None → (status ≡ code NotThere) × (new ≡ old) × (after ≡ before)
   pub state : new.state ≡ old.state
 
--- the thread that runs on a processor, if one does
+-- the thread that runs on a processor, if there is one
 pub record ShowsRunner (processor status : ℕ) (k : Snapshot) (before after : PlainRunner) : Type 0 where
   pub nobody : thread_on k.state.records processor ≡ None → (status ≡ code NotThere) × (after ≡ before)
   pub runs : (t : ℕ) → thread_on k.state.records processor ≡ Some t → (status ≡ code Done) × (after.thread ≡ t) × (used_by k.state.records processor t ≡ Some after.used)
   pub there : (t : ℕ) → thread_on k.state.records processor ≡ Some t → (0 < after.thread) × (after.thread ≤ length k.state.records) × (after.used < k.state.limits.quantum)
 
--- the script with which a thread was made, if there is such a thread
+-- the number of a thread's script, if there is such a thread
 pub record ShowsScript (thread status : ℕ) (k : Snapshot) (before after : ℕ) : Type 0 where
   pub none : thread_at k.state.threads thread ≡ None → (status ≡ code NotThere) × (after ≡ before)
   pub script : IfSome (thread_at k.state.threads thread) (λ t. (status ≡ code Done) × (after ≡ t.script))

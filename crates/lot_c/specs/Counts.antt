@@ -1,4 +1,4 @@
--- Sizes, counts and who runs, in plain fields.
+-- Sizes, counts and running threads, in plain fields.
 use Rattle.lot_machine.specs.declared.sizes.Sizes.{Sizes}
 use Rattle.lot_threads.specs.declared.runners.Runner.{Runner}
 use Rattle.lot_value.specs.declared.meter.Meter.{Meter}
@@ -6,6 +6,7 @@ use Rattle.lot_c.specs.declared.sizes.PlainSizes.{PlainSizes}
 use Rattle.lot_c.specs.declared.sizes.PlainMeter.{PlainMeter}
 use Rattle.lot_c.specs.declared.sizes.PlainRunner.{PlainRunner}
 
+-- the sizes of a kernel in plain fields
 abbrev pub plain_sizes : Sizes → PlainSizes
 plain_sizes s = record {
   tickets = s.tickets;
@@ -19,6 +20,7 @@ plain_sizes s = record {
   unit = s.unit;
 }
 
+-- the sizes in these fields
 abbrev pub sizes_meant : PlainSizes → Sizes
 sizes_meant s = record {
   tickets = s.tickets;
@@ -32,8 +34,10 @@ sizes_meant s = record {
   unit = s.unit;
 }
 
+-- the counts of a kernel in plain fields
 abbrev pub plain_meter : Meter → PlainMeter
 plain_meter m = record { ticket_reads = m.ticket_reads; tree_visits = m.tree_visits }
 
+-- a running thread in plain fields
 abbrev pub plain_runner : Runner → PlainRunner
 plain_runner r = record { thread = r.thread.number; used = r.used }

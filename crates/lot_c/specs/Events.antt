@@ -1,4 +1,4 @@
--- The event that plain fields mean.
+-- The event in plain fields.
 use Rattle.std.specs.Prelude.{ℕ, ◌==◌, Option, Some, None, Result, Ok, Err, List, [], ◌∷◌}
 use Rattle.std.specs.List.{find}
 use Rattle.lot_machine.specs.declared.action.Action.{Action}
@@ -8,6 +8,9 @@ use Rattle.lot_machine.specs.declared.command.Command.TheVariants.{MakeTicket, R
 use Rattle.lot_machine.specs.declared.command.Kind.TheVariants.{Tickets, Currencies, Threads}
 use Rattle.lot_machine.specs.declared.event.Event.{Event}
 use Rattle.lot_machine.specs.declared.event.Event.TheVariants as event
+use Rattle.lot_machine.specs.declared.reference.CurrencyRef.TheVariants as currency_ref
+use Rattle.lot_machine.specs.declared.reference.ThreadRef.TheVariants as thread_ref
+use Rattle.lot_machine.specs.declared.reference.TargetRef.TheVariants as target_ref
 use Rattle.lot_c.specs.declared.event.PlainEvent.{PlainEvent}
 use Rattle.lot_c.specs.declared.name.PlainName.{PlainName}
 use Rattle.lot_c.specs.declared.status.Status.{Status}
@@ -22,40 +25,40 @@ abbrev pub result_map : {X Y : Type 0} → (X → Y) → Result X Status → Res
 result_map change (Ok x) = Ok (change x)
 result_map change (Err status) = Err status
 
--- the Ok value passed on
+-- the function applied to the Ok value
 abbrev pub result_and_then : {X Y : Type 0} → Result X Status → (X → Result Y Status) → Result Y Status
 result_and_then (Ok x) use_it = use_it x
 result_and_then (Err status) use_it = Err status
 
--- a command
+-- this command, as an event
 abbrev asks : Command → Result Event Status
 asks c = Ok (event.Command c)
 
--- a command that has a name
+-- the command with the name in these fields
 abbrev asks_of : PlainName → (List ℕ → Command) → Result Event Status
 asks_of name command = result_map (λ n. event.Command (command n)) (name_meant name)
 
--- a trap of a thread that runs
+-- the trap with this action, of the processor and the ticks in the fields
 abbrev traps : PlainEvent → Action → Result Event Status
 traps e action = Ok (event.Trap e.processor e.ticks action)
 
--- a kind, and what it means
+-- a kind of events, and the event for fields of this kind
 abbrev Meaning : Type 0
 Meaning = EventKind × (PlainEvent → Result Event Status)
 
--- What each kind means.
+-- The event for each kind's fields. A currency or thread with the number `object` need not exist: the kernel checks that.
 abbrev meanings : List Meaning
 meanings =
-    (EventKind.MakeTicket, λ e. asks_of e.currency (λ currency. MakeTicket e.amount currency))
+    (EventKind.MakeTicket, λ e. asks_of e.currency (λ currency. MakeTicket e.amount (currency_ref.Named currency)))
     ∷ (EventKind.RemoveTicket, λ e. asks (RemoveTicket e.ticket))
     ∷ (EventKind.MakeCurrency, λ e. asks_of e.name MakeCurrency)
-    ∷ (EventKind.RemoveCurrency, λ e. asks_of e.currency RemoveCurrency)
-    ∷ (EventKind.Fund, λ e. asks_of e.name (λ target. Fund e.ticket target))
+    ∷ (EventKind.RemoveCurrency, λ e. asks_of e.currency (λ currency. RemoveCurrency (currency_ref.Named currency)))
+    ∷ (EventKind.Fund, λ e. asks_of e.name (λ target. Fund e.ticket (target_ref.Named target)))
     ∷ (EventKind.Unfund, λ e. asks (Unfund e.ticket))
     ∷ (EventKind.SetTicket, λ e. asks (SetTicket e.ticket e.amount))
     ∷ (EventKind.MakeThread, λ e. asks_of e.name (λ name. MakeThread name e.script))
-    ∷ (EventKind.RemoveThread, λ e. asks_of e.name RemoveThread)
-    ∷ (EventKind.MakeFunded, λ e. result_and_then (name_meant e.currency) (λ currency. asks_of e.name (λ name. MakeFunded e.amount currency name e.script)))
+    ∷ (EventKind.RemoveThread, λ e. asks_of e.name (λ thread. RemoveThread (thread_ref.Named thread)))
+    ∷ (EventKind.MakeFunded, λ e. result_and_then (name_meant e.currency) (λ currency. asks_of e.name (λ name. MakeFunded e.amount (currency_ref.Named currency) name e.script)))
     ∷ (EventKind.ListTickets, λ e. asks (Listing Tickets))
     ∷ (EventKind.ListCurrencies, λ e. asks (Listing Currencies))
     ∷ (EventKind.ListThreads, λ e. asks (Listing Threads))
@@ -73,13 +76,19 @@ meanings =
     ∷ (EventKind.Preempt, λ e. Ok (event.Preempt e.processor e.ticks))
     ∷ (EventKind.Overrun, λ e. Ok (event.Overrun e.processor e.ticks))
     ∷ (EventKind.Wake, λ e. Ok (event.Wake e.object))
+    ∷ (EventKind.MakeTicketIn, λ e. asks (MakeTicket e.amount (currency_ref.Numbered e.object)))
+    ∷ (EventKind.RemoveCurrencyNumbered, λ e. asks (RemoveCurrency (currency_ref.Numbered e.object)))
+    ∷ (EventKind.FundCurrency, λ e. asks (Fund e.ticket (target_ref.Currency e.object)))
+    ∷ (EventKind.FundThread, λ e. asks (Fund e.ticket (target_ref.Thread e.object)))
+    ∷ (EventKind.RemoveThreadNumbered, λ e. asks (RemoveThread (thread_ref.Numbered e.object)))
+    ∷ (EventKind.MakeFundedIn, λ e. asks_of e.name (λ name. MakeFunded e.amount (currency_ref.Numbered e.object) name e.script))
     ∷ []
 
--- what fields mean whose kind means this; without a kind they mean nothing
+-- the event for fields of this kind, or `BadKind` without one
 abbrev meant_by : PlainEvent → Option Meaning → Result Event Status
 meant_by e None = Err BadKind
 meant_by e (Some meaning) = meaning.1 e
 
--- The event that the fields mean, or why they mean none. Fields that the kind doesn't read may have any value.
+-- The event in these fields, or the status for invalid ones. Fields that the kind doesn't read may have any value.
 abbrev pub event_meant : PlainEvent → Result Event Status
 event_meant e = meant_by e (find (λ meaning. event_number meaning.0 == e.kind) meanings)

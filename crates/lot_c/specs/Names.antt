@@ -5,14 +5,14 @@ use Rattle.lot_c.specs.declared.name.PlainName.{PlainName}
 use Rattle.lot_c.specs.declared.status.Status.{Status}
 use Rattle.lot_c.specs.declared.status.Status.TheVariants.{LongName, BadName}
 
--- a name of at most 16 bytes, with 0 after it
+-- the plain fields of a name of at most 16 bytes, padded with 0
 abbrev pub plain_name : List ℕ → PlainName
 plain_name name = record { length = length name; bytes = name ++ replicate (16 - length name) 0 }
 
--- the bytes that the plain fields spell
+-- the bytes of the name in these fields
 abbrev pub spelled : PlainName → List ℕ
 spelled n = take n.length n.bytes
 
--- A name has at most 16 bytes: a letter a to z, and then letters a to z, digits, `_` or `-`.
+-- The name in these fields, or the status for one that is too long or has invalid bytes.
 abbrev pub name_meant : PlainName → Result (List ℕ) Status
 name_meant n = if nat_lt 16 n.length then Err LongName else if is_good_name (spelled n) then Ok (spelled n) else Err BadName

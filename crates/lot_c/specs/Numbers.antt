@@ -1,4 +1,5 @@
--- The numbers that C, Rust and Python see, in one table. `bindings/numbers` compares the files of all three with it.
+-- The numbers in the interfaces for C, Rust and Python, in one table. `bindings/numbers` compares the files of all
+-- three with it.
 use Rattle.std.specs.Prelude.{ℕ, ◌+◌, ◌*◌, ◌^◌}
 use Rattle.lot_machine.specs.declared.command.Kind.TheVariants.{Tickets, Currencies, Threads}
 use Rattle.lot_machine.specs.declared.record.Status.{Status as ThreadStatus}
@@ -19,7 +20,7 @@ use Rattle.lot_c.specs.Kinds.{EventKind}
 abbrev pub version : ℕ
 version = 0 * 2 ^ 16 + 1 * 2 ^ 8 + 0
 
--- what a call answers
+-- the number of a call's status
 abbrev pub code : Status → ℕ
 code status.Done = 0
 code status.NoKernel = 1
@@ -35,7 +36,7 @@ code status.BadSeed = 10
 code status.NoWinner = 11
 code status.TooLarge = 12
 
--- the kinds of events; 0 is none
+-- the number of a kind of events; 0 is none
 abbrev pub event_number : EventKind → ℕ
 event_number EventKind.MakeTicket = 1
 event_number EventKind.RemoveTicket = 2
@@ -64,8 +65,14 @@ event_number EventKind.Sleep = 24
 event_number EventKind.Preempt = 25
 event_number EventKind.Overrun = 26
 event_number EventKind.Wake = 27
+event_number EventKind.MakeTicketIn = 28
+event_number EventKind.RemoveCurrencyNumbered = 29
+event_number EventKind.FundCurrency = 30
+event_number EventKind.FundThread = 31
+event_number EventKind.RemoveThreadNumbered = 32
+event_number EventKind.MakeFundedIn = 33
 
--- the kinds of replies, with one for each listing
+-- the number of a reply's kind; each listing has one
 abbrev pub reply_number : Reply → ℕ
 reply_number (reply.Ticket ticket) = 1
 reply_number (reply.Currency currency) = 2
@@ -81,7 +88,7 @@ reply_number (reply.Expired thread ticks) = 11
 reply_number (reply.Trapped thread ticks outcome ends) = 12
 reply_number (reply.Refused why) = 13
 
--- what a trap comes to
+-- the number of a trap's outcome
 abbrev pub outcome_number : Outcome → ℕ
 outcome_number outcome.Yielded = 1
 outcome_number (outcome.ServedBy server) = 2
@@ -98,7 +105,7 @@ outcome_number (outcome.RepliedThenReceived to client number) = 12
 outcome_number (outcome.RepliedThenWaits to) = 13
 outcome_number outcome.Slept = 14
 
--- why an event is refused, as docs/FORMATS.md has it and the program prints it
+-- the number of an event's refusal, as in docs/FORMATS.md and in the program's output
 abbrev pub refusal_number : Refusal → ℕ
 refusal_number refusal.BadName = 1
 refusal_number refusal.NameTaken = 2
@@ -122,7 +129,7 @@ refusal_number refusal.NotRunning = 22
 refusal_number refusal.BadTicks = 23
 refusal_number refusal.NotAsleep = 24
 
--- why a trap is refused, as docs/FORMATS.md has it too
+-- the number of a trap's refusal, as in docs/FORMATS.md
 abbrev pub trap_refusal_number : TrapRefusal → ℕ
 trap_refusal_number trap.NoPort = 30
 trap_refusal_number trap.NothingToReply = 32
@@ -131,7 +138,7 @@ trap_refusal_number trap.NotOwner = 34
 trap_refusal_number trap.AlreadyOwner = 35
 trap_refusal_number trap.LockCycle = 36
 
--- what a thread is doing
+-- the number of a thread's status
 abbrev pub status_number : ThreadStatus → ℕ
 status_number thread.Ready = 1
 status_number (thread.Running processor used) = 2

@@ -8,6 +8,12 @@ use Rattle.lot_machine.specs.declared.command.Command.TheVariants.{MakeTicket, R
 use Rattle.lot_machine.specs.declared.command.Kind.TheVariants.{Tickets, Currencies, Threads}
 use Rattle.lot_machine.specs.declared.event.Event.{Event}
 use Rattle.lot_machine.specs.declared.event.Event.TheVariants as event
+use Rattle.lot_machine.specs.declared.reference.CurrencyRef.{CurrencyRef}
+use Rattle.lot_machine.specs.declared.reference.CurrencyRef.TheVariants as currency_ref
+use Rattle.lot_machine.specs.declared.reference.ThreadRef.{ThreadRef}
+use Rattle.lot_machine.specs.declared.reference.ThreadRef.TheVariants as thread_ref
+use Rattle.lot_machine.specs.declared.reference.TargetRef.{TargetRef}
+use Rattle.lot_machine.specs.declared.reference.TargetRef.TheVariants as target_ref
 use Rattle.lot_c.specs.declared.event.PlainEvent.{PlainEvent}
 use Rattle.lot_c.specs.Kinds.{EventKind}
 use Rattle.lot_c.specs.Names.{plain_name}
@@ -30,38 +36,60 @@ of_kind k = record {
   name = plain_name [];
 }
 
--- a name of at most 16 bytes, of those that names have
+-- a good name of at most 16 bytes
 abbrev IsName : List ℕ → Type 0
 IsName name = (length name ≤ 16) × (is_good_name name ≡ true)
 
--- each name of the command is one
+-- a currency referred to by name has a good name of at most 16 bytes
+abbrev HasCurrencyName : CurrencyRef → Type 0
+HasCurrencyName (currency_ref.Named name) = IsName name
+HasCurrencyName (currency_ref.Numbered currency) = Unit {0}
+
+-- a thread referred to by name has a good name of at most 16 bytes
+abbrev HasThreadName : ThreadRef → Type 0
+HasThreadName (thread_ref.Named name) = IsName name
+HasThreadName (thread_ref.Numbered thread) = Unit {0}
+
+-- a target referred to by name has a good name of at most 16 bytes
+abbrev HasTargetName : TargetRef → Type 0
+HasTargetName (target_ref.Named name) = IsName name
+HasTargetName (target_ref.Currency currency) = Unit {0}
+HasTargetName (target_ref.Thread thread) = Unit {0}
+
+-- each name of the command is good and has at most 16 bytes
 abbrev HasCommandNames : Command → Type 0
-HasCommandNames (MakeTicket amount currency) = IsName currency
+HasCommandNames (MakeTicket amount currency) = HasCurrencyName currency
 HasCommandNames (MakeCurrency name) = IsName name
-HasCommandNames (RemoveCurrency currency) = IsName currency
-HasCommandNames (Fund ticket target) = IsName target
+HasCommandNames (RemoveCurrency currency) = HasCurrencyName currency
+HasCommandNames (Fund ticket target) = HasTargetName target
 HasCommandNames (MakeThread name script) = IsName name
-HasCommandNames (RemoveThread name) = IsName name
-HasCommandNames (MakeFunded amount currency name script) = IsName currency × IsName name
+HasCommandNames (RemoveThread thread) = HasThreadName thread
+HasCommandNames (MakeFunded amount currency name script) = HasCurrencyName currency × IsName name
 HasCommandNames other = Unit {0}
 
--- each name of the event is one
+-- each name of the event is good and has at most 16 bytes
 abbrev pub HasNames : Event → Type 0
 HasNames (event.Command command) = HasCommandNames command
 HasNames other = Unit {0}
 
 -- a command in plain fields
 abbrev pub plain_command : Command → PlainEvent
-plain_command (MakeTicket amount currency) = record (of_kind EventKind.MakeTicket) { amount = amount; currency = plain_name currency }
+plain_command (MakeTicket amount (currency_ref.Named currency)) = record (of_kind EventKind.MakeTicket) { amount = amount; currency = plain_name currency }
+plain_command (MakeTicket amount (currency_ref.Numbered currency)) = record (of_kind EventKind.MakeTicketIn) { amount = amount; object = currency }
 plain_command (RemoveTicket ticket) = record (of_kind EventKind.RemoveTicket) { ticket = ticket }
 plain_command (MakeCurrency name) = record (of_kind EventKind.MakeCurrency) { name = plain_name name }
-plain_command (RemoveCurrency currency) = record (of_kind EventKind.RemoveCurrency) { currency = plain_name currency }
-plain_command (Fund ticket target) = record (of_kind EventKind.Fund) { ticket = ticket; name = plain_name target }
+plain_command (RemoveCurrency (currency_ref.Named currency)) = record (of_kind EventKind.RemoveCurrency) { currency = plain_name currency }
+plain_command (RemoveCurrency (currency_ref.Numbered currency)) = record (of_kind EventKind.RemoveCurrencyNumbered) { object = currency }
+plain_command (Fund ticket (target_ref.Named target)) = record (of_kind EventKind.Fund) { ticket = ticket; name = plain_name target }
+plain_command (Fund ticket (target_ref.Currency currency)) = record (of_kind EventKind.FundCurrency) { ticket = ticket; object = currency }
+plain_command (Fund ticket (target_ref.Thread thread)) = record (of_kind EventKind.FundThread) { ticket = ticket; object = thread }
 plain_command (Unfund ticket) = record (of_kind EventKind.Unfund) { ticket = ticket }
 plain_command (SetTicket ticket amount) = record (of_kind EventKind.SetTicket) { ticket = ticket; amount = amount }
 plain_command (MakeThread name script) = record (of_kind EventKind.MakeThread) { name = plain_name name; script = script }
-plain_command (RemoveThread name) = record (of_kind EventKind.RemoveThread) { name = plain_name name }
-plain_command (MakeFunded amount currency name script) = record (of_kind EventKind.MakeFunded) { amount = amount; currency = plain_name currency; name = plain_name name; script = script }
+plain_command (RemoveThread (thread_ref.Named thread)) = record (of_kind EventKind.RemoveThread) { name = plain_name thread }
+plain_command (RemoveThread (thread_ref.Numbered thread)) = record (of_kind EventKind.RemoveThreadNumbered) { object = thread }
+plain_command (MakeFunded amount (currency_ref.Named currency) name script) = record (of_kind EventKind.MakeFunded) { amount = amount; currency = plain_name currency; name = plain_name name; script = script }
+plain_command (MakeFunded amount (currency_ref.Numbered currency) name script) = record (of_kind EventKind.MakeFundedIn) { amount = amount; object = currency; name = plain_name name; script = script }
 plain_command (Listing Tickets) = of_kind EventKind.ListTickets
 plain_command (Listing Currencies) = of_kind EventKind.ListCurrencies
 plain_command (Listing Threads) = of_kind EventKind.ListThreads

@@ -9,6 +9,7 @@ use Rattle.lot_c.specs.declared.wide.Wide.{Wide}
 use Rattle.lot_c.specs.Numbers.{outcome_number, refusal_number, reply_number, trap_refusal_number}
 use Rattle.lot_c.specs.Wides.{plain_wide}
 
+-- the wide number 0
 abbrev zero_wide : Wide
 zero_wide = record { low = 0; high = 0 }
 
@@ -33,7 +34,7 @@ blank_reply = record {
   goes_on = false;
 }
 
--- the fields that an outcome writes besides its number
+-- the fields that an outcome sets, except its number
 abbrev outcome_fields : Outcome → PlainReply
 outcome_fields (outcome.ServedBy server) = record blank_reply { other = server }
 outcome_fields (outcome.Received client number) = record blank_reply { other = client; sent = number; has_sent = true }
@@ -46,7 +47,7 @@ outcome_fields (outcome.Passed to (Some draw)) =
 outcome_fields (outcome.Refused why) = record blank_reply { reason = trap_refusal_number why }
 outcome_fields other = blank_reply
 
--- whether the outcome of a trap leaves its thread on the processor, for as long as its quantum lasts
+-- whether the outcome of a trap leaves its thread on the processor while its quantum lasts
 abbrev pub runs_on : Outcome → Bool
 runs_on (outcome.Received client number) = true
 runs_on (outcome.Replied client) = true
@@ -56,11 +57,11 @@ runs_on outcome.Freed = true
 runs_on (outcome.Refused why) = true
 runs_on other = false
 
--- the outcome of a trap
+-- the outcome of a trap in plain fields
 abbrev pub plain_outcome : Outcome → PlainReply
 plain_outcome o = record (outcome_fields o) { outcome = outcome_number o }
 
--- the fields that a reply writes besides its kind
+-- the fields that a reply sets, except its kind
 abbrev reply_fields : Reply → PlainReply
 reply_fields (reply.Ticket ticket) = record blank_reply { ticket = ticket }
 reply_fields (reply.Currency currency) = record blank_reply { currency = currency }

@@ -14,10 +14,11 @@ use Rattle.lot_c.specs.Names.{plain_name}
 use Rattle.lot_c.specs.Numbers.{status_number}
 use Rattle.lot_c.specs.Wides.{plain_wide}
 
--- the name of a target, and no bytes if there is none
+-- the name of a target, or no bytes without one
 abbrev pub plain_target : Option (List ℕ) → PlainName
 plain_target target = plain_name (unwrap_or target [])
 
+-- a ticket's row in plain fields
 abbrev pub plain_ticket_row : TicketRow → PlainTicketRow
 plain_ticket_row row = record {
   value = row.value;
@@ -28,6 +29,7 @@ plain_ticket_row row = record {
   is_active = row.is_active;
 }
 
+-- a currency's row in plain fields
 abbrev pub plain_currency_row : CurrencyRow → PlainCurrencyRow
 plain_currency_row row = record {
   active_amount = row.active_amount;
@@ -37,11 +39,11 @@ plain_currency_row row = record {
   name = plain_name row.name;
 }
 
--- what a thread is doing, that doesn't run and waits for this
+-- the status of a thread that doesn't run, with the number that it waits for
 abbrev waits : Status → ℕ → PlainStatus
 waits status other = record { kind = status_number status; processor = 0; used = 0; other = other }
 
--- what a thread is doing
+-- a thread's status in plain fields
 abbrev pub plain_status : Status → PlainStatus
 plain_status Ready = waits Ready 0
 plain_status (Running processor used) = record { kind = status_number (Running processor used); processor = processor; used = used; other = 0 }
@@ -52,6 +54,7 @@ plain_status (Waiting mutex) = waits (Waiting mutex) mutex
 plain_status Asleep = waits Asleep 0
 plain_status Dead = waits Dead 0
 
+-- a thread's row in plain fields
 abbrev pub plain_thread_row : ThreadRow → PlainThreadRow
 plain_thread_row row = record {
   weight = plain_wide row.weight;

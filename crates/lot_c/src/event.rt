@@ -7,7 +7,7 @@ ghost use Rattle.lot_c.specs.Events.{event_meant, result_map};
 use crate::name::PlainName;
 use crate::status::Status;
 use crate::wide::Wide;
-use lot_machine::{Action, Command, Event, Kind};
+use lot_machine::{Action, Command, CurrencyRef, Event, Kind, TargetRef, ThreadRef};
 
 /// The kinds of events.
 const MAKE_TICKET: u32 = 1;
@@ -64,33 +64,46 @@ const OVERRUN: u32 = 26;
 
 const WAKE: u32 = 27;
 
-/// An event in plain fields. Its kind says which of the others are read.
+const MAKE_TICKET_IN: u32 = 28;
+
+const REMOVE_CURRENCY_NUMBERED: u32 = 29;
+
+const FUND_CURRENCY: u32 = 30;
+
+const FUND_THREAD: u32 = 31;
+
+const REMOVE_THREAD_NUMBERED: u32 = 32;
+
+const MAKE_FUNDED_IN: u32 = 33;
+
+/// An event in plain fields. Its kind determines which other fields are read.
 #[repr(C)]
 #[derive(Clone, Copy)]
 pub struct PlainEvent {
     pub kind: u32,
     /// The processor of a draw, a trap, or the end of a turn, from 1.
     pub processor: u32,
-    /// The ticks of work before a trap or a preemption, or by which a quantum ended late.
+    /// The ticks of work before a trap or a preemption, or the ticks by which a quantum ended late.
     pub ticks: u32,
-    /// The port or the mutex of a trap, or the thread to wake, from 1.
+    /// The port or the mutex of a trap, or the thread to wake, fund or remove, from 1; or the currency to fund or
+    /// remove, or that issues a ticket, from 0, which is base.
     pub object: u32,
-    /// The number that a call, a reply or a serving sends.
+    /// The number that a call, a reply or a serve sends.
     pub sent: u32,
-    /// The script of a new thread, from 1; 0 is none.
+    /// The script of a new thread, from 1; 0 means none.
     pub script: u32,
     /// The drawn number of a draw or an unlock.
     pub number: Wide,
     pub amount: u64,
     pub ticket: u64,
-    /// The currency that issues a ticket, or that is removed.
+    /// The name of the currency that issues a ticket, or of the currency to remove.
     pub currency: PlainName,
-    /// The name of a new currency or thread, or of the target to fund.
+    /// The name of a new currency or thread, of the target to fund, or of the thread to remove.
     pub name: PlainName,
 }
 
 impl PlainEvent {
-    /// The event that is meant, or why none is.
+    /// The event in these fields, or the status for invalid fields.
     pub(crate) fn read(&self) -> Result<Event, Status>
         ensures { result ≡ event_meant self.now }
     {
@@ -98,6 +111,7 @@ impl PlainEvent {
             MAKE_TICKET..=LIST_THREADS | SET_TICKET | REMOVE_THREAD => {
                 Ok(Event::Command(self.read_command()?))
             }
+            MAKE_TICKET_IN..=MAKE_FUNDED_IN => Ok(Event::Command(self.read_numbered()?)),
             DRAW..=SERVE | SLEEP => Ok(self.read_turn()),
             PREEMPT => Ok(Event::Preempt {
                 processor: self.processor,
@@ -114,7 +128,7 @@ impl PlainEvent {
         }
     }
 
-    /// The command that is meant, or why none is.
+    /// The command in these fields, or the status for invalid fields. It refers to a currency or a thread by name.
     fn read_command(&self) -> Result<Command, Status>
         requires kind { IsBetween MAKE_TICKET LIST_THREADS self.now.kind
             ⊎ IsBetween SET_TICKET REMOVE_THREAD self.now.kind }
@@ -125,18 +139,18 @@ impl PlainEvent {
         match self.kind {
             MAKE_TICKET => Ok(Command::MakeTicket {
                 amount,
-                currency: self.currency.read()?,
+                currency: CurrencyRef::Named(self.currency.read()?),
             }),
             REMOVE_TICKET => Ok(Command::RemoveTicket { ticket }),
             MAKE_CURRENCY => Ok(Command::MakeCurrency {
                 name: self.name.read()?,
             }),
             REMOVE_CURRENCY => Ok(Command::RemoveCurrency {
-                currency: self.currency.read()?,
+                currency: CurrencyRef::Named(self.currency.read()?),
             }),
             FUND => Ok(Command::Fund {
                 ticket,
-                target: self.name.read()?,
+                target: TargetRef::Named(self.name.read()?),
             }),
             UNFUND => Ok(Command::Unfund { ticket }),
             SET_TICKET => Ok(Command::SetTicket { ticket, amount }),
@@ -145,7 +159,7 @@ impl PlainEvent {
                 script: self.script,
             }),
             REMOVE_THREAD => Ok(Command::RemoveThread {
-                thread: self.name.read()?,
+                thread: ThreadRef::Named(self.name.read()?),
             }),
             MAKE_FUNDED => self.read_funded(),
             LIST_TICKETS => Ok(Command::List(Kind::Tickets)),
@@ -155,20 +169,57 @@ impl PlainEvent {
         }
     }
 
-    /// The command for a thread with its ticket, or why the fields mean none.
+    /// The command that makes a thread with its ticket, or the status for invalid fields.
     fn read_funded(&self) -> Result<Command, Status>
         requires kind { self.now.kind ≡ MAKE_FUNDED }
         ensures { event_meant self.now ≡ result_map event.Command result }
     {
         Ok(Command::MakeFunded {
             amount: self.amount,
-            currency: self.currency.read()?,
+            currency: CurrencyRef::Named(self.currency.read()?),
             name: self.name.read()?,
             script: self.script,
         })
     }
 
-    /// The draw, expiry or trap that is meant.
+    /// The command in these fields, which refers to a currency or a thread by number, or the status for invalid fields.
+    fn read_numbered(&self) -> Result<Command, Status>
+        requires kind { IsBetween MAKE_TICKET_IN MAKE_FUNDED_IN self.now.kind }
+        ensures { event_meant self.now ≡ result_map event.Command result }
+    {
+        let ticket = self.ticket;
+        let amount = self.amount;
+        let number = self.object;
+        match self.kind {
+            MAKE_TICKET_IN => Ok(Command::MakeTicket {
+                amount,
+                currency: CurrencyRef::Numbered(number),
+            }),
+            REMOVE_CURRENCY_NUMBERED => Ok(Command::RemoveCurrency {
+                currency: CurrencyRef::Numbered(number),
+            }),
+            FUND_CURRENCY => Ok(Command::Fund {
+                ticket,
+                target: TargetRef::Currency(number),
+            }),
+            FUND_THREAD => Ok(Command::Fund {
+                ticket,
+                target: TargetRef::Thread(number),
+            }),
+            REMOVE_THREAD_NUMBERED => Ok(Command::RemoveThread {
+                thread: ThreadRef::Numbered(number),
+            }),
+            MAKE_FUNDED_IN => Ok(Command::MakeFunded {
+                amount,
+                currency: CurrencyRef::Numbered(number),
+                name: self.name.read()?,
+                script: self.script,
+            }),
+            _ => unreachable!(),
+        }
+    }
+
+    /// The draw, expiry or trap in these fields.
     fn read_turn(&self) -> Event
         requires kind { IsBetween DRAW SERVE self.now.kind ⊎ self.now.kind ≡ SLEEP }
         ensures { event_meant self.now ≡ Ok result }
@@ -189,7 +240,7 @@ impl PlainEvent {
         }
     }
 
-    /// The trap that does this.
+    /// The trap with this action.
     fn trap(&self, action: Action) -> Event
         ensures { result ≡ event.Trap self.now.processor self.now.ticks action }
     {

@@ -11,7 +11,7 @@ use crate::status::Status;
 use lot_kernel::Kernel;
 use std::alloc::Global;
 
-/// One event. If the fields mean none, nothing is changed.
+/// Makes one event. Invalid fields change nothing.
 #[unsafe(no_mangle)]
 pub extern "C" fn lot_kernel_event(
     alloc: Global,
@@ -30,7 +30,7 @@ pub extern "C" fn lot_kernel_event(
     code
 }
 
-/// One event, if the fields mean one.
+/// Makes one event, if its fields are valid.
 fn answer(kernel: &mut Kernel, event: &PlainEvent, reply: &mut PlainReply) -> u32
     ensures { IsAnswered event.now result kernel.old kernel.new reply.old reply.new }
 {
@@ -43,7 +43,8 @@ fn answer(kernel: &mut Kernel, event: &PlainEvent, reply: &mut PlainReply) -> u3
     }
 }
 
-/// Events in order, up to the first fields that mean none, and how many were done. There have to be as many replies.
+/// Makes events in order, up to the first with invalid fields, and stores how many it made. There must be as many
+/// replies.
 #[unsafe(no_mangle)]
 pub extern "C" fn lot_kernel_run(
     alloc: Global,
@@ -70,7 +71,7 @@ pub extern "C" fn lot_kernel_run(
     code
 }
 
-/// Events in order, up to the first fields that mean none, and how many were done.
+/// Makes events in order, up to the first with invalid fields, and stores how many it made.
 fn answer_all(
     kernel: &mut Kernel,
     events: &[PlainEvent],

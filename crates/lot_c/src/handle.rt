@@ -9,7 +9,7 @@ use std::marker::{Model, Send};
 use std::mem;
 use std::ptr::null_mut;
 
-/// C's handle of a kernel: an opaque pointer, null if there is no kernel.
+/// C's handle of a kernel: an opaque pointer, or null without a kernel.
 #[repr(C)]
 pub struct Handle {
     at: *mut u8,
@@ -21,7 +21,7 @@ impl Model for Handle {
     ghost also_owns = { λ h. handle_owns h.alloc h.at h.kernel };
 }
 
-/// A kernel shares nothing, so it may go from thread to thread.
+/// A kernel shares nothing, so it may move from thread to thread.
 unsafe impl Send for Handle {}
 
 impl Drop for Handle {
@@ -33,7 +33,7 @@ impl Drop for Handle {
 }
 
 impl Handle {
-    /// A handle of no kernel.
+    /// A handle without a kernel.
     fn empty(alloc: Global) -> Handle
         ensures { result.kernel ≡ None }
     {
@@ -43,7 +43,7 @@ impl Handle {
         }
     }
 
-    /// A handle of the kernel of which these are the parts.
+    /// A handle of the kernel with these parts.
     fn filled(parts: Parts<Kernel, Global>) -> Handle
         ensures { result.kernel ≡ Some parts.value }
     {
@@ -52,7 +52,7 @@ impl Handle {
         Handle { at, alloc }
     }
 
-    /// The parts of its kernel, `None` if it has none.
+    /// The parts of its kernel, or `None` if it has none.
     fn into_parts(self) -> Option<Parts<Kernel, Global>>
         ensures { MatchOption result (self.kernel ≡ None) (λ p. self.kernel ≡ Some p.value) }
     {
@@ -65,7 +65,7 @@ impl Handle {
         }
     }
 
-    /// Takes its kernel out, `None` if it has none.
+    /// Takes its kernel out, or returns `None` if it has none.
     pub(crate) fn take(&mut self, alloc: Global) -> Option<Box<Kernel>>
         ensures kernel { MatchOption result (self.old.kernel ≡ None) (λ k. self.old.kernel ≡ Some k.value) }
         ensures empty { self.new.kernel ≡ None }

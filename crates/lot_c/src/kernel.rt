@@ -1,4 +1,4 @@
-//! A kernel through a handle: making it, freeing it, and queries that change nothing.
+//! A kernel through a handle: making it, freeing it, and read-only queries.
 ghost use Rattle.std.specs.Prelude.{◌≡◌, ◌⊎◌, IfOk, IfSome, IfErr, None, Some, length};
 ghost use Rattle.lot_machine.specs.Bounds.{IsWithinBounds};
 ghost use Rattle.lot_machine.specs.Facts.{IsSound};
@@ -15,11 +15,11 @@ use lot_kernel::{Kernel, Processor, ThreadNumber};
 use std::alloc::Global;
 use std::mem::size_of;
 
-// What the box of a kernel takes, beside the kernel's tables.
+// The memory for the box of a kernel, in addition to the kernel's tables.
 const KERNEL_BYTES: u64 = size_of::<Kernel>() as u64;
 
-/// Makes a kernel with these sizes, for a handle that holds none. It allocates all the memory that the kernel will
-/// ever use.
+/// Makes a kernel with these sizes, for a handle without one. It allocates all the memory that the kernel will ever
+/// use.
 #[unsafe(no_mangle)]
 pub extern "C" fn lot_kernel_new(alloc: Global, sizes: &PlainSizes, kernel: &mut Handle) -> u32
     ensures opens { Opens sizes.now result kernel.old.kernel kernel.new.kernel }
@@ -38,7 +38,7 @@ pub extern "C" fn lot_kernel_new(alloc: Global, sizes: &PlainSizes, kernel: &mut
     }
 }
 
-/// A kernel with these sizes, or why there is none.
+/// A kernel with these sizes, or the reason why there is none.
 fn make(alloc: Global, sizes: &PlainSizes) -> Result<Box<Kernel>, Status>
     ensures opening { IfOk result (λ k. k.value ≡ starting (sizes_meant sizes.now)) }
     ensures sound { IfOk result (λ k. IsSound k.value.state) }
@@ -55,7 +55,7 @@ fn make(alloc: Global, sizes: &PlainSizes) -> Result<Box<Kernel>, Status>
     Box::new(alloc, kernel).map_err(|_| Status::NoMemory)
 }
 
-/// How many bytes `lot_kernel_new` asks of the allocator in all for a kernel with these sizes.
+/// Stores the total of bytes that `lot_kernel_new` requests from the allocator for a kernel with these sizes.
 #[unsafe(no_mangle)]
 pub extern "C" fn lot_kernel_bytes(sizes: &PlainSizes, bytes: &mut u64) -> u32
     ensures { TellsBytes sizes.now result bytes.old bytes.new }
@@ -69,7 +69,7 @@ pub extern "C" fn lot_kernel_bytes(sizes: &PlainSizes, bytes: &mut u64) -> u32
     }
 }
 
-/// Frees the kernel, if the handle holds one, and leaves the handle with none.
+/// Frees the kernel, if the handle has one, and leaves the handle without a kernel.
 #[unsafe(no_mangle)]
 pub extern "C" fn lot_kernel_free(alloc: Global, kernel: &mut Handle) -> u32
     ensures freed { kernel.new.kernel ≡ None }
@@ -81,7 +81,7 @@ pub extern "C" fn lot_kernel_free(alloc: Global, kernel: &mut Handle) -> u32
     Status::Done.code()
 }
 
-/// The sizes that the kernel was made with.
+/// Stores the sizes that the kernel was made with.
 #[unsafe(no_mangle)]
 pub extern "C" fn lot_kernel_limits(
     alloc: Global,
@@ -99,7 +99,7 @@ pub extern "C" fn lot_kernel_limits(
     Status::Done.code()
 }
 
-/// How many tickets, lends and owners were read, and how many places of the tree of weights were visited.
+/// Stores the number of tickets, lends and owners read, and of places of the tree of weights visited.
 #[unsafe(no_mangle)]
 pub extern "C" fn lot_kernel_meter(
     alloc: Global,
@@ -117,7 +117,7 @@ pub extern "C" fn lot_kernel_meter(
     Status::Done.code()
 }
 
-/// How many tickets were made, including those removed since.
+/// Stores the number of tickets ever made, including removed ones.
 #[unsafe(no_mangle)]
 pub extern "C" fn lot_kernel_ticket_count(
     alloc: Global,
@@ -135,7 +135,7 @@ pub extern "C" fn lot_kernel_ticket_count(
     Status::Done.code()
 }
 
-/// How many currencies were made, including base and those removed since.
+/// Stores the number of currencies ever made, including base and removed ones.
 #[unsafe(no_mangle)]
 pub extern "C" fn lot_kernel_currency_count(
     alloc: Global,
@@ -153,7 +153,7 @@ pub extern "C" fn lot_kernel_currency_count(
     Status::Done.code()
 }
 
-/// Who runs on the processor.
+/// Stores the thread that runs on the processor.
 #[unsafe(no_mangle)]
 pub extern "C" fn lot_kernel_runner(
     alloc: Global,
@@ -172,7 +172,7 @@ pub extern "C" fn lot_kernel_runner(
     code
 }
 
-/// The thread that runs on the processor, if one does.
+/// Stores the thread that runs on the processor, if there is one.
 fn show_runner(kernel: &Kernel, processor: u32, runner: &mut PlainRunner) -> u32
     ensures { ShowsRunner processor result kernel.now runner.old runner.new }
 {
@@ -185,7 +185,7 @@ fn show_runner(kernel: &Kernel, processor: u32, runner: &mut PlainRunner) -> u32
     }
 }
 
-/// The number of the script that the thread was made with.
+/// Stores the number of the thread's script, fixed when it was made.
 #[unsafe(no_mangle)]
 pub extern "C" fn lot_kernel_script_of(
     alloc: Global,
@@ -204,7 +204,7 @@ pub extern "C" fn lot_kernel_script_of(
     code
 }
 
-/// The number of the thread's script, if there is such a thread.
+/// Stores the number of the thread's script, if there is such a thread.
 fn show_script(kernel: &Kernel, thread: u32, script: &mut u32) -> u32
     ensures { ShowsScript thread result kernel.now script.old script.new }
 {

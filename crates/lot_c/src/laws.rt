@@ -1,4 +1,4 @@
-//! The meanings of the plain fields: laws of the boundary, with nothing to run.
+//! The meanings of the plain fields: laws of the boundary, without executable code.
 ghost use Rattle.std.specs.Prelude.{◌≡◌, ◌≤◌, ◌↔◌, ℕ, List, Ok, Some, true, length};
 ghost use Rattle.lot_machine.specs.Commands as names;
 ghost use Rattle.lot_machine.specs.declared.event.Event.{Event};
@@ -15,13 +15,13 @@ ghost use Rattle.lot_c.specs.Replies.{plain_reply};
 ghost use Rattle.lot_c.specs.Rows.{plain_status};
 ghost use Rattle.lot_c.specs.Wides.{plain_wide, wide_meant};
 
-/// A name that C gets means the same when C passes it back.
+/// A name that C receives keeps its meaning when C passes it back.
 pub fn names_come_back()
     ensures { (name : List ℕ) → length name ≤ 16 → names.is_good_name name ≡ true
         → name_meant (plain_name name) ≡ Ok name }
 {}
 
-/// A number of 128 bits that C gets means the same when C passes it back.
+/// A number of 128 bits that C receives keeps its meaning when C passes it back.
 pub fn wides_come_back()
     ensures { (n : ℕ) → wide_meant (plain_wide n) ≡ n }
 {}
@@ -31,19 +31,19 @@ pub fn each_event_can_be_meant()
     ensures { (e : Event) → HasNames e → event_meant (plain_event e) ≡ Ok e }
 {}
 
-/// No two replies look the same.
+/// No two replies have equal plain fields.
 pub fn replies_differ()
     ensures { (one other : Reply) → plain_reply one ≡ plain_reply other → one ≡ other }
 {}
 
-/// After a draw, an expiry or a trap the reply's flag says whether the thread that it names runs on the processor.
+/// After a draw, an expiry or a trap the reply's flag tells whether the thread that it names runs on the processor.
 pub fn flags_say_who_runs()
     ensures { (s : State) (e : Event) (p t : ℕ) → IsInOrder s → processor_of e ≡ Some p
         → thread_in (step s e).reply ≡ Some t
         → ((plain_reply (step s e).reply).goes_on ≡ true) ↔ (thread_on (step s e).state.records p ≡ Some t) }
 {}
 
-/// No two statuses of threads look the same.
+/// No two statuses of threads have equal plain fields.
 pub fn statuses_differ()
     ensures { (one other : Status) → plain_status one ≡ plain_status other → one ≡ other }
 {}

@@ -1,7 +1,7 @@
-//! The kernel for C: an export for each of its calls, and for the lottery alone.
+//! The kernel for C: an export for each of its calls, and for the lottery by itself.
 //!
-//! An export reads what C passes before it does anything. A call that makes no sense changes nothing and returns the
-//! reason as its status. `bindings/c/lot.h` says what each call requires of C.
+//! An export validates what C passes before it acts. An invalid call changes nothing and returns the reason as its
+//! status. `bindings/c/lot.h` lists what each call requires of C.
 #![tactic(auto)]
 
 mod event;

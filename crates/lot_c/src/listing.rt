@@ -10,7 +10,7 @@ use crate::status::Status;
 use lot_kernel::{CurrencyNumber, Kernel, ThreadNumber, TicketNumber};
 use std::alloc::Global;
 
-/// The row of the ticket with this number.
+/// Stores the row of the ticket with this number.
 #[unsafe(no_mangle)]
 pub extern "C" fn lot_kernel_ticket_row(
     alloc: Global,
@@ -29,7 +29,7 @@ pub extern "C" fn lot_kernel_ticket_row(
     code
 }
 
-/// The row of the ticket with this number, if it is there.
+/// Stores the row of the ticket with this number, if it exists.
 fn show_ticket(kernel: &mut Kernel, ticket: u32, row: &mut PlainTicketRow) -> u32
     ensures { ShowsTicket ticket result kernel.old kernel.new row.old row.new }
 {
@@ -42,7 +42,7 @@ fn show_ticket(kernel: &mut Kernel, ticket: u32, row: &mut PlainTicketRow) -> u3
     }
 }
 
-/// The row of the currency with this number.
+/// Stores the row of the currency with this number.
 #[unsafe(no_mangle)]
 pub extern "C" fn lot_kernel_currency_row(
     alloc: Global,
@@ -61,7 +61,7 @@ pub extern "C" fn lot_kernel_currency_row(
     code
 }
 
-/// The row of the currency with this number, if it is there.
+/// Stores the row of the currency with this number, if it exists.
 fn show_currency(kernel: &mut Kernel, currency: u32, row: &mut PlainCurrencyRow) -> u32
     ensures { ShowsCurrency currency result kernel.old kernel.new row.old row.new }
 {
@@ -74,7 +74,7 @@ fn show_currency(kernel: &mut Kernel, currency: u32, row: &mut PlainCurrencyRow)
     }
 }
 
-/// The row of the thread with this number.
+/// Stores the row of the thread with this number.
 #[unsafe(no_mangle)]
 pub extern "C" fn lot_kernel_thread_row(
     alloc: Global,
@@ -93,7 +93,7 @@ pub extern "C" fn lot_kernel_thread_row(
     code
 }
 
-/// The row of the thread with this number, if there is one.
+/// Stores the row of the thread with this number, if it exists.
 fn show_thread(kernel: &mut Kernel, thread: u32, row: &mut PlainThreadRow) -> u32
     ensures { ShowsThread thread result kernel.old kernel.new row.old row.new }
 {

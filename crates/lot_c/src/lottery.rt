@@ -1,4 +1,4 @@
-//! The lottery alone: weights, who wins, and the generator of drawn numbers.
+//! The lottery by itself: weights, winners, and the generator of drawn numbers.
 ghost use Rattle.std.specs.Prelude.{◌≡◌, ◌⊎◌, ◌<◌, ◌≤◌, ◌^◌, IfErr, IfOk, IfSome, Some, length, map, sum};
 ghost use Rattle.lot_machine.specs.Bounds.{IsBetween};
 ghost use Rattle.lot_machine.specs.Lottery as lottery;
@@ -16,7 +16,7 @@ use lot_draw::ParkMiller;
 use lot_machine::Drawn;
 use std::alloc::Global;
 
-/// The weight of a value in a draw. The compensation is in ticks, and 0 is none.
+/// Stores the weight of a value in a draw. The compensation is in ticks; 0 means none.
 #[unsafe(no_mangle)]
 pub extern "C" fn lot_weight(value: u64, compensation: u32, quantum: u32, weight: &mut Wide)
     ensures weight { weight.new ≡ plain_wide (lottery.weight value (compensation_meant compensation) quantum) }
@@ -25,7 +25,7 @@ pub extern "C" fn lot_weight(value: u64, compensation: u32, quantum: u32, weight
     *weight = Wide::of(lot_draw::weight(value, compensation_of(compensation), quantum));
 }
 
-/// The compensation that these ticks mean.
+/// The compensation for these ticks; none for 0.
 fn compensation_of(ticks: u32) -> Option<u32>
     ensures meant { result ≡ compensation_meant ticks }
     ensures used { IfSome result (λ used. 0 < used) }
@@ -33,20 +33,20 @@ fn compensation_of(ticks: u32) -> Option<u32>
     if ticks == 0 { None } else { Some(ticks) }
 }
 
-/// Who won a lottery, in plain fields.
+/// The winner of a lottery, in plain fields.
 #[repr(C)]
 #[derive(Clone, Copy)]
 pub struct PlainDrawn {
-    /// The number that was drawn, below the total.
+    /// The drawn number, below the total.
     pub number: Wide,
     /// The sum of the weights.
     pub total: Wide,
-    /// The winner's place in the list of weights, from 0.
+    /// The winner's index in the list of weights, from 0.
     pub place: u64,
 }
 
 impl PlainDrawn {
-    /// Who won, in plain fields.
+    /// The winner of a lottery, in plain fields.
     fn of(drawn: Drawn) -> PlainDrawn
         ensures { result ≡ plain_drawn drawn }
     {
@@ -66,7 +66,7 @@ pub struct PlainGenerator {
     pub value: u32,
 }
 
-/// A generator with this seed.
+/// Makes a generator with this seed.
 #[unsafe(no_mangle)]
 pub extern "C" fn lot_generator_new(seed: u32, generator: &mut PlainGenerator) -> u32
     ensures good { IsBetween 1 2147483646 seed → (result ≡ code Done) × (generator.new.value ≡ seed) }
@@ -79,7 +79,7 @@ pub extern "C" fn lot_generator_new(seed: u32, generator: &mut PlainGenerator) -
     Status::Done.code()
 }
 
-/// Goes on to the generator's next value, and writes it.
+/// Advances to the generator's next value and stores it.
 #[unsafe(no_mangle)]
 pub extern "C" fn lot_generator_next(generator: &mut PlainGenerator, value: &mut u32) -> u32
     ensures good { IsBetween 1 2147483646 generator.old.value
@@ -97,7 +97,7 @@ pub extern "C" fn lot_generator_next(generator: &mut PlainGenerator, value: &mut
     Status::Done.code()
 }
 
-/// Writes the number that is drawn from the generator's next two values, and goes on to the second.
+/// Stores the number drawn from the generator's next two values, and advances to the second.
 #[unsafe(no_mangle)]
 pub extern "C" fn lot_generator_number(generator: &mut PlainGenerator, number: &mut u64) -> u32
     ensures good { IsBetween 1 2147483646 generator.old.value
@@ -116,7 +116,7 @@ pub extern "C" fn lot_generator_number(generator: &mut PlainGenerator, number: &
     Status::Done.code()
 }
 
-/// Writes the wide number that is drawn from the generator's next four values, and goes on to the fourth.
+/// Stores the wide number drawn from the generator's next four values, and advances to the fourth.
 #[unsafe(no_mangle)]
 pub extern "C" fn lot_generator_wide_number(
     generator: &mut PlainGenerator,
@@ -139,7 +139,7 @@ pub extern "C" fn lot_generator_wide_number(
     Status::Done.code()
 }
 
-/// Holds a lottery with this number over the weights. It takes memory for a copy of them, and gives it back.
+/// Holds a lottery with this number over the weights. It allocates a copy of them, and frees it.
 #[unsafe(no_mangle)]
 pub extern "C" fn lot_winner(
     alloc: Global,
@@ -169,7 +169,7 @@ pub extern "C" fn lot_winner(
     }
 }
 
-/// The weights that are meant, or why they serve for no lottery.
+/// A copy of the weights, or the reason why there is no lottery over them.
 fn gather(alloc: Global, weights: &[Wide]) -> Result<Vec<u128>, Status>
     ensures weights { IfOk result (λ v. v.items ≡ map wide_meant weights.now) }
     ensures small { IfOk result (λ v. sum v.items < 2 ^ 128) }

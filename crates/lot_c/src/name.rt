@@ -18,7 +18,7 @@ pub struct PlainName {
 }
 
 impl PlainName {
-    /// The name in plain fields, with 0 after it.
+    /// The name in plain fields, padded with 0.
     pub(crate) fn of(name: &Name) -> PlainName
         ensures { result ≡ plain_name name.now }
     {
@@ -31,7 +31,7 @@ impl PlainName {
         }
     }
 
-    /// The name that is meant, or why none is.
+    /// The name in these fields, or the status for an invalid one.
     pub(crate) fn read(&self) -> Result<Name, Status>
         ensures { result ≡ name_meant self.now }
     {
@@ -46,7 +46,7 @@ impl PlainName {
     }
 }
 
-/// The name with these bytes.
+/// Stores the name with these bytes.
 #[unsafe(no_mangle)]
 pub extern "C" fn lot_name_new(bytes: &[u8], name: &mut PlainName) -> u32
     ensures good { length bytes.now ≤ 16 → names.is_good_name bytes.now ≡ true

@@ -65,16 +65,16 @@ const REPLIED_THEN_WAITS: u32 = 13;
 
 const SLEPT: u32 = 14;
 
-/// A reply in plain fields. Its kind, and a trap's outcome, say which of the others are written; the rest are 0.
+/// A reply in plain fields. Its kind, and a trap's outcome, determine which other fields are set; the rest are 0.
 #[repr(C)]
 #[derive(Clone, Copy)]
 pub struct PlainReply {
-    /// The number of a lottery, reduced.
+    /// The drawn number of a lottery, below the total.
     pub number: Wide,
     /// The sum of a lottery's weights.
     pub total: Wide,
     pub kind: u32,
-    /// Why an event or a trap is refused.
+    /// The reason for refusing an event or a trap.
     pub reason: u32,
     pub ticket: u32,
     pub currency: u32,
@@ -85,14 +85,14 @@ pub struct PlainReply {
     pub outcome: u32,
     /// The server, the client or the new owner of an outcome.
     pub other: u32,
-    /// The client that a serving replied to.
+    /// The client to which a serve replied.
     pub replied_to: u32,
-    /// The number that was delivered or received.
+    /// The number delivered or received.
     pub sent: u32,
     pub has_sent: bool,
     /// Whether a lottery was held.
     pub has_draw: bool,
-    /// Whether a trap has used the quantum up.
+    /// Whether a trap used up the quantum.
     pub ends: bool,
     /// Whether the thread runs on its processor after a draw or a trap.
     pub goes_on: bool,
@@ -118,7 +118,8 @@ impl PlainReply {
         goes_on: false,
     };
 
-    /// The reply in plain fields. As a call of its own, with copies of its result, it would cost an event a fifth more.
+    /// The reply in plain fields. If this were a separate call with copies of its result, an event would cost a fifth
+    /// more.
     #[inline(always)]
     pub(crate) fn of(reply: Reply) -> PlainReply
         ensures { result ≡ plain_reply reply }
@@ -161,7 +162,7 @@ impl PlainReply {
         }
     }
 
-    /// The winner of a draw, with the number and the total of the lottery, and what was delivered to it.
+    /// The winner of a draw, with the number and the total of the lottery, and the number delivered to it.
     fn of_winner(thread: u32, number: u128, total: u128, delivered: Option<u32>) -> PlainReply
         ensures { result ≡ plain_reply (reply.Winner thread number total delivered) }
     {
@@ -213,7 +214,7 @@ impl PlainReply {
         }
     }
 
-    /// A mutex that was passed to this thread, by this lottery if one was held.
+    /// The passing of a mutex to this thread, by this lottery if one was held.
     fn of_passed(to: u32, draw: Option<(u64, u64)>) -> PlainReply
         ensures { result ≡ plain_outcome (outcome.Passed to draw) }
     {
@@ -234,7 +235,7 @@ impl PlainReply {
         }
     }
 
-    /// A reply of this kind, about these.
+    /// A reply of this kind, with these numbers.
     fn made(kind: u32, ticket: u32, currency: u32, thread: u32) -> PlainReply
         ensures { result ≡ record blank_reply { kind = kind; ticket = ticket; currency = currency; thread = thread } }
     {
@@ -247,7 +248,7 @@ impl PlainReply {
         }
     }
 
-    /// An outcome with this thread.
+    /// This outcome, with this thread.
     fn came_to(outcome: u32, other: u32) -> PlainReply
         ensures { result ≡ record blank_reply { outcome = outcome; other = other } }
     {
@@ -259,7 +260,7 @@ impl PlainReply {
     }
 }
 
-/// Whether the outcome of a trap leaves its thread on the processor, for as long as its quantum lasts.
+/// Whether the outcome of a trap leaves its thread on the processor while its quantum lasts.
 fn runs_on(outcome: Outcome) -> bool
     ensures { result ≡ replies.runs_on outcome }
 {

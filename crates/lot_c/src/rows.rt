@@ -6,7 +6,7 @@ use crate::name::PlainName;
 use crate::wide::Wide;
 use lot_machine::{CurrencyRow, Name, Status, ThreadRow, TicketRow};
 
-/// What a thread is doing.
+/// The statuses of threads.
 const READY: u32 = 1;
 
 const RUNNING: u32 = 2;
@@ -53,7 +53,7 @@ impl PlainTicketRow {
     }
 }
 
-/// The name of a target, and no bytes if there is none.
+/// The name of a target, or no bytes without one.
 fn name_of_target(target: &Option<Name>) -> PlainName
     ensures { result ≡ plain_target target.now }
 {
@@ -72,9 +72,9 @@ fn name_of_target(target: &Option<Name>) -> PlainName
 pub struct PlainCurrencyRow {
     pub active_amount: u64,
     pub value: u64,
-    /// How many tickets fund it, active or not.
+    /// The number of tickets that fund it, active or not.
     pub backing: u32,
-    /// How many tickets it issues, active or not.
+    /// The number of tickets that it issues, active or not.
     pub issued: u32,
     pub name: PlainName,
 }
@@ -94,12 +94,12 @@ impl PlainCurrencyRow {
     }
 }
 
-/// What a thread is doing, in plain fields.
+/// A thread's status in plain fields.
 #[repr(C)]
 #[derive(Clone, Copy)]
 pub struct PlainStatus {
     pub kind: u32,
-    /// Where it runs, if it runs.
+    /// The processor on which it runs, if it runs.
     pub processor: u32,
     /// The ticks of its quantum that it has used, if it runs.
     pub used: u32,
@@ -129,7 +129,7 @@ impl PlainStatus {
         }
     }
 
-    /// One that doesn't run.
+    /// The status of a thread that doesn't run.
     fn waits(kind: u32, other: u32) -> PlainStatus
         ensures { result ≡ record { kind = kind; processor = 0; used = 0; other = other } }
     {
@@ -150,7 +150,7 @@ pub struct PlainThreadRow {
     pub value: u64,
     /// The draws that it has won.
     pub quanta: u64,
-    /// The ticks that it has used in all.
+    /// The total of ticks that it has used.
     pub ticks: u64,
     pub status: PlainStatus,
     pub name: PlainName,

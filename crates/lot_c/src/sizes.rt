@@ -1,4 +1,4 @@
-//! Sizes, counts and who runs, in plain fields.
+//! Sizes, counts and running threads, in plain fields.
 ghost use Rattle.std.specs.Prelude.{◌≡◌, ◌↔◌, IfSome, IsSome};
 ghost use Rattle.lot_machine.specs.Bounds.{IsWithinBounds};
 ghost use Rattle.lot_machine.specs.State.{sizes_of};
@@ -79,7 +79,7 @@ impl PlainMeter {
     }
 }
 
-/// Who runs on a processor, in plain fields.
+/// The thread that runs on a processor, in plain fields.
 #[repr(C)]
 #[derive(Clone, Copy)]
 pub struct PlainRunner {
@@ -89,7 +89,7 @@ pub struct PlainRunner {
 }
 
 impl PlainRunner {
-    /// The runner in plain fields.
+    /// The running thread in plain fields.
     pub(crate) fn of(runner: Runner) -> PlainRunner
         ensures { result ≡ plain_runner runner }
     {

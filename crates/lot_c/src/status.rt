@@ -2,27 +2,27 @@
 ghost use Rattle.std.specs.Prelude.{◌≡◌};
 ghost use Rattle.lot_c.specs.Numbers as numbers;
 
-/// The status of a call. Any other than `Done` means that the call has changed nothing.
+/// The status of a call. Any other than `Done` means that the call changed nothing.
 #[derive(Clone, Copy, Debug, PartialEq, Eq)]
 pub(crate) enum Status {
     Done = 0,
-    /// The handle holds no kernel.
+    /// The handle has no kernel.
     NoKernel = 1,
-    /// The handle holds a kernel already.
+    /// The handle has a kernel already.
     KernelThere = 2,
-    /// A limit is out of its bounds.
+    /// A size is out of its bounds.
     BadLimits = 3,
     /// Out of memory.
     NoMemory = 4,
-    /// The event's kind doesn't exist.
+    /// There is no such kind of event.
     BadKind = 5,
     /// A name of more than 16 bytes.
     LongName = 6,
-    /// A name that isn't a letter a to z, and then letters a to z, digits, `_` or `-`.
+    /// A name that isn't a letter a to z, followed by letters a to z, digits, `_` or `-`.
     BadName = 7,
-    /// Nothing has this number.
+    /// Nothing exists with this number.
     NotThere = 8,
-    /// There are not as many replies as events.
+    /// The number of replies differs from the number of events.
     CountsDiffer = 9,
     /// The seed is 0 or above 2147483646.
     BadSeed = 10,

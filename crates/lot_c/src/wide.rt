@@ -21,7 +21,7 @@ impl Wide {
         }
     }
 
-    /// The number that is meant.
+    /// The number in these fields.
     pub(crate) fn number(self) -> u128
         ensures { result ≡ wide_meant self }
     {

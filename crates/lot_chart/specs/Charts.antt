@@ -1,5 +1,5 @@
--- Curves as a picture, which is an SVG. Lengths are in tenths of its unit; the plot reaches from 1000 to 7700 across,
--- and from 600 to 4600 down.
+-- Curves as a picture, which is an SVG. Lengths are in tenths of its unit; the plot extends horizontally from 1000 to
+-- 7700, and vertically from 600 to 4600.
 use Rattle.std.specs.Prelude.{ℕ, ◌+◌, ◌*◌, ◌/◌, ◌%◌, min, max, ◌==◌, nat_le, List, [], ◌++◌, codes, unwrap_or, if◌then◌else◌}
 use Rattle.std.specs.List.{flat_map}
 use Rattle.std.specs.Fmt.{decimal}
@@ -18,31 +18,31 @@ use Rattle.lot_chart.specs.Standings.{Selected, selection}
 abbrev pub tenths : ℕ → List ℕ
 tenths n = decimal (n / 10) ++ (codes "." ++ decimal (n % 10))
 
--- how far across a tick is
+-- the horizontal position of a tick
 abbrev pub across : ℕ → ℕ → ℕ
 across last tick = 1000 + scaled tick last 6700
 
 -- ---- the frame
 
--- up to the axes: the title, for readers and above the plot, on white
+-- the part up to the axes: the title, for screen readers and above the plot, on white
 abbrev pub head : List ℕ → List ℕ
 head title =
     codes "<svg xmlns='http://www.w3.org/2000/svg' width='1040' height='540' viewBox='0 0 1040 540' role='img' aria-labelledby='title' font-family='sans-serif' font-size='12' fill='#222222'>\n<title id='title'>"
     ++ (escaped title ++ (codes "</title>\n<rect width='1040' height='540' fill='#ffffff'/>\n<text x='100' y='34' font-size='18'>" ++ (escaped title ++ codes "</text>\n")))
 
--- a number of ticks on the axis of heights, and a thin line from it across the plot
+-- the mark of a number of ticks on the axis of heights, and a thin line from it across the plot
 abbrev pub height_mark : ℕ → ℕ → List ℕ
 height_mark most ticks =
     codes "<path d='M100 " ++ (tenths (height_of most ticks) ++ (codes "H770' stroke='#dddddd'/>\n<text x='92' y='"
     ++ (tenths (height_of most ticks) ++ (codes "' dy='4' text-anchor='end'>" ++ (decimal ticks ++ codes "</text>\n")))))
 
--- a tick on the axis of time
+-- the mark of a tick on the axis of time
 abbrev pub time_mark : ℕ → ℕ → List ℕ
 time_mark last tick =
     codes "<path d='M" ++ (tenths (across last tick) ++ (codes " 460v5' stroke='#222222'/>\n<text x='"
     ++ (tenths (across last tick) ++ (codes "' y='480' text-anchor='middle'>" ++ (decimal tick ++ codes "</text>\n")))))
 
--- both axes and what they mean, from the last tick and the most ticks of a line
+-- both axes and their labels, given the last tick and the most ticks of a line
 abbrev pub axes : ℕ → ℕ → List ℕ
 axes last most =
     flat_map (height_mark most) (marks most) ++ (flat_map (time_mark last) (marks last)
@@ -50,17 +50,17 @@ axes last most =
 
 -- ---- the lines
 
--- eight colours that all readers tell apart (Okabe and Ito)
+-- one of eight colours that all readers can distinguish (Okabe and Ito)
 abbrev pub colour : ℕ → List ℕ
 colour style =
     if style % 8 == 0 then codes "#0072b2" else if style % 8 == 1 then codes "#d55e00" else if style % 8 == 2 then codes "#009e73" else if style % 8 == 3 then codes "#cc79a7"
     else if style % 8 == 4 then codes "#e69f00" else if style % 8 == 5 then codes "#56b4e9" else if style % 8 == 6 then codes "#000000" else codes "#f0e442"
 
--- later lines with the same colours have strokes
+-- the dash pattern of later lines with a repeated colour
 abbrev pub strokes : ℕ → List ℕ
 strokes style = if nat_le 8 style then codes " stroke-dasharray='7 4'" else []
 
--- a point: what was had of these at this tick
+-- the point for these stretches' ticks up to this tick
 abbrev pub point : ℕ → ℕ → List Stretch → ℕ → List ℕ
 point last most stretches tick = codes " " ++ (tenths (across last tick) ++ (codes "," ++ tenths (height_of most (had_at Ticks tick stretches))))
 
@@ -68,7 +68,7 @@ point last most stretches tick = codes " " ++ (tenths (across last tick) ++ (cod
 abbrev pub points : Curves → ℕ → List Stretch → List ℕ
 points curves most stretches = flat_map (point (last_end curves.stretches) most stretches) (sample_ticks (last_end curves.stretches))
 
--- what a line is drawn of: what belongs to its thread, or to no thread that is shown
+-- the stretches that a line shows: those of its thread, or of all threads without a line
 abbrev pub drawn_of : Curves → List Stretch → ℕ → List Stretch
 drawn_of curves others thread = if thread == 0 then others else stretches_of thread curves.stretches
 
@@ -84,21 +84,21 @@ curve curves others most line =
 abbrev pub share_of : ℕ → ℕ → ℕ
 share_of total ticks = min ((1000 * ticks + total / 2) / max 1 total) 1000
 
--- the name of the line's thread; no thread is the others
+-- the name of the line's thread; thread 0 stands for the others
 abbrev pub name_of : List (List ℕ) → ℕ → List ℕ
 name_of names thread = unwrap_or (at_number names thread) (codes "others")
 
--- from the line's end to its name, in its colour
+-- the leader from the line's end to its name, in its colour
 abbrev pub leader : Line → List ℕ
 leader line =
     codes "<path d='M770 " ++ (tenths line.height ++ (codes "L784 " ++ (tenths line.place ++ (codes "' stroke='" ++ (colour line.style ++ codes "'/>\n")))))
 
--- its name, and what part of all ticks it has had
+-- the line's name, and its share of all ticks
 abbrev pub name_text : List (List ℕ) → ℕ → Line → List ℕ
 name_text names total line =
     codes "<text x='788' y='" ++ (tenths line.place ++ (codes "' dy='4'>" ++ (escaped (name_of names line.thread) ++ (codes " " ++ (tenths (share_of total line.ticks) ++ codes "%</text>\n")))))
 
--- both
+-- the line's leader and name
 abbrev pub label : List (List ℕ) → ℕ → Line → List ℕ
 label names total line = leader line ++ name_text names total line
 

@@ -1,10 +1,10 @@
--- Curves as a table.
+-- Curves as a table with comma-separated fields.
 pub mod Tables
--- Which threads have lines of their own.
+-- The threads with lines of their own.
 pub mod Standings
--- In which order threads are ranked.
+-- The order of the ranking.
 pub mod Ranking
--- Where lines end, and where their names stand.
+-- The ends of lines, and the positions of their names.
 pub mod Lines
 -- The marks of axes.
 pub mod Axes

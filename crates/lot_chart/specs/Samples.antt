@@ -1,4 +1,4 @@
--- A small run, and its curves as a table and as a picture. What is expected was worked out by hand.
+-- A small run, and its curves as a table and as a picture, worked out by hand.
 use Rattle.std.specs.Prelude.{ℕ, List, [], ◌∷◌, codes}
 use Rattle.lot_curves.specs.Curves.{Curves, curves_of}
 use Rattle.lot_simulation.specs.Samples.{text}
@@ -12,10 +12,11 @@ three_ticks = record first_run {
   schedule = 0 ∷ 0 ∷ 0 ∷ 0 ∷ 0 ∷ 0 ∷ 1 ∷ 1 ∷ 1 ∷ 1 ∷ 1 ∷ 1 ∷ [];
 }
 
+-- the curves of `three_ticks`
 abbrev pub three_tick_curves : Curves
 three_tick_curves = curves_of three_ticks
 
--- its picture with the title `a < b`
+-- the picture of `three_ticks` with the title `a < b`
 abbrev pub three_tick_picture : List ℕ
 three_tick_picture = text (
     codes "<svg xmlns='http://www.w3.org/2000/svg' width='1040' height='540' viewBox='0 0 1040 540' role='img' aria-labelledby='title' font-family='sans-serif' font-size='12' fill='#222222'>"

@@ -16,16 +16,16 @@ use Rattle.lot_play.specs.declared.inputs.Played.TheVariants.{Done}
 use Rattle.lot_io.specs.declared.fault.IoFault.{IoFault}
 use Rattle.lot_io.specs.declared.fault.IoFault.TheVariants.{Memory}
 
--- the text of the program's curves, or why the input is refused
+-- the text of the program's curves, or the line for a refused input
 abbrev pub shown_of : (Curves → List ℕ) → Result Program InputFault → List ℕ
 shown_of text (Ok program) = text (curves_of program)
 shown_of text (Err fault) = fault_line fault
 
--- what `shares` writes if it reads these bytes
+-- the output of `shares` for these bytes
 abbrev pub shares_output : Measure → List ℕ → List ℕ
 shares_output measure bytes = shown_of (table measure) (program_in bytes)
 
--- what `chart` writes if it reads these bytes
+-- the output of `chart` for these bytes
 abbrev pub chart_output : List ℕ → List ℕ → List ℕ
 chart_output title bytes = shown_of (chart title) (program_in bytes)
 
@@ -33,7 +33,7 @@ chart_output title bytes = shown_of (chart title) (program_in bytes)
 abbrev pub HasCurves : Result Program InputFault → Curves → Type 0
 HasCurves input curves = (program : Program) × (input ≡ Ok program) × (curves ≡ curves_of program)
 
--- the text was written, or a beginning of it; without one nothing was
+-- the text was written, or a beginning of it if the writer failed; without a text nothing was
 abbrev pub Shows : {T : Type 0} {V : Type 0} → (T → Option (List ℕ)) → Watch T → Watch T → Result V AllocError → (V → List ℕ) → Result Played IoFault → Type 0
 Shows contents old new (Ok text) bytes result = Plays contents old new result Done (bytes text)
 Shows contents old new (Err fault) bytes result = (result ≡ Err Memory) × (new ≡ old)

@@ -1,4 +1,4 @@
--- Curves as a table whose fields are separated by commas.
+-- Curves as a table with comma-separated fields.
 use Rattle.std.specs.Prelude.{ℕ, List, ◌++◌, codes}
 use Rattle.std.specs.List.{flat_map}
 use Rattle.std.specs.Fmt.{decimal}
@@ -7,7 +7,7 @@ use Rattle.lot_curves.specs.declared.stretch.Measure.{Measure}
 use Rattle.lot_curves.specs.Curves.{Curves, row_at, sample_ticks}
 use Rattle.lot_curves.specs.Stretches.{last_end}
 
--- a field after the first
+-- a field after the first, with its comma
 abbrev pub next_field : List ℕ → List ℕ
 next_field text = codes "," ++ text
 
@@ -15,14 +15,14 @@ next_field text = codes "," ++ text
 abbrev pub header_line : List (List ℕ) → List ℕ
 header_line names = codes "tick" ++ (flat_map next_field names ++ newline)
 
--- a line of a tick, and what each thread has had at it
+-- the line for a tick, with each thread's ticks or draws up to it
 abbrev pub row_line : ℕ → List ℕ → List ℕ
 row_line tick row = decimal tick ++ (flat_map (λ figure. next_field (decimal figure)) row ++ newline)
 
--- the line of the curves at a tick
+-- the line of the curves for a tick
 abbrev pub sampled_line : Measure → Curves → ℕ → List ℕ
 sampled_line measure curves tick = row_line tick (row_at measure curves tick)
 
--- the names, and then a line for each sample
+-- the table: the line of names, and then a line for each sample
 abbrev pub table : Measure → Curves → List ℕ
 table measure curves = header_line curves.names ++ flat_map (sampled_line measure curves) (sample_ticks (last_end curves.stretches))

@@ -2,14 +2,14 @@
 ghost use Rattle.std.specs.Prelude.{◌≡◌, ◌≤◌, ◌<◌, ◌^◌, ◌*◌};
 ghost use Rattle.lot_chart.specs.Axes as definitions;
 
-/// How far marks may be apart.
+/// The possible distances between marks.
 const STEPS: [u32; 28] = [
     1, 2, 5, 10, 20, 50, 100, 200, 500, 1000, 2000, 5000, 10000, 20000, 50000, 100000, 200000,
     500000, 1000000, 2000000, 5000000, 10000000, 20000000, 50000000, 100000000, 200000000,
     500000000, 1000000000,
 ];
 
-/// How far the marks of an axis are apart that ends at the most.
+/// The distance between the marks of an axis that ends at this value.
 pub(crate) fn axis_step(most: u64) -> u64
     ensures exact { result ≡ definitions.axis_step most }
     ensures small { result < 2 ^ 32 }
@@ -23,7 +23,7 @@ pub(crate) fn axis_step(most: u64) -> u64
     2000000000
 }
 
-/// How many marks there are in addition to 0.
+/// The number of marks after 0.
 pub(crate) fn mark_count(most: u64) -> u64
     ensures exact { result ≡ definitions.mark_count most }
     ensures few { result ≤ 5 }

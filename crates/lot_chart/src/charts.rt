@@ -16,24 +16,24 @@ use lot_curves::{Curves, Measure, Stretch, had_at};
 use lot_machine::{Name, index_of};
 use std::alloc::{AllocError, Global};
 
-/// How far across the plot begins.
+/// The left edge of the plot.
 const LEFT: u32 = 1000;
 
-/// How wide it is.
+/// The width of the plot.
 const WIDTH: u32 = 6700;
 
-/// The part before the title.
+/// The part of the picture before the title.
 const BEGINNING: &str =
     "<svg xmlns='http://www.w3.org/2000/svg' width='1040' height='540' viewBox='0 0 1040 540' role='img' \
     aria-labelledby='title' font-family='sans-serif' font-size='12' fill='#222222'>\n<title id='title'>";
 
-/// The part after the axes' marks.
+/// The part of the picture after the axes' marks.
 const FRAME: &str = "<path d='M100 60V460H770' fill='none' stroke='#222222'/>\n\
     <text x='435' y='512' text-anchor='middle'>time, in ticks</text>\n\
     <text transform='translate(14 260) rotate(-90)' text-anchor='middle'>what each thread has run, in ticks</text>\n";
 
 /// The picture of the curves, an SVG with this title: a line for each thread, or for the eleven that have run longest
-/// and for the others together, and at its end its name and its part of all ticks.
+/// and one for the others together. At each line's end are the thread's name and its share of all ticks.
 pub fn chart_of(alloc: Global, curves: &Curves, title: &str) -> Result<Vec<u8>, AllocError>
     ensures { IfOk result (λ text. text.items ≡ definitions.chart title.now curves.now) }
 {
@@ -52,7 +52,7 @@ pub fn chart_of(alloc: Global, curves: &Curves, title: &str) -> Result<Vec<u8>, 
     Ok(text.into_bytes())
 }
 
-/// Puts the picture with these lines.
+/// Adds the picture with these lines.
 fn push_picture(
     alloc: Global,
     text: &mut Text,
@@ -77,7 +77,7 @@ fn push_picture(
     Ok(())
 }
 
-/// Puts what comes before the axes.
+/// Adds the part before the axes.
 fn push_head(text: &mut Text, title: &[u8]) -> Result<(), AllocError>
     ensures { OnOk result (text.new ≡ text.old ++ head title.now) }
 {
@@ -91,7 +91,7 @@ fn push_head(text: &mut Text, title: &[u8]) -> Result<(), AllocError>
     Ok(())
 }
 
-/// Puts the axes.
+/// Adds the axes.
 fn push_axes(text: &mut Text, last: u64, most: u64) -> Result<(), AllocError>
     ensures { OnOk result (text.new ≡ text.old ++ axes last most) }
 {
@@ -101,7 +101,7 @@ fn push_axes(text: &mut Text, last: u64, most: u64) -> Result<(), AllocError>
     Ok(())
 }
 
-/// Puts the marks of the axis of heights.
+/// Adds the marks of the axis of heights.
 fn push_height_marks(text: &mut Text, most: u64) -> Result<(), AllocError>
     ensures { OnOk result (text.new ≡ text.old ++ flat_map (height_mark most) (marks most)) }
 {
@@ -112,7 +112,7 @@ fn push_height_marks(text: &mut Text, most: u64) -> Result<(), AllocError>
     Ok(())
 }
 
-/// Puts one of them.
+/// Adds one mark of the axis of heights.
 fn push_height_mark(text: &mut Text, most: u64, ticks: u64) -> Result<(), AllocError>
     ensures { OnOk result (text.new ≡ text.old ++ height_mark most ticks) }
 {
@@ -127,7 +127,7 @@ fn push_height_mark(text: &mut Text, most: u64, ticks: u64) -> Result<(), AllocE
     Ok(())
 }
 
-/// Puts the marks of the axis of time.
+/// Adds the marks of the axis of time.
 fn push_time_marks(text: &mut Text, last: u64) -> Result<(), AllocError>
     ensures { OnOk result (text.new ≡ text.old ++ flat_map (time_mark last) (marks last)) }
 {
@@ -138,7 +138,7 @@ fn push_time_marks(text: &mut Text, last: u64) -> Result<(), AllocError>
     Ok(())
 }
 
-/// Puts one of them.
+/// Adds one mark of the axis of time.
 fn push_time_mark(text: &mut Text, last: u64, tick: u64) -> Result<(), AllocError>
     ensures { OnOk result (text.new ≡ text.old ++ time_mark last tick) }
 {
@@ -153,14 +153,14 @@ fn push_time_mark(text: &mut Text, last: u64, tick: u64) -> Result<(), AllocErro
     Ok(())
 }
 
-/// How far across a tick is.
+/// The horizontal position of a tick.
 fn across(last: u64, tick: u64) -> u32
     ensures { result ≡ definitions.across last tick }
 {
     LEFT + scaled(tick, last, WIDTH)
 }
 
-/// Puts a number of tenths, with a point.
+/// Adds a number of tenths, with a point.
 fn push_tenths(text: &mut Text, tenths: u32) -> Result<(), AllocError>
     ensures { OnOk result (text.new ≡ text.old ++ definitions.tenths tenths) }
 {
@@ -170,7 +170,7 @@ fn push_tenths(text: &mut Text, tenths: u32) -> Result<(), AllocError>
     Ok(())
 }
 
-/// Puts the lines.
+/// Adds the lines.
 fn push_curves(
     alloc: Global,
     text: &mut Text,
@@ -188,7 +188,7 @@ fn push_curves(
     Ok(())
 }
 
-/// Puts one of them.
+/// Adds one line.
 fn push_curve(
     alloc: Global,
     text: &mut Text,
@@ -210,7 +210,7 @@ fn push_curve(
     Ok(())
 }
 
-/// Puts the points of a thread, or of the others.
+/// Adds the points of a thread, or of the others.
 fn push_points_of(
     alloc: Global,
     text: &mut Text,
@@ -229,7 +229,7 @@ fn push_points_of(
     push_points(text, curves, most, own.as_slice())
 }
 
-/// Puts a point for each sample, of what was had of these at its tick.
+/// Adds a point for each sample: the ticks in these stretches up to the sample's tick.
 fn push_points(
     text: &mut Text,
     curves: &Curves,
@@ -246,7 +246,7 @@ fn push_points(
     Ok(())
 }
 
-/// Puts one point.
+/// Adds one point.
 fn push_point(
     text: &mut Text,
     last: u64,
@@ -283,7 +283,7 @@ fn colour(style: u32) -> &'static str
     }
 }
 
-/// What makes the later styles differ from the first ones.
+/// The dash pattern that distinguishes later styles from the first ones.
 fn strokes(style: u32) -> &'static str
     ensures { result.now ≡ definitions.strokes style }
 {
@@ -300,7 +300,7 @@ fn total_of(curves: &Curves) -> u64
     had_at(Measure::Ticks, curves.last(), curves.stretches())
 }
 
-/// Puts the lines' names.
+/// Adds the lines' names.
 fn push_labels(
     text: &mut Text,
     names: &[Name],
@@ -315,7 +315,7 @@ fn push_labels(
     Ok(())
 }
 
-/// Puts one of them, and what leads to it.
+/// Adds one name, and its leader.
 fn push_label(text: &mut Text, names: &[Name], total: u64, line: &Line) -> Result<(), AllocError>
     ensures { OnOk result (text.new ≡ text.old ++ label names.now total line.now) }
 {
@@ -324,7 +324,7 @@ fn push_label(text: &mut Text, names: &[Name], total: u64, line: &Line) -> Resul
     Ok(())
 }
 
-/// Puts what leads from the line's end to its name.
+/// Adds the leader from the line's end to its name.
 fn push_leader(text: &mut Text, line: &Line) -> Result<(), AllocError>
     ensures { OnOk result (text.new ≡ text.old ++ leader line.now) }
 {
@@ -338,7 +338,7 @@ fn push_leader(text: &mut Text, line: &Line) -> Result<(), AllocError>
     Ok(())
 }
 
-/// Puts the line's name, and its part of all ticks.
+/// Adds the line's name, and its share of all ticks.
 fn push_name(text: &mut Text, names: &[Name], total: u64, line: &Line) -> Result<(), AllocError>
     ensures { OnOk result (text.new ≡ text.old ++ name_text names.now total line.now) }
 {
@@ -352,7 +352,7 @@ fn push_name(text: &mut Text, names: &[Name], total: u64, line: &Line) -> Result
     Ok(())
 }
 
-/// The name of the thread; no thread is the others.
+/// The name of the thread; thread 0 stands for the others.
 fn name_of(names: &[Name], thread: u32) -> &[u8]
     ensures { result.now ≡ definitions.name_of names.now thread }
 {

@@ -5,7 +5,7 @@ ghost use Rattle.lot_chart.specs.Escapes.{escaped, escaped_byte};
 use crate::text::Text;
 use std::alloc::AllocError;
 
-/// Puts the text as XML has it.
+/// Adds the text, escaped for XML.
 pub(crate) fn push_escaped(text: &mut Text, bytes: &[u8]) -> Result<(), AllocError>
     ensures { OnOk result (text.new ≡ text.old ++ escaped bytes.now) }
 {
@@ -15,7 +15,7 @@ pub(crate) fn push_escaped(text: &mut Text, bytes: &[u8]) -> Result<(), AllocErr
     Ok(())
 }
 
-/// Puts one byte of it.
+/// Adds one byte of the text.
 fn push_byte(text: &mut Text, byte: u8) -> Result<(), AllocError>
     ensures { OnOk result (text.new ≡ text.old ++ escaped_byte byte) }
 {

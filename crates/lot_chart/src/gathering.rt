@@ -18,7 +18,7 @@ use lot_playback::{Observer, Playback, Turn};
 use lot_text::Program;
 use std::alloc::{AllocError, Global};
 
-/// Notes what each turn was for a thread.
+/// Records the stretch of each turn.
 #[derive(Drop)]
 struct Stretches {
     stretches: Vec<Stretch>,
@@ -54,7 +54,7 @@ impl Observer for Stretches {
     }
 }
 
-/// When a turn ended that the system has just made: at its time, or, if it has none, by its actor's own time.
+/// The time at which the system's last turn ended: its own time, or, if it has none, its actor's own time.
 fn end_of(system: &System, turn: &Turn) -> u64
     requires { turn.now.actor ≤ system.now.setting.program.limits.processors }
     ensures end { result ≡ end_in system.now turn.now.time turn.now.actor }
@@ -66,8 +66,8 @@ fn end_of(system: &System, turn: &Turn) -> u64
     }
 }
 
-/// Makes the turns of the program in a system of its own, in the order of time if it has a duration, otherwise those
-/// of its schedule, and gathers what they were for each thread.
+/// Makes the turns of the program in a system of its own, timed ones if it has a duration and those of its schedule
+/// otherwise, and gathers their stretches.
 pub fn gather(alloc: Global, program: &Program) -> Result<Curves, AllocError>
     ensures { IfOk result (λ curves. curves ≡ curves_of program.now) }
 {
@@ -78,7 +78,7 @@ pub fn gather(alloc: Global, program: &Program) -> Result<Curves, AllocError>
     Ok(Curves::new(names, stretches))
 }
 
-/// Makes the program's turns, and notes what each was for a thread.
+/// Makes the program's turns, and records the stretch of each.
 fn note_turns(
     alloc: Global,
     program: &Program,
@@ -99,7 +99,7 @@ fn note_turns(
     Ok(stretches)
 }
 
-/// The threads' names, removed ones' too, by rising number.
+/// The threads' names, including removed ones, in ascending order of number.
 fn names_of(alloc: Global, system: &mut System) -> Result<Vec<Name>, AllocError>
     ensures few { IfOk result (λ names. vec_len names < 2 ^ 32) }
     ensures names { IfOk result (λ names. names.items ≡ names_in (world_of system.old).state) }
@@ -124,7 +124,7 @@ fn name_of(system: &mut System, thread: u32) -> Name
     }
 }
 
-/// A name that is this number. A good name begins with a letter, so no thread has it.
+/// This number as a name. A good name begins with a letter, so no thread has it.
 fn number_name(number: u32) -> Name
     ensures { result ≡ decimal number }
 {

@@ -1,5 +1,5 @@
-//! Bounds and order of pictures and tables, the curves of turns, and their ends: laws of the definitions, with nothing
-//! to run.
+//! Bounds and order of pictures and tables, the curves of turns, and their ends: laws of the definitions, without
+//! executable code.
 ghost use Rattle.std.specs.Prelude.{◌≡◌, ◌==◌, ◌≤◌, ◌<◌, ◌+◌, ◌-◌, ◌*◌, ◌^◌, ℕ, [], ◌∷◌};
 ghost use Rattle.std.specs.Prelude.{All, AllPairs, List, filter, length, map, slice_index, Some};
 ghost use Rattle.lot_machine.specs.Bounds.{IsBetween, IsWithinBounds};
@@ -21,8 +21,8 @@ ghost use Rattle.lot_curves.specs.Curves.{curves_of, stretches_made, timed_stret
 ghost use Rattle.lot_playback.specs.Turns.{program_turns};
 ghost use Rattle.lot_chart.specs.Noted.{curves_after};
 
-/// The ranking is in order: each thread has run longer than those after it, or as long with a lower number. Each
-/// thread of the row is in it once, with its own ticks, and no other thread is.
+/// The ranking is in order: each thread has run longer than those after it, or equally long with a lower number. It
+/// holds exactly the threads of the row, each once, with its own ticks.
 pub fn rankings_are_in_order()
     ensures order { (row : List ℕ) → AllPairs IsBefore (ranked row) }
     ensures once { (row : List ℕ) (t : ℕ) → IsBetween 1 (length row) t
@@ -40,14 +40,14 @@ pub fn names_do_not_overlap()
         → All (λ line. line.place ≤ 4600) (lines_of shown) }
 {}
 
-/// A picture of threads whose names have at most 16 bytes, as all names have, has at most 34000 bytes and ten for
-/// each of its title.
+/// A picture of threads whose names have at most 16 bytes, as all names do, has at most 34000 bytes plus ten for each
+/// byte of its title.
 pub fn pictures_are_short()
     ensures { (title : List ℕ) (curves : curves.Curves) → All (λ name. length name ≤ 16) curves.names
         → length (chart title curves) ≤ 34000 + 10 * length title }
 {}
 
-/// A table of threads whose names have at most 16 bytes, as all names have, has at most 4226 bytes, and 4238 for each
+/// A table of threads whose names have at most 16 bytes, as all names do, has at most 4226 bytes plus 4238 for each
 /// thread. Any `Curves` meets the other premises too: it has fewer than 2 ^ 32 stretches, their ticks and draws are
 /// `u32`, and the last ends before 2 ^ 56.
 pub fn tables_are_short()
@@ -58,13 +58,13 @@ pub fn tables_are_short()
         → length (table measure curves) ≤ 4226 + 4238 * length curves.names }
 {}
 
-/// A program's curves are those of its turns, in both orders.
+/// A program's curves are those of its turns, with a schedule and for a timed program.
 pub fn curves_are_those_of_the_turns()
     ensures { (program : Program) → curves_of program ≡ curves_after program (program_turns program) }
 {}
 
-/// A thread's curve ends at the ticks that the report of a legal history has of it, in a system with room for less than
-/// 2 ^ 32 turns.
+/// A thread's curve ends at its ticks in the report of a legal history, in a system with room for less than 2 ^ 32
+/// turns.
 pub fn curves_end_at_the_report()
     ensures { (program : Program) (room : ℕ) (history : List ℕ) (t : ℕ) (row : ThreadRow)
         → IsWithinBounds program.limits → IsLegal program room history → room < 2 ^ 32
@@ -73,7 +73,7 @@ pub fn curves_end_at_the_report()
         ≡ row.ticks }
 {}
 
-/// The same of turns in the order of time: a thread's curve ends at the ticks that the report has of it.
+/// For a timed program, a thread's curve ends at its ticks in the report.
 pub fn timed_curves_end_at_the_report()
     ensures { (program : Program) (t : ℕ) (row : ThreadRow) → IsWithinBounds program.limits
         → thread_row (last_moment program).world.state t ≡ Some row

@@ -1,4 +1,5 @@
-//! Shows an input: `shares` writes a table of what each thread has had over time, and `chart` a picture of it.
+//! Shows an input: `shares` writes a table of each thread's ticks or draws over time, and `chart` a picture of the
+//! ticks.
 #![tactic(auto)]
 
 mod axes;

@@ -1,20 +1,20 @@
-//! Where lines end, and where their names stand.
+//! The ends of lines, and the positions of their names.
 ghost use Rattle.std.specs.Prelude.{◌≡◌, ◌≤◌, IfOk, length};
 ghost use Rattle.lot_chart.specs.Lines as definitions;
 
 use crate::Standing;
 use std::alloc::{AllocError, Global};
 
-/// The height of a line at nothing: tenths of a unit from the top, as all of a picture's lengths are.
+/// The height of a line at 0 ticks: tenths of a unit from the top, like all of a picture's lengths.
 const BOTTOM: u32 = 4600;
 
-/// How high the plot is.
+/// The height of the plot.
 const HEIGHT: u32 = 4000;
 
-/// The height of the plot's top.
+/// The height of the plot's top edge.
 const TOP: u32 = 600;
 
-/// How far the names of two lines are apart at least.
+/// The smallest distance between the names of two lines.
 const APART: u32 = 160;
 
 /// A line of the picture.
@@ -22,17 +22,17 @@ const APART: u32 = 160;
 pub struct Line {
     /// The number of its thread, or 0 for the others together.
     pub thread: u32,
-    /// What it ends at.
+    /// The ticks at its end.
     pub ticks: u64,
-    /// Which colour and strokes it has.
+    /// Its colour and dash pattern.
     pub style: u32,
-    /// Where it ends.
+    /// The height of its end.
     pub height: u32,
-    /// Where its name stands.
+    /// The height of its name.
     pub place: u32,
 }
 
-/// The lines of these, with those that had most first.
+/// The lines of these standings, which are in descending order of ticks.
 pub(crate) fn lines_of(alloc: Global, shown: &[Standing]) -> Result<Vec<Line>, AllocError>
     requires { length shown.now ≤ 12 }
     ensures { IfOk result (λ v. v.items ≡ definitions.lines_of shown.now) }
@@ -55,7 +55,7 @@ pub(crate) fn lines_of(alloc: Global, shown: &[Standing]) -> Result<Vec<Line>, A
     Ok(lines)
 }
 
-/// What the first has had, which is the most.
+/// The ticks of the first, which are the most.
 pub(crate) fn most_in(shown: &[Standing]) -> u64
     ensures { result ≡ definitions.most_in shown.now }
 {
@@ -65,7 +65,7 @@ pub(crate) fn most_in(shown: &[Standing]) -> u64
     }
 }
 
-/// The height of this many ticks, if the top of the plot is at the most.
+/// The height for this many ticks, if the top of the plot stands for the most.
 pub(crate) fn height_of(most: u64, ticks: u64) -> u32
     ensures exact { result ≡ definitions.height_of most ticks }
     ensures within { result ≤ 4600 }
@@ -73,7 +73,7 @@ pub(crate) fn height_of(most: u64, ticks: u64) -> u32
     BOTTOM - scaled(ticks, most, HEIGHT)
 }
 
-/// The place of a name: at its line's end, but not above the least place, and with room for more names below it.
+/// The height of a name: at its line's end, but not above the least height, and with room for the names below it.
 fn place_of(least: u32, height: u32, more: u32) -> u32
     requires { more ≤ 12 }
     ensures exact { result ≡ definitions.place_of least height more }
@@ -81,7 +81,7 @@ fn place_of(least: u32, height: u32, more: u32) -> u32
     height.min(BOTTOM - APART * more).max(least)
 }
 
-/// How far along a length this value is, if the most is at its end.
+/// The position of this value along a length, if the most is at its end.
 pub(crate) fn scaled(value: u64, most: u64, length: u32) -> u32
     ensures exact { result ≡ definitions.scaled value most length }
     ensures within { result ≤ length }

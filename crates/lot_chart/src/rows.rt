@@ -1,4 +1,4 @@
-//! Small runs, and their curves as a table and as a picture.
+//! Worked rows for small runs, and their curves as a table and as a picture.
 ghost use Rattle.std.specs.Prelude.{◌≡◌, [], ◌∷◌, codes};
 ghost use Rattle.lot_curves.specs.declared.stretch.Measure.TheVariants.{Draws, Ticks};
 ghost use Rattle.lot_simulation.specs.Samples.{text};
@@ -7,7 +7,7 @@ ghost use Rattle.lot_chart.specs.Samples.{three_tick_curves, three_tick_picture}
 ghost use Rattle.lot_chart.specs.Shown.{shares_output};
 ghost use Rattle.lot_chart.specs.Tables.{table};
 
-/// The ticks that two threads have run, and the draws that they have won. A draw counts from its time on.
+/// The ticks that two threads have run, and the draws that they have won. A draw counts from its own time.
 #[tactic(auto, unfolding(lot_simulation::specs::OnLiterals::texts_on_literals))]
 pub fn tables()
     ensures ticks { table Ticks three_tick_curves
@@ -16,14 +16,14 @@ pub fn tables()
         ≡ text (codes "tick,a,b" ∷ codes "0,1,0" ∷ codes "1,2,0" ∷ codes "2,2,1" ∷ codes "3,2,1" ∷ []) }
 {}
 
-/// The same as a picture, with a title that is escaped.
+/// The run as a picture, with a title that needs escapes.
 #[tactic(auto, unfolding(lot_simulation::specs::OnLiterals::texts_on_literals, crate::specs::Charts::picture))]
 pub fn pictures()
     ensures { chart (codes "a < b") three_tick_curves ≡ three_tick_picture }
 {}
 
 /// Thread 1 ends at tick 2. At tick 3 it is removed, and thread 3 gets its name. The removed thread keeps its column,
-/// which has its number for a name, and what it has run.
+/// with its number as the name, and the ticks that it ran.
 #[tactic(auto, unfolding(lot_simulation::specs::OnLiterals::texts_on_literals, lot_simulation::specs::Timed::timed_room))]
 pub fn removed()
     ensures { shares_output Ticks (text (codes "lottery 3" ∷ codes "quantum 10" ∷ codes "for 6" ∷ codes "script short"

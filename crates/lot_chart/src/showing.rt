@@ -14,8 +14,8 @@ use lot_text::{ParseFault, parse};
 use std::alloc::{AllocError, Global};
 use std::io::Write;
 
-/// Makes the turns of the input in `bytes`, and writes a table of what each thread has had over time; or one line, if
-/// the input is refused. Out of memory, it writes nothing.
+/// Makes the turns of the input in `bytes`, and writes a table of each thread's ticks or draws over time; or one
+/// line, if the input is refused. If out of memory, it writes nothing.
 pub fn shares_bytes<W: Write>(
     alloc: Global,
     measure: Measure,
@@ -34,8 +34,8 @@ pub fn shares_bytes<W: Write>(
     }
 }
 
-/// Makes the turns of the input in `bytes`, and writes a picture with this title of what each thread has had over
-/// time; or one line, if the input is refused. Out of memory, it writes nothing.
+/// Makes the turns of the input in `bytes`, and writes a picture with this title of each thread's ticks over time; or
+/// one line, if the input is refused. If out of memory, it writes nothing.
 pub fn chart_bytes<W: Write>(
     alloc: Global,
     title: &str,
@@ -66,7 +66,7 @@ fn curves_in(alloc: Global, bytes: &[u8]) -> Result<Curves, ParseFault>
     }
 }
 
-/// Writes the text, if there was memory for it.
+/// Writes the text, unless out of memory.
 fn write_text<W: Write>(
     text: Result<Vec<u8>, AllocError>,
     writer: &mut Watched<W>,

@@ -1,4 +1,4 @@
-//! Curves as a table whose fields are separated by commas.
+//! Curves as a table with comma-separated fields.
 ghost use Rattle.std.specs.Prelude.{◌≡◌, ◌++◌, IfOk, OnOk, length, map};
 ghost use Rattle.std.specs.List.{flat_map};
 ghost use Rattle.lot_curves.specs.Curves.{sample_ticks};
@@ -11,8 +11,8 @@ use lot_curves::{Curves, Measure};
 use lot_machine::Name;
 use std::alloc::{AllocError, Global};
 
-/// The table of the curves: a line with the threads' names, and one for each sample with what each thread has had at
-/// its tick.
+/// The table of the curves: a line with the threads' names, and one for each sample with each thread's ticks or draws
+/// up to its tick.
 pub fn table(alloc: Global, curves: &Curves, measure: Measure) -> Result<Vec<u8>, AllocError>
     ensures { IfOk result (λ text. text.items ≡ tables.table measure curves.now) }
 {
@@ -23,7 +23,7 @@ pub fn table(alloc: Global, curves: &Curves, measure: Measure) -> Result<Vec<u8>
     Ok(text.into_bytes())
 }
 
-/// Puts the first line.
+/// Adds the first line.
 fn push_header(text: &mut Text, names: &[Name]) -> Result<(), AllocError>
     ensures { OnOk result (text.new ≡ text.old ++ header_line names.now) }
 {
@@ -35,7 +35,7 @@ fn push_header(text: &mut Text, names: &[Name]) -> Result<(), AllocError>
     text.push("\n")
 }
 
-/// Puts the lines of all samples. The row has a place for each thread.
+/// Adds the lines of all samples. The row has an element for each thread.
 fn push_rows(
     text: &mut Text,
     curves: &Curves,
@@ -54,7 +54,7 @@ fn push_rows(
     Ok(())
 }
 
-/// Puts the line of one sample.
+/// Adds the line of one sample.
 fn push_row(text: &mut Text, tick: u64, row: &[u64]) -> Result<(), AllocError>
     ensures { OnOk result (text.new ≡ text.old ++ row_line tick row.now) }
 {

@@ -6,7 +6,7 @@ use itoa::Buffer;
 use std::alloc::{AllocError, Global};
 use std::marker::Model;
 
-/// A text that grows by parts at its end. If there is no memory for a part, the text is given up.
+/// A text that grows at its end. If out of memory for a part, the text is discarded.
 #[derive(Debug, Drop)]
 pub(crate) struct Text {
     bytes: Vec<u8>,
@@ -21,7 +21,7 @@ impl Model for Text {
 }
 
 impl Text {
-    /// No text.
+    /// An empty text.
     pub(crate) fn new(alloc: Global) -> Text
         ensures { result ≡ [] }
     {
@@ -38,21 +38,21 @@ impl Text {
         bytes
     }
 
-    /// Puts the bytes at the end.
+    /// Appends the bytes.
     pub(crate) fn push_bytes(&mut self, bytes: &[u8]) -> Result<(), AllocError>
         ensures { OnOk result (self.new ≡ self.old ++ bytes.now) }
     {
         self.bytes.extend_from_slice(bytes)
     }
 
-    /// Puts the text at the end.
+    /// Appends the text.
     pub(crate) fn push(&mut self, text: &str) -> Result<(), AllocError>
         ensures { OnOk result (self.new ≡ self.old ++ text.now) }
     {
         self.push_bytes(text.as_bytes())
     }
 
-    /// Puts the number at the end.
+    /// Appends the number.
     pub(crate) fn push_number(&mut self, number: u64) -> Result<(), AllocError>
         ensures { OnOk result (self.new ≡ self.old ++ decimal number) }
     {

@@ -16,35 +16,36 @@ use Rattle.lot_io.specs.Writing.{Begins, IsFaultOf}
 use Rattle.lot_command.specs.declared.run.InputRunFault.{InputRunFault}
 use Rattle.lot_command.specs.declared.run.InputRunFault.TheVariants.{Play, Workers}
 
--- The report of a free run of the program was written, and lines that give its history back; or why there is no
--- program.
+-- The report of a free run of the program was written, and lines that reproduce its history; or the line for a
+-- refused input.
 abbrev pub HasRun : Result Program InputFault → Option (List ℕ) → Option (List ℕ) → Played → Type 0
 HasRun (Ok program) old new played = (played ≡ Done) × ((history : List ℕ) × IsFreeRun program history × Appends old new (end_text program history))
 HasRun (Err fault) old new played = (played ≡ Refused) × Appends old new (fault_line fault)
 
--- A beginning of that was written.
+-- A beginning of the output of `HasRun` was written.
 abbrev pub HasBegun : Result Program InputFault → Option (List ℕ) → Option (List ℕ) → Type 0
 HasBegun (Ok program) old new = (history : List ℕ) × IsFreeRun program history × Begins old new (end_text program history)
 HasBegun (Err fault) old new = Begins old new (fault_line fault)
 
--- On Ok a free run was written; if the writer has failed, a beginning of one; and with any other fault nothing was.
--- The bytes were read before, so it is no fault of reading.
+-- On Ok the output of a free run was written; if the writer failed, a beginning of one; and on any other fault
+-- nothing. The bytes were read before, so it is no fault of reading.
 abbrev pub EndsRun : Result Program InputFault → Option (List ℕ) → Option (List ℕ) → Bool → Result Played InputRunFault → Type 0
 EndsRun input old new failed (Ok played) = (failed ≡ false) × HasRun input old new played
 EndsRun input old new failed (Err (Play Write)) = (failed ≡ true) × HasBegun input old new
 EndsRun input old new failed (Err (Play Read)) = ⊥
 EndsRun input old new failed (Err other) = (failed ≡ false) × Keeps old new
 
--- the same of a watched writer, of which `contents` says what it holds
+-- `EndsRun` for a watched writer, whose contents `contents` returns
 abbrev pub Runs : {T : Type 0} → Result Program InputFault → (T → Option (List ℕ)) → Watch T → Watch T → Result Played InputRunFault → Type 0
 Runs input contents old new result = EndsRun input (contents old.inner) (contents new.inner) new.failed result
 
--- What a fault leaves: with Write a beginning of a free run of what was read was written, otherwise nothing was.
+-- The effect of a fault: on Write a beginning of the output of a free run of the input was written, otherwise nothing
+-- was.
 abbrev pub HasLeft : Option (List ℕ) → Option (List ℕ) → Option (List ℕ) → Option (List ℕ) → InputRunFault → Type 0
 HasLeft left rest old new (Play Write) = (bytes : List ℕ) × HasRead left rest bytes × HasBegun (program_in bytes) old new
 HasLeft left rest old new other = Keeps old new
 
--- the same of a watched reader and a watched writer
+-- `HasLeft` for a watched reader and a watched writer
 abbrev pub RunLeaves : {S : Type 0} {T : Type 0} → (S → Option (List ℕ)) → Watch S → Watch S → (T → Option (List ℕ)) → Watch T → Watch T → InputRunFault → Type 0
 RunLeaves remaining reader after contents old new stop = HasLeft (remaining reader.inner) (remaining after.inner) (contents old.inner) (contents new.inner) stop
 

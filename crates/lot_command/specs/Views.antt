@@ -6,7 +6,7 @@ use Rattle.lot_chart.specs.Shown.{chart_output, shares_output}
 use Rattle.lot_command.specs.declared.view.View.{View}
 use Rattle.lot_command.specs.declared.view.View.TheVariants as view
 
--- what is written of the bytes read, where a picture has this title
+-- the output for the input in these bytes, where a picture has this title
 abbrev pub text_of : View → List ℕ → List ℕ → List ℕ
 text_of view.Play title = output
 text_of view.Explain title = explained_output

@@ -1,4 +1,4 @@
-//! The words that the program is called with.
+//! The program's command line.
 
 use crate::view::View;
 use clap::{Arg, ArgAction, ArgMatches, Command, Error};
@@ -6,18 +6,18 @@ use lot_curves::Measure;
 use std::alloc::{AllocError, Global};
 use std::convert::AsStr;
 
-/// The title of a picture if none is given.
+/// The title of a picture, unless the command line gives one.
 const TITLE: &str = "What each thread has run";
 
 /// The request of a command line: exactly one subcommand.
 #[derive(Clone, Copy, Debug)]
 pub(crate) enum Request<'a> {
-    /// The view, and the title that a picture has.
+    /// The view, and the title of a picture.
     Show(View, &'a str),
     Run,
 }
 
-/// Reads the words, the program's own name first.
+/// Parses the words, the program's own name first.
 pub(crate) fn request_of<'a, S: AsStr>(
     alloc: Global,
     words: &'a [S],
@@ -81,7 +81,7 @@ fn chart_command<'a>(alloc: Global) -> Result<Command<'a>, AllocError> {
         .arg(title)
 }
 
-/// What is measured.
+/// The measure of a table.
 fn measure_of(given: &ArgMatches<'_>) -> Measure {
     if given.get_flag("quanta") {
         Measure::Draws

@@ -12,7 +12,7 @@ use std::io::Write;
 /// The diagnostics for standard error. The output and the status don't depend on them.
 #[derive(Drop)]
 pub(crate) struct Diagnostics {
-    /// The input, whose lines they name. It stays while it is played: which lines, only the run shows.
+    /// The input, whose lines they name. It is kept during the play, since only the run determines the lines.
     pub(crate) input: Vec<u8>,
     /// The warnings of its run.
     pub(crate) warnings: Warnings,
@@ -27,7 +27,7 @@ impl Diagnostics {
         })
     }
 
-    /// Writes why the input is refused. Out of memory, or if the errors fail, nothing is reported.
+    /// Writes the reason why the input is refused. If out of memory, or if the errors fail, it reports nothing.
     pub(crate) fn say_why<E: Write>(&self, alloc: Global, errors: &mut Watched<E>) {
         if let Err(ParseFault::Input(fault)) = parse(alloc, self.input.as_slice()) {
             let mut words = Vec::new(alloc);
@@ -36,7 +36,7 @@ impl Diagnostics {
         }
     }
 
-    /// Writes the warnings of the run. Out of memory, or if the errors fail, nothing is reported.
+    /// Writes the warnings of the run. If out of memory, or if the errors fail, it reports nothing.
     pub(crate) fn say_warnings<E: Write>(&self, alloc: Global, errors: &mut Watched<E>) {
         let mut words = Vec::new(alloc);
         let made = write_warnings(&mut words, &self.warnings, self.input.as_slice());
@@ -44,7 +44,7 @@ impl Diagnostics {
     }
 }
 
-/// Writes these words to the errors at once, if there was memory for them.
+/// Writes these words to the errors at once, unless out of memory.
 fn say<E: Write>(errors: &mut Watched<E>, made: io::Result<()>, words: &Vec<u8>) {
     if made.is_ok() && !words.is_empty() {
         let _ = errors.write_all(words.as_slice());

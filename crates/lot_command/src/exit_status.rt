@@ -1,4 +1,4 @@
-//! The exit status of the words, the input and the outputs.
+//! The exit status for the words, the input and the outputs.
 
 use crate::command_line::{Request, request_of};
 use crate::diagnostics::Diagnostics;
@@ -15,7 +15,7 @@ use std::io::{BufWriter, Read, Write};
 use std::sync::Wait;
 use std::thread::Threads;
 
-/// Done, or help was asked for.
+/// Success, or help was requested.
 const DONE: u8 = 0;
 /// The input was refused.
 const REFUSED: u8 = 1;
@@ -27,18 +27,18 @@ const FAILED: u8 = 3;
 /// The text for a command line that isn't UTF-8.
 const NOT_UTF8: &str = "error: invalid UTF-8 was detected in one or more arguments\n";
 
-/// How many bytes of output are written at a time.
+/// The number of output bytes written at a time.
 const BUFFER: usize = 65536;
 
-/// Runs the program with these words, of which the first is its own name, and returns its exit status:
+/// Runs the program with these words, the first of which is its own name, and returns its exit status:
 ///
-/// - 0 if it is done, or help was asked for;
+/// - 0 on success, or if help was requested;
 /// - 1 if the input was refused;
 /// - 2 if the command line was refused;
-/// - 3 if memory ran out, `reader` or `output` has failed, or workers stopped early.
+/// - 3 if out of memory, if `reader` or `output` failed, or if workers stopped early.
 ///
-/// What was asked for is written to `output`, and diagnostics to `errors`, whose failure counts only for a refused
-/// command line: then the status is 3. Nothing more is written to an output after its first error. It may block.
+/// It writes the requested output to `output`, and diagnostics to `errors`, whose failure counts only for a refused
+/// command line: then the status is 3. It writes nothing more to an output after its first error. It may block.
 pub fn status<H: Threads + Wait + Sync, S: AsStr, R: Read + Drop, W: Write + Drop, E: Write + Drop>(
     rt: &H,
     alloc: Global,
@@ -47,7 +47,8 @@ pub fn status<H: Threads + Wait + Sync, S: AsStr, R: Read + Drop, W: Write + Dro
     output: W,
     errors: E,
 ) -> u8 {
-    // A buffer tries a failed write again, also when dropped. What lies between it and the output lets none through.
+    // A buffer retries a failed write, even when dropped. The watched writer between it and the output stops the
+    // retries.
     let output = Watched::new(output);
     let errors = Watched::new(errors);
     match request_of(alloc, words) {
@@ -56,8 +57,8 @@ pub fn status<H: Threads + Wait + Sync, S: AsStr, R: Read + Drop, W: Write + Dro
     }
 }
 
-/// The exit status if the words couldn't be read. A word that isn't UTF-8 is a refused command line: 2, and a text on
-/// `errors`, or 3 if that fails. Out of memory is 3, without a text.
+/// The exit status if the words can't be read. A word that isn't UTF-8 is a refused command line: status 2, with a
+/// text on `errors`, or 3 if that fails. Out of memory is 3, without a text.
 pub fn unread_status<E: Write + Drop>(error: &io::Error, errors: E) -> u8 {
     if error.kind() == io::ErrorKind::OutOfMemory {
         return FAILED;
@@ -69,7 +70,7 @@ pub fn unread_status<E: Write + Drop>(error: &io::Error, errors: E) -> u8 {
     COMMAND_LINE
 }
 
-/// The exit status of what was asked for.
+/// The exit status of the request.
 fn request_status<H: Threads + Wait + Sync, R: Read + Drop, W: Write + Drop, E: Write + Drop>(
     rt: &H,
     alloc: Global,
@@ -113,7 +114,7 @@ fn request_status<H: Threads + Wait + Sync, R: Read + Drop, W: Write + Drop, E: 
     }
 }
 
-/// Writes the text of a refused command line to the errors, or the help that was asked for to the output.
+/// Writes the text of a refused command line to the errors, or the requested help to the output.
 fn say_error<W: Write + Drop, E: Write + Drop>(
     error: &Error,
     output: Watched<W>,

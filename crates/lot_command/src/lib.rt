@@ -1,5 +1,5 @@
-//! The program as a function of its words, its input and its outputs: the command line, what it asks for, diagnostics
-//! in words, and the exit status. `main` of `lot_sim` adds the terminal.
+//! The program as a function of its words, its input and its outputs: the command line, the requests, diagnostics in
+//! words, and the exit status. `main` of `lot_sim` adds the terminal.
 #![tactic(auto)]
 
 mod command_line;

@@ -16,10 +16,10 @@ use std::sync::Wait;
 use std::thread::Threads;
 use thiserror::Error;
 
-/// Why a free run of an input stops early. Nothing was written unless the writer has failed.
+/// The reason why a free run of an input stops early. Nothing was written unless the writer failed.
 #[derive(Debug, Drop, Error)]
 pub enum InputRunFault {
-    /// Out of memory, or the reader or the writer has failed.
+    /// Out of memory, or the reader or the writer failed.
     #[error("{0}")]
     Play(IoFault),
     /// The workers stopped early, or there was no memory for them.
@@ -27,9 +27,9 @@ pub enum InputRunFault {
     Workers(FreeRunFault),
 }
 
-/// Reads an input, lets workers run its commands and make its processors' turns, and writes the report and the
-/// history; or one line, if the input is refused. Its schedule is ignored. Diagnostics are stored in `diagnostics`. It
-/// may block.
+/// Reads an input, lets workers make its commands and its processors' turns, and writes the report and the history;
+/// or one line, if the input is refused. It ignores the schedule. It stores diagnostics in `diagnostics`. It may
+/// block.
 pub(crate) fn run<R: Read, W: Write, H: Threads + Wait + Sync>(
     rt: &H,
     alloc: Global,
@@ -61,12 +61,12 @@ pub(crate) fn run<R: Read, W: Write, H: Threads + Wait + Sync>(
     }
 }
 
-/// Lets workers run the commands of the input in `bytes` and make its processors' turns, and writes the report and the
-/// history; or one line, if the input is refused. Its schedule is ignored. The warnings of the run are stored in
+/// Lets workers make the commands of the input in `bytes` and its processors' turns, and writes the report and the
+/// history; or one line, if the input is refused. It ignores the schedule. It stores the run's warnings in
 /// `warnings`. It may block.
 ///
-/// `InputRunFault::Play` if memory runs out before the workers start, or if the writer fails, and
-/// `InputRunFault::Workers` if memory runs out for them, or they stop early. Nothing was written unless the writer has
+/// Fails with `InputRunFault::Play` if out of memory before the workers start, or if the writer fails, and with
+/// `InputRunFault::Workers` if the workers run out of memory or stop early. Nothing was written unless the writer
 /// failed.
 pub fn run_bytes<W: Write, H: Threads + Wait + Sync>(
     rt: &H,
@@ -111,7 +111,7 @@ fn run_program<W: Write, H: Threads + Wait + Sync>(
     }
 }
 
-/// Notes the warnings of the run, which is done.
+/// Records the warnings of the finished run.
 fn noted(system: &mut System, warnings: &mut Warnings) -> Played
     ensures { result ≡ Done }
 {

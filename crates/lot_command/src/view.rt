@@ -13,12 +13,12 @@ use lot_system::{Played, play_bytes};
 use std::alloc::Global;
 use std::io::{Read, Write};
 
-/// What is written of the turns of an input's schedule.
+/// A view of the turns of an input.
 #[derive(Clone, Copy, Debug)]
 pub(crate) enum View {
     /// A line for each turn, and the report.
     Play,
-    /// The same, with the lots of each lottery that was won before its line.
+    /// A line for each turn, after the lots of its lottery if a thread won it, and the report.
     Explain,
     /// A table of this measure of each thread over time.
     Shares(Measure),
@@ -26,8 +26,8 @@ pub(crate) enum View {
     Chart,
 }
 
-/// Reads an input, makes the turns of its schedule, and writes this view of them, a picture with this title; or one
-/// line, if the input is refused. Diagnostics are stored in `diagnostics`.
+/// Reads an input, makes its turns, and writes this view of them, a picture with this title; or one line, if the
+/// input is refused. It stores diagnostics in `diagnostics`.
 pub(crate) fn show<R: Read, W: Write>(
     alloc: Global,
     view: View,
@@ -44,7 +44,7 @@ pub(crate) fn show<R: Read, W: Write>(
     show_bytes(alloc, view, title, diagnostics, writer)
 }
 
-/// Makes the turns of the input that `diagnostics` has, and writes this view of them, or why it is refused.
+/// Makes the turns of the input in `diagnostics`, and writes this view of them, or the line for a refused input.
 fn show_bytes<W: Write>(
     alloc: Global,
     view: View,

@@ -39,7 +39,7 @@ const SPINNERS_MADE: &str = "0 ticket 1
 0 done
 ";
 
-/// Plays the input, and compares the exit status and what was written.
+/// Plays the input, and compares the exit status and the output.
 fn check_play<H: Abort + Threads + Wait + Sync>(
     rt: &H,
     alloc: Global,
@@ -50,7 +50,7 @@ fn check_play<H: Abort + Threads + Wait + Sync>(
     check_words_on(rt, alloc, "play", input, code, expected);
 }
 
-/// What came of a call of the program: its exit status, and what it wrote to each output.
+/// The result of a call of the program: its exit status, and the text on each output.
 #[derive(Drop)]
 struct Ended {
     code: u8,
@@ -71,7 +71,7 @@ fn ended_on<H: Threads + Wait + Sync>(rt: &H, alloc: Global, words: &[&str], inp
     }
 }
 
-/// Has the input played or run, and compares the exit status and what was written. A diagnostic is told if the status
+/// Plays or runs the input, and compares the exit status and the output. There must be a diagnostic if the status
 /// isn't 0.
 fn check_words_on<H: Abort + Threads + Wait + Sync>(
     rt: &H,
@@ -346,7 +346,7 @@ processor 1 quanta 2 idle 0 ticks 10
 total turns 5 quanta 2 ticks 10
 ";
 
-/// The same in one quantum.
+/// The listing above, in one quantum.
 const LOOP_IN_ONE: &str = "lottery 1
 quantum 10
 script s
@@ -745,7 +745,7 @@ fn writing_fails(
     has_failed
 }
 
-/// The number of the first write or flush whose failure doesn't come, since there are fewer.
+/// The number of the first write or flush whose failure never occurs, since there are fewer calls.
 fn first_unmade_write(
     rt: &impl Abort,
     alloc: Global,
@@ -835,7 +835,7 @@ fn reading_fails(
     has_failed
 }
 
-/// The number of the first read whose failure doesn't come, since there are fewer.
+/// The number of the first read whose failure never occurs, since there are fewer calls.
 fn first_unmade_read(rt: &impl Abort, alloc: Global, row: (&str, &str), kind: ErrorKind) -> u32 {
     for call in 1..1000 {
         if !reading_fails(rt, alloc, row, call, kind) {

@@ -17,7 +17,7 @@ use Rattle.lot_machine.specs.declared.record.Thread.{Thread}
 use Rattle.lot_machine.specs.declared.refusal.Refusal.TheVariants.{BadName, NameTaken, NoCurrency, BadAmount, Full, NoScript}
 use Rattle.lot_machine.specs.declared.ticket.Target.TheVariants as target
 use Rattle.lot_machine.specs.Change.{NewThread, DropThread}
-use Rattle.lot_machine.specs.Commands.{are_threads_full, are_tickets_full, command_effect, command_refusal, currency_named, is_bad_amount, is_good_name, is_letter, is_name_byte, is_no_script, is_taken, thread_named}
+use Rattle.lot_machine.specs.Commands.{are_threads_full, are_tickets_full, command_effect, command_refusal, currency_meant, currency_named, is_bad_amount, is_good_name, is_letter, is_name_byte, is_no_script, is_taken, thread_meant, thread_named}
 use Rattle.lot_machine.specs.Numbered.{at_number, set_number, option_any}
 use Rattle.lot_machine.specs.State.{State, thread_at}
 use Rattle.lot_machine.specs.Step.{step}
@@ -162,10 +162,10 @@ effect-named s (MakeThread name script) e named =
     let passed = all-pass ((not (is_good_name name), BadName) ∷ (is_taken s name, NameTaken) ∷ (is_no_script s script, NoScript) ∷ (are_threads_full s, Full) ∷ []) e in
     more-named s.threads (record { name = name; script = script }) named (holds (is_good_name name) passed.0) (free-name s name passed.1.0)
 effect-named s (MakeFunded amount currency name script) e named =
-    let passed = all-pass ((is_bad_amount amount, BadAmount) ∷ (is_none (currency_named s currency), NoCurrency) ∷ (not (is_good_name name), BadName)
+    let passed = all-pass ((is_bad_amount amount, BadAmount) ∷ (is_none (currency_meant s currency), NoCurrency) ∷ (not (is_good_name name), BadName)
     ∷ (is_taken s name, NameTaken) ∷ (is_no_script s script, NoScript) ∷ (are_tickets_full s || are_threads_full s, Full) ∷ []) e in
     more-named s.threads (record { name = name; script = script }) named (holds (is_good_name name) passed.1.1.0) (free-name s name passed.1.1.1.0)
-effect-named s (RemoveThread name) e named = fewer-named s.threads (unwrap_or (thread_named s name) 0) named
+effect-named s (RemoveThread thread) e named = fewer-named s.threads (unwrap_or (thread_meant s thread) 0) named
 effect-named s c e named = named
 
 -- nobody but the console makes and removes threads

@@ -12,7 +12,7 @@ use Rattle.lot_curves.specs.declared.stretch.Stretch.{Stretch}
 use Rattle.lot_curves.specs.OwnTimes.{own_turns}
 use Rattle.lot_curves.specs.Stretches.{had_at, stretch_of, stretches_of}
 
--- the threads' names by rising number, and the stretches of the turns
+-- the threads' names in ascending order of number, and the stretches of the turns
 pub record Curves : Type 0 where
   pub names : List (List ℕ)
   pub stretches : List Stretch
@@ -21,7 +21,7 @@ pub record Curves : Type 0 where
 abbrev pub name_in : State → ℕ → List ℕ
 name_in s thread = unwrap_or (thread_name s thread) (decimal thread)
 
--- the names of a state's threads, removed ones too, by rising number
+-- the names of a state's threads, including removed ones, in ascending order of number
 abbrev pub names_in : State → List (List ℕ)
 names_in s = map (name_in s) (numbers s.records)
 
@@ -29,11 +29,11 @@ names_in s = map (name_in s) (numbers s.records)
 abbrev pub stretches_made : Program → List ℕ → List Stretch
 stretches_made program history = map stretch_of (own_turns program history)
 
--- the stretches of the program's turns in the order of time
+-- the stretches of the timed program's turns
 abbrev pub timed_stretches : Program → List Stretch
 timed_stretches program = map (λ done. stretch_of (record { time = done.time; answer = done.turn.answer })) (timed_turns program)
 
--- the curves of the threads in a world, if its history is that of the program's run
+-- the curves of the threads in a world, with the stretches of the program's run with its history
 abbrev pub curves_in : Program → World → Curves
 curves_in program w = record { names = names_in w.state; stretches = stretches_made program w.history }
 
@@ -41,12 +41,11 @@ curves_in program w = record { names = names_in w.state; stretches = stretches_m
 abbrev pub scheduled_curves : Program → Curves
 scheduled_curves program = curves_in program (system_run program program.schedule)
 
--- the curves of the program's turns in the order of time
+-- the curves of the timed program's turns
 abbrev pub timed_curves : Program → Curves
 timed_curves program = record { names = names_in (system_run program (timed_schedule program)).state; stretches = timed_stretches program }
 
--- the curves of the program: those of its turns in the order of time if it has a duration, otherwise those of its
--- schedule
+-- the curves of the program: those of its timed turns if it has a duration, and otherwise those of its schedule
 abbrev pub curves_of : Program → Curves
 curves_of program = by program.duration
   where
@@ -58,17 +57,17 @@ curves_of program = by program.duration
 abbrev pub share_at : Measure → Curves → ℕ → ℕ → ℕ
 share_at measure curves tick thread = had_at measure tick (stretches_of thread curves.stretches)
 
--- each thread's ticks or draws up to this tick, by rising number
+-- each thread's ticks or draws up to this tick, in ascending order of number
 abbrev pub row_at : Measure → Curves → ℕ → List ℕ
 row_at measure curves tick = map (share_at measure curves tick) (numbers curves.names)
 
 -- ---- samples
 
--- how many samples there are after tick 0: one for each tick up to the last, but at most 200
+-- the number of samples after tick 0: one for each tick up to the last, but at most 200
 abbrev pub sample_count : ℕ → ℕ
 sample_count last = min 200 last
 
--- the tick of a sample, if they are equally spaced from tick 0 to the last tick
+-- the tick of a sample; samples are equally spaced from tick 0 to the last tick
 abbrev pub sample_tick : ℕ → ℕ → ℕ
 sample_tick last sample = sample * last / max 1 (sample_count last)
 

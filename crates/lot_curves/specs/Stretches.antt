@@ -19,8 +19,8 @@ charged_thread other = 0
 abbrev pub stretch_of : EndedTurn → Stretch
 stretch_of turn = record { thread = count_in charged_thread turn.answer; end = turn.time; ticks = count_in ticks_in turn.answer; draws = count_in quanta_in turn.answer }
 
--- the ticks or draws of a stretch up to this tick: its ticks except those after this one, or the draw if it was won by
--- then
+-- the ticks or draws of a stretch up to this tick: its ticks except those after this one, or the draw if it was won
+-- by then
 abbrev pub part_at : Measure → ℕ → Stretch → ℕ
 part_at Ticks tick s = s.ticks - (s.end - tick)
 part_at Draws tick s = if nat_le s.end tick then s.draws else 0
@@ -29,10 +29,10 @@ part_at Draws tick s = if nat_le s.end tick then s.draws else 0
 abbrev pub had_at : Measure → ℕ → List Stretch → ℕ
 had_at measure tick stretches = sum_by (part_at measure tick) stretches
 
--- those of one thread
+-- the stretches of one thread
 abbrev pub stretches_of : ℕ → List Stretch → List Stretch
 stretches_of thread stretches = filter (λ s. s.thread == thread) stretches
 
--- when the last of them ends; 0 if there is none
+-- the end of the last of these stretches, or 0 without any
 abbrev pub last_end : List Stretch → ℕ
 last_end stretches = fold (λ last s. max s.end last) 0 stretches

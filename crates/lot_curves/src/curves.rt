@@ -8,7 +8,7 @@ use crate::{Measure, Stretch};
 use lot_machine::{Name, index_of};
 use std::marker::Model;
 
-/// The maximum number of ticks after tick 0 at which curves are sampled.
+/// The largest number of samples after tick 0.
 const SAMPLES: u64 = 200;
 
 /// The threads' names, and a stretch for each turn.
@@ -16,7 +16,7 @@ const SAMPLES: u64 = 200;
 pub struct Curves {
     names: Vec<Name>,
     stretches: Vec<Stretch>,
-    /// When the last of them ends.
+    /// The end of the last stretch.
     last: u64,
 }
 
@@ -53,7 +53,7 @@ impl Curves {
         }
     }
 
-    /// The threads' names, by rising number.
+    /// The threads' names, in ascending order of number.
     pub fn names(&self) -> &[Name]
         ensures names { result.now ≡ self.now.names }
         ensures few { length self.now.names < 2 ^ 32 }
@@ -69,7 +69,7 @@ impl Curves {
         self.stretches.as_slice()
     }
 
-    /// When the last turn ended.
+    /// The end of the last turn.
     pub fn last(&self) -> u64
         ensures last { result ≡ last_end self.now.stretches }
         ensures early { result < 2 ^ 56 }
@@ -77,7 +77,7 @@ impl Curves {
         self.last
     }
 
-    /// At how many ticks after tick 0 the curves are sampled.
+    /// The number of samples after tick 0.
     pub fn sample_count(&self) -> u64
         ensures count { result ≡ curves.sample_count (last_end self.now.stretches) }
         ensures most { result ≤ 200 }
@@ -85,7 +85,7 @@ impl Curves {
         self.last.min(SAMPLES)
     }
 
-    /// The tick of this sample, of which number 0 is at tick 0.
+    /// The tick of this sample; sample 0 is at tick 0.
     pub fn sample_tick(&self, sample: u64) -> u64
         requires { sample ≤ curves.sample_count (last_end self.now.stretches) }
         ensures tick { result ≡ curves.sample_tick (last_end self.now.stretches) sample }
@@ -94,7 +94,7 @@ impl Curves {
         sample * self.last / self.sample_count().max(1)
     }
 
-    /// Fills the row with each thread's ticks or draws up to this tick, by rising number.
+    /// Fills the row with each thread's ticks or draws up to this tick, in ascending order of number.
     pub fn fill_row(&self, measure: Measure, tick: u64, row: &mut [u64])
         requires { length row.old ≡ length self.now.names }
         ensures { row.new ≡ row_at measure self.now tick }
@@ -106,7 +106,7 @@ impl Curves {
     }
 }
 
-/// When the last of these ends.
+/// The end of the last of these.
 fn last_of(stretches: &[Stretch]) -> u64
     ensures { result ≡ last_end stretches.now }
 {
@@ -117,7 +117,7 @@ fn last_of(stretches: &[Stretch]) -> u64
     last
 }
 
-/// Adds to what the thread has, if the row has a place for it.
+/// Adds to the thread's element of the row, if it has one.
 fn add_part(row: &mut [u64], thread: u32, part: u64)
     requires { (k : ℕ) → k < length row.old → slice_index row.old k + part < 2 ^ 64 }
     ensures { (k : ℕ) → k < length row.old

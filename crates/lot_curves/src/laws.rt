@@ -1,4 +1,4 @@
-//! Laws of the definitions of curves, with no code to run.
+//! Laws of the definitions of curves, without executable code.
 ghost use Rattle.std.specs.Prelude.{◌≡◌, ◌<◌, ◌≤◌, ◌^◌, ℕ, List, length, sum_by};
 ghost use Rattle.lot_simulation.specs.World.{Program, system_run};
 ghost use Rattle.lot_curves.specs.declared.stretch.Measure.{Measure as Measured};
@@ -24,13 +24,13 @@ pub fn curves_end_at_all()
         ≡ sum_by (λ s. s.draws) (stretches_of t curves.stretches) }
 {}
 
-/// A curve never falls.
+/// A curve never decreases.
 pub fn curves_rise()
     ensures { (measure : Measured) (earlier later : ℕ) (stretches : List StretchRecord) → earlier ≤ later
         → had_at measure earlier stretches ≤ had_at measure later stretches }
 {}
 
-/// No two threads' curves have the same name, removed threads' included. Numbers of threads have at most 32 bits.
+/// No two threads' curves have one name, removed threads included. Numbers of threads have at most 32 bits.
 pub fn names_are_different()
     ensures { (program : Program) (history : List ℕ) (t u : ℕ) → t < 2 ^ 32 → u < 2 ^ 32
         → name_in (system_run program history).state t ≡ name_in (system_run program history).state u → t ≡ u }

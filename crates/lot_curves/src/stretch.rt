@@ -10,20 +10,20 @@ use lot_machine::Reply;
 /// The measure of a curve.
 #[derive(Clone, Copy, Debug, PartialEq, Eq)]
 pub enum Measure {
-    /// The ticks that it has run.
+    /// The ticks that a thread has run.
     Ticks,
-    /// The draws that it has won.
+    /// The draws that a thread has won.
     Draws,
 }
 
 /// The ticks and draws of a turn for the thread that ran in it, or that won its draw.
 #[derive(Clone, Copy, Debug, PartialEq, Eq)]
 pub struct Stretch {
-    /// The number of the thread, or 0 if the turn was no thread's.
+    /// The number of the thread, or 0 if the turn belongs to no thread.
     pub thread: u32,
-    /// When the turn ended.
+    /// The end of the turn.
     pub end: u64,
-    /// How long it ran, up to the end.
+    /// The ticks that the thread ran, up to the end.
     pub ticks: u32,
     /// 1 if it won a draw.
     pub draws: u32,

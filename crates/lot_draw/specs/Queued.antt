@@ -1,4 +1,4 @@
--- What the clauses of `RunQueue` see.
+-- The queue as the contracts of `RunQueue` see it.
 use Rattle.std.specs.Prelude.{◌≡◌, ℕ, ◌-◌, ◌^◌, ◌<◌, ◌≤◌, Option, Some, List, [], All, Contains, length, slice_index}
 use Rattle.lot_lists.specs.NodeLists.{NodeLists}
 use Rattle.lot_machine.specs.declared.funding.Node.TheVariants.{Thread}
@@ -10,9 +10,9 @@ use Rattle.lot_value.specs.Marking.{IsStaleList as IsOneList}
 use Rattle.lot_draw.specs.declared.competing.Competitor.{Competitor}
 use Rattle.lot_draw.specs.Competing.{HasTicks, weight_among, competitor_at}
 
--- How many ticks a quantum has; for each thread that there may be, what it competes with, if it does, and its weight in
--- the tree; the places of the threads whose weight may have to change, thread 1 at place 0; and how many places of the
--- tree were visited.
+-- The quantum; for each possible thread, its part in a draw, if it competes, and its weight in the tree; the places
+-- of the threads whose weight may have to change, with thread 1 at place 0; and the number of visited places of the
+-- tree.
 pub record Queued : Type 0 where
   pub quantum : ℕ
   pub competitors : List (Option Competitor)
@@ -20,11 +20,11 @@ pub record Queued : Type 0 where
   pub changed : List ℕ
   pub visits : ℕ
 
--- the weight of the thread may have to change
+-- the thread's weight may have to change
 abbrev pub IsChanged : Queued → ℕ → Type 0
 IsChanged q t = Contains q.changed (t - 1)
 
--- the thread is one of those that there may be
+-- the thread's number is within the limit on threads
 abbrev pub IsPlaced : Queued → ℕ → Type 0
 IsPlaced q t = (0 < t) × (t ≤ length q.competitors)
 
@@ -32,28 +32,29 @@ IsPlaced q t = (0 < t) × (t ≤ length q.competitors)
 abbrev pub weight_of : Queued → (ℕ → ℕ) → ℕ → ℕ
 weight_of q worth t = weight_among q.quantum q.competitors worth t
 
--- Each thread that is neither stale nor changed has its weight in the tree: by the value that is kept of it if it
--- competes, otherwise 0.
+-- Each thread that is neither stale nor changed has its weight in the tree: from its cached value if it competes, and
+-- otherwise 0.
 abbrev pub AreWeights : Queued → Known → Type 0
 AreWeights q c =
     (t : ℕ) → IsPlaced q t → ¬ IsStale c (Thread t) → ¬ IsChanged q t → slice_index q.weights (t - 1) ≡ weight_of q (λ u. value_in c (Thread u)) t
 
--- only existing threads compete, and there is a place for each thread that there may be
+-- only existing threads compete, and there is a place for each possible thread
 pub record CompetesIn (competitors : List (Option Competitor)) (v : Valued) : Type 0 where
   pub places : length competitors ≡ v.now.thread_limit
   pub there : (t : ℕ) (c : Competitor) → competitor_at competitors t ≡ Some c → IsThread v.now.funding t
 
--- the kept value of each existing thread that isn't stale is the thread's value
+-- the cached value of each existing thread that isn't stale is the thread's value
 abbrev pub HasWorths : Valued → Type 0
 HasWorths v =
     (t : ℕ) → IsThread v.now.funding t → t ≤ v.now.thread_limit → ¬ IsStale v.known (Thread t) → value_in v.known (Thread t) ≡ thread_value v.known.unit v.now.funding v.live t
 
--- weights can be set from the kept values, since all of them are right
+-- nothing is stale and all cached values are right, so that weights can be set from them
 pub record IsSettled (v : Valued) : Type 0 where
   pub stale : v.known.stale ≡ []
   pub worths : HasWorths v
 
--- what a queue's fields hold; no public clause cites this
+-- the fields of a queue hold these weights, this list of changed threads and these competitors; no public clause
+-- cites this
 pub record IsQueue (weights : List ℕ) (changed : NodeLists) (competitors : List (Option Competitor)) : Type 0 where
   pub places : length weights ≡ length competitors
   pub list : IsOneList changed (length competitors)

@@ -9,7 +9,7 @@ use std::marker::Model;
 
 /// The modulus of the generator, a prime.
 const MODULUS: u32 = 2147483647;
-/// How many numbers two values make.
+/// The number of numbers that two values make.
 const NUMBERS: u128 = 4611686009837453316;
 
 /// The multiplicative generator of Park and Miller (4.1): each value is 16807 times the one before, modulo 2147483647.
@@ -32,7 +32,7 @@ impl Model for ParkMiller {
 }
 
 impl ParkMiller {
-    /// The generator whose value is the seed, or `None` if the seed is 0 or above 2147483646.
+    /// The generator with this seed as its value, or `None` if the seed is 0 or above 2147483646.
     pub fn new(seed: u32) -> Option<Self>
         ensures some { IsSome result ↔ IsBetween 1 2147483646 seed }
         ensures value { IfSome result (λ g. g ≡ seed) }
@@ -43,7 +43,7 @@ impl ParkMiller {
         Some(ParkMiller { value: seed })
     }
 
-    /// Goes on to the next value, and returns it: 1 to 2147483646.
+    /// Advances to the next value and returns it: 1 to 2147483646.
     #[inline(always)]
     pub fn next(&mut self) -> u32
         ensures value { result ≡ next_seed self.old }
@@ -54,7 +54,7 @@ impl ParkMiller {
         self.value
     }
 
-    /// The number that is drawn from the next two values: 0 to 4611686009837453315.
+    /// The number drawn from the next two values: 0 to 4611686009837453315.
     #[inline(always)]
     pub fn number(&mut self) -> u64
         ensures number { result ≡ drawn_number self.old }
@@ -66,7 +66,7 @@ impl ParkMiller {
         high * 2147483646 + low
     }
 
-    /// The wide number that is drawn from the next four values: below 2^124.
+    /// The wide number drawn from the next four values: below 2^124.
     #[inline(always)]
     pub fn wide_number(&mut self) -> u128
         ensures number { result ≡ wide_number self.old }
@@ -79,8 +79,8 @@ impl ParkMiller {
     }
 }
 
-/// The seed of a processor, so that processors don't draw in lock step: as many steps of a generator after 1, whose
-/// multiplier is 48271, as the processor's number says.
+/// A distinct seed for each processor, so that processors don't draw in lock step: the value of a generator with
+/// multiplier 48271, which starts at 1, after as many steps as the processor's number.
 pub fn mixed_seed(processor: u32) -> u32
     ensures seed { result ≡ lottery.mixed_seed processor }
     ensures range { IsBetween 1 2147483646 result }

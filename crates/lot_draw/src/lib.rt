@@ -1,9 +1,9 @@
-//! Lotteries: the weights of threads, the winners, and where drawn numbers come from.
+//! Lotteries: the weights of threads, the winners, and the generators of drawn numbers.
 //!
-//! A `RunQueue` keeps what each thread competes with, and the weights of those that compete in a tree of partial sums.
-//! `RunQueue::set_competitor` and `RunQueue::settle` write nothing to the tree: they list the threads whose weight may
-//! have to change. `RunQueue::draw` settles what is stale, sets the weights of the listed threads, and visits the tree
-//! once. Only `RunQueue::new` takes memory.
+//! A `RunQueue` keeps each thread's part in a draw, and the weights of the competitors in a tree of partial sums.
+//! `RunQueue::set_competitor` and `RunQueue::settle` write nothing to the tree: they list the threads whose weight
+//! may have to change. `RunQueue::draw` settles stale nodes, sets the weights of the listed threads, and visits the
+//! tree once. Only `RunQueue::new` allocates memory.
 #![tactic(auto)]
 
 mod competing;

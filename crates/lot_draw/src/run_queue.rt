@@ -24,16 +24,16 @@ use std::alloc::{AllocError, Global};
 use std::marker::Model;
 use std::mem::size_of;
 
-// The only list of the changed threads.
+// The only list: of the changed threads.
 const CHANGED: usize = 0;
 
-// What a thread takes for what it competes with.
+// The memory for one thread's part in a draw.
 const COMPETITOR_BYTES: u64 = size_of::<Option<Competitor>>() as u64;
 
-/// What each thread competes with, if it does, and the weights of those that compete; and how many places of the tree
-/// of weights were visited.
+/// The competitors, their weights, and the number of visited places of the tree of weights.
 ///
-/// Only a draw writes to the tree of weights. A thread whose weight may have to change before the next draw is listed.
+/// Only a draw writes to the tree of weights. A thread whose weight may have to change before the next draw is
+/// listed.
 #[derive(Drop)]
 pub struct RunQueue {
     tree: SumTree,
@@ -61,7 +61,7 @@ impl Model for RunQueue {
 }
 
 impl RunQueue {
-    /// Nobody competes, and nothing was visited.
+    /// A queue without competitors, whose count of visits is 0.
     pub fn new(alloc: Global, limits: &Limits) -> Result<Self, AllocError>
         ensures queue { IfOk result (λ made. made
             ≡ record {
@@ -83,7 +83,7 @@ impl RunQueue {
         })
     }
 
-    /// How many bytes `new` asks of the allocator in all.
+    /// The total of bytes that `new` requests from the allocator.
     pub fn bytes(limits: &Limits) -> u64
         ensures { result ≡ 60 * limits.now.threads + 8 }
     {
@@ -91,21 +91,21 @@ impl RunQueue {
         SumTree::bytes(threads) + Lists::bytes(1, threads) + COMPETITOR_BYTES * threads as u64
     }
 
-    /// How many ticks a quantum has.
+    /// The quantum, in ticks.
     pub fn quantum(&self) -> u32
         ensures { result ≡ self.now.quantum }
     {
         self.quantum
     }
 
-    /// How many places of the tree of weights were visited. The count stops at the greatest `u64`.
+    /// The number of visited places of the tree of weights. The count saturates at the largest `u64`.
     pub fn visits(&self) -> u64
         ensures { result ≡ self.now.visits }
     {
         self.visits
     }
 
-    /// Says what a thread competes with from now on, or that it doesn't compete. Its weight is set at the next draw.
+    /// Sets a thread's part in draws from now on; `None` if it doesn't compete. Its weight is set at the next draw.
     pub fn set_competitor(&mut self, thread: u32, competitor: Option<Competitor>)
         requires thread { IsPlaced self.old thread }
         requires ticks { HasTicks competitor }
@@ -122,8 +122,8 @@ impl RunQueue {
         self.list(place);
     }
 
-    /// Computes the values of all stale nodes again, as `ValuedGraph::settle` does. The weights of the threads among
-    /// them are set at the next draw.
+    /// Recomputes the values of all stale nodes, as `ValuedGraph::settle` does. The weights of the threads among them
+    /// are set at the next draw.
     pub fn settle(&mut self, graph: &mut ValuedGraph)
         requires places { length self.old.competitors ≡ graph.old.now.thread_limit }
         requires weights { AreWeights self.old graph.old.known }
@@ -144,9 +144,10 @@ impl RunQueue {
         }
     }
 
-    /// Holds a draw with the number `d` (2, 4.2) among the threads that compete: `None` if their weights sum to 0.
+    /// Holds a draw with the number `d` (2, 4.2) among the competing threads. Returns `None` if their weights sum to
+    /// 0.
     ///
-    /// Settles what is stale, sets the weights that may have changed, and visits the tree once.
+    /// Settles stale nodes, sets the weights that may have changed, and visits the tree once.
     pub fn draw(&mut self, graph: &mut ValuedGraph, d: u128) -> Option<Winner>
         requires competes { CompetesIn self.old.competitors graph.old }
         requires weights { AreWeights self.old graph.old.known }
@@ -174,7 +175,7 @@ impl RunQueue {
         self.hold_lottery(d)
     }
 
-    /// Lists the thread at a place, if it isn't listed.
+    /// Lists the thread at a place, unless it is listed.
     fn list(&mut self, place: usize)
         requires place { place < length self.old.competitors }
         ensures others { self.new ≡ record self.old { changed = self.new.changed } }
@@ -185,7 +186,7 @@ impl RunQueue {
         }
     }
 
-    /// Lists a node, if it is a thread.
+    /// Lists a node's thread, if it is one.
     fn list_node(&mut self, node: Node)
         requires place { (t : ℕ) → node ≡ ThreadNode t → IsPlaced self.old t }
         ensures others { self.new ≡ record self.old { changed = self.new.changed } }
@@ -213,7 +214,7 @@ impl RunQueue {
         }
     }
 
-    /// The place of the listed thread at the front, if one is listed.
+    /// The place of the listed thread at the front, if there is one.
     fn first_changed(&self) -> Option<usize>
         ensures first { result ≡ slice_get self.now.changed 0 }
         ensures place { IfSome result (λ place. place < length self.now.competitors) }
@@ -222,7 +223,7 @@ impl RunQueue {
         self.changed.first(CHANGED)
     }
 
-    /// Sets the weight of the listed thread at the front, and takes it from the list.
+    /// Sets the weight of the listed thread at the front, and removes it from the list.
     fn weigh(&mut self, graph: &ValuedGraph, place: usize)
         requires first { slice_get self.old.changed 0 ≡ Some place }
         requires place { place < length self.old.competitors }
@@ -260,7 +261,7 @@ impl RunQueue {
     }
 }
 
-/// The weight of the thread at a place, from its kept value and its compensation: 0 if it doesn't compete.
+/// The weight of the thread at a place, from its cached value and its compensation: 0 if it doesn't compete.
 fn weight_at(
     graph: &ValuedGraph,
     place: usize,

@@ -15,7 +15,7 @@ use Rattle.lot_machine.specs.declared.drawn.Drawn.{Drawn}
 use Rattle.lot_machine.specs.Bounds.{IsBetween}
 use Rattle.lot_machine.specs.Lottery.{winner}
 use Rattle.lot_machine.specs.State.{State, status_of, ready_threads, weight_of}
-use Rattle.lot_machine.specs.Commands.{Step, is_bad_amount, is_good_name, is_taken, is_no_script, are_tickets_full, are_threads_full, currency_named, thread_named, with_thread, command_refusal, command_effect, command_step, unless_refused}
+use Rattle.lot_machine.specs.Commands.{Step, is_bad_amount, is_good_name, is_taken, is_no_script, are_tickets_full, are_threads_full, currency_meant, thread_meant, with_thread, command_refusal, command_effect, command_step, unless_refused}
 use Rattle.lot_machine.specs.Step.{draw, thread_there, event_refusal, event_effect, step}
 use Rattle.lot_machine.proofs.CommandsKept.{all-pass}
 use Rattle.lot_machine.proofs.Tickets.{at_number-suc}
@@ -52,11 +52,11 @@ command-makes s (MakeThread name script) =
     with_thread-more s name script passed.1.1.0 passed.1.1.1.0)
 command-makes s (MakeFunded amount currency name script) =
     kept-same s (MakeFunded amount currency name script) _ (command_effect s (MakeFunded amount currency name script)) (unchanged s) (λ e.
-    let passed = all-pass ((is_bad_amount amount, BadAmount) ∷ (is_none (currency_named s currency), NoCurrency) ∷ (not (is_good_name name), BadName) ∷ (is_taken s name, NameTaken) ∷ (is_no_script s script, NoScript) ∷ (are_tickets_full s || are_threads_full s, Full) ∷ []) e in
+    let passed = all-pass ((is_bad_amount amount, BadAmount) ∷ (is_none (currency_meant s currency), NoCurrency) ∷ (not (is_good_name name), BadName) ∷ (is_taken s name, NameTaken) ∷ (is_no_script s script, NoScript) ∷ (are_tickets_full s || are_threads_full s, Full) ∷ []) e in
     let more = with_thread-more s name script passed.1.1.1.1.0 (or_parts (are_tickets_full s) (are_threads_full s) passed.1.1.1.1.1.0).1 in
     record { number = more.number; thread = more.thread; threads = more.threads; records = more.records; script = more.script; limits = more.limits; count = more.count })
-command-makes s (RemoveThread name) =
-    kept-same s (RemoveThread name) _ (command_effect s (RemoveThread name)) (unchanged s) (λ _. record { threads = inr (unwrap_or (thread_named s name) 0, refl); records = refl; limits = refl })
+command-makes s (RemoveThread thread) =
+    kept-same s (RemoveThread thread) _ (command_effect s (RemoveThread thread)) (unchanged s) (λ _. record { threads = inr (unwrap_or (thread_meant s thread) 0, refl); records = refl; limits = refl })
 command-makes s other = kept-same s other (command_refusal s other) (command_effect s other) (unchanged s) (λ _. record { threads = inl refl; records = refl; limits = refl })
 
 -- ---- draws

@@ -8,13 +8,13 @@ use Rattle.lot_engine.specs.declared.fault.TurnFault.TheVariants.{Stale}
 use Rattle.lot_engine.specs.declared.turn.Work.{Work}
 use Rattle.lot_engine.specs.Held.{script_lines}
 
--- the program has the work's script, its place is one of that script, and its budget is one that a quantum may have
+-- the program has the work's script, its place fits that script, and its budget is in the range of quanta
 pub record FitsIn (program : Program) (work : Work) : Type 0 where
   pub script : IsBetween 1 (length program.scripts) work.script
   pub place : Fits (script_lines program work.script) work.place
   pub budget : IsBetween 1 1000 work.budget
 
--- the work doesn't fit, and the fault carries it
+-- the work doesn't fit the program, and the fault carries it
 abbrev pub IsStale : Program → Option Work → TurnFault → Type 0
 IsStale program None fault = ⊥
 IsStale program (Some work) fault = (fault ≡ Stale (Some work)) × ¬ FitsIn program work

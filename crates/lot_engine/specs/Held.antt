@@ -1,4 +1,4 @@
--- How a system's fields hold the world of its history.
+-- The representation of the history's world in the fields of a system.
 use Rattle.std.specs.Prelude.{◌≡◌, ℕ, ◌≤◌, ⊤, Option, IfSome, List, [], ◌∷◌, length, drop, is_some, unwrap_or}
 use Rattle.lot_simulation.specs.declared.script.Line.{Line}
 use Rattle.lot_machine.specs.declared.record.Thread.{Thread}
@@ -9,30 +9,30 @@ use Rattle.lot_machine.specs.State.{State}
 use Rattle.lot_simulation.specs.World.{Program, World}
 use Rattle.lot_script.specs.Places.{Place, Fits, context_at}
 
--- the lines of the program's script with this number; none if there is no such script
+-- the lines of the program's script with this number, or none if there is no such script
 abbrev pub script_lines : Program → ℕ → List Line
 script_lines program script = unwrap_or (at_number program.scripts script) []
 
--- the thread's script is one of the program's, and the place is where the thread is in it
+-- the thread's script is one of the program's, and the place in it stands for the thread's context
 pub record IsAt (program : Program) (thread : Thread) (place : Place) (context : Context) : Type 0 where
   pub script : IsBetween 1 (length program.scripts) thread.script
   pub fits : Fits (script_lines program thread.script) place
   pub means : context_at (script_lines program thread.script) place ≡ context
 
--- Each thread's place is where the thread is in its script; that of a thread that was removed may be any.
+-- Each thread's place in its script stands for its context; a removed thread may have any place.
 abbrev pub AreAt : Program → List (Option Thread) → List Place → List Context → Type 0
 AreAt program [] [] [] = ⊤
 AreAt program (thread ∷ threads) (place ∷ places) (context ∷ contexts) = IfSome thread (λ there. IsAt program there place context) × AreAt program threads places contexts
 AreAt program threads places contexts = ⊥
 
--- the state is one of the program's kernel, and each thread has a record
+-- the state has the program's limits, and each thread has a record
 pub record IsKept (program : Program) (s : State) : Type 0 where
   pub limits : s.limits ≡ program.limits
   pub records : length s.records ≡ length s.threads
   pub count : length s.threads ≤ s.limits.threads
 
--- The kernel's state, the threads' places, the values of the generators and the count of commands run are those of
--- the world, which draws wide numbers if the program says how long it runs.
+-- The kernel's state, the threads' places, the generators' values and the number of commands made are those of the
+-- world, which draws wide numbers if the program has a duration.
 pub record IsHeld (program : Program) (w : World) (s : State) (places : List Place) (generators : List ℕ) (spent : ℕ) : Type 0 where
   pub state : s ≡ w.state
   pub kept : IsKept program s

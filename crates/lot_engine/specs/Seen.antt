@@ -1,4 +1,4 @@
--- A system as contracts see it.
+-- A system as its contracts see it.
 use Rattle.std.specs.Prelude.{◌≡◌, ℕ, ◌==◌, true, List, [], ◌∷◌, ◌++◌, count_by, is_some, length}
 use Rattle.lot_machine.specs.declared.command.Kind.{Kind}
 use Rattle.lot_machine.specs.declared.command.Kind.TheVariants.{Tickets, Currencies, Threads}
@@ -6,34 +6,34 @@ use Rattle.lot_machine.specs.Rows.{thread_row}
 use Rattle.lot_machine.specs.State.{State}
 use Rattle.lot_simulation.specs.World.{Program, World, system_run}
 
--- the program that a system was opened with, and how many turns it has room for
+-- a system's program, and its room for turns
 pub record Setting : Type 0 where
   pub program : Program
   pub room : ℕ
 
--- the same, and the actors of the turns so far
+-- a system's program and room, and the actors of its turns so far
 pub record Seen : Type 0 where
   pub setting : Setting
   pub history : List ℕ
 
--- the world to which the program's run over the history led
+-- the world after the program's run with the system's history
 abbrev pub world_of : Seen → World
 world_of seen = system_run seen.setting.program seen.history
 
--- how many commands a system has made
+-- the number of commands that a system has made
 abbrev pub commands_made : Seen → ℕ
 commands_made seen = count_by (λ actor. actor == 0) seen.history
 
--- the same system after one more turn
+-- the system after one more turn
 abbrev pub after_turn : Seen → ℕ → Seen
 after_turn seen actor = record { setting = seen.setting; history = seen.history ++ actor ∷ [] }
 
--- how many numbers of the kind were given
+-- the number of tickets, currencies or threads ever made
 abbrev pub given_count : State → Kind → ℕ
 given_count s Tickets = length s.tickets
 given_count s Currencies = length s.currencies
 given_count s Threads = length s.records
 
--- the thread has a row: it was made, and wasn't removed
+-- the thread has a row: it was made, and not removed
 abbrev pub HasRow : State → ℕ → Type 0
 HasRow s t = is_some (thread_row s t) ≡ true

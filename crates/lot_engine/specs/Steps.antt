@@ -20,13 +20,13 @@ use Rattle.lot_engine.specs.declared.turn.Done.{Done}
 
 -- ---- the threads after an event
 
--- the same threads, as many records, and the same sizes
+-- threads, the number of records and the sizes are unchanged
 pub record KeepsThreads (s after : State) : Type 0 where
   pub threads : after.threads ≡ s.threads
   pub records : length after.records ≡ length s.records
   pub limits : after.limits ≡ s.limits
 
--- no thread more: the same threads, or one of them was removed; and as many records, and the same sizes
+-- no thread is made: threads are unchanged, or one is removed; the number of records and the sizes are unchanged
 pub record MakesNone (s after : State) : Type 0 where
   pub threads : (after.threads ≡ s.threads) ⊎ ((t : ℕ) × (after.threads ≡ set_number s.threads t None))
   pub records : length after.records ≡ length s.records
@@ -42,18 +42,18 @@ pub record OneMore (s after : State) (n : ℕ) : Type 0 where
   pub limits : after.limits ≡ s.limits
   pub count : length s.threads + 1 ≤ s.limits.threads
 
--- the number of the thread that was made, if one was
+-- the number of the new thread, if the reply names one
 abbrev pub made_thread : Reply → Option ℕ
 made_thread (reply.Thread n) = Some n
 made_thread (reply.Funded ticket n) = Some n
 made_thread other = None
 
--- a command that made no thread leaves the threads as they are, or removes one
+-- a command that makes no thread leaves the threads unchanged, or removes one
 abbrev pub MakesIn : State → State → Option ℕ → Type 0
 MakesIn s after None = MakesNone s after
 MakesIn s after (Some n) = OneMore s after n
 
--- the reply to a command names the thread that was made, if one was
+-- the reply to a command names the new thread, if there is one
 abbrev pub MakesThread : State → State → Reply → Type 0
 MakesThread s after r = MakesIn s after (made_thread r)
 
@@ -73,20 +73,20 @@ OfRun t other = ⊥
 
 -- ---- slices as turns
 
--- what a slice did, as a slice of the machine
+-- a slice's result and end, as a slice of the definitions
 abbrev pub done_of : Parts → Slice
 done_of given = record { ticks = given.ticks; trap = given.trap; end = context_at given.lines given.end }
 
--- what the slice did, and the accumulator at its end
+-- the slice's result: its ticks and trap, and the accumulator at its end
 abbrev pub did : Parts → Done
 did given = record { ticks = given.ticks; trap = given.trap; accumulator = given.end.accumulator }
 
--- the event of a turn whose slice did this; without a slice the processor draws
+-- the event of a turn with this slice's result; without a slice the processor draws
 abbrev pub event_done : ℕ → ℕ → Option Done → Event
 event_done p drawn None = event.Draw p drawn
 event_done p drawn (Some done) = event_of_slice p drawn (record { ticks = done.ticks; trap = done.trap; end = record { rest = []; accumulator = done.accumulator } })
 
--- without a slice the processor draws
+-- the event of a turn with this slice; without one the processor draws
 abbrev pub event_given : ℕ → ℕ → Option Parts → Event
 event_given p drawn None = event.Draw p drawn
 event_given p drawn (Some given) = event_of_slice p drawn (done_of given)
@@ -96,40 +96,40 @@ abbrev pub unlocks : Option ScriptTrap → Bool
 unlocks (Some (script_trap.OnMutex Unlock mutex)) = true
 unlocks other = false
 
--- whether the event takes a drawn number: a draw does, and a slice that unlocks
+-- whether the event consumes a drawn number: a draw does, and a slice that unlocks
 abbrev pub needs_number : Option Done → Bool
 needs_number None = true
 needs_number (Some done) = unlocks done.trap
 
--- the reply is one to such an event: to a draw among this many threads, or to the slice of one of them
+-- the reply is to a draw among this many threads, or to the slice of one of them
 abbrev pub OfGiven : ℕ → ℕ → Option Parts → Reply → Type 0
 OfGiven count t None r = OfDraw count r
 OfGiven count t (Some given) r = IsBetween 1 count t × OfRun t r
 
 -- ---- places
 
--- the place, with the number that was delivered as its accumulator
+-- the place, with any delivered number as its accumulator
 abbrev pub delivered_to_place : Option ℕ → Place → Place
 delivered_to_place None place = place
 delivered_to_place (Some number) place = record place { accumulator = number }
 
--- where the thread is
+-- the thread's place
 abbrev pub place_of : List Place → ℕ → Place
 place_of places t = unwrap_or (at_number places t) first_place
 
--- The places after a turn: a winner has what was delivered to it, and the thread that ran is at its slice's end, and
--- has what it received.
+-- The places after a turn: a winner has the number delivered to it, and the thread that ran is at its slice's end,
+-- with the number that it received.
 abbrev pub places_after : List Place → Option Parts → Reply → List Place
 places_after places None (reply.Winner t number total delivered) = set_number places t (delivered_to_place delivered (place_of places t))
 places_after places (Some given) (reply.Trapped t ticks outcome ends) = set_number places t (delivered_to_place (number_delivered outcome) given.end)
 places_after places (Some given) (reply.Expired t ticks) = set_number places t given.end
 places_after places given other = places
 
--- the slice of these lines with this budget that did this on the way from one place to the other
+-- the slice of these lines with this budget and result, from one place to the other
 abbrev pub slice_between : List Line → Place → ℕ → Done → Place → Parts
 slice_between lines start budget done end = record { lines = lines; start = start; budget = budget; ticks = done.ticks; trap = done.trap; end = end }
 
--- the places once the thread that ran has what it received
+-- the places after the thread that ran gets the number that it received
 abbrev pub places_received : List Place → Reply → List Place
 places_received places (reply.Trapped t ticks outcome ends) = set_number places t (delivered_to_place (number_delivered outcome) (place_of places t))
 places_received places other = places

@@ -20,8 +20,8 @@ use Rattle.lot_engine.specs.Held.{script_lines}
 
 -- ---- an actor's work
 
--- The thread that runs on the processor in this world, its script's number, its place in the script, and what is left
--- of its quantum. Its script is one that was built.
+-- The work: the thread that runs on the processor in this world, its script, its place in the script, and the rest of
+-- its quantum. Its script is a valid one.
 pub record IsWork (program : Program) (w : World) (p : ℕ) (work : Work) : Type 0 where
   pub runs : thread_on w.state.records p ≡ Some work.thread
   pub script : option_map (λ t. t.script) (thread_at w.state.threads work.thread) ≡ Some work.script
@@ -32,38 +32,38 @@ pub record IsWork (program : Program) (w : World) (p : ℕ) (work : Work) : Type
   pub budget : work.budget ≡ w.state.limits.quantum - used_there w.state p
   pub some_left : IsBetween 1 1000 work.budget
 
--- the same with its place
+-- the work with this place
 abbrev pub work_at : Running → Place → Work
 work_at running place = record { thread = running.thread; script = running.script; place = place; budget = running.budget }
 
--- the actor's work, or that it has none: the console never has one, and a processor has one if a thread runs there
+-- the actor's work, if any: the console has none, and a processor has one if a thread runs there
 abbrev pub IsWorkIn : Program → World → ℕ → Option Work → Type 0
 IsWorkIn program w actor None = 0 < actor → thread_on w.state.records actor ≡ None
 IsWorkIn program w actor (Some work) = (0 < actor) × IsWork program w actor work
 
--- the same, in the world of a system
+-- the actor's work, if any, in the world of a system
 abbrev pub IsWorkOf : Seen → ℕ → Option Work → Type 0
 IsWorkOf seen actor work = IsWorkIn seen.setting.program (world_of seen) actor work
 
--- ---- whether a slice is that of the work
+-- ---- the slice of a work
 
--- it is one of the work's script, from the work's place, with the work's budget
+-- the slice is of the work's script, from the work's place, with the work's budget
 pub record IsSliceOf (program : Program) (work : Work) (given : Parts) : Type 0 where
   pub lines : given.lines ≡ script_lines program work.script
   pub start : given.start ≡ work.place
   pub budget : given.budget ≡ work.budget
 
--- there is no slice if there is no work, otherwise the slice is that of the work
+-- there is neither a work nor a slice, or the slice is that of the work
 abbrev pub Matches : Program → Option Work → Option Parts → Type 0
 Matches program None None = ⊤
 Matches program (Some work) (Some given) = IsSliceOf program work given
 Matches program work given = ⊥
 
--- what is given for the actor's turn is the slice of its work, if it has any
+-- the slice passed for the actor's turn is that of its work, if it has one
 abbrev pub IsFresh : Seen → ℕ → Option Parts → Type 0
 IsFresh seen actor given = (work : Option Work) × IsWorkOf seen actor work × Matches seen.setting.program work given
 
--- the actor is the console, and no command is left
+-- the actor is the console and no command remains
 abbrev pub IsEnded : Seen → ℕ → Type 0
 IsEnded seen actor = (actor ≡ 0) × ((world_of seen).commands ≡ [])
 
@@ -75,26 +75,26 @@ pub record Goes (seen : Seen) (actor : ℕ) (given : Option Parts) : Type 0 wher
   pub not_ended : ¬ IsEnded seen actor
   pub room : length seen.history < seen.setting.room
 
--- Why a turn isn't made, in this order: the slice isn't that of the work, which is this; no command is left; or there
--- is no room.
+-- The reason why a turn isn't made, checked in this order: the slice isn't that of the work, which the fault carries;
+-- no command remains; or there is no room.
 abbrev pub Faults : Seen → ℕ → Option Parts → TurnFault → Type 0
 Faults seen actor given (Stale work) = IsWorkOf seen actor work × ¬ Matches seen.setting.program work given
 Faults seen actor given Ended = IsFresh seen actor given × IsEnded seen actor
 Faults seen actor given HistoryFull = IsFresh seen actor given × (¬ IsEnded seen actor) × (seen.setting.room ≤ length seen.history)
 
--- the same, if the work isn't asked for
+-- the reason why a turn isn't made, as in `Faults`, without the work
 abbrev pub Prevents : Seen → ℕ → Option Parts → TurnFaultKind → Type 0
 Prevents seen actor given kinds.Stale = ¬ IsFresh seen actor given
 Prevents seen actor given kinds.Ended = IsFresh seen actor given × IsEnded seen actor
 Prevents seen actor given kinds.HistoryFull = IsFresh seen actor given × (¬ IsEnded seen actor) × (seen.setting.room ≤ length seen.history)
 
--- this holds, if the fault is Stale
+-- the fact holds if the fault is Stale
 abbrev pub IfStale : TurnFault → Type 0 → Type 0
 IfStale (Stale work) fact = fact
 IfStale Ended fact = ⊤
 IfStale HistoryFull fact = ⊤
 
--- the event and the reply are those of the actor's next turn, and its next work is its work after it
+-- the event and the reply are those of the actor's next turn, and the next work is the actor's after it
 pub record Answers (seen : Seen) (actor : ℕ) (answer : Answer) : Type 0 where
   pub turn : (system_turn seen.setting.program (world_of seen) actor).answer ≡ Answered answer.event answer.reply
   pub next : IsWorkOf (after_turn seen actor) actor answer.next

@@ -8,7 +8,7 @@ ghost use Rattle.lot_engine.specs.Counted.{AreCounts, IsSmall, counted_with};
 use lot_machine::Reply;
 use std::alloc::{AllocError, Global};
 
-/// The counters of some turns.
+/// Counters over some turns.
 #[derive(Clone, Copy, Debug, PartialEq, Eq)]
 pub struct Counts {
     /// The number of turns, refused commands and traps included.
@@ -17,12 +17,12 @@ pub struct Counts {
     pub quanta: u64,
     /// The draws that no thread won.
     pub idles: u64,
-    /// The ticks of their expiries and traps.
+    /// The ticks of expiries and traps.
     pub ticks: u64,
 }
 
 impl Counts {
-    /// Of no turn.
+    /// The counters over no turns.
     pub(crate) const NONE: Counts = Counts {
         turns: 0,
         quanta: 0,
@@ -49,7 +49,7 @@ impl Counts {
     }
 }
 
-/// The counts of this many actors that have had no turn.
+/// The counters of this many actors without turns.
 pub(crate) fn no_counts(alloc: Global, actors: usize) -> Result<Vec<Counts>, AllocError>
     ensures none { IfOk result (λ counts. AreCounts [] 0 counts.items) }
     ensures count { IfOk result (λ counts. vec_len counts ≡ actors) }

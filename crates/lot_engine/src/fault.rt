@@ -1,17 +1,17 @@
-//! Why a turn isn't made.
+//! The faults of turns.
 use crate::turn::Work;
 use thiserror::Error;
 
-/// Why a turn isn't made. It then changes nothing.
+/// The reason why a turn isn't made. It changes nothing.
 #[derive(Debug, Drop, Error)]
 pub enum TurnFault {
     /// The slice isn't that of the actor's work, which the fault carries.
     #[error("the slice isn't that of the actor's work")]
     Stale(Option<Work>),
-    /// The actor is the console, and no command is left.
+    /// The actor is the console, and no command remains.
     #[error("no command is left")]
     Ended,
-    /// The history has as many entries as there is room for.
+    /// The history is as long as the room allows.
     #[error("the history is full")]
     HistoryFull,
 }

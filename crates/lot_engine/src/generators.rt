@@ -31,7 +31,7 @@ struct NextNumber {
     after: ParkMiller,
 }
 
-/// The processor's next number, a wide one or not, which stays its next one.
+/// A processor's next number, wide or not. It doesn't advance the generator.
 #[inline(always)]
 fn next_number(generators: &[ParkMiller], processor: u32, is_wide: bool) -> NextNumber
     requires { IsBetween 1 (length generators.now) processor }
@@ -47,8 +47,8 @@ fn next_number(generators: &[ParkMiller], processor: u32, is_wide: bool) -> Next
     NextNumber { number, after }
 }
 
-/// Stores the event of a processor's turn whose slice did this, or of its draw without one, in `event`. Only a turn
-/// that takes a number advances the processor's generator.
+/// Stores in `event` the event of a processor's turn with this slice's result, or of its draw without one. Only a
+/// turn that consumes a number advances the processor's generator.
 #[inline(always)]
 pub(crate) fn next_event(
     generators: &mut Vec<ParkMiller>,

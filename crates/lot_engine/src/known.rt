@@ -1,6 +1,6 @@
-//! What calls and readings tell the prover.
+//! Facts for the prover.
 
-/// Does nothing. The call that gives the argument tells the prover what its contract says, and the reading of a field
-/// what the system's invariant says, and that a number is in the range of its type.
+/// Does nothing. Its argument brings facts into the proof: for a call, its contract; for the read of a field, the
+/// system's invariant and the range of the number's type.
 #[inline(always)]
 pub(crate) fn known<T: Copy>(_told: T) {}

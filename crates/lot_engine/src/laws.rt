@@ -1,4 +1,4 @@
-//! The sums in the reports, and an actor's work: laws of the definitions, with nothing to run.
+//! The sums in the reports, and an actor's work: laws of the definitions, without executable code.
 ghost use Rattle.std.specs.Prelude.{◌≡◌, ◌<◌, ◌^◌, ℕ, List, Option, sum_by};
 ghost use Rattle.std.specs.List.{range_with_len};
 ghost use Rattle.lot_machine.specs.Bounds.{IsWithinBounds};
@@ -10,9 +10,8 @@ ghost use Rattle.lot_engine.specs.declared.turn.Work.{Work};
 ghost use Rattle.lot_engine.specs.Seen.{Seen};
 ghost use Rattle.lot_engine.specs.Turns.{Faults, IsFresh, IsWorkOf, Matches};
 
-/// The quanta and the ticks of the threads, as the world that a legal history leads to has them, add up to those that
-/// are counted in its turns. Those of a thread stop at the greatest u64; no history of fewer than 2 ^ 32 turns gets
-/// there.
+/// The threads' quanta and ticks in the world after a legal history add up to those counted over its turns. Those of
+/// a thread saturate at the largest u64, which no history of fewer than 2 ^ 32 turns reaches.
 pub fn threads_add_up()
     ensures quanta { (program : Program) (room : ℕ) (history : List ℕ) → IsWithinBounds program.limits
         → IsLegal program room history → room < 2 ^ 32
@@ -24,8 +23,8 @@ pub fn threads_add_up()
         ≡ total_of ticks_in (turns_made program history) }
 {}
 
-/// The report's numbers of the processors add up to the counters of all turns of a legal history: the console wins no
-/// draws and uses no ticks.
+/// The report's numbers of the processors add up to the counters over all turns of a legal history: the console wins
+/// no draws and uses no ticks.
 pub fn processors_add_up()
     ensures quanta { (program : Program) (room : ℕ) (history : List ℕ) → IsLegal program room history
         → sum_by (λ p. total_of quanta_in (turns_of p (turns_made program history)))
@@ -38,8 +37,8 @@ pub fn processors_add_up()
         (range_with_len 1 program.limits.processors) ≡ total_of ticks_in (turns_made program history) }
 {}
 
-/// An actor has exactly one work in a system. So a caller that gives the slice of the actor's work never gets Stale,
-/// and one that gives anything else does: the slice is fresh if and only if it is that of this work.
+/// An actor has exactly one work in a system. So a caller that passes the slice of the actor's work never gets Stale,
+/// and one that passes anything else does: a slice is fresh if and only if it is that of this work.
 pub fn works_are_one()
     ensures one { (seen : Seen) (actor : ℕ) (work other : Option Work) → IsWorkOf seen actor work
         → IsWorkOf seen actor other → work ≡ other }

@@ -1,5 +1,5 @@
 //! The engine: a simulated system of a console with commands, processors with generators, and threads with scripts.
-//! It makes one turn at a time, remembers whose turns it made, and counts them.
+//! It makes one turn at a time, records its actor, and counts it.
 #![tactic(auto)]
 
 mod counts;

@@ -1,4 +1,4 @@
-//! Where the threads are in their scripts.
+//! The threads' places in their scripts.
 ghost use Rattle.std.specs.Prelude.{◌≡◌, ◌+◌, ◌≤◌, ◌++◌, ℕ, List, [], Some, None, IfOk, length, vec_capacity};
 ghost use Rattle.lot_machine.specs.declared.record.Thread.{Thread};
 ghost use Rattle.lot_machine.specs.Bounds.{IsBetween};
@@ -28,7 +28,7 @@ pub(crate) fn places_for(alloc: Global, threads: u32) -> Result<Vec<Place>, Allo
     Vec::with_capacity(alloc, threads as usize)
 }
 
-/// After a command: a thread that was made begins its script.
+/// Updates the places after a command: a new thread begins its script.
 pub(crate) fn follow_command(
     places: &mut Vec<Place>,
     program: &Program,
@@ -50,7 +50,7 @@ pub(crate) fn follow_command(
     }
 }
 
-/// The thread that was made, if one was.
+/// The new thread, if there is one.
 fn made_thread(reply: Reply) -> Option<u32>
     ensures { result ≡ steps.made_thread reply }
 {
@@ -60,7 +60,7 @@ fn made_thread(reply: Reply) -> Option<u32>
     }
 }
 
-/// Where a thread of the script begins.
+/// The place at which a thread of this script begins.
 fn begin(program: &Program, script: u32) -> Place
     requires { IsBetween 1 (length program.now.scripts) script }
     ensures { (t : Thread) → t.script ≡ script → IsAt program.now t result (start (script_lines program.now script)) }
@@ -68,8 +68,8 @@ fn begin(program: &Program, script: u32) -> Place
     program.scripts()[script as usize - 1].start()
 }
 
-/// After a processor's turn: a winner has what was delivered to it, and the thread that ran is at its slice's end,
-/// and has what it received.
+/// Updates the places after a processor's turn: a winner gets the number delivered to it, and the thread that ran is
+/// at its slice's end, with the number that it received.
 #[inline(always)]
 pub(crate) fn follow_turn(places: &mut Vec<Place>, slice: &Option<Slice>, reply: Reply)
     requires { (t : ℕ) × OfGiven (length places.old.items) t slice.now reply }
@@ -82,7 +82,7 @@ pub(crate) fn follow_turn(places: &mut Vec<Place>, slice: &Option<Slice>, reply:
     }
 }
 
-/// A winner has what was delivered to it.
+/// Gives a winner the number delivered to it.
 #[inline(always)]
 fn follow_draw(places: &mut Vec<Place>, reply: Reply)
     requires { OfDraw (length places.old.items) reply }
@@ -99,7 +99,7 @@ fn follow_draw(places: &mut Vec<Place>, reply: Reply)
     }
 }
 
-/// The thread that ran is at its slice's end, and has what it received.
+/// Moves the thread that ran to its slice's end, and gives it the number that it received.
 #[inline(always)]
 fn follow_slice(places: &mut Vec<Place>, slice: &Slice, reply: Reply)
     requires { (t : ℕ) × (IsBetween 1 (length places.old.items) t × OfRun t reply) }
@@ -120,8 +120,8 @@ fn follow_slice(places: &mut Vec<Place>, slice: &Slice, reply: Reply)
     }
 }
 
-/// Advances the thread's place where the system keeps it, as a slice of its script with this budget does. Returns
-/// what the slice did.
+/// Advances the thread's place, in the system's own table, by a slice of its script with this budget. Returns the
+/// slice's result.
 #[inline(always)]
 pub(crate) fn pass_slice(places: &mut Vec<Place>, script: &Script, thread: u32, budget: u32) -> Done
     requires there { IsBetween 1 (length places.old.items) thread }
@@ -142,7 +142,7 @@ pub(crate) fn pass_slice(places: &mut Vec<Place>, script: &Script, thread: u32, 
     }
 }
 
-/// The thread that ran, and is at its slice's end, has what it received.
+/// Gives the thread that ran, which is at its slice's end, the number that it received.
 #[inline(always)]
 pub(crate) fn receive(places: &mut Vec<Place>, reply: Reply)
     requires { (t : ℕ) × (IsBetween 1 (length places.old.items) t × OfRun t reply) }
@@ -159,7 +159,7 @@ pub(crate) fn receive(places: &mut Vec<Place>, reply: Reply)
     }
 }
 
-/// The number that was received with a call.
+/// The number received with a call.
 #[inline(always)]
 fn number_delivered(outcome: Outcome) -> Option<u32>
     ensures { result ≡ number_delivered_in outcome }
@@ -171,7 +171,7 @@ fn number_delivered(outcome: Outcome) -> Option<u32>
     }
 }
 
-/// Sets the thread's accumulator to the number that was delivered, if one was.
+/// Sets the thread's accumulator to the delivered number, if there is one.
 #[inline(always)]
 fn deliver(places: &mut Vec<Place>, thread: u32, number: Option<u32>)
     requires { IsBetween 1 (length places.old.items) thread }

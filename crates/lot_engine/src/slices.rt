@@ -13,8 +13,8 @@ use lot_machine::Sizes;
 use lot_script::{Script, Slice};
 use lot_text::Program;
 
-/// The slice of the work, as `System::turn` needs it, in the given program; none if there is no work. Returns Stale
-/// with the work if that doesn't fit the program.
+/// The slice of the work in the given program, as `System::turn` needs it; none without a work. Returns Stale with
+/// the work if it doesn't fit the program.
 pub fn slice_for(program: &Program, work: Option<Work>) -> Result<Option<Slice<'_>>, TurnFault>
     ensures ok { IfOk result (λ slice. Matches program.now work slice) }
     ensures err { IfErr result (λ fault. IsStale program.now work fault) }
@@ -37,7 +37,7 @@ pub(crate) fn slice_of(program: &Program, work: Work) -> Slice<'_>
     script_numbered(program, work.script).slice(work.place, work.budget)
 }
 
-/// The slice of a work that fits the program, from where the system keeps its place. It allocates no memory.
+/// The slice of a work that fits the program, from the place in the system's own table. It allocates no memory.
 #[inline(always)]
 pub(crate) fn slice_of_kept<'a>(program: &'a Program, work: &KeptWork<'_>) -> Slice<'a>
     requires { FitsIn program.now work.now }
@@ -46,7 +46,7 @@ pub(crate) fn slice_of_kept<'a>(program: &'a Program, work: &KeptWork<'_>) -> Sl
     script_numbered(program, work.script).slice(work.place.copied(), work.budget)
 }
 
-/// The slice of the actor's work, if it has any.
+/// The slice of the actor's work, if it has one.
 #[inline(always)]
 pub fn slice_in<'a>(system: &System, program: &'a Program, actor: u32) -> Option<Slice<'a>>
     requires { system.now.setting.program ≡ program.now }
@@ -58,7 +58,7 @@ pub fn slice_in<'a>(system: &System, program: &'a Program, actor: u32) -> Option
     }
 }
 
-/// Whether the program has the work's script, its place is one of that script, and its budget is 1 to 1000 ticks.
+/// Whether the program has the work's script, its place fits that script, and its budget is 1 to 1000 ticks.
 fn fits(program: &Program, work: &Work) -> bool
     ensures { IsTrue result ↔ FitsIn program.now work.now }
 {

@@ -35,31 +35,31 @@ use lot_text::Program;
 use std::alloc::{AllocError, Global};
 use std::marker::Model;
 
-/// A kernel with a console and processors that have turns. Actor 0 is the console, and the others are the processors.
+/// A kernel with a console and processors that take turns. Actor 0 is the console, and the others are the processors.
 ///
-/// Contracts see it as its program, its room and its history: everything else follows from the program's run over the
-/// history. `open` makes all its room, and no turn allocates memory.
+/// Contracts see it as its program, its room and its history: everything else follows from the program's run with
+/// this history. `open` allocates all its memory, and no turn allocates.
 pub struct System {
     kernel: Kernel,
     program: Program,
-    /// How many commands were run.
+    /// The number of commands made.
     spent: usize,
     /// Each processor's generator.
     generators: Vec<ParkMiller>,
-    /// Whether it gives wide numbers: what the program's format says, kept since each draw asks it.
+    /// Whether it gives wide numbers, which the program's format determines; kept here since each draw needs it.
     is_wide: bool,
-    /// Where each thread is in its script.
+    /// Each thread's place in its script.
     places: Vec<Place>,
     history: Vec<u8>,
-    /// Each actor's, the console first.
+    /// The counters of each actor, the console first.
     counts: Vec<Counts>,
-    /// All actors'.
+    /// The counters over all actors.
     total: Counts,
     room: u32,
 }
 
 impl Drop for System {
-    // An explicit drop is a call: a proof about code that drops a `System` needn't look at its fields.
+    // An explicit drop: code that drops a `System` is then proved without unfolding its fields.
     fn drop(self) {
         let Self {
             kernel: _,
@@ -156,7 +156,8 @@ impl System {
         Some(self.kept_work(actor)?.copied())
     }
 
-    /// The next work of the thread on the processor, if one runs there, with its place where the system keeps it.
+    /// The next work of the thread on the processor, if one runs there, with a reference to its place in the system's
+    /// table.
     #[inline(always)]
     pub(crate) fn kept_work(&self, actor: u32) -> Option<KeptWork<'_>>
         ensures { IsWorkOf self.now actor result }
@@ -175,7 +176,7 @@ impl System {
         })
     }
 
-    /// One turn of an actor: the console's next command, a draw of a processor without a thread, or the slice of the
+    /// Makes one turn of an actor: the console's next command, a draw of an idle processor, or the slice of the
     /// thread on a processor. A fault changes nothing. It allocates no memory.
     #[inline(always)]
     pub fn turn(&mut self, actor: u32, slice: Option<Slice>) -> Result<Answer, TurnFault>
@@ -199,8 +200,8 @@ impl System {
         }
     }
 
-    /// `turn` for callers that need neither the actor's next work nor the work in a Stale fault. It stores the event
-    /// in `event`: as a part of the result it would be copied at each return.
+    /// Makes a turn, like `turn`, for callers that need neither the actor's next work nor the work in a Stale fault.
+    /// It stores the event in `event`: as a part of the result it would be copied at each return.
     #[inline(always)]
     pub(crate) fn try_turn(
         &mut self,
@@ -230,9 +231,9 @@ impl System {
     }
 
     /// Makes the actor's next turn with the slice of its own work, while the history has room, and stores its event
-    /// and the kernel's reply where the caller keeps them: as parts of the result they would be copied at each return.
-    /// Returns whether a turn was made. None is if the actor is the console and no command is left; then the system
-    /// doesn't change. It allocates no memory.
+    /// and the kernel's reply in `event` and `reply`: as parts of the result they would be copied at each return.
+    /// Returns whether it made a turn. It makes none if the actor is the console and no command remains; the system
+    /// is unchanged then. It allocates no memory.
     #[inline(always)]
     pub fn next_turn(&mut self, actor: u32, event: &mut Event, reply: &mut Reply) -> bool
         requires there { actor ≤ self.old.setting.program.limits.processors }
@@ -254,7 +255,7 @@ impl System {
         true
     }
 
-    /// Whether the actor is the console, and no command is left.
+    /// Whether the actor is the console and no command remains.
     #[inline(always)]
     pub(crate) fn is_ended(&self, actor: u32) -> bool
         ensures { IsTrue result ↔ IsEnded self.now actor }
@@ -262,7 +263,7 @@ impl System {
         actor == 0 && self.spent >= self.program.commands().len()
     }
 
-    /// Whether there is no room for one more turn.
+    /// Whether the history has no room for one more turn.
     #[inline(always)]
     pub fn is_full(&self) -> bool
         ensures { IsTrue result ↔ (self.now.setting.room ≤ length self.now.history) }
@@ -271,7 +272,7 @@ impl System {
     }
 
     /// Makes a turn: the console's next command, a processor's draw, or the slice of the thread that runs there. It
-    /// stores the event and the kernel's reply where the caller keeps them.
+    /// stores the event and the kernel's reply in `event` and `reply`.
     #[inline(always)]
     pub(crate) fn make_turn(
         &mut self,
@@ -300,7 +301,7 @@ impl System {
         remember(&mut self.history, actor);
     }
 
-    /// The console's next command. It stores the event and the kernel's reply where the caller keeps them.
+    /// Makes the console's next command. It stores the event and the kernel's reply in `event` and `reply`.
     fn console_turn(&mut self, event: &mut Event, reply: &mut Reply)
         requires left { ¬ IsEnded self.old 0 }
         requires room { length self.old.history < self.old.setting.room }
@@ -318,7 +319,8 @@ impl System {
         remember(&mut self.history, 0);
     }
 
-    /// The slice of the thread that runs on the processor. It advances the thread's place where the system keeps it.
+    /// Makes the slice of the thread that runs on the processor. It advances the thread's place in the system's
+    /// table.
     #[inline(always)]
     fn run_turn(&mut self, actor: u32, running: Running, event: &mut Event, reply: &mut Reply)
         requires actor { IsBetween 1 self.old.setting.program.limits.processors actor }
@@ -346,7 +348,7 @@ impl System {
         self.kernel.limits()
     }
 
-    /// What the kernel shows of the ticket with this number, if it exists.
+    /// The kernel's row of the ticket with this number, if it exists.
     pub fn ticket_row(&mut self, ticket: u32) -> Option<TicketRow>
         ensures row { result ≡ rows.ticket_row (world_of self.old).state ticket }
         ensures state { self.new ≡ self.old }
@@ -354,7 +356,7 @@ impl System {
         self.kernel.ticket_row(TicketNumber { number: ticket })
     }
 
-    /// What the kernel shows of the currency with this number, if it exists.
+    /// The kernel's row of the currency with this number, if it exists.
     pub fn currency_row(&mut self, currency: u32) -> Option<CurrencyRow>
         ensures row { result ≡ rows.currency_row (world_of self.old).state currency }
         ensures state { self.new ≡ self.old }
@@ -363,7 +365,7 @@ impl System {
             .currency_row(CurrencyNumber { number: currency })
     }
 
-    /// What the kernel shows of the thread with this number, if there is one. Without a row it isn't live.
+    /// The kernel's row of the thread with this number, if it exists. A thread without a row isn't live.
     pub fn thread_row(&mut self, thread: u32) -> Option<ThreadRow>
         ensures row { result ≡ rows.thread_row (world_of self.old).state thread }
         ensures gone { result ≡ None → is_live (live_of (world_of self.old).state) thread ≡ false }
@@ -372,9 +374,9 @@ impl System {
         self.kernel.thread_row(ThreadNumber { number: thread })
     }
 
-    /// Lists in `out` the threads that wait for the mutex, the one that has waited longest first; none if there is no
-    /// such mutex. Each has a row, since a thread that waits wasn't removed. It allocates no memory, since `out` has
-    /// room for all threads.
+    /// Stores in `out` the threads that wait for the mutex, the one that has waited longest first; none if there is
+    /// no such mutex. Each has a row, since a waiting thread can't have been removed. It allocates no memory, since
+    /// `out` has room for all threads.
     pub fn list_waiters(&self, mutex: u32, out: &mut Vec<u32>)
         requires { self.now.setting.program.limits.threads ≤ vec_capacity out.old }
         ensures waiters { out.new.items ≡ (mutex_at (world_of self.now).state.mutexes mutex).waiters }
@@ -402,7 +404,7 @@ impl System {
         self.program.limits().unit
     }
 
-    /// How many numbers of this kind were given.
+    /// The number of tickets, currencies or threads ever made.
     pub fn given_count(&self, kind: Kind) -> u32
         ensures { result ≡ given_count (world_of self.now).state kind }
     {
@@ -413,14 +415,14 @@ impl System {
         }
     }
 
-    /// How many commands were made.
+    /// The number of commands made.
     pub fn commands_made(&self) -> usize
         ensures { result ≡ commands_made self.now }
     {
         self.spent
     }
 
-    /// How many commands weren't made yet.
+    /// The number of commands not yet made.
     pub fn commands_left(&self) -> usize
         ensures { result ≡ length (world_of self.now).commands }
     {
@@ -428,7 +430,7 @@ impl System {
         all.saturating_sub(self.spent)
     }
 
-    /// How many threads were made, those removed since included.
+    /// The number of threads ever made, including removed ones.
     pub fn thread_count(&self) -> u32
         ensures count { result ≡ length (world_of self.now).state.records }
         ensures within { result ≤ self.now.setting.program.limits.threads }
@@ -436,7 +438,7 @@ impl System {
         self.places.len() as u32
     }
 
-    /// How many turns were made.
+    /// The number of turns made.
     pub fn turn_count(&self) -> u64
         ensures { result ≡ length (world_of self.now).history }
     {
@@ -469,7 +471,7 @@ impl System {
     }
 }
 
-/// Puts the actor at the end of the history, which has room for it.
+/// Appends the actor to the history, which has room for it.
 #[inline(always)]
 fn remember(history: &mut Vec<u8>, actor: u32)
     requires small { actor < 256 }

@@ -19,13 +19,13 @@ pub struct Work {
     pub thread: u32,
     /// The number of its script.
     pub script: u32,
-    /// Where it is in its script.
+    /// Its place in its script.
     pub place: Place,
-    /// The ticks that are left of its quantum.
+    /// The ticks left in its quantum.
     pub budget: u32,
 }
 
-/// The next work of the thread on a processor, with its place where the system keeps it.
+/// The next work of the thread on a processor, with a reference to its place in the system's table.
 #[derive(Drop)]
 pub(crate) struct KeptWork<'a> {
     pub(crate) thread: u32,
@@ -34,7 +34,7 @@ pub(crate) struct KeptWork<'a> {
     pub(crate) budget: u32,
 }
 
-/// The next work of the thread on a processor, except its place.
+/// The next work of the thread on a processor, without its place.
 #[derive(Clone, Copy, Debug)]
 pub(crate) struct Running {
     pub(crate) thread: u32,
@@ -51,7 +51,7 @@ impl<'a> Model for KeptWork<'a> {
 }
 
 impl KeptWork<'_> {
-    /// The work except its place.
+    /// The work without its place.
     #[inline(always)]
     pub(crate) fn running(&self) -> Running
         ensures { work_at result self.now.place ≡ self.now }
@@ -63,7 +63,7 @@ impl KeptWork<'_> {
         }
     }
 
-    /// The work itself. It allocates no memory.
+    /// A copy of the work. It allocates no memory.
     #[inline(always)]
     pub(crate) fn copied(&self) -> Work
         ensures { result ≡ self.now }
@@ -85,7 +85,7 @@ pub struct Answer {
     pub next: Option<Work>,
 }
 
-/// Why a turn isn't made, as `TurnFault` says it, without the work.
+/// The reason why a turn isn't made, like `TurnFault`, but without the work.
 #[derive(Clone, Copy, Debug)]
 pub(crate) enum TurnFaultKind {
     Stale,
@@ -93,8 +93,8 @@ pub(crate) enum TurnFaultKind {
     HistoryFull,
 }
 
-/// Whether the slice is that of the work: there is neither, or its script has the same lines, and its start and budget
-/// are the work's.
+/// Whether the slice is that of the work: there is neither, or its script has the same lines, and it has the work's
+/// place as its start and the work's budget.
 #[inline(always)]
 pub(crate) fn matches_work(
     program: &Program,
@@ -111,7 +111,7 @@ pub(crate) fn matches_work(
     }
 }
 
-/// Whether it is one of the work's script, from the work's place, with the work's budget.
+/// Whether the slice is of the work's script, from the work's place, with the work's budget.
 #[inline(always)]
 fn is_slice_of(program: &Program, work: &KeptWork<'_>, slice: &Slice) -> bool
     requires { IsBetween 1 (length program.now.scripts) work.now.script }
@@ -122,7 +122,7 @@ fn is_slice_of(program: &Program, work: &KeptWork<'_>, slice: &Slice) -> bool
         && slice.budget() == work.budget
 }
 
-/// What a slice did, as the event of its turn says it.
+/// The result of a slice, as its turn's event reports it.
 #[derive(Clone, Copy, Debug)]
 pub(crate) struct Done {
     pub(crate) ticks: u32,
@@ -131,7 +131,7 @@ pub(crate) struct Done {
     pub(crate) accumulator: u32,
 }
 
-/// What the slice did, if there is one.
+/// The result of the slice, if there is one.
 #[inline(always)]
 pub(crate) fn done_in(slice: &Option<Slice>) -> Option<Done>
     ensures done { result ≡ option_map steps.did slice.now }
@@ -147,8 +147,8 @@ pub(crate) fn done_in(slice: &Option<Slice>) -> Option<Done>
     }
 }
 
-/// Stores the event of a processor's turn whose slice did this, or a draw without one, if this is the processor's next
-/// number: as a result it would be copied.
+/// Stores in `event` the event of a processor's turn with this slice's result, or a draw without one, given the
+/// processor's next number: a returned event would be copied.
 #[inline(always)]
 pub(crate) fn put_event(actor: u32, done: Option<Done>, drawn: u128, event: &mut Event)
     ensures { event.new ≡ steps.event_done actor drawn done }
@@ -159,7 +159,7 @@ pub(crate) fn put_event(actor: u32, done: Option<Done>, drawn: u128, event: &mut
     }
 }
 
-/// Stores what a slice did as an event: an expiry, or its ticks and then its trap.
+/// Stores a slice's result as an event: an expiry, or a trap after its ticks.
 #[inline(always)]
 fn put_slice_event(actor: u32, done: Done, drawn: u128, event: &mut Event)
     ensures { event.new ≡ steps.event_done actor drawn (Some done) }
@@ -170,7 +170,7 @@ fn put_slice_event(actor: u32, done: Done, drawn: u128, event: &mut Event)
     };
 }
 
-/// A trap of a script as the kernel takes it. Calls, replies and servings carry the accumulator, and an unlock the
+/// A trap of a script as the kernel's action. Calls, replies and serves carry the accumulator, and an unlock the
 /// drawn number.
 #[inline(always)]
 fn action_of(trap: ScriptTrap, accumulator: u32, drawn: u128) -> Action
@@ -188,7 +188,7 @@ fn action_of(trap: ScriptTrap, accumulator: u32, drawn: u128) -> Action
     }
 }
 
-/// Whether a turn whose slice did this takes a drawn number: a draw and an unlock do.
+/// Whether a turn with this slice's result consumes a drawn number, as a draw and an unlock do.
 #[inline(always)]
 pub(crate) fn needs_number(done: Option<Done>) -> bool
     ensures { result ≡ steps.needs_number done }
@@ -199,7 +199,7 @@ pub(crate) fn needs_number(done: Option<Done>) -> bool
     }
 }
 
-/// Whether a slice that ends so unlocks a mutex.
+/// Whether a slice that ends with this trap unlocks a mutex.
 #[inline(always)]
 fn unlocks(trap: Option<ScriptTrap>) -> bool
     ensures { result ≡ steps.unlocks trap }

@@ -7,6 +7,9 @@ use Rattle.std.proofs.lemmas.List.Elements.{All-nil, All-push}
 use Rattle.lot_machine.specs.declared.command.Command.{Command}
 use Rattle.lot_machine.specs.declared.command.Command.TheVariants.{MakeTicket, RemoveTicket, MakeCurrency, RemoveCurrency, Fund, Unfund, SetTicket, MakeThread, RemoveThread, MakeFunded, List as Listing}
 use Rattle.lot_machine.specs.declared.command.Kind.TheVariants.{Tickets, Currencies, Threads}
+use Rattle.lot_machine.specs.declared.reference.CurrencyRef.TheVariants as currency_ref
+use Rattle.lot_machine.specs.declared.reference.ThreadRef.TheVariants as thread_ref
+use Rattle.lot_machine.specs.declared.reference.TargetRef.TheVariants as target_ref
 use Rattle.lot_machine.specs.Bounds.{IsBetween, IsUnit, IsWithinBounds}
 use Rattle.lot_machine.specs.Commands.{first_failing}
 use Rattle.lot_machine.proofs.CommandsKept.{all-pass}
@@ -233,19 +236,19 @@ module _ (r : Reading) (kept : IsRead r) where
   body-kept n body.Script (token ∷ []) =
       any-read _ IsRead (λ name. if-passes IsRead ((nat_le 256 (length r.scripts), TooLong) ∷ []) (record r { unclosed = Some (record { name = name; begins = n; lines = []; loops = 0 }) }) (λ passes.
       (kept.0, kept.1, kept.2, (kept.3.0, room-for (length r.scripts) passes), kept.4)))
-  body-kept n body.MakeTicket (a ∷ c ∷ []) = any-read (any_number a) IsRead (λ amount. any-read (any_name c) IsRead (λ currency. command-kept (MakeTicket amount currency) tt))
+  body-kept n body.MakeTicket (a ∷ c ∷ []) = any-read (any_number a) IsRead (λ amount. any-read (any_name c) IsRead (λ currency. command-kept (MakeTicket amount (currency_ref.Named currency)) tt))
   body-kept n body.RemoveTicket (t ∷ []) = any-read _ IsRead (λ ticket. command-kept (RemoveTicket ticket) tt)
   body-kept n body.MakeCurrency (token ∷ []) = any-read _ IsRead (λ name. command-kept (MakeCurrency name) tt)
-  body-kept n body.RemoveCurrency (c ∷ []) = any-read _ IsRead (λ currency. command-kept (RemoveCurrency currency) tt)
-  body-kept n body.Fund (t ∷ to ∷ []) = any-read (any_number t) IsRead (λ ticket. any-read (any_name to) IsRead (λ target. command-kept (Fund ticket target) tt))
+  body-kept n body.RemoveCurrency (c ∷ []) = any-read _ IsRead (λ currency. command-kept (RemoveCurrency (currency_ref.Named currency)) tt)
+  body-kept n body.Fund (t ∷ to ∷ []) = any-read (any_number t) IsRead (λ ticket. any-read (any_name to) IsRead (λ target. command-kept (Fund ticket (target_ref.Named target)) tt))
   body-kept n body.Unfund (t ∷ []) = any-read _ IsRead (λ ticket. command-kept (Unfund ticket) tt)
   body-kept n body.SetTicket (t ∷ a ∷ []) = any-read (any_number t) IsRead (λ ticket. any-read (any_number a) IsRead (λ amount. command-kept (SetTicket ticket amount) tt))
-  body-kept n body.RemoveThread (c ∷ []) = any-read _ IsRead (λ thread. command-kept (RemoveThread thread) tt)
+  body-kept n body.RemoveThread (c ∷ []) = any-read _ IsRead (λ thread. command-kept (RemoveThread (thread_ref.Named thread)) tt)
   body-kept n body.MakeThread (token ∷ s ∷ []) =
       then-read IsShortName IsRead (name-short token) (λ name short. any-read (script_number (script_names r) s) IsRead (λ number. command-kept (MakeThread name number) short))
   body-kept n body.MakeFunded (a ∷ c ∷ token ∷ s ∷ []) =
       any-read (any_number a) IsRead (λ amount. any-read (any_name c) IsRead (λ currency. then-read IsShortName IsRead (name-short token) (λ name short.
-      any-read (script_number (script_names r) s) IsRead (λ number. command-kept (MakeFunded amount currency name number) short))))
+      any-read (script_number (script_names r) s) IsRead (λ number. command-kept (MakeFunded amount (currency_ref.Named currency) name number) short))))
   body-kept n body.ListTickets [] = command-kept (Listing Tickets) tt
   body-kept n body.ListCurrencies [] = command-kept (Listing Currencies) tt
   body-kept n body.ListThreads [] = command-kept (Listing Threads) tt

@@ -16,7 +16,7 @@ use Rattle.lot_machine.specs.declared.refusal.Refusal.TheVariants.{BadName, Name
 use Rattle.lot_machine.specs.declared.reply.Reply.TheVariants as reply
 use Rattle.lot_machine.specs.declared.sizes.Sizes.{Sizes}
 use Rattle.lot_machine.specs.Bounds.{IsWithinBounds}
-use Rattle.lot_machine.specs.Commands.{are_threads_full, are_tickets_full, command_effect, command_refusal, command_step, currency_named, is_bad_amount, is_good_name, is_no_script, is_taken, thread_named, unless_refused}
+use Rattle.lot_machine.specs.Commands.{are_threads_full, are_tickets_full, command_effect, command_refusal, command_step, currency_meant, is_bad_amount, is_good_name, is_no_script, is_taken, thread_meant, unless_refused}
 use Rattle.lot_machine.specs.Named.{processor_of}
 use Rattle.lot_machine.specs.Order.{IsInOrder}
 use Rattle.lot_machine.specs.State.{State, thread_on}
@@ -118,15 +118,15 @@ command-threads s (MakeThread name script) short names room =
     unrefused (HasRoom s) s (command_refusal s c) (command_effect s c) (names, room) (λ passes.
     let checks = all-pass ((not (is_good_name name), BadName) ∷ (is_taken s name, NameTaken) ∷ (is_no_script s script, NoScript) ∷ (are_threads_full s, Full) ∷ []) passes in
     thread-more s (record { name = name; script = script }) short checks.1.1.1.0 names)
-command-threads s (RemoveThread name) short names room =
-    let c = RemoveThread name in
-    let place = unwrap_or (thread_named s name) 0 - 1 in
+command-threads s (RemoveThread thread) short names room =
+    let c = RemoveThread thread in
+    let place = unwrap_or (thread_meant s thread) 0 - 1 in
     unrefused (HasRoom s) s (command_refusal s c) (command_effect s c) (names, room) (λ _.
     (All-set IsShortPlace s.threads place None tt names, omega (arith, length-set s.threads place None, room)))
 command-threads s (MakeFunded amount currency name script) short names room =
     let c = MakeFunded amount currency name script in
     unrefused (HasRoom s) s (command_refusal s c) (command_effect s c) (names, room) (λ passes.
-    let checks = all-pass ((is_bad_amount amount, BadAmount) ∷ (is_none (currency_named s currency), NoCurrency) ∷ (not (is_good_name name), BadName)
+    let checks = all-pass ((is_bad_amount amount, BadAmount) ∷ (is_none (currency_meant s currency), NoCurrency) ∷ (not (is_good_name name), BadName)
     ∷ (is_taken s name, NameTaken) ∷ (is_no_script s script, NoScript) ∷ (are_tickets_full s || are_threads_full s, Full) ∷ []) passes in
     thread-more s (record { name = name; script = script }) short (or_parts (are_tickets_full s) (are_threads_full s) checks.1.1.1.1.1.0).1 names)
 command-threads s c short names room = unrefused (HasRoom s) s (command_refusal s c) (command_effect s c) (names, room) (λ _. (names, room))

@@ -1,4 +1,4 @@
--- The output of `explain`: the output of `play`, with the lots of each lottery that was won before its line.
+-- The output of `explain`: the output of `play`, with the lots of each won lottery before its line.
 use Rattle.std.specs.Prelude.{ℕ, Option, Some, None, Result, Ok, Err, List, [], ◌∷◌, ◌++◌}
 use Rattle.lot_machine.specs.State.{State}
 use Rattle.lot_simulation.specs.declared.input.InputFault.{InputFault}
@@ -14,8 +14,8 @@ use Rattle.lot_simulation.specs.World.{Program, World, Answer, Turn, opening_wor
 use Rattle.lot_simulation.specs.World.Answer.{Answered, Ended}
 use Rattle.lot_explain.specs.Lots.{lots_of, won_in, won_lines}
 
--- the lines of the lots of a turn's lottery, given the state before the turn and its result; none if no lottery was
--- won
+-- the lines of the lots of a turn's lottery, given the state before the turn and its result; none if no thread won
+-- one
 abbrev pub lots_text : LineStyle → ℕ → State → Answer → List ℕ
 lots_text style actor s (Answered e r) = won_lines style s.limits.unit actor (lots_of s e) (won_in e r)
 lots_text style actor s Ended = []
@@ -26,41 +26,40 @@ explained_text style actor w turn = lots_text style actor w.state turn.answer ++
 
 -- ---- the turns of a schedule
 
--- the same of the turns of these actors, from this world on
+-- the explained lines of these actors' turns, from this world on
 abbrev pub explained_texts : Program → World → List ℕ → List ℕ
 explained_texts program w [] = []
 explained_texts program w (actor ∷ actors) =
     explained_text Whole actor w (system_turn program w actor) ++ explained_texts program (system_turn program w actor).world actors
 
--- the turns of the program's whole schedule, and the report of the history that it leaves
+-- the explained output for a program with a schedule: the lines of its turns, and the report of its history
 abbrev pub explained_schedule : Program → List ℕ
 explained_schedule program = explained_texts program (opening_world program) program.schedule ++ report program (system_run program program.schedule).history
 
--- ---- turns in the order of time
+-- ---- timed turns
 
--- the same of turns that were made in the order of time, the first of them in this world, and each other in the world
--- after the one before
+-- the explained lines of timed turns, the first of them made in this world, and each other in the world after the one
+-- before
 abbrev pub explained_times : World → List TimedTurn → List ℕ
 explained_times w [] = []
 explained_times w (done ∷ others) = explained_text (Timed done.time) done.actor w done.turn ++ explained_times done.turn.world others
 
--- the program's turns in the order of time, and their report
+-- the explained output for a timed program: the lines of its turns, and their report
 abbrev pub explained_in_time : Program → List ℕ
 explained_in_time program = explained_times (opening_world program) (timed_turns program) ++ timed_report program
 
 -- ---- the whole
 
--- what `explain` writes of a program: its schedule is played, or its turns in the order of time if the input says how
--- long it runs
+-- the output of `explain` for a program: timed if it has a duration, and by its schedule otherwise
 abbrev pub explained_program : Program → Option ℕ → List ℕ
 explained_program program None = explained_schedule program
 explained_program program (Some duration) = explained_in_time program
 
--- what it writes of what was read
+-- the output of `explain` for a program, or the line for a refused input
 abbrev pub explained_of : Result Program InputFault → List ℕ
 explained_of (Ok program) = explained_program program program.duration
 explained_of (Err fault) = fault_line fault
 
--- what it writes if it reads these bytes
+-- the output of `explain` for these bytes
 abbrev pub explained_output : List ℕ → List ℕ
 explained_output bytes = explained_of (program_in bytes)

@@ -1,4 +1,4 @@
--- The threads that take part in a lottery, with their weights and their numbers.
+-- The lots of a lottery: its entrants, with their weights and their numbers.
 use Rattle.std.specs.Prelude.{ℕ, ◌+◌, Option, Some, None, List, [], ◌∷◌, ◌++◌, map, sum_by, unwrap_or}
 use Rattle.lot_machine.specs.declared.action.Action.TheVariants as action
 use Rattle.lot_machine.specs.declared.event.Event.{Event}
@@ -17,21 +17,21 @@ use Rattle.lot_explain.specs.declared.entrants.Entrants.{Entrants}
 use Rattle.lot_explain.specs.declared.entrants.Entrants.TheVariants.{Nobody, Ready, Waiters}
 use Rattle.lot_explain.specs.declared.won.Won.{Won}
 
--- ---- who takes part
+-- ---- entrants
 
--- a thread that takes part, by its name, with this weight
+-- the lot of a thread, by its name, with this weight
 abbrev pub lot_of : State → ℕ → ℕ → Lot
 lot_of s t weight = record { thread = t; name = unwrap_or (thread_name s t) []; weight = weight }
 
--- a Ready thread takes part in a draw with what it weighs (3.4, 4.5)
+-- the lot of a Ready thread in a draw, with its weight (3.4, 4.5)
 abbrev pub ready_lot : State → ℕ → Lot
 ready_lot s t = lot_of s t (weight_of s t)
 
--- the lots of a draw: those of the Ready threads by rising number (4.2)
+-- the lots of a draw: those of the Ready threads, in ascending order (4.2)
 abbrev pub draw_lots : State → List Lot
 draw_lots s = map (ready_lot s) (ready_threads s.records)
 
--- who waits for a mutex takes part in its lottery with what it is worth (6.1)
+-- the lot of a waiter in the lottery of its mutex, with its value as the weight (6.1)
 abbrev pub waiter_lot : State → ℕ → Lot
 waiter_lot s t = lot_of s t (value_of s t)
 
@@ -39,14 +39,14 @@ waiter_lot s t = lot_of s t (value_of s t)
 abbrev pub mutex_lots : State → ℕ → List Lot
 mutex_lots s m = map (waiter_lot s) (mutex_at s.mutexes m).waiters
 
--- Who takes part in the lottery that an event may hold: the Ready threads in that of a draw, and those who wait for
--- its mutex in that of an unlock. No other event holds one.
+-- The entrants of the lottery that an event may hold: the Ready threads for a draw, and the mutex's waiters for an
+-- unlock. No other event holds one.
 abbrev pub entrants_in : Event → Entrants
 entrants_in (event.Draw p d) = Ready
 entrants_in (event.Trap p ran (action.Unlock m d)) = Waiters m
 entrants_in other = Nobody
 
--- their lots
+-- the lots of these entrants
 abbrev pub lots_among : State → Entrants → List Lot
 lots_among s Nobody = []
 lots_among s Ready = draw_lots s
@@ -56,14 +56,15 @@ lots_among s (Waiters m) = mutex_lots s m
 abbrev pub lots_of : State → Event → List Lot
 lots_of s e = lots_among s (entrants_in e)
 
--- the total weight of all of them
+-- the total weight of these lots
 abbrev pub total_of : List Lot → ℕ
 total_of lots = sum_by (λ lot. lot.weight) lots
 
--- ---- who has won
+-- ---- winners
 
--- The lottery that an event has held, by the reply to it: its kind, its winner, and the total weight of all lots.
--- There is none without a winner: a draw was idle, a mutex is free, or it went to the thread that had waited longest.
+-- The lottery that an event held, according to the reply: its kind, its winner, and the total weight of all lots.
+-- There is none without a winner: a draw was idle, or a mutex became free or went to the thread that had waited
+-- longest.
 abbrev pub won_in : Event → Reply → Option Won
 won_in (event.Draw p d) (reply.Winner t number total delivered) = Some (record { lottery = OfProcessor; winner = t; total = total })
 won_in (event.Trap p ran (action.Unlock m d)) (reply.Trapped t ticks (Passed to (Some drawn)) ends) = Some (record { lottery = OfMutex; winner = to; total = drawn.1 })
@@ -71,12 +72,12 @@ won_in e other = None
 
 -- ---- the lines
 
--- The lines of lots, whose numbers begin with this one: the numbers of each follow those of the one before it.
+-- The lines of lots, whose numbers begin with this one: the numbers of each follow those of the lot before it.
 abbrev pub lot_lines : LineStyle → ℕ → ℕ → Won → ℕ → List Lot → List ℕ
 lot_lines style unit actor won first [] = []
 lot_lines style unit actor won first (lot ∷ lots) = lot_line style unit actor won.lottery won.winner first lot ++ lot_lines style unit actor won (first + lot.weight) lots
 
--- the lines of the lots of a lottery that was won, whose numbers begin with 0
+-- the lines of the lots of a won lottery, whose numbers begin with 0
 abbrev pub won_lines : LineStyle → ℕ → ℕ → List Lot → Option Won → List ℕ
 won_lines style unit actor lots None = []
 won_lines style unit actor lots (Some won) = lot_lines style unit actor won 0 lots

@@ -1,4 +1,4 @@
--- What `explain` writes of a program's turns.
+-- The output of `explain` for a program's turns.
 use Rattle.std.specs.Prelude.{◌≡◌, ℕ, List}
 use Rattle.std.specs.List.{flat_map}
 use Rattle.lot_machine.specs.declared.event.Event.{Event}
@@ -18,7 +18,7 @@ use Rattle.lot_explain.specs.Lots.{lots_of}
 abbrev pub explained_made : MadeTurn → List ℕ
 explained_made made = explained_text (style_at made.time) made.actor made.before made.turn
 
--- the same of turns
+-- the explained lines of these turns
 abbrev pub explained_turns : List MadeTurn → List ℕ
 explained_turns turns = flat_map explained_made turns
 
@@ -26,7 +26,7 @@ explained_turns turns = flat_map explained_made turns
 abbrev pub HasLots : Program → World → ℕ → List Lot → Type 0
 HasLots program w actor lots = (event : Event) (reply : Reply) → (system_turn program w actor).answer ≡ Answered event reply → lots ≡ lots_of w.state event
 
--- the system has made this turn, which is reported so, and these are the lots of its lottery
+-- the system has made this turn, the stored turn reports it, and these are the lots of its lottery
 pub record IsExplained (seen : Seen) (turn : Turn) (lots : List Lot) (made : MadeTurn) : Type 0 where
   pub turn_is : made.turn ≡ system_turn seen.setting.program made.before made.actor
   pub reports : Reports turn made

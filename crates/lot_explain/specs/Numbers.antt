@@ -1,4 +1,4 @@
--- Which numbers of a lottery are whose.
+-- The numbers of each lot.
 use Rattle.std.specs.Prelude.{◌≡◌, ℕ, ◌+◌, ◌<◌, ◌≤◌, Option, Some, None, List, ◌∷◌, ◌++◌}
 use Rattle.lot_machine.specs.declared.reply.Outcome.TheVariants.{Passed}
 use Rattle.lot_machine.specs.declared.reply.Reply.{Reply}
@@ -6,14 +6,14 @@ use Rattle.lot_machine.specs.declared.reply.Reply.TheVariants.{Trapped, Winner}
 use Rattle.lot_print.specs.declared.lots.Lot.{Lot}
 use Rattle.lot_explain.specs.Lots.{total_of}
 
--- the number that was drawn, if the reply is that of a lottery
+-- the drawn number, if the reply is that of a lottery
 abbrev pub number_in : Reply → Option ℕ
 number_in (Winner t number total delivered) = Some number
 number_in (Trapped t ticks (Passed to (Some drawn)) ends) = Some drawn.0
 number_in other = None
 
--- The number is one of this lot's: its numbers begin with the total weight of the lots before it, and are as many as
--- its own weight.
+-- The number is one of this lot's: they begin with the total weight of the lots before it, and are as many as its own
+-- weight.
 pub record HasNumber (lots : List Lot) (number : ℕ) (lot : Lot) : Type 0 where
   pub before : List Lot
   pub after : List Lot

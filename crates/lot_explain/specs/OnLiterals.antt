@@ -1,9 +1,9 @@
--- What a proof unfolds to compute a text on literals: what a number is printed as, and how many turns an input may
--- make.
+-- The definitions that a proof unfolds to compute a text on literals: the texts of numbers, and the largest number of
+-- turns.
 use Rattle.std.specs.Prelude.{⊤}
 use Rattle.std.specs.Fmt.{digits}
 
--- numbers, as they are printed
+-- the texts of numbers, on literals
 unfoldable pub texts_on_literals : ⊤
 unfolding digits
 texts_on_literals = tt

@@ -11,7 +11,7 @@ HasShortName (MakeThread name script) = length name ≤ 16
 HasShortName (MakeFunded amount currency name script) = length name ≤ 16
 HasShortName other = ⊤
 
--- how many turns are played: the schedule's, or those in the order of time if the input says how long it runs
+-- the number of turns played: those of the schedule, or the timed turns if the program has a duration
 abbrev pub turn_count : Program → Option ℕ → ℕ
 turn_count program None = length program.schedule
 turn_count program (Some duration) = length (timed_turns program)

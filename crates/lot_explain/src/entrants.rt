@@ -1,4 +1,4 @@
-//! Who takes part in the lottery that a turn may hold.
+//! The entrants of the lottery that a turn may hold.
 ghost use Rattle.std.specs.Prelude.{◌≡◌, ℕ, IfSome};
 ghost use Rattle.lot_machine.specs.declared.event.Event.{Event as AnEvent};
 ghost use Rattle.lot_machine.specs.declared.reply.Reply.{Reply as AReply};
@@ -15,17 +15,17 @@ use lot_script::Slice;
 use lot_simulation::{MutexTrap, ScriptTrap};
 use lot_text::Program;
 
-/// Who takes part in a lottery.
+/// The entrants of a lottery.
 #[derive(Clone, Copy, Debug, PartialEq, Eq)]
 pub(crate) enum Entrants {
     Nobody,
     /// The Ready threads.
     Ready,
-    /// Those who wait for the mutex with this number.
+    /// The waiters of the mutex with this number.
     Waiters(u32),
 }
 
-/// Who takes part in the lottery that the actor's next turn may hold.
+/// The entrants of the lottery that the actor's next turn may hold.
 pub(crate) fn next_entrants(program: &Program, system: &System, actor: u32) -> Entrants
     requires { system.now.setting.program ≡ program.now }
     ensures { (event : AnEvent) (reply : AReply) → (turn_in system.now actor).answer ≡ Answered event reply
@@ -37,7 +37,7 @@ pub(crate) fn next_entrants(program: &Program, system: &System, actor: u32) -> E
     entrants_of_slice(&slice_in(system, program, actor))
 }
 
-/// Who takes part in the lottery of a processor's turn with this slice, or of a draw without one.
+/// The entrants of the lottery of a processor's turn with this slice, or of a draw without one.
 fn entrants_of_slice(slice: &Option<Slice<'_>>) -> Entrants
     ensures entrants { (processor drawn : ℕ) → result ≡ entrants_in (event_given processor drawn slice.now) }
     ensures exact { IfSome slice.now IsSlice }
@@ -48,7 +48,7 @@ fn entrants_of_slice(slice: &Option<Slice<'_>>) -> Entrants
     }
 }
 
-/// Who takes part in the lottery of a slice that ends with this trap, or with its budget.
+/// The entrants of the lottery of a slice that ends with this trap, or with its budget.
 fn entrants_of_trap(trap: Option<ScriptTrap>) -> Entrants
     ensures { (processor drawn : ℕ) (done : ASlice) → done.trap ≡ trap
         → result ≡ entrants_in (event_of_slice processor drawn done) }

@@ -1,4 +1,4 @@
-//! The lines of turns, with what explains them.
+//! The lines of turns, with their explanations.
 ghost use Rattle.std.specs.Prelude.{◌≡◌, ◌<◌, ◌++◌, [], codes, false, true, IfSome, OnOk};
 ghost use Rattle.std.specs.Fmt.{decimal};
 ghost use Rattle.lot_io.specs.Writing.{Begins, IsPut, Puts, Writes};
@@ -21,11 +21,10 @@ use lot_print::{Heading, Lot, Page, write_ended};
 use lot_text::Program;
 use std::io::Write;
 
-/// Writes the lots of each lottery that was won and a line for each turn, a page of them at a time, and records the
-/// warnings.
+/// Writes the lots of each won lottery and a line for each turn, page by page, and records the warnings.
 #[derive(Drop)]
 struct Explained<'a, W> {
-    /// Those of the lottery that the next turn may hold.
+    /// The lots of the lottery that the next turn may hold.
     lots: &'a mut Lots,
     page: Page,
     warnings: &'a mut Warnings,
@@ -76,7 +75,7 @@ impl<'a, W: Write> Observer for Explained<'a, W> {
 }
 
 impl<'a, W: Write> Explained<'a, W> {
-    /// Writes the lines that wait.
+    /// Writes the pending lines.
     fn write_out(&mut self) -> Result<(), IoFault>
         requires { self.old.writer.now.failed ≡ false }
         ensures same { self.new.writer.ghost_name ≡ self.old.writer.ghost_name }
@@ -86,7 +85,7 @@ impl<'a, W: Write> Explained<'a, W> {
     }
 }
 
-/// Makes the program's turns, and writes their lines with what explains them.
+/// Makes the program's turns, and writes their lines with their explanations.
 pub(crate) fn explain_turns<W: Write>(
     program: &Program,
     playback: &mut Playback,
@@ -112,7 +111,7 @@ pub(crate) fn explain_turns<W: Write>(
     explained.write_out()
 }
 
-/// Puts the lines of a turn on the page, after the lots of its lottery, if it was won, and records its warning.
+/// Puts the lines of a turn on the page, after the lots of its lottery, if a thread won it, and records its warning.
 fn put_explained<W: Write>(
     system: &mut System,
     turn: &Turn,
@@ -143,7 +142,7 @@ fn put_explained<W: Write>(
     )
 }
 
-/// Puts the lines of a turn on the page, after the lots of its lottery, if it was won.
+/// Puts the lines of a turn on the page, after the lots of its lottery, if a thread won it.
 fn put_turn<W: Write>(
     system: &mut System,
     heading: Heading,

@@ -14,9 +14,9 @@ use lot_text::{ParseFault, Program, parse};
 use std::alloc::Global;
 use std::io::Write;
 
-/// Makes the turns of the input in `bytes`, and writes the output of `play`, with the lots of each lottery that was won
-/// before its line; or one line, if the input is refused. The run's warnings are stored in `warnings`. It allocates all
-/// its memory before the first turn.
+/// Makes the turns of the input in `bytes`, and writes the output of `play`, with the lots of each won lottery before
+/// its line; or one line, if the input is refused. It stores the run's warnings in `warnings`. It allocates all its
+/// memory before the first turn.
 pub fn explain_bytes<W: Write>(
     alloc: Global,
     bytes: &[u8],

@@ -20,9 +20,9 @@ use std::marker::Model;
 #[derive(Drop)]
 pub(crate) struct Lots {
     lots: Vec<Lot>,
-    /// Who waits for the mutex.
+    /// The waiters of the mutex.
     waiters: Vec<u32>,
-    /// How many threads there is room for.
+    /// The largest number of threads.
     room: u32,
 }
 
@@ -52,7 +52,7 @@ impl Lots {
         })
     }
 
-    /// Those that were gathered last.
+    /// The lots gathered last.
     pub(crate) fn as_slice(&self) -> &[Lot]
         ensures { result.now ≡ self.now.lots }
     {
@@ -80,7 +80,7 @@ impl Lots {
     }
 }
 
-/// Puts the lots of the Ready threads, by rising number.
+/// Adds the lots of the Ready threads, in ascending order.
 fn push_all_ready(lots: &mut Vec<Lot>, system: &mut System)
     requires none { lots.old.items ≡ [] }
     requires room { system.old.setting.program.limits.threads ≤ vec_capacity lots.old }
@@ -93,7 +93,7 @@ fn push_all_ready(lots: &mut Vec<Lot>, system: &mut System)
     }
 }
 
-/// Puts the lot of the thread with this number, if it is Ready.
+/// Adds the lot of the thread with this number, if it is Ready.
 fn push_if_ready(lots: &mut Vec<Lot>, system: &mut System, thread: u32)
     requires room { vec_len lots.old < vec_capacity lots.old }
     ensures same { system.new ≡ system.old }
@@ -113,7 +113,7 @@ fn push_if_ready(lots: &mut Vec<Lot>, system: &mut System, thread: u32)
     }
 }
 
-/// Puts the lots of those who wait for a mutex.
+/// Adds the lots of a mutex's waiters.
 fn push_waiters(lots: &mut Vec<Lot>, system: &mut System, waiters: &[u32])
     requires none { lots.old.items ≡ [] }
     requires there { All (HasRow (world_of system.old).state) waiters.now }
@@ -127,7 +127,7 @@ fn push_waiters(lots: &mut Vec<Lot>, system: &mut System, waiters: &[u32])
     }
 }
 
-/// Puts the lot of a thread that waits for a mutex: it isn't dead, so it wasn't removed.
+/// Adds the lot of a thread that waits for a mutex: it isn't dead, so it wasn't removed.
 fn push_waiter(lots: &mut Vec<Lot>, system: &mut System, thread: u32)
     requires there { HasRow (world_of system.old).state thread }
     requires room { vec_len lots.old < vec_capacity lots.old }

@@ -1,4 +1,4 @@
-//! The lengths and the numbers of explanations: laws of the definitions, with nothing to run.
+//! The lengths and the numbers of explanations: laws of the definitions, without executable code.
 ghost use Rattle.std.specs.Prelude.{◌≡◌, ◌≤◌, ◌<◌, ◌+◌, ◌*◌, ◌^◌, ℕ, All, List, ◌∷◌, ◌++◌, Ok, Some, length};
 ghost use Rattle.lot_machine.specs.Bounds.{IsWithinBounds};
 ghost use Rattle.lot_machine.specs.declared.event.Event.{Event};
@@ -21,15 +21,16 @@ ghost use Rattle.lot_explain.specs.Numbers.{HasNumber, number_in};
 ghost use Rattle.lot_explain.specs.Short.{HasShortName, turn_count};
 ghost use Rattle.lot_explain.specs.declared.won.Won.{Won};
 
-/// The output of `explain` is what explains each of the program's turns, and then the report, in both orders.
+/// The output of `explain` is the explanation of each of the program's turns, and then the report, with a schedule
+/// and for a timed program.
 pub fn explanations_are_those_of_the_turns()
     ensures { (program : Program) → explained_program program program.duration
         ≡ explained_turns (program_turns program) ++ last_report program program.duration }
 {}
 
-/// An explanation of a program's turns is longer than the output of `play` by at most 139 bytes for each turn and
-/// each thread that there may be, if sizes are within their bounds, names of threads have at most 16 bytes, and times
-/// have 32 bits. Every input that is read meets these.
+/// An explanation of a program's turns is longer than the output of `play` by at most 139 bytes for each pair of a
+/// turn and a possible thread, if sizes are within their bounds, names of threads have at most 16 bytes, and times
+/// have 32 bits. Every accepted input meets these.
 pub fn explanations_are_short()
     ensures scheduled { (program : Program) → IsWithinBounds program.limits → All HasShortName program.commands
         → length (explained_schedule program)
@@ -43,8 +44,8 @@ pub fn explanations_are_short()
         ≤ length (output bytes) + turn_count program program.duration * (program.limits.threads * 139) }
 {}
 
-/// A lot's printed numbers begin with the total weight of the lots before it, and are as many as its own weight. The
-/// number drawn in a turn's lottery is among those of the winner, and among no other thread's.
+/// A lot's numbers begin with the total weight of the lots before it, and are as many as its own weight. The number
+/// drawn in a turn's lottery is among those of the winner, and of no other thread.
 pub fn winners_have_the_number()
     ensures printed { (style : LineStyle) (unit actor : ℕ) (won : Won) (before after : List Lot) (lot : Lot)
         → lot_lines style unit actor won 0 (before ++ lot ∷ after)

@@ -1,5 +1,5 @@
-//! Explains a play: the output of `play` with the lots of each lottery that was won before its line: the threads that
-//! took part, with their weights and their ranges of numbers. So each draw can be checked by hand.
+//! Explains a play: the output of `play` with the lots of each won lottery before its line: the entrants, with their
+//! weights and their ranges of numbers. So each draw can be checked by hand.
 #![tactic(auto)]
 
 mod entrants;

@@ -1,4 +1,4 @@
-//! Writing the lots of a lottery that was won.
+//! Writing the lots of a won lottery.
 ghost use Rattle.std.specs.Prelude.{◌≡◌, ◌<◌, false, IfSome};
 ghost use Rattle.lot_io.specs.Writing.{Puts, Writes};
 ghost use Rattle.lot_explain.specs.Lots.{lot_lines, total_of, won_in as won_in_spec, won_lines};
@@ -9,8 +9,8 @@ use lot_machine::{Event, Reply};
 use lot_print::{Heading, Lot, Page, write_lot};
 use std::io::Write;
 
-/// If the event has held a lottery that was won, by the reply to it, writes the lines of its lots. What is on the
-/// page is written first.
+/// If the event held a lottery that a thread won, according to the reply, writes the lines of its lots. It writes the
+/// page first.
 pub(crate) fn put_lots<W: Write>(
     heading: Heading,
     event: &Event,
@@ -34,7 +34,7 @@ pub(crate) fn put_lots<W: Write>(
     }
 }
 
-/// Writes the lines of the lots of a lottery that was won.
+/// Writes the lines of the lots of a won lottery.
 fn write_lots<W: Write>(
     heading: Heading,
     won: Won,

@@ -1,4 +1,4 @@
-//! Small inputs, and their explanations, worked out by hand from the rules.
+//! Worked rows for small inputs and their explanations, worked out by hand from the rules.
 ghost use Rattle.std.specs.Prelude.{◌≡◌, [], ◌∷◌, codes};
 ghost use Rattle.lot_simulation.specs.Samples.{text, refused_on_line};
 ghost use Rattle.lot_explain.specs.Explained.{explained_output};
@@ -19,8 +19,8 @@ pub fn two_spinners()
         ∷ codes "processor 1 quanta 3 idle 0 ticks 200" ∷ codes "total turns 7 quanta 3 ticks 200" ∷ []) }
 {}
 
-/// A thread that has used a third of its quantum weighs three times its value (4.5). Weights are printed as they are
-/// in listings, and the numbers as those of draws.
+/// A thread that used a third of its quantum weighs three times its value (4.5). Weights are printed as in listings,
+/// and numbers as in draws.
 #[tactic(auto, unfolding(crate::specs::OnLiterals::texts_on_literals))]
 pub fn compensated()
     ensures { explained_output (text (codes "lottery 2" ∷ codes "quantum 9" ∷ codes "seed 3" ∷ codes "script short"
@@ -35,7 +35,7 @@ pub fn compensated()
         ∷ codes "processor 1 quanta 2 idle 0 ticks 3" ∷ codes "total turns 5 quanta 2 ticks 3" ∷ []) }
 {}
 
-/// An unlock that passes its mutex on by a lottery among two waiters (6.1). Its owner also has what they lend to it.
+/// An unlock that passes its mutex on by a lottery between two waiters (6.1). Its owner also has their lends.
 #[tactic(auto, unfolding(crate::specs::OnLiterals::texts_on_literals))]
 pub fn mutex_lottery()
     ensures { explained_output (text (codes "lottery 1" ∷ codes "quantum 10" ∷ codes "seed 132" ∷ codes "mutex m"
@@ -66,7 +66,7 @@ pub fn nobody_wins()
         ∷ codes "processor 1 quanta 0 idle 1 ticks 0" ∷ codes "total turns 1 quanta 0 ticks 0" ∷ []) }
 {}
 
-/// A refused input has the one line that it has when it is played.
+/// A refused input has the one line that `play` writes.
 #[tactic(auto, unfolding(crate::specs::OnLiterals::texts_on_literals))]
 pub fn refused_inputs()
     ensures header { explained_output (text (codes "lottery 4" ∷ [])) ≡ refused_on_line (codes "1 50 BadHeader") }
@@ -74,7 +74,7 @@ pub fn refused_inputs()
         ≡ refused_on_line (codes "2 51 BadLine") }
 {}
 
-/// Turns in the order of time: each line has the time in front, and numbers have what is behind the point.
+/// A timed input: each line begins with its time, and numbers have digits after the point.
 #[tactic(auto, unfolding(crate::specs::OnLiterals::texts_on_literals, lot_simulation::specs::Timed::timed_room))]
 pub fn in_time()
     ensures { explained_output (text (codes "lottery 3" ∷ codes "quantum 9" ∷ codes "for 12" ∷ codes "seed 5"
@@ -92,7 +92,7 @@ pub fn in_time()
         ∷ codes "total turns 7 quanta 3 ticks 12 refused 0 left 0" ∷ []) }
 {}
 
-/// Three threads that share 100 of base: what comes after three digits is left out (4.4).
+/// Three threads that share 100 of base: digits after the third are cut off (4.4).
 #[tactic(auto, unfolding(crate::specs::OnLiterals::texts_on_literals, lot_simulation::specs::Timed::timed_room))]
 pub fn behind_the_point()
     ensures { explained_output (text (codes "lottery 3" ∷ codes "for 1" ∷ codes "script s" ∷ codes "compute 5"

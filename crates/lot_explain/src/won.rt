@@ -1,4 +1,4 @@
-//! Lotteries that were won.
+//! Won lotteries.
 ghost use Rattle.std.specs.Prelude.{◌≡◌, ℕ};
 ghost use Rattle.lot_machine.specs.declared.action.Action.TheVariants as action;
 ghost use Rattle.lot_machine.specs.declared.event.Event.TheVariants as event;
@@ -7,17 +7,17 @@ ghost use Rattle.lot_explain.specs.Lots as lots;
 use lot_machine::{Action, Event, Outcome, Reply};
 use lot_print::Lottery;
 
-/// A lottery that was won.
+/// A won lottery.
 #[derive(Clone, Copy, Debug)]
 pub(crate) struct Won {
     pub(crate) lottery: Lottery,
-    /// The thread that has won it.
+    /// The winner.
     pub(crate) winner: u32,
     /// The total weight of all lots.
     pub(crate) total: u128,
 }
 
-/// The lottery that an event has held, by the reply to it; none if no thread won.
+/// The lottery that an event held, according to the reply; none if no thread won.
 pub(crate) fn won_in(event: &Event, reply: Reply) -> Option<Won>
     ensures { result ≡ lots.won_in event.now reply }
 {
@@ -28,7 +28,7 @@ pub(crate) fn won_in(event: &Event, reply: Reply) -> Option<Won>
     }
 }
 
-/// The lottery that a draw has held, by the reply to it; none if no thread won.
+/// The lottery that a draw held, according to the reply; none if no thread won.
 fn won_in_draw(reply: Reply) -> Option<Won>
     ensures { (processor number : ℕ) → result ≡ lots.won_in (event.Draw processor number) reply }
 {
@@ -42,7 +42,7 @@ fn won_in_draw(reply: Reply) -> Option<Won>
     }
 }
 
-/// The lottery that an unlock has held, by the reply to it; none if no thread won.
+/// The lottery that an unlock held, according to the reply; none if no thread won.
 fn won_in_unlock(reply: Reply) -> Option<Won>
     ensures { (processor ran mutex number : ℕ)
         → result ≡ lots.won_in (event.Trap processor ran (action.Unlock mutex number)) reply }

@@ -1,6 +1,6 @@
-//! Tests of `lot_graph`, `lot_active`, `lot_value` and `lot_draw`: rows of changes, of what is active and what all is
-//! worth then, and draws; and of `lot_lists` and `lot_tree`: lists, and trees of partial sums. They are in a crate of
-//! their own, so that the crates below aren't proved a second time for them.
+//! Tests of `lot_graph`, `lot_active`, `lot_value` and `lot_draw`: rows of changes, with the active nodes and the
+//! values after them, and draws; and of `lot_lists` and `lot_tree`: lists, and trees of partial sums. They are in a
+//! crate of their own, so that the crates below aren't proved a second time for them.
 #![tactic(auto)]
 
 mod nodes;

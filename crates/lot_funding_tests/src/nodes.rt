@@ -1,4 +1,4 @@
-//! Which threads and mutexes are in a graph, and what a ticket may fund there.
+//! The threads and mutexes of a graph, and the targets that a ticket may have there.
 ghost use Rattle.std.specs.Prelude.{◌≡◌, ◌≤◌, Some, IsTrue};
 ghost use Rattle.lot_machine.specs.declared.funding.Node.TheVariants.{Thread as ThreadNode, Mutex as MutexNode};
 ghost use Rattle.lot_machine.specs.declared.ticket.Target.TheVariants.{Unfunded};

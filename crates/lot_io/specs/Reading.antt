@@ -1,21 +1,21 @@
--- What is read.
+-- The bytes read.
 use Rattle.std.specs.Prelude.{◌≡◌, ℕ, ◌≤◌, ◌<◌, Bool, true, false, Option, List, ◌++◌, length}
 use Rattle.std.specs.Io.KnownBytes.{Consumes, IsAtEnd}
 use Rattle.lot_io.specs.Watching.{Watch}
 use Rattle.lot_io.specs.declared.fault.IoFault.{IoFault}
 use Rattle.lot_io.specs.declared.fault.IoFault.TheVariants.{Memory, Read, Write}
 
--- The bytes that were read of those that were left: all of them, or one more than an input may have.
+-- These are the bytes read of the remaining ones: all of them, or one more than an input may have.
 pub record HasRead (left rest : Option (List ℕ)) (bytes : List ℕ) : Type 0 where
   pub consumed : Consumes left rest bytes
   pub most : length bytes ≤ 16777217
   pub whole : length bytes < 16777217 → IsAtEnd rest
 
--- the same of a watched reader, of which `remaining` says what is left
+-- these are the bytes read by a watched reader, whose remaining bytes `remaining` returns
 abbrev pub Reads : {T : Type 0} → (T → Option (List ℕ)) → Watch T → Watch T → List ℕ → Type 0
 Reads remaining old new bytes = HasRead (remaining old.inner) (remaining new.inner) bytes
 
--- this many bytes were read, none only at the end, and they come after those that were there
+-- this many bytes were read, none only at the end, and appended to the earlier ones
 pub record HasTaken (left rest : Option (List ℕ)) (old now : List ℕ) (count : ℕ) : Type 0 where
   pub taken : List ℕ
   pub count_is : length taken ≡ count
@@ -23,7 +23,7 @@ pub record HasTaken (left rest : Option (List ℕ)) (old now : List ℕ) (count 
   pub consumed : Consumes left rest taken
   pub at_end : count ≡ 0 → IsAtEnd rest
 
--- a fault of reading: Read if the reader has failed, and out of memory if it hasn't
+-- a fault of reading: Read if the reader has failed, and otherwise Memory
 abbrev pub IsReadFault : IoFault → Bool → Type 0
 IsReadFault Memory failed = failed ≡ false
 IsReadFault Read failed = failed ≡ true

@@ -1,16 +1,16 @@
-//! Why reading or writing stops.
+//! Faults of reading and writing.
 use thiserror::Error;
 
-/// Why reading or writing stops.
+/// The reason why reading or writing stops.
 #[derive(Clone, Copy, Debug, PartialEq, Eq, Error)]
 pub enum IoFault {
     /// Out of memory.
     #[error("out of memory")]
     Memory,
-    /// The reader has failed.
+    /// The reader failed.
     #[error("the reader has failed")]
     Read,
-    /// The writer has failed, and what was written is a beginning of the text.
+    /// The writer failed; a beginning of the text was written.
     #[error("the writer has failed")]
     Write,
 }

@@ -6,10 +6,10 @@ use crate::{IoFault, Watched};
 use std::alloc::Global;
 use std::io::Read;
 
-/// The most that is read of an input: one byte more than an input may have.
+/// The most bytes read of an input: one more than an input may have.
 const MOST: usize = 16777217;
 
-/// How much is read at a time.
+/// The number of bytes read at a time.
 const PIECE: usize = 65536;
 
 /// Reads to the end of the input, or to its byte 16777217, and leaves the rest unread.
@@ -35,7 +35,7 @@ pub fn read_input<R: Read>(alloc: Global, reader: &mut Watched<R>) -> Result<Vec
     Ok(bytes)
 }
 
-/// Reads once, appends what it read to the bytes, and returns how much that was: nothing only at the end.
+/// Reads once, appends the read bytes, and returns their number: 0 only at the end.
 fn read_piece<R: Read>(
     reader: &mut Watched<R>,
     room: &mut [u8],

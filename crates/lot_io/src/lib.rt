@@ -1,4 +1,4 @@
-//! Reading and writing: readers and writers that remember whether they have failed, how an input is read, and one
+//! Reading and writing: readers and writers that remember whether they have failed, the reading of an input, and one
 //! fault for both.
 #![tactic(auto)]
 

@@ -60,7 +60,7 @@ fn make_failing(kind: Option<ErrorKind>, fails_at: u32) -> Watched<Failing> {
     })
 }
 
-/// How many calls have reached the reader or writer.
+/// The number of calls that have reached the reader or writer.
 fn calls_of(watched: Watched<Failing>) -> u32 {
     let Failing { calls, .. } = watched.into_inner();
     calls
@@ -79,7 +79,7 @@ fn check_write(rt: &impl Abort, writer: &mut Watched<Failing>) {
     assert_eq!(rt; writer.write(b"d").is_err(), writer.failed());
 }
 
-/// How many of five calls reach a writer whose call of this number fails, the first three of which write.
+/// The number of calls that reach a writer, of five calls, the first three of which write, if this one fails.
 fn calls_reaching(kind: Option<ErrorKind>, fails_at: u32) -> u32 {
     if fails_at <= 3 {
         fails_at
@@ -134,7 +134,7 @@ impl Write for Flushing {
     }
 }
 
-/// Has the writer take two bytes, which are then not flushed.
+/// Makes the writer accept two bytes, which are then not flushed.
 fn check_taken(rt: &impl Abort, writer: &mut Watched<Flushing>) {
     assert!(rt; writer.flushed());
     assert_eq!(rt; writer.write(b"ab").ok(), Some(2));
@@ -198,7 +198,8 @@ enum Call {
     Flush,
 }
 
-/// How often a call reaches a reader or writer of single bytes, and whether it fails if no byte is taken.
+/// The number of times that a call reaches a reader or writer of single bytes, and whether it fails if no byte is
+/// accepted.
 #[derive(Clone, Copy)]
 struct Reaching {
     call: Call,
@@ -255,7 +256,8 @@ fn make(watched: &mut Watched<Failing>, call: Call) -> bool {
     }
 }
 
-/// Makes this many such calls of a reader or writer that fails in this way, and compares how many have reached it.
+/// Makes this many such calls of a reader or writer that fails in this way, and compares the number that have reached
+/// it.
 fn check_reaching(
     rt: &impl Abort,
     row: Reaching,
@@ -294,7 +296,7 @@ fn calls_that_reach(rt: HostRuntime) {
     }
 }
 
-// No clause says that there is memory for it.
+// No clause guarantees enough memory for it.
 #[test]
 fn reads_an_input(rt: HostRuntime) -> Result<(), Fail> {
     let mut reader = Watched::new("lottery 1\n".as_bytes());

@@ -8,8 +8,8 @@ use std::io;
 use std::io::{Error, ErrorKind, Read, Write};
 use std::marker::Model;
 
-/// A reader or a writer that remembers whether it has failed, and lets nothing through once it has. No failed call is
-/// tried again, not even an interrupted one. Of a writer it also remembers whether all that it took has been flushed.
+/// A reader or a writer that remembers whether it has failed, and passes no call on once it has. It retries no failed
+/// call, not even an interrupted one. For a writer it also remembers whether all accepted bytes have been flushed.
 #[derive(Debug, Drop)]
 pub struct Watched<T> {
     inner: T,
@@ -26,7 +26,7 @@ impl<T> Model for Watched<T> {
 }
 
 impl<T> Watched<T> {
-    /// Watches this reader or writer, which hasn't failed yet, and has taken nothing.
+    /// Watches this reader or writer, which hasn't failed yet, and has accepted nothing.
     pub fn new(inner: T) -> Self
         ensures { result ≡ record { inner = inner; failed = false; flushed = true } }
     {
@@ -37,14 +37,14 @@ impl<T> Watched<T> {
         }
     }
 
-    /// Whether a call of the reader or writer has returned an error, or a write of some bytes has taken none.
+    /// Whether a call of the reader or writer has returned an error, or a write of some bytes has accepted none.
     pub fn failed(&self) -> bool
         ensures { result ≡ self.now.failed }
     {
         self.failed
     }
 
-    /// Whether all that the writer took has been flushed.
+    /// Whether all bytes that the writer accepted have been flushed.
     pub fn flushed(&self) -> bool
         ensures { result ≡ self.now.flushed }
     {
@@ -60,7 +60,7 @@ impl<T> Watched<T> {
     }
 }
 
-/// The error of each call after a failure.
+/// The error returned by each call after a failure.
 fn has_failed() -> Error {
     Error::new(ErrorKind::Other, "it has failed before")
 }

@@ -5,7 +5,7 @@ ghost use Rattle.lot_io.specs.Writing.{Writes};
 use crate::{IoFault, Watched};
 use std::io::Write;
 
-/// Writes the bytes. No failed write is tried again.
+/// Writes the bytes. It retries no failed write.
 #[inline(always)]
 pub fn write_bytes<W: Write>(writer: &mut Watched<W>, bytes: &[u8]) -> Result<(), IoFault>
     requires { writer.old.failed ≡ false }

@@ -1,7 +1,7 @@
--- How much memory a kernel takes.
+-- The memory of a kernel.
 use Rattle.std.specs.Prelude.{ℕ, ◌+◌, ◌*◌}
 use Rattle.lot_machine.specs.declared.sizes.Sizes.{Sizes}
 
--- how many bytes a kernel with these sizes asks for: so many for each ticket, currency, thread and so on
+-- the bytes that a kernel with these sizes requests: a fixed number for each ticket, currency, thread and so on
 abbrev pub bytes_of : Sizes → ℕ
 bytes_of s = 56 * s.tickets + 114 * s.currencies + 293 * s.threads + 16 * s.ports + 113 * s.mutexes + 8 * s.processors + 162

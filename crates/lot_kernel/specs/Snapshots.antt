@@ -1,4 +1,4 @@
--- What the clauses of a kernel see.
+-- The kernel as its contracts see it.
 use Rattle.std.specs.Prelude.{◌≡◌, ◌⊎◌, ℕ, true, Option, Some, List, [], Contains, is_some, map, slice_get}
 use Rattle.lot_machine.specs.declared.funding.Node.{Node}
 use Rattle.lot_machine.specs.declared.sizes.Sizes.{Sizes}
@@ -10,23 +10,23 @@ use Rattle.lot_queues.specs.QueueLists.{QueueLists, IsThere}
 use Rattle.lot_value.specs.declared.meter.Meter.{Meter}
 use Rattle.lot_threads.specs.Threaded.{Threaded}
 
--- the machine's state, the stale nodes, whose values are computed again before they are used, and what was counted
+-- the machine's state, the stale nodes, whose values are recomputed before they are used, and the counts
 pub record Snapshot : Type 0 where
   pub state : State
   pub stale : List Node
   pub meter : Meter
 
--- at the start: nothing is stale, and nothing was counted
+-- the snapshot at the start: the opening state, nothing stale, and nothing counted
 abbrev pub starting : Sizes → Snapshot
 starting sizes = record { state = opening sizes; stale = []; meter = record { ticket_reads = 0; tree_visits = 0 } }
 
--- A node that is stale after it was stale before it, or a path of edges that are there before or after it leads to the
--- node from one that it touched (4.4).
+-- Each node that is stale afterwards was stale before, or a path of edges that exist before or after leads to it from
+-- a node that the step touches (4.4).
 abbrev pub MakesStale : Snapshot → Snapshot → Type 0
 MakesStale old new =
     (x : Node) → Contains new.stale x → Contains old.stale x ⊎ ((node : Node) × Touches old.state new.state node × PathLeads (funding_of old.state) (funding_of new.state) node x)
 
--- the threads of a state, with these nodes stale, and this counted
+-- the threads of a state, with these stale nodes and these counts
 abbrev pub threads_of : State → List Node → Meter → Threaded
 threads_of s stale meter = record {
   currencies = map is_some s.currencies;
@@ -44,7 +44,7 @@ threads_of s stale meter = record {
   meter = meter;
 }
 
--- the state that the names of currencies, the threads and the queues hold
+-- the state made up of these names of currencies, threads and queues
 abbrev pub held : Sizes → List (Option (List ℕ)) → Threaded → QueueLists → State
 held sizes currencies threads queues = record {
   currencies = currencies;
@@ -57,7 +57,7 @@ held sizes currencies threads queues = record {
   limits = sizes;
 }
 
--- the target may be funded, except for base: it is a currency or a thread that is there
+-- the target exists: it is a currency, base included, or a thread
 abbrev pub IsTargetThere : State → Target → Type 0
 IsTargetThere s Unfunded = ⊥
 IsTargetThere s (Currency c) = slice_get (map is_some s.currencies) c ≡ Some true

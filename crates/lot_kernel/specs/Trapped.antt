@@ -16,10 +16,10 @@ RunsOn records t processor = (used : ℕ) × (status_of records t ≡ Some (Runn
 abbrev pub IsRunning : List Record → ℕ → Type 0
 IsRunning records t = (processor : ℕ) × RunsOn records t processor
 
--- what the thread's trap does: nothing if it is refused
+-- the effect of the thread's trap: none if it is refused
 abbrev pub effect_of : State → ℕ → Action → Effect
 effect_of s t action = checked_effect s (trap_refusal s t action) (trap_effect s t action)
 
--- the trap done, its ticks counted, and its thread gone on or gone
+-- the step of the trap: its effect, its ticks counted, and its thread staying or leaving
 abbrev pub trapped : State → Trap → Action → Step
 trapped s trap action = finish_trap s trap.processor.number trap.thread.number trap.ticks trap.used (effect_of s trap.thread.number action)

@@ -1,4 +1,4 @@
-//! How many tickets a currency has (4.4).
+//! The numbers of a currency's issued and backing tickets (4.4).
 ghost use Rattle.std.specs.Prelude.{◌≡◌, ◌==◌, length};
 ghost use Rattle.lot_machine.specs.Funding as funding;
 ghost use Rattle.lot_machine.specs.Funding.{backing_currency, issued_in};
@@ -7,7 +7,7 @@ ghost use Rattle.lot_machine.specs.Numbered.{option_any};
 use lot_graph::Graph;
 use lot_machine::{Target, Ticket};
 
-/// How many tickets the currency issues, active or not.
+/// The number of tickets that the currency issues, active or not.
 pub(crate) fn count_issued(graph: &Graph, currency: u32) -> u32
     ensures { result ≡ length (issued_in graph.now.funding currency) }
 {
@@ -20,7 +20,7 @@ pub(crate) fn count_issued(graph: &Graph, currency: u32) -> u32
     count
 }
 
-/// How many tickets fund the currency, active or not.
+/// The number of tickets that fund the currency, active or not.
 pub(crate) fn count_backing(graph: &Graph, currency: u32) -> u32
     ensures { result ≡ length (backing_currency graph.now.funding currency) }
 {
@@ -33,7 +33,7 @@ pub(crate) fn count_backing(graph: &Graph, currency: u32) -> u32
     count
 }
 
-/// Whether the ticket is there, and the currency issues it.
+/// Whether there is a ticket and the currency issues it.
 fn is_issued(ticket: Option<Ticket>, currency: u32) -> bool
     ensures { result ≡ option_any (λ t. t.issuer == currency) ticket }
 {
@@ -43,7 +43,7 @@ fn is_issued(ticket: Option<Ticket>, currency: u32) -> bool
     }
 }
 
-/// Whether the ticket is there, and funds the currency.
+/// Whether there is a ticket and it funds the currency.
 fn is_backing(ticket: Option<Ticket>, currency: u32) -> bool
     ensures { result ≡ option_any (λ t. funding.is_currency currency t.target) ticket }
 {

@@ -1,4 +1,4 @@
-//! How a thread leaves its processor after a trap, or stays on it (3.4, 4.5).
+//! A thread's disposition after its trap (3.4, 4.5).
 ghost use Rattle.std.specs.Prelude.{◌≡◌};
 ghost use Rattle.lot_machine.specs.declared.after.After.TheVariants.{GoesOn};
 ghost use Rattle.lot_machine.specs.Step as steps;
@@ -6,8 +6,7 @@ ghost use Rattle.lot_machine.specs.Traps.{after_trap, with_ticks};
 
 use lot_machine::{After, Processor, Record, Status, ThreadNumber};
 
-/// A trap that is made: by whom and where, the ticks that it and the work before it cost, and how much of the quantum
-/// is used then.
+/// A trap: its thread and processor, its cost with the work before it, and the quantum used after it, both in ticks.
 #[derive(Clone, Copy, Debug)]
 pub(crate) struct Trap {
     pub(crate) processor: Processor,
@@ -16,7 +15,7 @@ pub(crate) struct Trap {
     pub(crate) used: u32,
 }
 
-/// The record of the thread that made a trap, after it.
+/// The record, after a trap, of the thread that made it.
 pub(crate) fn record_after(before: Record, trap: Trap, after: After, quantum: u32) -> Record
     ensures { result ≡ with_ticks trap.ticks (after_trap after trap.processor.number trap.used quantum before) }
 {
@@ -50,7 +49,8 @@ fn leaving(before: Record, trap: Trap, after: After, quantum: u32) -> Record
     }
 }
 
-/// The record of a thread that runs on after its trap, if its quantum isn't used up.
+/// The record, after its trap, of a thread that neither blocks nor ends: it runs on, or is Ready if its quantum is
+/// used up.
 fn going_on(before: Record, trap: Trap, quantum: u32) -> Record
     ensures { result ≡ after_trap GoesOn trap.processor.number trap.used quantum before }
 {
@@ -70,7 +70,7 @@ fn going_on(before: Record, trap: Trap, quantum: u32) -> Record
     }
 }
 
-/// Whether the quantum of a thread that made a trap has ended with it.
+/// Whether the quantum of the thread that made the trap ends with it.
 pub(crate) fn ends_quantum(trap: Trap, after: After, quantum: u32) -> bool
     ensures { result ≡ steps.ends_quantum after trap.used quantum }
 {

@@ -24,16 +24,16 @@ use lot_value::Meter;
 use std::alloc::{AllocError, Global};
 use std::marker::Model;
 
-/// A lottery-scheduled kernel. Contracts see it as the `State` of the machine's definitions, with the nodes that are
-/// stale, whose values are computed again before they are used, and with what was counted.
+/// A lottery-scheduled kernel. Contracts see it as the `State` of the machine's definitions, with the stale nodes,
+/// whose values are recomputed before they are used, and the counts.
 ///
-/// All its room is made by `new`, and no event takes memory.
+/// `new` allocates all its memory; no event allocates.
 pub struct Kernel {
     tables: Tables,
 }
 
 impl Drop for Kernel {
-    // A call: what lets go of a `Kernel` is proved without a look at all of its parts.
+    // An explicit drop: code that drops a `Kernel` is then proved without unfolding its parts.
     fn drop(self) {
         let Self { tables: _ } = self;
     }
@@ -51,8 +51,8 @@ impl Model for Kernel {
 }
 
 impl Kernel {
-    /// A kernel with base alone, empty ports and free mutexes. It takes all the memory that the kernel will ever use,
-    /// and fails only if out of memory.
+    /// A kernel in the opening state: base alone, empty ports and free mutexes. It allocates all the memory that the
+    /// kernel will ever use, and fails only if out of memory.
     pub fn new(alloc: Global, limits: Limits) -> Result<Kernel, AllocError>
         ensures opening { IfOk result (λ k. k ≡ starting (sizes_of limits)) }
         ensures sound { IfOk result (λ k. IsSound k.state) }
@@ -62,8 +62,8 @@ impl Kernel {
         })
     }
 
-    /// How many bytes `new` asks of the allocator in all, for a host that gives the kernel a fixed region of memory.
-    /// Tests compare it with what `new` does ask.
+    /// The total of bytes that `new` requests from the allocator, for a host that gives the kernel a fixed region of
+    /// memory. Tests compare it with the bytes that `new` requests.
     pub fn bytes(limits: &Limits) -> u64
         ensures { result ≡ bytes_of (sizes_of limits.now) }
     {
@@ -77,36 +77,38 @@ impl Kernel {
         self.tables.limits()
     }
 
-    /// How much one of base is worth: 1, or 256 for finer shares.
+    /// The value of one of base: 1, or 256 for finer shares.
     pub fn unit(&self) -> u32
         ensures { result ≡ self.now.state.limits.unit }
     {
         self.tables.limits().unit
     }
 
-    /// The counts: the tickets, lends and owners read for values, and the places of the tree of weights visited.
+    /// The meter: the tickets, lends and owners read to compute values, and the visited places of the tree of
+    /// weights.
     pub fn meter(&self) -> Meter
         ensures { result ≡ self.now.meter }
     {
         self.tables.meter()
     }
 
-    /// How many tickets were made, including those removed since: they have the numbers from 1.
+    /// The number of tickets ever made, including removed ones. They are numbered from 1.
     pub fn ticket_count(&self) -> u32
         ensures { result ≡ length self.now.state.tickets }
     {
         self.tables.ticket_count()
     }
 
-    /// How many currencies were made, including base and those removed since: they have the numbers from 0.
+    /// The number of currencies ever made, including base and removed ones. They are numbered from 0.
     pub fn currency_count(&self) -> u32
         ensures { result ≡ length self.now.state.currencies }
     {
         self.tables.currency_count()
     }
 
-    /// One event. It takes no memory. A refused event changes nothing; a trap whose outcome is a refusal costs its
-    /// ticks. Only a draw that isn't refused, and an unlock that passes its mutex on, compute values.
+    /// Makes one event and returns its reply. It allocates nothing. A refused event changes nothing; a trap whose
+    /// outcome is a refusal costs its ticks. Values are computed only by a draw that isn't refused and by an unlock
+    /// that passes its mutex on.
     #[inline(always)]
     pub fn event(&mut self, event: &Event) -> Reply
         ensures reply { result ≡ (step self.old.state event.now).reply }
@@ -120,7 +122,7 @@ impl Kernel {
         reply
     }
 
-    /// The same, with the reply stored where the caller keeps it: as a result it would be copied there.
+    /// Makes one event, like `event`, and stores the reply in `reply`: a returned reply would be copied once more.
     #[inline(always)]
     pub fn answer(&mut self, event: &Event, reply: &mut Reply)
         ensures reply { reply.new ≡ (step self.old.state event.now).reply }
@@ -132,7 +134,7 @@ impl Kernel {
         self.tables.event(event, reply);
     }
 
-    /// Events in order, and the reply to each in its place in `out`. It takes no memory.
+    /// Makes the events in order and stores each reply at its index in `out`. It allocates nothing.
     pub fn run(&mut self, events: &[Event], out: &mut [Reply])
         requires { length events.now ≡ length out.old }
         ensures replies { out.new ≡ replies self.old.state events.now }
@@ -140,15 +142,15 @@ impl Kernel {
         ensures sound { IsSound self.new.state }
         ensures done { AreDone events.now out.new self.old self.new }
     {
-        // What every kernel keeps is known here: its state is sound.
+        // Brings the invariant of every kernel into the proof: its state is sound.
         let _ = &self.tables;
         for i in 0..events.len() {
             out[i] = self.event(&events[i]);
         }
     }
 
-    /// The row of the ticket with this number, `None` if and only if it isn't there. Computes what is stale, and
-    /// counts that, and one reading of the ticket if it funds something. Changes nothing else, and takes no memory.
+    /// The row of the ticket with this number, or `None` if and only if it doesn't exist. Recomputes stale values and
+    /// counts that, and one read of the ticket if it funds something. Changes nothing else, and allocates nothing.
     pub fn ticket_row(&mut self, ticket: TicketNumber) -> Option<TicketRow>
         ensures row { result ≡ rows.ticket_row self.old.state ticket.number }
         ensures state { self.new.state ≡ self.old.state }
@@ -160,8 +162,8 @@ impl Kernel {
         self.tables.ticket_row(ticket)
     }
 
-    /// The row of the currency with this number, `None` if and only if it isn't there; base is worth its active amount.
-    /// Computes what is stale, and counts that. Changes nothing else, and takes no memory.
+    /// The row of the currency with this number, or `None` if and only if it doesn't exist; base is worth its active
+    /// amount. Recomputes stale values and counts that. Changes nothing else, and allocates nothing.
     pub fn currency_row(&mut self, currency: CurrencyNumber) -> Option<CurrencyRow>
         ensures row { result ≡ rows.currency_row self.old.state currency.number }
         ensures state { self.new.state ≡ self.old.state }
@@ -172,8 +174,8 @@ impl Kernel {
         self.tables.currency_row(currency)
     }
 
-    /// The row of the thread with this number, `None` if and only if there is none. Computes what is stale, and counts
-    /// that. Changes nothing else, and takes no memory.
+    /// The row of the thread with this number, or `None` if and only if it doesn't exist. Recomputes stale values and
+    /// counts that. Changes nothing else, and allocates nothing.
     pub fn thread_row(&mut self, thread: ThreadNumber) -> Option<ThreadRow>
         ensures row { result ≡ rows.thread_row self.old.state thread.number }
         ensures state { self.new.state ≡ self.old.state }
@@ -184,7 +186,8 @@ impl Kernel {
         self.tables.thread_row(thread)
     }
 
-    /// Who runs on the processor, `None` if and only if nobody does. The ticks used are below the quantum.
+    /// The thread that runs on the processor, or `None` if and only if it is idle. The ticks used are below the
+    /// quantum.
     pub fn runner(&self, processor: Processor) -> Option<Runner>
         ensures thread { MatchOption result (thread_on self.now.state.records processor.number ≡ None)
             (λ r. thread_on self.now.state.records processor.number ≡ Some r.thread.number) }
@@ -196,15 +199,15 @@ impl Kernel {
         self.tables.runner(processor)
     }
 
-    /// The number of the script that the thread was made with, `None` if and only if there is no such thread.
+    /// The number of the thread's script, fixed when it was made, or `None` if and only if there is no such thread.
     pub fn script_of(&self, thread: ThreadNumber) -> Option<u32>
         ensures { result ≡ option_map (λ t. t.script) (thread_at self.now.state.threads thread.number) }
     {
         self.tables.script_of(thread)
     }
 
-    /// Lists in `out` the threads that wait for the mutex, the one that has waited longest first; none if there is no
-    /// such mutex. It takes no memory, since `out` has room for all threads.
+    /// Stores in `out` the threads that wait for the mutex, the one that has waited longest first; none if there is
+    /// no such mutex. It allocates nothing, since `out` has room for all threads.
     pub fn list_waiters(&self, mutex: MutexNumber, out: &mut Vec<u32>)
         requires { self.now.state.limits.threads ≤ vec_capacity out.old }
         ensures waiters { out.new.items ≡ (mutex_at self.now.state.mutexes mutex.number).waiters }

@@ -1,5 +1,5 @@
-//! The kernel: a library that takes events, such as commands, draws and traps, and replies to each as the paper's
-//! machine does.
+//! The kernel: a library that takes events, such as commands, draws and traps, and returns the reply that the paper's
+//! machine gives to each.
 #![tactic(auto)]
 
 mod counts;
@@ -10,9 +10,9 @@ mod tables;
 
 pub use kernel::Kernel;
 pub use lot_machine::{
-    Action, Command, CurrencyNumber, CurrencyRow, Event, Kind, Limits, MutexNumber, Name, Outcome,
-    Processor, Refusal, Reply, Sizes, Status, ThreadNumber, ThreadRow, TicketNumber, TicketRow,
-    TrapRefusal,
+    Action, Command, CurrencyNumber, CurrencyRef, CurrencyRow, Event, Kind, Limits, MutexNumber,
+    Name, Outcome, Processor, Refusal, Reply, Sizes, Status, TargetRef, ThreadNumber, ThreadRef,
+    ThreadRow, TicketNumber, TicketRow, TrapRefusal,
 };
 pub use lot_threads::Runner;
 pub use lot_value::Meter;

@@ -10,6 +10,7 @@ ghost use Rattle.lot_kernel.specs.Snapshots.{MakesStale, starting};
 
 mod commands;
 mod processors;
+mod references;
 mod rows;
 mod stops;
 mod traps;
@@ -23,21 +24,21 @@ use std::alloc::{AllocError, Global};
 use std::marker::Model;
 use std::mem::size_of;
 
-// What a currency takes for its name.
+// The memory of one currency's name.
 const NAME_BYTES: u64 = size_of::<Option<Name>>() as u64;
 
-/// The names of currencies, the threads with their values and the counts, and the queues. Contracts see the state that
+/// The names of currencies, the threads with their values and the meter, and the queues. Contracts see the state that
 /// they hold.
 ///
-/// Each event also needs the state to be in order, and the kernel keeps it so.
+/// Each event also requires that the state is in order, which the kernel preserves.
 #[derive(Drop)]
 pub(crate) struct Tables {
     limits: Limits,
-    /// The name of each currency, base first; `None` where it was removed.
+    /// The name of each currency, base first; `None` for a removed one.
     currencies: Vec<Option<Name>>,
     threads: Threads,
     queues: Queues,
-    /// Room for the lottery of a mutex.
+    /// Scratch memory for the lottery of a mutex.
     lottery: Lottery,
 }
 
@@ -68,7 +69,8 @@ impl Model for Tables {
 }
 
 impl Tables {
-    /// Base alone, empty ports and free mutexes, and all the memory that will ever be used.
+    /// The opening state: base alone, empty ports and free mutexes. It allocates all the memory that will ever be
+    /// used.
     pub(crate) fn new(alloc: Global, limits: Limits) -> Result<Tables, AllocError>
         ensures { IfOk result (λ k. k ≡ starting (sizes_of limits)) }
     {
@@ -83,7 +85,7 @@ impl Tables {
         })
     }
 
-    /// How many bytes `new` asks of the allocator in all.
+    /// The total of bytes that `new` requests from the allocator.
     pub(crate) fn bytes(limits: &Limits) -> u64
         ensures { result ≡ bytes_of (sizes_of limits.now) }
     {
@@ -117,8 +119,8 @@ impl Tables {
         self.currencies.len() as u32
     }
 
-    /// Lists in `out` the threads that wait for the mutex, the one that has waited longest first; none if there is no
-    /// such mutex. It takes no memory.
+    /// Stores in `out` the threads that wait for the mutex, the one that has waited longest first; none if there is
+    /// no such mutex. It allocates nothing.
     pub(crate) fn list_waiters(&self, mutex: MutexNumber, out: &mut Vec<u32>)
         requires { self.now.state.limits.threads ≤ vec_capacity out.old }
         ensures waiters { out.new.items ≡ (mutex_at self.now.state.mutexes mutex.number).waiters }
@@ -131,7 +133,7 @@ impl Tables {
         }
     }
 
-    /// One event, whose reply is stored where the caller keeps it.
+    /// Makes one event and stores its reply in `reply`.
     #[inline(always)]
     pub(crate) fn event(&mut self, event: &Event, reply: &mut Reply)
         requires { IsInOrder self.old.state }

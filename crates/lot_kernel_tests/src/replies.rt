@@ -4,7 +4,7 @@ ghost use Rattle.lot_machine.specs.declared.reply.Reply.TheVariants as replies;
 
 use lot_kernel::{Outcome, Reply};
 
-/// A draw of this number of this total, which this thread wins, and what is delivered to the thread.
+/// The reply to a draw that this thread wins with this number of this total, and the number delivered to it.
 pub fn won(thread: u32, number: u128, total: u128, delivered: Option<u32>) -> Reply
     ensures { result ≡ replies.Winner thread number total delivered }
 {

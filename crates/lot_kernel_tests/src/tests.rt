@@ -13,8 +13,9 @@ mod traps;
 
 use crate::{trapped, won};
 use lot_kernel::{
-    Action, Command, CurrencyNumber, CurrencyRow, Event, Kernel, Kind, Limits, Name, Outcome,
-    Refusal, Reply, Sizes, Status, ThreadNumber, ThreadRow, TicketNumber, TicketRow, TrapRefusal,
+    Action, Command, CurrencyNumber, CurrencyRef, CurrencyRow, Event, Kernel, Kind, Limits, Name,
+    Outcome, Refusal, Reply, Sizes, Status, TargetRef, ThreadNumber, ThreadRef, ThreadRow,
+    TicketNumber, TicketRow, TrapRefusal,
 };
 use same::{check_same, check_same_at};
 use std::alloc::Global;
@@ -40,7 +41,7 @@ enum Line<'a> {
 #[derive(Clone, Copy)]
 enum Step<'a> {
     Gives(Line<'a>, Reply),
-    /// A draw on the processor with this number, who wins it, and what is delivered to the winner.
+    /// A draw on the processor with this number, its winner, and the number delivered to the winner.
     Wins(u32, u128, Winner, Option<u32>),
     /// A draw on the processor with this number that nobody wins.
     Idles(u32, u128),
@@ -53,14 +54,14 @@ enum Step<'a> {
     Ticket(TicketShown<'a>),
     Currency(CurrencyShown<'a>),
     Thread(ThreadShown<'a>),
-    /// What the thread with this number is worth.
+    /// The value of the thread with this number.
     Value(u32, u64),
     NoTicket(u32),
     NoCurrency(u32),
     NoThread(u32),
 }
 
-/// How a processor is left without a trap, with its number and ticks, or which thread is woken.
+/// An end of a thread's run without a trap, with its processor and ticks, or the thread to wake.
 #[derive(Clone, Copy, Debug)]
 enum Pause {
     Preempt(u32, u32),
@@ -87,7 +88,7 @@ fn name(rt: &impl Abort, text: &str) -> Name {
 fn command(rt: &impl Abort, line: Line<'_>) -> Command {
     match line {
         Line::Mktkt(amount, text) => {
-            let currency = name(rt, text);
+            let currency = CurrencyRef::Named(name(rt, text));
             Command::MakeTicket { amount, currency }
         }
         Line::Rmtkt(ticket) => Command::RemoveTicket { ticket },
@@ -95,10 +96,10 @@ fn command(rt: &impl Abort, line: Line<'_>) -> Command {
             name: name(rt, text),
         },
         Line::Rmcur(text) => Command::RemoveCurrency {
-            currency: name(rt, text),
+            currency: CurrencyRef::Named(name(rt, text)),
         },
         Line::Fund(ticket, text) => {
-            let target = name(rt, text);
+            let target = TargetRef::Named(name(rt, text));
             Command::Fund { ticket, target }
         }
         Line::Unfund(ticket) => Command::Unfund { ticket },
@@ -108,11 +109,11 @@ fn command(rt: &impl Abort, line: Line<'_>) -> Command {
             Command::MakeThread { name, script }
         }
         Line::Rmthr(text) => Command::RemoveThread {
-            thread: name(rt, text),
+            thread: ThreadRef::Named(name(rt, text)),
         },
         Line::Fundx(amount, issuer, text, script) => Command::MakeFunded {
             amount,
-            currency: name(rt, issuer),
+            currency: CurrencyRef::Named(name(rt, issuer)),
             name: name(rt, text),
             script,
         },
@@ -120,22 +121,22 @@ fn command(rt: &impl Abort, line: Line<'_>) -> Command {
     }
 }
 
-/// The kernel's answer to a command.
+/// The kernel's reply to a command.
 fn answer(rt: &impl Abort, kernel: &mut Kernel, line: Line<'_>) -> Reply {
     kernel.event(&Event::Command(command(rt, line)))
 }
 
-/// Gives a command, and compares the answer.
+/// Makes a command, and compares the reply.
 fn check_answer(rt: &impl Abort, kernel: &mut Kernel, line: Line<'_>, reply: Reply) {
     check_same_at(rt, &line, &answer(rt, kernel, line), &reply);
 }
 
-/// Gives an event, and compares the answer.
+/// Makes an event, and compares the reply.
 fn check_event(rt: &impl Abort, kernel: &mut Kernel, event: Event, reply: Reply) {
     check_same_at(rt, &event, &kernel.event(&event), &reply);
 }
 
-/// Gives these events at once, at most ten, and compares the answers.
+/// Makes these events at once, at most ten, and compares the replies.
 fn check_run(rt: &impl Abort, kernel: &mut Kernel, events: &[Event], replies: &[Reply]) {
     let mut room = [Reply::List(Kind::Threads); 10];
     assert!(rt; events.len() <= 10);
@@ -144,7 +145,7 @@ fn check_run(rt: &impl Abort, kernel: &mut Kernel, events: &[Event], replies: &[
     check_same(rt, &&*out, &replies);
 }
 
-/// The target of a ticket, which is shown as `-` if there is none.
+/// The target of a ticket, which is shown as `-` for none.
 fn target_of(rt: &impl Abort, text: &str) -> Option<Name> {
     if text == "-" {
         return None;
@@ -351,7 +352,7 @@ fn trapped_after(thread: u32, ran: u32, outcome: Outcome) -> Reply {
     }
 }
 
-/// A draw with this winner of a row, and what is delivered to the thread.
+/// The reply to a draw with this winner of a row, and the number delivered to the thread.
 fn winning((thread, number, total): Winner, delivered: Option<u32>) -> Reply {
     won(thread, number, total, delivered)
 }
@@ -500,7 +501,7 @@ fn events_out_of_place(rt: HostRuntime) {
     check_answer(&rt, &mut kernel, Line::Fund(2, "a"), dead)
 }
 
-/// Gives one thread all the tickets that there may be, of the largest amount.
+/// Gives one thread as many tickets as possible, of the largest amount.
 fn fund_fully(rt: &impl Abort, kernel: &mut Kernel) {
     answer(rt, kernel, Line::Mkthr("a", 1));
     for ticket in 1..=65535 {
@@ -518,7 +519,7 @@ const NO_MORE_TICKETS: [Step<'_>; 3] = [
     ),
 ];
 
-/// All the tickets that there may be, of the largest amount.
+/// As many tickets as possible, of the largest amount.
 fn all_tickets(rt: &impl Abort, alloc: Global, unit: u32, total: u128) {
     let mut kernel = largest(rt, alloc, unit);
     fund_fully(rt, &mut kernel);
@@ -644,14 +645,14 @@ fn rows_of_nothing(rt: HostRuntime) {
     play(&rt, rt.alloc(), &ROWS_OF_NOTHING)
 }
 
-/// Gives the commands in turn.
+/// Makes the commands in turn.
 fn answer_all(rt: &impl Abort, kernel: &mut Kernel, lines: &[Line<'_>]) {
     for line in lines {
         answer(rt, kernel, *line);
     }
 }
 
-/// Gives currency `g` a thread for each of these amounts.
+/// Makes a thread of currency `g` for each of these amounts.
 fn share(rt: &impl Abort, kernel: &mut Kernel, amounts: &[(u64, &str)]) {
     for (amount, thread) in amounts {
         answer(rt, kernel, Line::Fundx(*amount, "g", thread, 1));
@@ -684,7 +685,7 @@ fn check_values(rt: &impl Abort, kernel: &mut Kernel, values: &[(u32, u64)]) {
     }
 }
 
-/// What is shared by whom, at which unit; what the threads are then worth; and a draw with its winner.
+/// The currency's amount, its threads, and the unit; then the threads' values; and a draw with its winner.
 #[derive(Clone, Copy)]
 struct Shared<'a> {
     unit: u32,
@@ -796,7 +797,7 @@ const TWO_LEVELS: [Step<'_>; 10] = [
     Step::Value(2, 50),
 ];
 
-/// What is left once the lower thread has exited.
+/// The state once the lower thread has exited.
 const ONE_LEVEL: [Step<'_>; 9] = [
     Step::Gives(Line::Fund(4, "a"), Reply::Refused(Refusal::DeadThread)),
     Step::Wins(1, 99, (2, 99, 100), None),
@@ -1068,7 +1069,7 @@ const REFUSED: [Step<'_>; 41] = [
     Step::Gives(Line::Rmcur("g"), Reply::Refused(Refusal::InUse)),
 ];
 
-/// In each line the reply names the least check that fails, though later ones would fail too.
+/// In each line the reply names the first check that fails, though later ones would fail too.
 #[test]
 fn refused_commands(rt: HostRuntime) {
     play_small(&rt, rt.alloc(), (2, 1, 1), &REFUSED)

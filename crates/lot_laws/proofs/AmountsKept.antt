@@ -20,7 +20,7 @@ use Rattle.lot_machine.specs.declared.sizes.Sizes.{Sizes}
 use Rattle.lot_machine.specs.declared.funding.Node.{Node}
 use Rattle.lot_machine.specs.declared.funding.Node.TheVariants.{Currency, Thread, Mutex}
 use Rattle.lot_machine.specs.State.{State, funding_of, live_of, lend_of}
-use Rattle.lot_machine.specs.Commands.{command_refusal, command_effect, command_step, currency_or_base, target_named, Step, unless_refused, is_bad_amount}
+use Rattle.lot_machine.specs.Commands.{command_refusal, command_effect, command_step, currency_or_base, target_meant, Step, unless_refused, is_bad_amount}
 use Rattle.lot_machine.specs.Step.{step, state_after}
 use Rattle.lot_machine.proofs.Changes.{number-push, number-set, number-there}
 use Rattle.lot_machine.proofs.CommandsKept.{unrefused, all-pass}
@@ -111,8 +111,8 @@ command-tickets : (n : ℕ) (s : State) (c : Command) → ¬ SetsAmountOf n (eve
 command-tickets n s (MakeTicket amount currency) elsewhere =
     unrefused (KeepsIn n s) s _ (command_effect s (MakeTicket amount currency)) (as-they-were n s.tickets) (λ _. one-more n s.tickets amount (currency_or_base s currency) target.Unfunded)
 command-tickets n s (RemoveTicket m) elsewhere = unrefused (KeepsIn n s) s _ (command_effect s (RemoveTicket m)) (as-they-were n s.tickets) (λ _. removed n s.tickets m)
-command-tickets n s (Fund m name) elsewhere =
-    unrefused (KeepsIn n s) s _ (command_effect s (Fund m name)) (as-they-were n s.tickets) (λ _. aimed n s.tickets m (unwrap_or (target_named s name) target.Unfunded))
+command-tickets n s (Fund m to) elsewhere =
+    unrefused (KeepsIn n s) s _ (command_effect s (Fund m to)) (as-they-were n s.tickets) (λ _. aimed n s.tickets m (unwrap_or (target_meant s to) target.Unfunded))
 command-tickets n s (Unfund m) elsewhere = unrefused (KeepsIn n s) s _ (command_effect s (Unfund m)) (as-they-were n s.tickets) (λ _. aimed n s.tickets m target.Unfunded)
 command-tickets n s (SetTicket m amount) elsewhere =
     unrefused (KeepsIn n s) s _ (command_effect s (SetTicket m amount)) (as-they-were n s.tickets) (λ _.

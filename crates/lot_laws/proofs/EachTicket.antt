@@ -15,7 +15,7 @@ use Rattle.lot_machine.specs.declared.sizes.Sizes.{Sizes}
 use Rattle.lot_machine.specs.Numbered.{at_number, set_number, option_any}
 use Rattle.lot_machine.specs.Funding.{ticket_in, with_new_ticket, without_ticket, with_target, retargeted, with_amount, reissued, is_currency}
 use Rattle.lot_machine.specs.State.{State, opening, funding_of}
-use Rattle.lot_machine.specs.Commands.{currency_named, is_good_name, is_taken, is_bad_amount, is_no_script, are_tickets_full, are_threads_full, is_dead_thread, is_funding, is_cycle, command_refusal, command_effect, command_step, currency_or_base, target_named}
+use Rattle.lot_machine.specs.Commands.{currency_meant, is_good_name, is_taken, is_bad_amount, is_no_script, are_tickets_full, are_threads_full, is_dead_thread, is_funding, is_cycle, command_refusal, command_effect, command_step, currency_or_base, target_meant}
 use Rattle.lot_machine.specs.Order.{IsInOrder}
 use Rattle.lot_machine.specs.Step.{step, state_after}
 use Rattle.lot_machine.proofs.Tickets.{some-injective, ticket_in-suc}
@@ -84,22 +84,22 @@ module _ (IsSo : Ticket → Type 0)
   command-each : (s : State) (c : Command) → EachIn s → EachIn (command_step s c).state
   command-each s (MakeTicket amount currency) each =
       unrefused EachIn s _ (command_effect s (MakeTicket amount currency)) each (λ e.
-      let passed = all-pass ((is_bad_amount amount, BadAmount) ∷ (is_none (currency_named s currency), NoCurrency) ∷ (are_tickets_full s, Full) ∷ []) e in
+      let passed = all-pass ((is_bad_amount amount, BadAmount) ∷ (is_none (currency_meant s currency), NoCurrency) ∷ (are_tickets_full s, Full) ∷ []) e in
       one-more s.tickets amount (currency_or_base s currency) target.Unfunded passed.0 (λ same. cc) each)
   command-each s (RemoveTicket n) each = unrefused EachIn s _ (command_effect s (RemoveTicket n)) each (λ _. removed s.tickets n each)
-  command-each s (Fund n name) each =
-      unrefused EachIn s _ (command_effect s (Fund n name)) each (λ e.
-      let passed = all-pass ((is_none (ticket_in s.tickets n), NoTicket) ∷ (is_none (target_named s name), NoTarget)
-      ∷ (option_any (is_currency 0) (target_named s name), BaseFixed) ∷ (option_any (is_dead_thread s) (target_named s name), DeadThread)
-      ∷ (option_any is_funding (ticket_in s.tickets n), Funding) ∷ (option_any (is_cycle s n) (target_named s name), Cycle) ∷ []) e in
-      one-aimed s.tickets n (unwrap_or (target_named s name) target.Unfunded) (not-base (target_named s name) passed.1.1.0) each)
+  command-each s (Fund n to) each =
+      unrefused EachIn s _ (command_effect s (Fund n to)) each (λ e.
+      let passed = all-pass ((is_none (ticket_in s.tickets n), NoTicket) ∷ (is_none (target_meant s to), NoTarget)
+      ∷ (option_any (is_currency 0) (target_meant s to), BaseFixed) ∷ (option_any (is_dead_thread s) (target_meant s to), DeadThread)
+      ∷ (option_any is_funding (ticket_in s.tickets n), Funding) ∷ (option_any (is_cycle s n) (target_meant s to), Cycle) ∷ []) e in
+      one-aimed s.tickets n (unwrap_or (target_meant s to) target.Unfunded) (not-base (target_meant s to) passed.1.1.0) each)
   command-each s (Unfund n) each = unrefused EachIn s _ (command_effect s (Unfund n)) each (λ _. one-aimed s.tickets n target.Unfunded (λ same. cc) each)
   command-each s (SetTicket n amount) each =
       unrefused EachIn s _ (command_effect s (SetTicket n amount)) each (λ e.
       one-set s.tickets n amount (all-pass ((is_bad_amount amount, BadAmount) ∷ (is_none (ticket_in s.tickets n), NoTicket) ∷ []) e).0 each)
   command-each s (MakeFunded amount currency name script) each =
       unrefused EachIn s _ (command_effect s (MakeFunded amount currency name script)) each (λ e.
-      let passed = all-pass ((is_bad_amount amount, BadAmount) ∷ (is_none (currency_named s currency), NoCurrency) ∷ (not (is_good_name name), BadName)
+      let passed = all-pass ((is_bad_amount amount, BadAmount) ∷ (is_none (currency_meant s currency), NoCurrency) ∷ (not (is_good_name name), BadName)
       ∷ (is_taken s name, NameTaken) ∷ (is_no_script s script, NoScript) ∷ (are_tickets_full s || are_threads_full s, Full) ∷ []) e in
       one-more s.tickets amount (currency_or_base s currency) (target.Thread (length s.threads + 1)) passed.0 (λ same. cc) each)
   command-each s other each = unrefused EachIn s (command_refusal s other) (command_effect s other) each (λ _. each)

@@ -14,6 +14,8 @@ use Rattle.lot_machine.specs.declared.funding.Lend.{Lend}
 use Rattle.lot_machine.specs.declared.record.Record.{Record}
 use Rattle.lot_machine.specs.declared.record.Status.TheVariants as status
 use Rattle.lot_machine.specs.declared.command.Command.TheVariants.{Fund, MakeFunded, SetTicket}
+use Rattle.lot_machine.specs.declared.reference.CurrencyRef.{CurrencyRef}
+use Rattle.lot_machine.specs.declared.reference.TargetRef.{TargetRef}
 use Rattle.lot_machine.specs.declared.event.Event.{Event}
 use Rattle.lot_machine.specs.declared.event.Event.TheVariants as event
 use Rattle.lot_machine.specs.declared.refusal.Refusal.{Refusal}
@@ -26,7 +28,7 @@ use Rattle.lot_machine.specs.Facts.{HasNoCycle, FundsThere}
 use Rattle.lot_machine.specs.Equations.{HasEquation}
 use Rattle.lot_machine.specs.Touched.{IsChangedEdge, IsChangedLife}
 use Rattle.lot_machine.specs.State.{State, opening, funding_of, live_of, lend_of, is_live_status}
-use Rattle.lot_machine.specs.Commands.{currency_named, target_named, currency_or_base, is_dead_thread, is_funding, is_unfunded, is_cycle, command_refusal, command_effect, unless_refused, with_thread}
+use Rattle.lot_machine.specs.Commands.{currency_meant, target_meant, currency_or_base, is_dead_thread, is_funding, is_unfunded, is_cycle, command_refusal, command_effect, unless_refused, with_thread}
 use Rattle.lot_machine.specs.Step.{step, state_after}
 use Rattle.lot_machine.proofs.Tickets.{at_number-suc, some-injective, issuer-of, ticket-of, flatten-some}
 use Rattle.lot_machine.proofs.TicketDepth.{is_active-exact}
@@ -36,7 +38,7 @@ use Rattle.lot_machine.proofs.CommandsKept.{all-pass}
 use Rattle.lot_machine.proofs.TrapCycles.{at_number-map}
 use Rattle.lot_machine.proofs.StepSizes.{step-grown}
 use Rattle.lot_laws.specs.Conservation.{HasAmounts}
-use Rattle.lot_laws.specs.Insulation.{Encloses, IsChangeInside, ChangesInside, IsNamedInside, amount_in, worth_in}
+use Rattle.lot_laws.specs.Insulation.{Encloses, IsChangeInside, ChangesInside, IsMeantInside, amount_in, worth_in}
 use Rattle.lot_laws.specs.Reachable.{IsReachable, IsWellFormed}
 use Rattle.lot_laws.proofs.KeptPaths.{ends-ticket, ticket-ends, chain-aims, active-same, ends-kept}
 use Rattle.lot_laws.proofs.KeptValues.{ends, weighed}
@@ -137,10 +139,10 @@ lender-kept f g t from to weight kept is =
 
 -- ---- a ticket that is there funds something inside
 
-module _ (s : State) (n c : ℕ) (name : List ℕ) (inside : Node → Bool) (issued : issuer_of (funding_of s) n ≡ Some c) (named : IsNamedInside s name inside)
+module _ (s : State) (n c : ℕ) (goal : TargetRef) (inside : Node → Bool) (issued : issuer_of (funding_of s) n ≡ Some c) (named : IsMeantInside s goal inside)
     (unfunded : option_any is_funding (ticket_in s.tickets n) ≡ false) where
   abbrev funded : State
-  funded = record s { tickets = with_target s.tickets n (unwrap_or (target_named s name) target.Unfunded) }
+  funded = record s { tickets = with_target s.tickets n (unwrap_or (target_meant s goal) target.Unfunded) }
 
   -- the ticket, and that it funds nothing
   the-ticket : (t : Ticket) × (ticket_in s.tickets n ≡ Some t) × (t.issuer ≡ c) × (target_node t.target ≡ None)
@@ -164,11 +166,11 @@ module _ (s : State) (n c : ℕ) (name : List ℕ) (inside : Node → Bool) (iss
       by (suc i) at = omega arith
 
   fund-on : (edge : Edge) (from to : Node) (weight : ℕ) → weighed_of (funding_of s) edge ≡ weighed from to weight → weighed_of (funding_of funded) edge ≡ weighed from to weight
-  fund-on (OfTicket m) from to weight is = by (number-set s.tickets n (option_map (retargeted (unwrap_or (target_named s name) target.Unfunded)) (ticket_in s.tickets n)) m)
+  fund-on (OfTicket m) from to weight is = by (number-set s.tickets n (option_map (retargeted (unwrap_or (target_meant s goal) target.Unfunded)) (ticket_in s.tickets n)) m)
     where
-      by : (at_number (with_target s.tickets n (unwrap_or (target_named s name) target.Unfunded)) m ≡ at_number s.tickets m)
-          ⊎ ((m ≡ suc (n - 1)) × (at_number (with_target s.tickets n (unwrap_or (target_named s name) target.Unfunded)) m ≡ Some (option_map (retargeted (unwrap_or (target_named s name) target.Unfunded)) (ticket_in s.tickets n))))
-          → edge-of (ticket_in (with_target s.tickets n (unwrap_or (target_named s name) target.Unfunded)) m) ≡ weighed from to weight
+      by : (at_number (with_target s.tickets n (unwrap_or (target_meant s goal) target.Unfunded)) m ≡ at_number s.tickets m)
+          ⊎ ((m ≡ suc (n - 1)) × (at_number (with_target s.tickets n (unwrap_or (target_meant s goal) target.Unfunded)) m ≡ Some (option_map (retargeted (unwrap_or (target_meant s goal) target.Unfunded)) (ticket_in s.tickets n))))
+          → edge-of (ticket_in (with_target s.tickets n (unwrap_or (target_meant s goal) target.Unfunded)) m) ≡ weighed from to weight
       by (inl same) = ap edge-of (ap option_flatten same) ∙ is
       by (inr (at, now)) =
           let (t, there, issuer, none) = the-ticket in
@@ -179,22 +181,22 @@ module _ (s : State) (n c : ℕ) (name : List ℕ) (inside : Node → Bool) (iss
   fund-on (OfMutex m) from to weight is = is
 
   fund-back : (edge : Edge) (from to : Node) (weight : ℕ) → weighed_of (funding_of funded) edge ≡ weighed from to weight → (weighed_of (funding_of s) edge ≡ weighed from to weight) ⊎ LeadsInside c inside from to
-  fund-back (OfTicket m) from to weight is = by (number-set s.tickets n (option_map (retargeted (unwrap_or (target_named s name) target.Unfunded)) (ticket_in s.tickets n)) m)
+  fund-back (OfTicket m) from to weight is = by (number-set s.tickets n (option_map (retargeted (unwrap_or (target_meant s goal) target.Unfunded)) (ticket_in s.tickets n)) m)
     where
-      aims : (o : Option Target) → target_named s name ≡ o → target_node (unwrap_or o target.Unfunded) ≡ Some to → inside to ≡ true
+      aims : (o : Option Target) → target_meant s goal ≡ o → target_node (unwrap_or o target.Unfunded) ≡ Some to → inside to ≡ true
       aims None e none = let never : None ≡ Some to = none in cc
       aims (Some x) e node = named to (ap (option_and_then target_node) e ∙ node)
 
-      by : (at_number (with_target s.tickets n (unwrap_or (target_named s name) target.Unfunded)) m ≡ at_number s.tickets m)
-          ⊎ ((m ≡ suc (n - 1)) × (at_number (with_target s.tickets n (unwrap_or (target_named s name) target.Unfunded)) m ≡ Some (option_map (retargeted (unwrap_or (target_named s name) target.Unfunded)) (ticket_in s.tickets n))))
+      by : (at_number (with_target s.tickets n (unwrap_or (target_meant s goal) target.Unfunded)) m ≡ at_number s.tickets m)
+          ⊎ ((m ≡ suc (n - 1)) × (at_number (with_target s.tickets n (unwrap_or (target_meant s goal) target.Unfunded)) m ≡ Some (option_map (retargeted (unwrap_or (target_meant s goal) target.Unfunded)) (ticket_in s.tickets n))))
           → (edge-of (ticket_in s.tickets m) ≡ weighed from to weight) ⊎ LeadsInside c inside from to
       by (inl same) = inl (sym (ap edge-of (ap option_flatten same)) ∙ is)
       by (inr (at, now)) =
           let (t, there, issuer, none) = the-ticket in
-          let here : ticket_in (with_target s.tickets n (unwrap_or (target_named s name) target.Unfunded)) m ≡ Some (retargeted (unwrap_or (target_named s name) target.Unfunded) t) =
-          ap option_flatten now ∙ ap (option_map (retargeted (unwrap_or (target_named s name) target.Unfunded))) there in
-          let (from_is, to_is) = edge-is (retargeted (unwrap_or (target_named s name) target.Unfunded) t) from to weight (sym (ap edge-of here) ∙ is) in
-          inr (inl (from_is ∙ ap Currency issuer), aims (target_named s name) refl to_is)
+          let here : ticket_in (with_target s.tickets n (unwrap_or (target_meant s goal) target.Unfunded)) m ≡ Some (retargeted (unwrap_or (target_meant s goal) target.Unfunded) t) =
+          ap option_flatten now ∙ ap (option_map (retargeted (unwrap_or (target_meant s goal) target.Unfunded))) there in
+          let (from_is, to_is) = edge-is (retargeted (unwrap_or (target_meant s goal) target.Unfunded) t) from to weight (sym (ap edge-of here) ∙ is) in
+          inr (inl (from_is ∙ ap Currency issuer), aims (target_meant s goal) refl to_is)
   fund-back (OfLender t) from to weight is = inl is
   fund-back (OfMutex m) from to weight is = inl is
 
@@ -215,19 +217,19 @@ module _ (s : State) (n c : ℕ) (name : List ℕ) (inside : Node → Bool) (iss
       (λ _. subst (λ x. 0 < amount_in x c) (sym is) (fund-active well.no_cycle well.funds_there after.no_cycle after.funds_there after.amounts some)) (λ _. some)
 
 -- a refused command leaves the state, and with it each value
-pub fund-local : (s : State) (n c : ℕ) (name : List ℕ) (inside : Node → Bool) → IsReachable s → Encloses (funding_of s) c inside → issuer_of (funding_of s) n ≡ Some c → IsNamedInside s name inside → 0 < amount_in s c
-    → (node : Node) → inside node ≡ false → HasEquation (funding_of s) node → worth_in (step s (event.Command (Fund n name))).state node ≡ worth_in s node
-fund-local s n c name inside reachable encloses issued named some node out has = by (command_refusal s (Fund n name)) refl
+pub fund-local : (s : State) (n c : ℕ) (goal : TargetRef) (inside : Node → Bool) → IsReachable s → Encloses (funding_of s) c inside → issuer_of (funding_of s) n ≡ Some c → IsMeantInside s goal inside → 0 < amount_in s c
+    → (node : Node) → inside node ≡ false → HasEquation (funding_of s) node → worth_in (step s (event.Command (Fund n goal))).state node ≡ worth_in s node
+fund-local s n c goal inside reachable encloses issued named some node out has = by (command_refusal s (Fund n goal)) refl
   where
-    by : (o : Option Refusal) → command_refusal s (Fund n name) ≡ o → worth_in (step s (event.Command (Fund n name))).state node ≡ worth_in s node
-    by (Some refusal) is = ap (λ x. worth_in x node) (ap (λ o. (unless_refused s o (command_effect s (Fund n name))).state) is)
+    by : (o : Option Refusal) → command_refusal s (Fund n goal) ≡ o → worth_in (step s (event.Command (Fund n goal))).state node ≡ worth_in s node
+    by (Some refusal) is = ap (λ x. worth_in x node) (ap (λ o. (unless_refused s o (command_effect s (Fund n goal))).state) is)
     by None is =
-        let passed = all-pass ((is_none (ticket_in s.tickets n), NoTicket) ∷ (is_none (target_named s name), NoTarget)
-        ∷ (option_any (is_currency 0) (target_named s name), BaseFixed) ∷ (option_any (is_dead_thread s) (target_named s name), DeadThread)
-        ∷ (option_any is_funding (ticket_in s.tickets n), IsFunding) ∷ (option_any (is_cycle s n) (target_named s name), Cycle) ∷ []) is in
-        let done : (step s (event.Command (Fund n name))).state ≡ record s { tickets = with_target s.tickets n (unwrap_or (target_named s name) target.Unfunded) } =
-        ap (λ o. (unless_refused s o (command_effect s (Fund n name))).state) is in
-        fund-kept s n c name inside issued named passed.1.1.1.1.0 encloses reachable (event.Command (Fund n name)) done some node out has
+        let passed = all-pass ((is_none (ticket_in s.tickets n), NoTicket) ∷ (is_none (target_meant s goal), NoTarget)
+        ∷ (option_any (is_currency 0) (target_meant s goal), BaseFixed) ∷ (option_any (is_dead_thread s) (target_meant s goal), DeadThread)
+        ∷ (option_any is_funding (ticket_in s.tickets n), IsFunding) ∷ (option_any (is_cycle s n) (target_meant s goal), Cycle) ∷ []) is in
+        let done : (step s (event.Command (Fund n goal))).state ≡ record s { tickets = with_target s.tickets n (unwrap_or (target_meant s goal) target.Unfunded) } =
+        ap (λ o. (unless_refused s o (command_effect s (Fund n goal))).state) is in
+        fund-kept s n c goal inside issued named passed.1.1.1.1.0 encloses reachable (event.Command (Fund n goal)) done some node out has
 
 -- ---- a ticket of the currency, or of one inside it, gets another amount
 
@@ -355,7 +357,7 @@ new-number {A = A} xs x (suc i) none is = by (slice_get_cases xs i).1
 
 -- ---- a new thread with a ticket of the currency
 
-module _ (s : State) (amount c : ℕ) (currency name : List ℕ) (script : ℕ) (inside : Node → Bool) (issued : currency_named s currency ≡ Some c)
+module _ (s : State) (amount c : ℕ) (currency : CurrencyRef) (name : List ℕ) (script : ℕ) (inside : Node → Bool) (issued : currency_meant s currency ≡ Some c)
     (new : inside (Thread (length s.threads + 1)) ≡ true) (many : length s.threads ≡ length s.records) where
   abbrev fresh : Record
   fresh = record { status = status.Ready; compensation = None; delivered = None; quanta = 0; ticks = 0 }
@@ -443,7 +445,7 @@ module _ (s : State) (amount c : ℕ) (currency name : List ℕ) (script : ℕ) 
       some-stays (funding_of s) (funding_of made) (live_of s) (live_of made) c (λ edge from to. ends-kept (funding_of s) (funding_of made) edge from to (make-on edge from to)) well.no_cycle well.funds_there after.no_cycle after.funds_there after.amounts make-life some in
       run-inside s (e ∷ []) c inside reachable (subst (λ x. ChangesInside s x c inside) (sym is) change) (λ _. subst (λ x. 0 < amount_in x c) (sym is) active) (λ _. some)
 
-pub make-local : (s : State) (amount c : ℕ) (currency name : List ℕ) (script : ℕ) (inside : Node → Bool) → IsReachable s → Encloses (funding_of s) c inside → currency_named s currency ≡ Some c
+pub make-local : (s : State) (amount c : ℕ) (currency : CurrencyRef) (name : List ℕ) (script : ℕ) (inside : Node → Bool) → IsReachable s → Encloses (funding_of s) c inside → currency_meant s currency ≡ Some c
     → inside (Thread (length s.threads + 1)) ≡ true → 0 < amount_in s c → (node : Node) → inside node ≡ false → HasEquation (funding_of s) node
     → worth_in (step s (event.Command (MakeFunded amount currency name script))).state node ≡ worth_in s node
 make-local s amount c currency name script inside reachable encloses issued new some node out has = by (command_refusal s (MakeFunded amount currency name script)) refl

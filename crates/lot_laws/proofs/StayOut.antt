@@ -22,6 +22,9 @@ use Rattle.lot_machine.specs.declared.action.Action.{Action}
 use Rattle.lot_machine.specs.declared.action.Action.TheVariants.{Yield, Call, Receive, Reply as ReplyTo, Serve, Lock, Unlock, Sleep, Exit}
 use Rattle.lot_machine.specs.declared.command.Command.{Command}
 use Rattle.lot_machine.specs.declared.command.Command.TheVariants.{MakeTicket, RemoveTicket, Fund, Unfund, SetTicket, MakeThread, RemoveThread, MakeFunded}
+use Rattle.lot_machine.specs.declared.reference.CurrencyRef.TheVariants as currency_ref
+use Rattle.lot_machine.specs.declared.reference.TargetRef.{TargetRef}
+use Rattle.lot_machine.specs.declared.reference.TargetRef.TheVariants as target_ref
 use Rattle.lot_machine.specs.declared.event.Event.{Event}
 use Rattle.lot_machine.specs.declared.event.Event.TheVariants as event
 use Rattle.lot_machine.specs.declared.refusal.Refusal.TheVariants.{InUse, NoThread, Alive, BadProcessor, NotRunning, BadTicks}
@@ -34,8 +37,8 @@ use Rattle.lot_machine.specs.Numbered.{at_number, set_number, option_any}
 use Rattle.lot_machine.specs.Funding.{Funding, ticket_in, ticket_at, target_node, lend_node, ends_of, edge_count_into, with_new_ticket, with_target, retargeted, with_amount, reissued}
 use Rattle.lot_machine.specs.Equations.{edges_into}
 use Rattle.lot_machine.specs.Lottery.{winner}
-use Rattle.lot_machine.specs.State.{State, Mutex, QueuedCall, opening, funding_of, lend_of, status_of, thread_on, ready_threads, change_record, value_of, weight_of}
-use Rattle.lot_machine.specs.Commands.{currency_named, thread_named, target_named, currency_or_base, is_dead_in, is_thread_in_use, with_thread, command_refusal, command_effect, command_step}
+use Rattle.lot_machine.specs.State.{State, Mutex, QueuedCall, opening, funding_of, lend_of, status_of, thread_at, thread_on, ready_threads, change_record, value_of, weight_of}
+use Rattle.lot_machine.specs.Commands.{currency_meant, currency_named, thread_meant, thread_named, target_meant, target_named, currency_or_base, is_dead_in, is_thread_in_use, with_thread, command_refusal, command_effect, command_step}
 use Rattle.lot_machine.specs.Traps.{after_trap, with_ticks}
 use Rattle.lot_machine.specs.Ports.{port_at, first_client, call, receive, reply}
 use Rattle.lot_machine.specs.Mutexes.{mutex_at, lock, unlock}
@@ -362,13 +365,29 @@ named-in name threads t = by (position (option_any (λ (x : ThreadRecord). bytes
         let there : at_number threads t ≡ Some (get_or threads place None) = ap (at_number threads) (sym number) ∙ at_number-suc threads place ∙ slice_get-get_or threads place None found.0 in
         passes (get_or threads place None) found.1 (some-injective (get_or threads place None) None (sym there ∙ gone))
 
-target-in : (s : State) (name : List ℕ) (t : ℕ) → unwrap_or (target_named s name) target.Unfunded ≡ target.Thread t → IsIn s.threads t
-target-in s name t = by (currency_named s name) (thread_named s name) refl
+target-named-in : (s : State) (name : List ℕ) (t : ℕ) → unwrap_or (target_named s name) target.Unfunded ≡ target.Thread t → IsIn s.threads t
+target-named-in s name t = by (currency_named s name) (thread_named s name) refl
   where
     by : (o p : Option ℕ) → thread_named s name ≡ p → unwrap_or (option_or (option_map target.Currency o) (option_map target.Thread p)) target.Unfunded ≡ target.Thread t → IsIn s.threads t
     by (Some c) p is e = cc
     by None (Some u) is e = let same : u ≡ t = cc in named-in name s.threads t (is ∙ ap Some same)
     by None None is e = cc
+
+-- a thread that is meant is there
+target-in : (s : State) (to : TargetRef) (t : ℕ) → unwrap_or (target_meant s to) target.Unfunded ≡ target.Thread t → IsIn s.threads t
+target-in s (target_ref.Named name) t = target-named-in s name t
+target-in s (target_ref.Currency c) t = by (currency_meant s (currency_ref.Numbered c))
+  where
+    by : (o : Option ℕ) → unwrap_or (option_map target.Currency o) target.Unfunded ≡ target.Thread t → IsIn s.threads t
+    by None e = cc
+    by (Some d) e = cc
+target-in s (target_ref.Thread u) t = by (thread_at s.threads u) refl
+  where
+    by : (o : Option ThreadRecord) → thread_at s.threads u ≡ o → unwrap_or (option_map target.Thread (option_map (λ (x : ThreadRecord). u) o)) target.Unfunded ≡ target.Thread t → IsIn s.threads t
+    by None is e = cc
+    by (Some x) is e =
+        let same : u ≡ t = cc in
+        subst (IsIn s.threads) same (λ gone. let never : Some x ≡ None = sym is ∙ ap option_flatten gone in cc)
 
 -- nothing leads to a node without an edge into it
 unused : (f : Funding) (node : Node) → nat_lt 0 (edge_count_into f node) ≡ false → (edge : Edge) (from : Node) → ¬ (ends_of f edge ≡ Some (pair from node))
@@ -405,18 +424,18 @@ command-refers s (MakeTicket amount currency) refers =
     unrefused RefersIn s _ (command_effect s (MakeTicket amount currency)) refers (λ _. (funded-more (IsIn s.threads) s.tickets amount (currency_or_base s currency) target.Unfunded (λ t e. cc) refers.0, refers.1, refers.2))
 command-refers s (RemoveTicket n) refers =
     unrefused RefersIn s _ (command_effect s (RemoveTicket n)) refers (λ _. (funded-set (IsIn s.threads) s.tickets n None (λ t ticket e. cc) refers.0, refers.1, refers.2))
-command-refers s (Fund n name) refers =
-    unrefused RefersIn s _ (command_effect s (Fund n name)) refers (λ _. (funded-aimed (IsIn s.threads) s.tickets n (unwrap_or (target_named s name) target.Unfunded) (target-in s name) refers.0, refers.1, refers.2))
+command-refers s (Fund n to) refers =
+    unrefused RefersIn s _ (command_effect s (Fund n to)) refers (λ _. (funded-aimed (IsIn s.threads) s.tickets n (unwrap_or (target_meant s to) target.Unfunded) (target-in s to) refers.0, refers.1, refers.2))
 command-refers s (Unfund n) refers =
     unrefused RefersIn s _ (command_effect s (Unfund n)) refers (λ _. (funded-aimed (IsIn s.threads) s.tickets n target.Unfunded (λ t e. cc) refers.0, refers.1, refers.2))
 command-refers s (SetTicket n amount) refers =
     unrefused RefersIn s _ (command_effect s (SetTicket n amount)) refers (λ _. (funded-amount (IsIn s.threads) s.tickets n amount refers.0, refers.1, refers.2))
 command-refers s (MakeThread name script) refers = unrefused RefersIn s _ (command_effect s (MakeThread name script)) refers (λ _. refers-more s name script refers)
-command-refers s (RemoveThread name) refers =
-    unrefused RefersIn s _ (command_effect s (RemoveThread name)) refers (λ e.
-    let passed = all-pass ((is_none (thread_named s name), NoThread) ∷ (not (option_any (is_dead_in s) (thread_named s name)), Alive)
-    ∷ (option_any (is_thread_in_use s) (thread_named s name), InUse) ∷ []) e in
-    by (thread_named s name) passed.0 passed.1.0 passed.1.1.0)
+command-refers s (RemoveThread thread) refers =
+    unrefused RefersIn s _ (command_effect s (RemoveThread thread)) refers (λ e.
+    let passed = all-pass ((is_none (thread_meant s thread), NoThread) ∷ (not (option_any (is_dead_in s) (thread_meant s thread)), Alive)
+    ∷ (option_any (is_thread_in_use s) (thread_meant s thread), InUse) ∷ []) e in
+    by (thread_meant s thread) passed.0 passed.1.0 passed.1.1.0)
   where
     holds : (b : Bool) → not b ≡ false → b ≡ true
     holds true e = refl

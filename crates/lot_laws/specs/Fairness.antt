@@ -1,5 +1,5 @@
--- Fairness by counting, with no word of probability: of all the draws of n lotteries, in how many a client wins, and
--- how often (2.2). A client is given by the test that says with which numbers it wins.
+-- Fairness by counting, without probabilities: in how many of all the draws of n lotteries a client wins, and how
+-- often (2.2). A client is given by the test of the numbers with which it wins.
 use Rattle.std.specs.Prelude.{ℕ, zero, suc, ◌+◌, ◌-◌, ◌*◌, ◌==◌, Bool, Option, Some, None, List, [], ◌∷◌, map, flat_map, count_by, sum_by, option_map, if◌then◌else◌}
 use Rattle.std.specs.List.{range_with_len}
 use Rattle.lot_machine.specs.Numbered.{option_any}
@@ -10,7 +10,7 @@ use Rattle.lot_machine.specs.Facts.{is_won_by}
 
 -- ---- clients
 
--- whether the place wins with this number, in a lottery over these weights
+-- whether the index wins with this number, in a lottery over these weights
 abbrev pub place_wins : List ℕ → ℕ → ℕ → Bool
 place_wins ws place d = option_any (λ w. w.place == place) (winner ws d)
 
@@ -31,41 +31,41 @@ all_draws total n = lists_of (range_with_len 0 total) n
 
 -- ---- wins
 
--- how many of these draws the client wins
+-- the number of these draws that the client wins
 abbrev pub win_count : (ℕ → Bool) → List ℕ → ℕ
 win_count wins draws = count_by wins draws
 
--- its wins in all draws of n lotteries together
+-- the client's wins, summed over all draws of n lotteries
 abbrev pub wins_in_all : (ℕ → Bool) → ℕ → ℕ → ℕ
 wins_in_all wins total n = sum_by (win_count wins) (all_draws total n)
 
--- in how many of all draws of n lotteries it wins exactly k of them
+-- the number of draws of n lotteries in which the client wins exactly k of them
 abbrev pub draws_with_wins : (ℕ → Bool) → ℕ → ℕ → ℕ → ℕ
 draws_with_wins wins total n k = count_by (λ draws. win_count wins draws == k) (all_draws total n)
 
--- which of these draws it wins first; the first of all has the number 0
+-- the index of the client's first win among these draws, from 0
 abbrev pub first_win : (ℕ → Bool) → List ℕ → Option ℕ
 first_win wins [] = None
 first_win wins (d ∷ draws) = if wins d then Some 0 else option_map suc (first_win wins draws)
 
--- in how many of all draws of n lotteries its first win comes after k losses
+-- the number of draws of n lotteries in which the client's first win comes after k losses
 abbrev pub draws_first_won_after : (ℕ → Bool) → ℕ → ℕ → ℕ → ℕ
 draws_first_won_after wins total n k = count_by (λ draws. option_any (λ j. j == k) (first_win wins draws)) (all_draws total n)
 
 -- ---- the binomial distribution
 
--- how many ways there are to choose k of n, by Pascal's rule
+-- the number of ways to choose k of n, by Pascal's rule
 abbrev pub choose : ℕ → ℕ → ℕ
 choose zero zero = 1
 choose zero (suc k) = 0
 choose (suc n) zero = 1
 choose (suc n) (suc k) = choose n k + choose n (suc k)
 
--- the square of how far two numbers are apart
+-- the square of the difference of two numbers
 abbrev pub squared_distance : ℕ → ℕ → ℕ
 squared_distance a b = (a - b) * (a - b) + (b - a) * (b - a)
 
--- The squared distances of the client's wins from its share, n * weight / total, over all draws of n lotteries. Wins
--- and share are multiplied by the total, so that both are whole.
+-- The squared distances of the client's wins from its share n * weight / total, both times the total, summed over all
+-- draws of n lotteries.
 abbrev pub squared_distances : (ℕ → Bool) → ℕ → ℕ → ℕ → ℕ
 squared_distances wins total weight n = sum_by (λ draws. squared_distance (win_count wins draws * total) (n * weight)) (all_draws total n)

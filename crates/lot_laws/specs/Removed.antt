@@ -1,4 +1,4 @@
--- Threads that were removed, and what could refer to them.
+-- Removed threads, and the places that could refer to them.
 use Rattle.std.specs.Prelude.{◌≡◌, ℕ, Some, None, List, Contains, map}
 use Rattle.lot_machine.specs.declared.record.Status.TheVariants.{Dead}
 use Rattle.lot_machine.specs.declared.funding.Node.{Node}
@@ -7,7 +7,7 @@ use Rattle.lot_machine.specs.Numbered.{at_number}
 use Rattle.lot_machine.specs.Funding.{Funding, IsEdge}
 use Rattle.lot_machine.specs.State.{State, Port, Mutex, funding_of, status_of}
 
--- the thread was removed: its number was given, and its place is a gap
+-- the thread was removed: its number was used, and its slot is a gap
 abbrev pub IsRemoved : State → ℕ → Type 0
 IsRemoved s t = at_number s.threads t ≡ Some None
 
@@ -15,12 +15,12 @@ IsRemoved s t = at_number s.threads t ≡ Some None
 abbrev pub NothingLeadsTo : Funding → ℕ → Type 0
 NothingLeadsTo f t = (from : Node) → ¬ IsEdge f from (Thread t)
 
--- no edge leads to a thread that was removed
+-- no edge leads to a removed thread
 abbrev pub NothingLeadsToRemoved : State → Type 0
 NothingLeadsToRemoved s = (t : ℕ) → IsRemoved s t → NothingLeadsTo (funding_of s) t
 
--- The thread is dead, and waits nowhere: no port has it or its call, no mutex has it among those who wait for it, and
--- nobody serves it.
+-- The thread is dead, and waits nowhere: no port's receivers or queued calls hold it, nor the waiters of a mutex, nor
+-- the clients of a thread.
 pub record StandsNowhere (s : State) (t : ℕ) : Type 0 where
   pub dead : status_of s.records t ≡ Some Dead
   pub receivers : (p : ℕ) (port : Port) → at_number s.ports p ≡ Some port → ¬ Contains port.receivers t

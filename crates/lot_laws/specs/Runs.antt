@@ -1,4 +1,4 @@
--- Runs and states that are small enough to compute.
+-- Runs and states that are small enough to compute by hand.
 use Rattle.std.specs.Prelude.{Some, ◌==◌, ◌||◌, Bool, false, List, [], ◌∷◌, ◌++◌, codes}
 use Rattle.lot_machine.specs.declared.action.Action.TheVariants.{Call, Receive, Lock, Exit}
 use Rattle.lot_machine.specs.declared.event.Event.{Event}
@@ -18,11 +18,11 @@ nothing_to_share = record (after halves) { tickets = Some (record { amount = 5; 
 abbrev pub two_currencies : List Event
 two_currencies = mkcur (codes "g") ∷ mkcur (codes "h") ∷ mktkt 100 base ∷ fund 1 (codes "g") ∷ mktkt 100 base ∷ fund 2 (codes "h") ∷ fundx 1 (codes "g") (codes "a") ∷ fundx 1 (codes "h") (codes "b") ∷ []
 
--- the same with one more thread in the first currency
+-- `two_currencies`, and one more thread in the first currency
 abbrev pub three_threads : List Event
 three_threads = two_currencies ++ fundx 1 (codes "g") (codes "c") ∷ []
 
--- the same, and the first thread runs
+-- `three_threads`, and then the first thread runs
 abbrev pub first_of_three_runs : List Event
 first_of_three_runs = three_threads ++ Draw 1 0 ∷ []
 
@@ -38,7 +38,7 @@ server_with_a_ticket = mkcur (codes "g") ∷ mktkt 100 base ∷ fund 1 (codes "g
 abbrev pub busy_server : List Event
 busy_server = mkthr (codes "v") ∷ fundx 400 base (codes "c") ∷ mktkt 1 base ∷ fund 2 (codes "v") ∷ Draw 1 0 ∷ unfund 2 ∷ Draw 2 0 ∷ []
 
--- a server with no ticket that serves a thread of 400 base, and another thread of 100 whose call is queued
+-- a server without tickets that serves a thread of 400 base, and another thread of 100 base whose call is queued
 abbrev pub two_callers : List Event
 two_callers = busy_server ++ Trap 2 0 (Call 1 9) ∷ Trap 1 0 (Receive 1) ∷ fundx 100 base (codes "d") ∷ Draw 2 0 ∷ Trap 2 0 (Call 1 8) ∷ []
 
@@ -46,7 +46,7 @@ two_callers = busy_server ++ Trap 2 0 (Call 1 9) ∷ Trap 1 0 (Receive 1) ∷ fu
 abbrev pub owner_runs : List Event
 owner_runs = fundx 50 base (codes "a") ∷ fundx 100 base (codes "b") ∷ Draw 1 0 ∷ Trap 1 0 (Lock 1) ∷ Draw 2 0 ∷ []
 
--- the same, but the owner waits for a call
+-- the run `owner_runs`, except that the owner waits for a call
 abbrev pub owner_receives : List Event
 owner_receives = owner_runs ++ Trap 1 0 (Receive 1) ∷ []
 

@@ -1,4 +1,4 @@
--- Transfers: what a blocked thread lends goes to the thread that it waits for (3.1, 4.6, 6.1).
+-- Transfers: a blocked thread lends its value to the thread that it waits for (3.1, 4.6, 6.1).
 use Rattle.std.specs.Prelude.{◌≡◌, ℕ, Bool, Some, []}
 use Rattle.lot_machine.specs.declared.action.Action.TheVariants.{Call, Receive, Reply as ReplyTo, Serve, Lock}
 use Rattle.lot_machine.specs.declared.event.Event.{Event}
@@ -44,18 +44,18 @@ RepliesThenReceives s e caller next server =
     (p : ℕ) × (ran : ℕ) × (port : ℕ) × (number : ℕ) × (taken : ℕ) × (ticks : ℕ) × (ends : Bool) × (e ≡ Trap p ran (Serve port number))
     × ((step s e).reply ≡ Trapped server ticks (RepliedThenReceived caller next taken) ends)
 
--- the thread locks a mutex that the owner has, and waits for it
+-- the thread locks a mutex of the owner's, and waits for it
 abbrev pub WaitsFor : State → Event → ℕ → ℕ → Type 0
 WaitsFor s e t owner =
     (p : ℕ) × (ran : ℕ) × (m : ℕ) × (ticks : ℕ) × (ends : Bool) × (e ≡ Trap p ran (Lock m)) × ((step s e).reply ≡ Trapped t ticks Waits ends) × (owner_of (funding_of s) m ≡ Some owner)
 
 -- ---- states
 
--- The thread has nothing of its own: no ticket funds it, and nobody lends to it, so it has no client, and nobody
--- waits for a mutex that it owns.
+-- The thread has nothing of its own: no ticket funds it, and no thread lends to it, so it has no client, and no
+-- thread waits for a mutex that it owns.
 abbrev pub OwnsNothing : State → ℕ → Type 0
 OwnsNothing s t = (backing_thread (funding_of s) t ≡ []) × ((u : ℕ) → ¬ LendsTo (funding_of s) u t)
 
--- the same state, but the thread is Ready
+-- the state with this thread Ready
 abbrev pub with_ready : State → ℕ → State
 with_ready s t = record s { records = change_record (λ r. record r { status = Ready }) s.records t }

@@ -1,6 +1,6 @@
-//! Lotteries are fair by counting: over all numbers that n lotteries may draw, a client wins in proportion to its
-//! weight, and its wins have the binomial distribution (2.2). That the generator spreads its numbers evenly is no
-//! part of it.
+//! Fairness by counting: over all numbers that n lotteries may draw, a client wins in proportion to its weight, and
+//! its wins have the binomial distribution (2.2). These laws don't claim that the generator spreads its numbers
+//! evenly.
 ghost use Rattle.std.specs.Prelude.{◌≡◌, ◌+◌, ◌-◌, ◌*◌, ◌^◌, ◌<◌, Some, List, All, ℕ, length, slice_get, sum};
 ghost use Rattle.lot_machine.specs.Equations.{HasEachOnce};
 ghost use Rattle.lot_machine.specs.State.{State, status_of, weight_of};
@@ -9,16 +9,16 @@ ghost use Rattle.lot_machine.specs.declared.record.Status.TheVariants.{Ready};
 ghost use Rattle.lot_laws.specs.Fairness.{place_wins, thread_wins, all_draws, wins_in_all, draws_with_wins};
 ghost use Rattle.lot_laws.specs.Fairness.{draws_first_won_after, squared_distances, choose};
 
-/// All draws of n lotteries are the lists of n numbers below the total, each once: total ^ n lists.
+/// The draws of n lotteries are exactly the lists of n numbers below the total, each once: total ^ n lists.
 pub fn all_draws_are_there()
     ensures once { (total n : ℕ) → HasEachOnce (all_draws total n) (λ draws. (length draws ≡ n)
         × All (λ d. d < total) draws) }
     ensures count { (total n : ℕ) → length (all_draws total n) ≡ total ^ n }
 {}
 
-/// A client of weight w wins n * w * total ^ (n - 1) times in all draws of n lotteries together, so n * w / total
-/// times in the mean; the clauses of the means say that without a division (2.2). A client is a place in a lottery
-/// over any weights, or a Ready thread in any state.
+/// In all draws of n lotteries together, a client of weight w wins n * w * total ^ (n - 1) times, so n * w / total
+/// times in the mean; the clauses about means avoid the division (2.2). A client is an index in a lottery over any
+/// weights, or a Ready thread in any state.
 pub fn wins_are_in_proportion()
     ensures place { (ws : List ℕ) (place weight n : ℕ) → slice_get ws place ≡ Some weight
         → wins_in_all (place_wins ws place) (sum ws) n ≡ n * weight * sum ws ^ (n - 1) }
@@ -41,8 +41,8 @@ pub fn wins_are_binomial()
         ≡ choose n k * weight_of s t ^ k * (total_weight s - weight_of s t) ^ (n - k) }
 {}
 
-/// The first win has the geometric distribution (2.2): it comes after k losses in (total - w) ^ k * w * total ^ (n -
-/// (k + 1)) of all draws of n lotteries, and in (total - w) ^ n of them never.
+/// The first win has the geometric distribution (2.2): of all draws of n lotteries, it comes after k losses in (total
+/// - w) ^ k * w * total ^ (n - (k + 1)), and never in (total - w) ^ n.
 pub fn first_wins_are_geometric()
     ensures place { (ws : List ℕ) (place weight n k : ℕ) → slice_get ws place ≡ Some weight → k < n
         → draws_first_won_after (place_wins ws place) (sum ws) n k
@@ -57,9 +57,9 @@ pub fn first_wins_are_geometric()
 {}
 
 /// Wins have the variance of the binomial distribution, n * (w / total) * (1 - w / total): over all draws of n
-/// lotteries the squares of wins * total - n * w sum to n * w * (total - w) * total ^ n. The variance grows as n and
-/// not as its square, so the more lotteries, the nearer a client's share of the wins is to its share of the weights
-/// (2.2).
+/// lotteries the squares of wins * total - n * w sum to n * w * (total - w) * total ^ n. The variance grows with n
+/// and not with its square, so the more lotteries, the closer a client's share of the wins comes to its share of the
+/// weights (2.2).
 pub fn wins_have_the_binomial_variance()
     ensures place { (ws : List ℕ) (place weight n : ℕ) → slice_get ws place ≡ Some weight
         → squared_distances (place_wins ws place) (sum ws) weight n ≡ n * weight * (sum ws - weight) * sum ws ^ n }

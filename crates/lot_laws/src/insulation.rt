@@ -1,10 +1,12 @@
-//! Currencies insulate: what a change can't affect keeps its value, and what changes inside a currency changes no
-//! value outside it (3.2, 3.3).
+//! Insulation: a node that a change can't affect keeps its value, and a change inside a currency changes no value
+//! outside it (3.2, 3.3).
 ghost use Rattle.std.specs.Prelude.{◌≡◌, ◌≢◌, IsTrue, ◌+◌, ◌<◌, ◌⊎◌, ◌↔◌, Bool, true, false, Some, List, All, ℕ};
 ghost use Rattle.std.specs.Prelude.{length};
 ghost use Rattle.lot_machine.specs.declared.event.Event.{Event};
 ghost use Rattle.lot_machine.specs.declared.event.Event.TheVariants.{Command};
 ghost use Rattle.lot_machine.specs.declared.command.Command.TheVariants.{Fund, SetTicket, MakeFunded};
+ghost use Rattle.lot_machine.specs.declared.reference.CurrencyRef.{CurrencyRef};
+ghost use Rattle.lot_machine.specs.declared.reference.TargetRef.{TargetRef};
 ghost use Rattle.lot_machine.specs.declared.reply.Reply.TheVariants.{Done};
 ghost use Rattle.lot_machine.specs.declared.funding.Node.{Node};
 ghost use Rattle.lot_machine.specs.declared.funding.Node.TheVariants.{Currency, Thread};
@@ -16,17 +18,17 @@ ghost use Rattle.lot_machine.specs.Equations.{HasEquation};
 ghost use Rattle.lot_machine.specs.State.{State, funding_of};
 ghost use Rattle.lot_machine.specs.Facts.{HasNoCycle, FundsThere};
 ghost use Rattle.lot_machine.specs.Order.{IsInOrder};
-ghost use Rattle.lot_machine.specs.Commands.{currency_named};
+ghost use Rattle.lot_machine.specs.Commands.{currency_meant};
 ghost use Rattle.lot_machine.specs.Step.{step, state_after};
 ghost use Rattle.lot_laws.specs.Insulation.{KeepsAmount, KeepsAmounts, SetsAmountOf};
 ghost use Rattle.lot_laws.specs.Insulation.{IsAffected, Affects, Encloses, IsChangeInside};
-ghost use Rattle.lot_laws.specs.Insulation.{ChangesInside, IsNamedInside, amount_in, worth_in, is_active_in};
+ghost use Rattle.lot_laws.specs.Insulation.{ChangesInside, IsMeantInside, amount_in, worth_in, is_active_in};
 ghost use Rattle.lot_laws.specs.Insulation.{ticket_worth_in};
 ghost use Rattle.lot_laws.specs.Reachable.{IsReachable, IsWellFormed};
 
-/// However tickets and their amounts, lends, owners and live threads change, a node keeps its value if no touched node
-/// leads to it. Nothing may make a cycle before or after. It is not enough that the node itself isn't touched:
-/// `worked::insulation::untouched_but_affected` shows one that isn't, and whose value changes.
+/// Whatever changes in tickets, their amounts, lends, owners and live threads, a node keeps its value if no touched
+/// node leads to it. Nothing may make a cycle before or after. It isn't enough that the node itself isn't touched:
+/// `worked::insulation::untouched_but_affected` shows such a node, whose value changes.
 pub fn changes_are_insulated()
     ensures { (before after : Funding) → HasNoCycle before → FundsThere before → HasNoCycle after → FundsThere after
         → (unit : ℕ) (live now_live : List Bool) (node : Node) → HasEquation before node → HasEquation after node
@@ -34,7 +36,8 @@ pub fn changes_are_insulated()
         → node_value unit before live node ≡ node_value unit after now_live node }
 {}
 
-/// Only `settkt` of a ticket gives it another amount: each other event, and each run without one, leaves its amount.
+/// Only `settkt` changes a ticket's amount: every other event, and every run without a `settkt` of the ticket, leaves
+/// it.
 pub fn amounts_stay()
     ensures event { (s : State) (e : Event) (n : ℕ) → ¬ SetsAmountOf n e
         → KeepsAmount (funding_of s) (funding_of (step s e).state) n }
@@ -44,8 +47,8 @@ pub fn amounts_stay()
         → KeepsAmounts (funding_of s) (funding_of (state_after s events)) }
 {}
 
-/// `settkt` gives the ticket exactly the amount that it says, and leaves what issues it and what it funds. It leaves
-/// each other ticket, and all else of the state.
+/// `settkt` sets the ticket's amount to the given one, and leaves its issuer and its target. It leaves every other
+/// ticket, and the rest of the state.
 pub fn amounts_are_set()
     ensures ticket { (s : State) (n amount : ℕ) (t : Ticket)
         → (step s (Command (SetTicket n amount))).reply ≡ Done → ticket_at (funding_of s) n ≡ Some t
@@ -56,8 +59,8 @@ pub fn amounts_are_set()
         ≡ record s { tickets = (step s (Command (SetTicket n amount))).state.tickets } }
 {}
 
-/// A currency, a thread or a mutex that an event doesn't affect keeps its value, and so does one that a whole run of
-/// events doesn't affect.
+/// A currency, a thread or a mutex that an event doesn't affect keeps its value; so does one that a run of events
+/// doesn't affect.
 pub fn events_are_insulated()
     ensures event { (s : State) (e : Event) (node : Node) → IsInOrder s → HasEquation (funding_of s) node
         → ¬ Affects s (step s e).state node → worth_in (step s e).state node ≡ worth_in s node }
@@ -66,8 +69,8 @@ pub fn events_are_insulated()
         → worth_in (state_after s events) node ≡ worth_in s node }
 {}
 
-/// What changes inside a currency changes no value outside it, the currency's own included, if the currency has an
-/// active amount before and after, or neither.
+/// A change inside a currency changes no value outside it, not even the currency's own, if the currency has an active
+/// amount before and after, or neither before nor after.
 pub fn changes_stay_inside()
     ensures { (before after : Funding) → IsWellFormed before → IsWellFormed after
         → (unit : ℕ) (live now_live : List Bool) (c : ℕ) (inside : Node → Bool)
@@ -77,11 +80,11 @@ pub fn changes_stay_inside()
         → node_value unit before live node ≡ node_value unit after now_live node }
 {}
 
-/// What is issued, funded, removed or gets another amount inside a currency whose active amount stays changes no value
-/// outside it, the currency's own included, and leaves the values of the currency's other tickets (3.3): a ticket that
-/// keeps its amount keeps its value, and one that gets another is worth what this amount was worth before. Only the
-/// currency, base and what is inside may lead inside: `worked::insulation::funded_from_outside` shows what changes
-/// otherwise.
+/// A change inside a currency whose active amount stays, whether a ticket is issued, funded, removed or gets another
+/// amount, changes no value outside it, not even the currency's own, and leaves the values of the currency's other
+/// tickets (3.3): a ticket that keeps its amount keeps its value, and one with a new amount is worth what this amount
+/// was worth before. Only the currency, base and nodes inside may lead inside; otherwise values outside can change,
+/// as `worked::insulation::funded_from_outside` shows.
 pub fn currencies_insulate()
     ensures outside { (s : State) (events : List Event) (c : ℕ) (inside : Node → Bool) → IsReachable s
         → ChangesInside s (state_after s events) c inside
@@ -104,20 +107,21 @@ pub fn currencies_insulate()
         → ticket_worth_in (state_after s events) u ≡ ticket_worth_in s (reissued u.amount t) }
 {}
 
-/// Inflation is local (3.2): tickets that are made inside a currency with active tickets change no value outside it,
-/// whatever their amounts. So of one that funds what has a name inside, of one that a new thread inside is made with,
-/// and of a whole run that changes nothing outside. In a currency with no active ticket the first one activates what
-/// funds the currency, as `worked::insulation::first_active_ticket` shows. Another amount activates nothing: `settkt`
-/// of a ticket of the currency, or of a currency inside it, is a change inside, and changes no value outside, whether
-/// or not the currency has active tickets.
+/// Inflation is local (3.2): tickets made inside a currency with active tickets change no value outside it, whatever
+/// their amounts. That covers a ticket that funds a target inside, a ticket made with a new thread inside, and a whole
+/// run that changes nothing outside. In a currency without active tickets the first one activates the currency's
+/// backing tickets, as `worked::insulation::first_active_ticket` shows. A changed amount activates nothing: `settkt`
+/// of a ticket of the currency, or of a currency inside it, is a change inside, and changes no value outside, with or
+/// without active tickets in the currency.
 pub fn inflation_is_local()
-    ensures fund { (s : State) (n c : ℕ) (name : List ℕ) (inside : Node → Bool) → IsReachable s
+    ensures fund { (s : State) (n c : ℕ) (to : TargetRef) (inside : Node → Bool) → IsReachable s
         → Encloses (funding_of s) c inside → issuer_of (funding_of s) n ≡ Some c
-        → IsNamedInside s name inside → 0 < amount_in s c → (node : Node) → inside node ≡ false
+        → IsMeantInside s to inside → 0 < amount_in s c → (node : Node) → inside node ≡ false
         → HasEquation (funding_of s) node
-        → worth_in (step s (Command (Fund n name))).state node ≡ worth_in s node }
-    ensures make { (s : State) (amount c : ℕ) (currency name : List ℕ) (script : ℕ) (inside : Node → Bool)
-        → IsReachable s → Encloses (funding_of s) c inside → currency_named s currency ≡ Some c
+        → worth_in (step s (Command (Fund n to))).state node ≡ worth_in s node }
+    ensures make { (s : State) (amount c : ℕ) (currency : CurrencyRef) (name : List ℕ) (script : ℕ)
+        (inside : Node → Bool)
+        → IsReachable s → Encloses (funding_of s) c inside → currency_meant s currency ≡ Some c
         → inside (Thread (length s.threads + 1)) ≡ true → 0 < amount_in s c → (node : Node) → inside node ≡ false
         → HasEquation (funding_of s) node
         → worth_in (step s (Command (MakeFunded amount currency name script))).state node ≡ worth_in s node }

@@ -1,5 +1,5 @@
-//! What is claimed of lottery scheduling, as laws of the machine: fair by counting, conserved, insulated, and nothing
-//! lost in a transfer. Each is a function with an empty body whose clauses are the law.
+//! The claims about lottery scheduling, as laws of the machine: fairness by counting, conservation, insulation, and
+//! transfers without loss. Each law is a function with an empty body; its clauses are the law.
 #![tactic(auto)]
 
 pub mod conservation;

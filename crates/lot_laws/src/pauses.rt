@@ -1,4 +1,4 @@
-//! What sleeping and waking mean, as laws of the machine (4.4, 4.5).
+//! Sleeping and waking, as laws of the machine (4.4, 4.5).
 ghost use Rattle.std.specs.Prelude.{◌≡◌, ℕ, false, Some, None};
 ghost use Rattle.lot_machine.specs.declared.action.Action.TheVariants.{Yield, Sleep};
 ghost use Rattle.lot_machine.specs.declared.event.Event.TheVariants.{Trap, Wake};
@@ -12,8 +12,8 @@ ghost use Rattle.lot_machine.specs.Order.{IsInOrder};
 ghost use Rattle.lot_machine.specs.State.{State, funding_of, live_of, status_of, thread_at, thread_on, value_of};
 ghost use Rattle.lot_machine.specs.Step.{step};
 
-/// A thread that sleeps has nothing: it lends to nobody, it is worth nothing, and the tickets that fund it are
-/// inactive, as those of any blocked thread that lends to nobody (4.4).
+/// A sleeping thread has nothing: it lends to nobody and is worth nothing, and its tickets are inactive, like those
+/// of any blocked thread that lends to nobody (4.4).
 pub fn sleepers_have_nothing()
     ensures lends { (s : State) (t : ℕ) → status_of s.records t ≡ Some Asleep
         → borrower_of (funding_of s) t ≡ None }
@@ -22,8 +22,8 @@ pub fn sleepers_have_nothing()
         → ticket.target ≡ target.Thread t → is_active (funding_of s) (live_of s) ticket ≡ false }
 {}
 
-/// A sleep that ends at once is a yield: the thread is Ready with the same compensation and the same ticks, and nothing
-/// else has changed (4.5).
+/// A sleep that ends at once is a yield: the thread is Ready with the same compensation and ticks, and the rest of
+/// the state is unchanged (4.5).
 pub fn a_sleep_that_ends_at_once_is_a_yield()
     ensures { (s : State) (p t ran : ℕ) (thread : AThread) → thread_on s.records p ≡ Some t
         → thread_at s.threads t ≡ Some thread

@@ -1,4 +1,4 @@
-//! What the other laws ask of a state, each state has that a run can come to.
+//! The premises of the other laws hold in each reachable state.
 ghost use Rattle.std.specs.Prelude.{List};
 ghost use Rattle.lot_machine.specs.declared.event.Event.{Event};
 ghost use Rattle.lot_machine.specs.State.{State, funding_of};
@@ -8,7 +8,8 @@ ghost use Rattle.lot_laws.specs.Conservation.{HasAmounts};
 ghost use Rattle.lot_laws.specs.Reachable.{IsReachable, IsWellFormed};
 
 /// Each reachable state is in order, and its funding is well formed: nothing makes a cycle, no ticket has the amount
-/// 0, and tickets fund only threads and user currencies that are there. It is reachable after a run of events.
+/// 0, and tickets fund only existing threads and user currencies. The state after a run of events is reachable if the
+/// state before it is.
 pub fn reachable_states_meet_the_premises()
     ensures in_order { (s : State) → IsReachable s → IsInOrder s }
     ensures well_formed { (s : State) → IsReachable s → IsWellFormed (funding_of s) }

@@ -1,4 +1,4 @@
-//! A thread that was removed stays out: nothing refers to it, then or later.
+//! A removed thread stays removed: nothing refers to it, then or later.
 ghost use Rattle.std.specs.Prelude.{◌≡◌, ℕ, List, [], Some};
 ghost use Rattle.lot_machine.specs.declared.event.Event.{Event};
 ghost use Rattle.lot_machine.specs.Numbered.{at_number};
@@ -8,9 +8,9 @@ ghost use Rattle.lot_machine.specs.Step.{step, state_after};
 ghost use Rattle.lot_laws.specs.Reachable.{IsReachable};
 ghost use Rattle.lot_laws.specs.Removed.{IsRemoved, NothingLeadsTo, NothingLeadsToRemoved, StandsNowhere};
 
-/// In a reachable state nothing refers to a thread that was removed: no ticket funds it, no thread lends to it, it owns
-/// no mutex, it stands in no list of those who wait or are served, and it serves nobody. It is dead, it stays removed,
-/// and no later event changes its record, so what it has won and used can be read for good.
+/// In a reachable state nothing refers to a removed thread: no ticket funds it, no thread lends to it, it owns no
+/// mutex, no list of waiting or served threads holds it, and it serves nobody. It is dead and stays removed, and no
+/// later event changes its record, so its quanta and ticks can be read for good.
 pub fn removed_threads_stay_out()
     ensures edges { (s : State) (t : ℕ) → IsReachable s → IsRemoved s t → NothingLeadsTo (funding_of s) t }
     ensures lists { (s : State) (t : ℕ) → IsInOrder s → IsRemoved s t → StandsNowhere s t }
@@ -22,8 +22,8 @@ pub fn removed_threads_stay_out()
         → at_number (state_after s events).records t ≡ at_number s.records t }
 {}
 
-/// No event lets an edge lead to a thread that was removed, in a state that is in order and where none does. The order
-/// alone doesn't say so, since it doesn't say whom tickets fund and who owns a mutex.
+/// If the state is in order and no edge leads to a removed thread, none does after an event. Order alone isn't
+/// enough, since it doesn't say what tickets fund and who owns a mutex.
 pub fn events_refer_to_no_removed_thread()
     ensures { (s : State) (e : Event) → IsInOrder s → NothingLeadsToRemoved s
         → NothingLeadsToRemoved (step s e).state }

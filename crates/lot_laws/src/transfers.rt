@@ -1,5 +1,5 @@
-//! Nothing is lost in a transfer: a thread that blocks hands what it is worth to the thread that it waits for, and
-//! gets it back with the reply (3.1, 4.6, 6.1).
+//! Transfers lose nothing: a thread that blocks passes its value to the thread that it waits for, and gets it back
+//! with the reply (3.1, 4.6, 6.1).
 ghost use Rattle.std.specs.Prelude.{◌≡◌, ◌≢◌, ◌+◌, ℕ};
 ghost use Rattle.lot_machine.specs.declared.event.Event.{Event};
 ghost use Rattle.lot_machine.specs.Lends.{LendsLead, IsBacked};
@@ -10,8 +10,8 @@ ghost use Rattle.lot_machine.specs.Step.{step};
 ghost use Rattle.lot_laws.specs.Transfers.{TakesCall, QueuesCall, TakesQueuedCall, RepliesTo, RepliesThenWaits};
 ghost use Rattle.lot_laws.specs.Transfers.{RepliesThenReceives, WaitsFor, OwnsNothing, with_ready};
 
-/// A server with nothing of its own is worth nothing, and once it takes a call, exactly what the caller was. Each
-/// other thread, the caller too, keeps its value, and so do the live threads together.
+/// A server with nothing of its own is worth nothing; once it takes a call, it is worth exactly what the caller was.
+/// Every other thread, and the caller, keeps its value, and so does the sum over the live threads.
 pub fn calls_transfer_value()
     ensures before { (s : State) (server : ℕ) → IsInOrder s → OwnsNothing s server → value_of s server ≡ 0 }
     ensures server { (s : State) (e : Event) (caller server : ℕ) → IsInOrder s → TakesCall s e caller server
@@ -23,8 +23,8 @@ pub fn calls_transfer_value()
         → OwnsNothing s server → live_value (step s e).state ≡ live_value s }
 {}
 
-/// A caller is worth nothing while its call is queued. A server that takes the call gets what the caller would be
-/// worth Ready, and all other values and the sum are then as if the caller were.
+/// A caller is worth nothing while its call is queued. A server that takes the call gains what the caller would be
+/// worth if it were Ready; all other values and the sum are as in that case.
 pub fn receipts_transfer_value()
     ensures queued { (s : State) (e : Event) (caller server : ℕ) → IsInOrder s → TakesQueuedCall s e caller server
         → value_of s caller ≡ 0 }
@@ -41,8 +41,8 @@ pub fn receipts_transfer_value()
         → live_value (step s e).state ≡ live_value (with_ready s caller) }
 {}
 
-/// So a call that is queued, and that a running server takes in the next event, transfers what a call does that a
-/// waiting server takes at once.
+/// A queued call that a running server takes in the next event transfers as much as a call that a waiting server
+/// takes at once.
 pub fn queued_calls_transfer_value()
     ensures server { (s : State) (e next : Event) (caller server : ℕ) → IsInOrder s → QueuesCall s e caller
         → TakesQueuedCall (step s e).state next caller server
@@ -59,7 +59,7 @@ pub fn queued_calls_transfer_value()
 {}
 
 /// A server that replies gives back exactly what the caller is worth, which is all that it had if it is left with
-/// nothing. Each other thread, the caller too, keeps its value, and so do the live threads together.
+/// nothing. Every other thread, and the caller, keeps its value, and so does the sum over the live threads.
 pub fn replies_return_value()
     ensures server { (s : State) (e : Event) (caller server : ℕ) → IsInOrder s → RepliesTo s e caller server
         → value_of s server ≡ value_of (step s e).state server + value_of s caller }
@@ -73,8 +73,8 @@ pub fn replies_return_value()
         → live_value (step s e).state ≡ live_value s }
 {}
 
-/// A server that replies and then waits for a call, in one trap, and is left with nothing, gives back what a reply
-/// does.
+/// A server that replies and then waits for a call, in one trap, and is left with nothing, gives back as much as with
+/// a reply alone.
 pub fn servings_return_value()
     ensures server { (s : State) (e : Event) (caller server : ℕ) → IsInOrder s → RepliesThenWaits s e caller server
         → OwnsNothing (step s e).state server → value_of s server ≡ value_of s caller }
@@ -86,8 +86,8 @@ pub fn servings_return_value()
         → live_value (step s e).state ≡ live_value s }
 {}
 
-/// A server that replies and then takes the next caller's queued call, in one trap, gets what this caller would be
-/// worth if both callers were Ready, and all other values and the sum are then as if they were.
+/// A server that replies and then takes the next caller's queued call, in one trap, gains what this caller would be
+/// worth if both callers were Ready; all other values and the sum are as in that case.
 pub fn servings_transfer_value()
     ensures server { (s : State) (e : Event) (caller next server : ℕ) → IsInOrder s
         → RepliesThenReceives s e caller next server
@@ -102,10 +102,10 @@ pub fn servings_transfer_value()
         → live_value (step s e).state ≡ live_value (with_ready (with_ready s caller) next) }
 {}
 
-/// A thread that waits for a mutex hands what it is worth to the owner, and to each thread to which the owner's lends
-/// lead. An owner with nothing of its own is then worth exactly that. Each other thread, the waiter too, keeps its
-/// value, and so do the live threads together. The owner must be backed: otherwise nobody gets what the waiter was
-/// worth, as `worked::transfers::owner_not_backed` shows.
+/// A thread that waits for a mutex passes its value to the owner, and to each thread to which the owner's lends lead.
+/// An owner with nothing of its own is then worth exactly that. Every other thread, and the waiter, keeps its value,
+/// and so does the sum over the live threads. The owner must be backed: otherwise the waiter's value goes to no live
+/// thread, as `worked::transfers::owner_not_backed` shows.
 pub fn waits_transfer_value()
     ensures owner { (s : State) (e : Event) (t owner : ℕ) → IsInOrder s → WaitsFor s e t owner
         → IsBacked (funding_of s) (live_of s) owner

@@ -1,4 +1,4 @@
-//! The laws at cases that are small enough to compute by hand.
+//! The laws in cases small enough to compute by hand.
 
 pub mod conservation;
 pub mod fairness;

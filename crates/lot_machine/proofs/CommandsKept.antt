@@ -1,6 +1,6 @@
 -- No command makes a cycle, or leaves a ticket that funds a currency which isn't there.
-use Rattle.std.proofs.Common.{◌≡◌, ℕ, Bool, true, false, Option, Some, None, is_some, is_none, List, [], ◌∷◌, length, map, position, refl, sym, ◌∙◌, ap, arith, nat_lt, option_map, get_or, slice_get}
-use Rattle.std.specs.Option.{option_or}
+use Rattle.std.proofs.Common.{◌≡◌, ℕ, Bool, true, false, Option, Some, None, is_some, is_none, List, [], ◌∷◌, length, map, position, refl, sym, subst, ◌∙◌, ap, arith, nat_lt, option_map, get_or, slice_get}
+use Rattle.std.specs.Option.{option_flatten, option_or}
 use Rattle.std.specs.Str.{bytes_eq}
 use Rattle.std.proofs.lemmas.Bool.{ltb-false}
 use Rattle.std.proofs.lemmas.List.Quantifiers.{position-Some}
@@ -8,12 +8,18 @@ use Rattle.std.proofs.lemmas.Option.{slice_get-get_or, slice_get-map}
 use Rattle.lot_machine.specs.declared.ticket.Ticket.{Ticket}
 use Rattle.lot_machine.specs.declared.ticket.Target.{Target}
 use Rattle.lot_machine.specs.declared.ticket.Target.TheVariants.{Unfunded, Currency, Thread}
+use Rattle.lot_machine.specs.declared.reference.CurrencyRef.{CurrencyRef}
+use Rattle.lot_machine.specs.declared.reference.CurrencyRef.TheVariants as currency_ref
+use Rattle.lot_machine.specs.declared.reference.ThreadRef.TheVariants as thread_ref
+use Rattle.lot_machine.specs.declared.reference.TargetRef.{TargetRef}
+use Rattle.lot_machine.specs.declared.reference.TargetRef.TheVariants as target_ref
 use Rattle.lot_machine.specs.declared.refusal.Refusal.{Refusal}
 use Rattle.lot_machine.specs.Numbered.{option_any}
 use Rattle.lot_machine.specs.Funding.{ticket_in, without_ticket, with_target, issuer_of, currency_funded, would_cycle}
 use Rattle.lot_machine.specs.Facts.{HasNoCycle, FundsThere}
 use Rattle.lot_machine.specs.State.{State, funding_of}
-use Rattle.lot_machine.specs.Commands.{Step, first_failing, currency_named, thread_named, target_named, is_cycle, unless_refused}
+use Rattle.lot_machine.specs.Commands.{Step, first_failing, currency_meant, currency_named, thread_meant, thread_named, target_meant, target_named, is_cycle, unless_refused}
+use Rattle.lot_machine.proofs.Tickets.{some-injective}
 use Rattle.lot_machine.proofs.FundingKept.{HasNoCycle-without_ticket, FundsThere-without_ticket, HasNoCycle-target, FundsThere-target, HasNoCycle-funds_tested, FundsThere-funds}
 
 -- nothing makes a cycle, and tickets fund only currencies that are there
@@ -63,6 +69,31 @@ target-currency s name c e = from (currency_named s name) (thread_named s name) 
     from (Some d) p is = cc
     from None (Some t) is = cc
     from None None is = cc
+
+-- a currency that is meant is there
+pub meant-there : (s : State) (currency : CurrencyRef) (c : ℕ) → currency_meant s currency ≡ Some c → slice_get (map is_some s.currencies) c ≡ Some true
+meant-there s (currency_ref.Named name) c is = named-there name s.currencies c is
+meant-there s (currency_ref.Numbered d) c is = from (slice_get s.currencies d) refl is
+  where
+    from : (o : Option (Option (List ℕ))) → slice_get s.currencies d ≡ o → option_map (λ name. d) (option_flatten o) ≡ Some c → slice_get (map is_some s.currencies) c ≡ Some true
+    from None here e = cc
+    from (Some None) here e = cc
+    from (Some (Some name)) here e =
+        let same : d ≡ c = some-injective d c e in
+        subst (λ n. slice_get (map is_some s.currencies) n ≡ Some true) same (slice_get-map is_some s.currencies d ∙ ap (option_map is_some) here)
+
+pub target-there : (s : State) (to : TargetRef) (c : ℕ) → target_meant s to ≡ Some (Currency c) → slice_get (map is_some s.currencies) c ≡ Some true
+target-there s (target_ref.Named name) c is = named-there name s.currencies c (target-currency s name c is)
+target-there s (target_ref.Currency d) c is = from (currency_meant s (currency_ref.Numbered d)) refl is
+  where
+    from : (o : Option ℕ) → currency_meant s (currency_ref.Numbered d) ≡ o → option_map Currency o ≡ Some (Currency c) → slice_get (map is_some s.currencies) c ≡ Some true
+    from None meant e = cc
+    from (Some n) meant e = let same : n ≡ c = cc in meant-there s (currency_ref.Numbered d) c (meant ∙ ap Some same)
+target-there s (target_ref.Thread t) c is = from (thread_meant s (thread_ref.Numbered t)) is
+  where
+    from : (o : Option ℕ) → option_map Thread o ≡ Some (Currency c) → slice_get (map is_some s.currencies) c ≡ Some true
+    from None e = cc
+    from (Some n) e = cc
 
 module _ (s : State) (no_cycle : HasNoCycle (funding_of s)) (there : FundsThere (funding_of s)) where
   pub keeps-remove_ticket : (n : ℕ) → IsFunded (record s { tickets = without_ticket s.tickets n })

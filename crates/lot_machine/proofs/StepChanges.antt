@@ -26,7 +26,7 @@ use Rattle.lot_machine.specs.Funding.{ticket_in, with_target, retargeted, reissu
 use Rattle.lot_machine.specs.Bounds.{IsWithinBounds}
 use Rattle.lot_machine.specs.Lottery.{winner}
 use Rattle.lot_machine.specs.State.{State, funding_of, is_asleep, lend_of, QueuedCall, status_of, thread_at, used_by, thread_on, ready_threads, change_record, value_of, weight_of}
-use Rattle.lot_machine.specs.Commands.{currency_named, thread_named, target_named, currency_or_base, is_good_name, is_taken, is_no_script, is_bad_amount, are_tickets_full, are_threads_full, is_in_use, is_dead_in, is_thread_in_use, is_dead_thread, is_funding, is_cycle, command_effect, command_step}
+use Rattle.lot_machine.specs.Commands.{currency_meant, thread_meant, target_meant, currency_or_base, is_good_name, is_taken, is_no_script, is_bad_amount, are_tickets_full, are_threads_full, is_in_use, is_dead_in, is_thread_in_use, is_dead_thread, is_funding, is_cycle, command_effect, command_step}
 use Rattle.lot_machine.specs.Traps.{after_trap, with_ticks}
 use Rattle.lot_machine.specs.Ports.{clients_of, port_at, first_client, call, receive, reply}
 use Rattle.lot_machine.specs.Mutexes.{mutex_at, lock, unlock}
@@ -36,7 +36,7 @@ use Rattle.lot_machine.specs.Order.{HasQueues}
 use Rattle.lot_machine.specs.Change.{Change, NewTicket, PutTicket, NewCurrency, DropCurrency, NewThread, DropThread, PutRecord, PutClients, PutPort, PutMutex, newborn, applied, applied_all}
 use Rattle.lot_machine.proofs.Idle.{there-alone, free-of, SameUsed, used-changed, used-more, used-of, used-stopped_on, index-holds, IsAlive, nobody-alive, ready-used, receiver-used, caller-used, client-used, waiter-used, there-used, is-dead, is-asleep, alive-of, status-more, status-number, ready-alive, receiver-alive, caller-alive, client-alive, waiter-alive, there-alive}
 use Rattle.lot_machine.proofs.Amounts.{HasNoCycle-amount, FundsThere-amount, place-of}
-use Rattle.lot_machine.proofs.CommandsKept.{IsFunded, unrefused, all-pass, none-of, named-there, target-currency, keeps-remove_ticket, keeps-unfund, keeps-target}
+use Rattle.lot_machine.proofs.CommandsKept.{IsFunded, unrefused, all-pass, none-of, target-there, keeps-remove_ticket, keeps-unfund, keeps-target}
 use Rattle.lot_machine.proofs.FundingKept.{HasNoCycle-new_ticket, FundsThere-new_ticket, HasNoCycle-currencies, FundsThere-after, FundsThere-removed}
 use Rattle.lot_machine.proofs.LendsKept.{HasNoCycle-lends_more}
 use Rattle.lot_machine.proofs.Queues.{queues-more}
@@ -289,33 +289,33 @@ amount-small (Some t) amount good = omega (arith, ltb-false 4294967295 amount (o
 pub command-leads : (s : State) (c : Command) → Leads Console s (command_step s c).state
 command-leads s (MakeTicket amount currency) =
     unrefused (Leads Console s) s _ (command_effect s (MakeTicket amount currency)) Stays (λ e.
-    let passed = all-pass ((is_bad_amount amount, BadAmount) ∷ (is_none (currency_named s currency), NoCurrency) ∷ (are_tickets_full s, Full) ∷ []) e in
+    let passed = all-pass ((is_bad_amount amount, BadAmount) ∷ (is_none (currency_meant s currency), NoCurrency) ∷ (are_tickets_full s, Full) ∷ []) e in
     Then Stays (NewTicket (record { amount = amount; issuer = currency_or_base s currency; target = target.Unfunded })) (may-issue s amount target.Unfunded passed.0 passed.1.1.0 refl))
 command-leads s (RemoveTicket n) =
     unrefused (Leads Console s) s _ (command_effect s (RemoveTicket n)) Stays (λ _. Then Stays (PutTicket n None) (refl, λ _. tt, λ (cycle, there). keeps-remove_ticket s cycle there n))
 command-leads s (MakeCurrency name) = unrefused (Leads Console s) s _ (command_effect s (MakeCurrency name)) Stays (λ _. Then Stays (NewCurrency name) refl)
 command-leads s (RemoveCurrency currency) =
     unrefused (Leads Console s) s _ (command_effect s (RemoveCurrency currency)) Stays (λ e.
-    let passed = all-pass ((is_none (currency_named s currency), NoCurrency) ∷ (option_any (λ c. c == 0) (currency_named s currency), BaseFixed)
-    ∷ (option_any (is_in_use s) (currency_named s currency), InUse) ∷ []) e in
-    Then Stays (DropCurrency (currency_or_base s currency)) (refl, unused (currency_named s currency) passed.0 passed.1.1.0))
+    let passed = all-pass ((is_none (currency_meant s currency), NoCurrency) ∷ (option_any (λ c. c == 0) (currency_meant s currency), BaseFixed)
+    ∷ (option_any (is_in_use s) (currency_meant s currency), InUse) ∷ []) e in
+    Then Stays (DropCurrency (currency_or_base s currency)) (refl, unused (currency_meant s currency) passed.0 passed.1.1.0))
   where
     unused : (o : Option ℕ) → is_none o ≡ false → option_any (is_in_use s) o ≡ false → length (backing_currency (funding_of s) (unwrap_or o 0)) ≡ 0
     unused None named not_used = cc
     unused (Some c) named not_used = none-of (backing_currency (funding_of s) c) (or_parts (nat_lt 0 (length (issued_in (funding_of s) c))) _ not_used).1
-command-leads s (Fund n name) =
-    unrefused (Leads Console s) s _ (command_effect s (Fund n name)) Stays (λ e.
-    let passed = all-pass ((is_none (ticket_in s.tickets n), NoTicket) ∷ (is_none (target_named s name), NoTarget)
-    ∷ (option_any (is_currency 0) (target_named s name), BaseFixed) ∷ (option_any (is_dead_thread s) (target_named s name), DeadThread)
-    ∷ (option_any is_funding (ticket_in s.tickets n), IsFunding) ∷ (option_any (is_cycle s n) (target_named s name), Cycle) ∷ []) e in
-    let to = unwrap_or (target_named s name) target.Unfunded in
-    Then Stays (PutTicket n (option_map (retargeted to) (ticket_in s.tickets n))) (refl, amount-in s.tickets n to, funds (target_named s name) refl passed.1.0 passed.1.1.1.1.1.0 passed.0))
+command-leads s (Fund n to_fund) =
+    unrefused (Leads Console s) s _ (command_effect s (Fund n to_fund)) Stays (λ e.
+    let passed = all-pass ((is_none (ticket_in s.tickets n), NoTicket) ∷ (is_none (target_meant s to_fund), NoTarget)
+    ∷ (option_any (is_currency 0) (target_meant s to_fund), BaseFixed) ∷ (option_any (is_dead_thread s) (target_meant s to_fund), DeadThread)
+    ∷ (option_any is_funding (ticket_in s.tickets n), IsFunding) ∷ (option_any (is_cycle s n) (target_meant s to_fund), Cycle) ∷ []) e in
+    let to = unwrap_or (target_meant s to_fund) target.Unfunded in
+    Then Stays (PutTicket n (option_map (retargeted to) (ticket_in s.tickets n))) (refl, amount-in s.tickets n to, funds (target_meant s to_fund) refl passed.1.0 passed.1.1.1.1.1.0 passed.0))
   where
-    funds : (o : Option Target) → target_named s name ≡ o → is_none o ≡ false → option_any (is_cycle s n) o ≡ false → is_none (ticket_in s.tickets n) ≡ false
+    funds : (o : Option Target) → target_meant s to_fund ≡ o → is_none o ≡ false → option_any (is_cycle s n) o ≡ false → is_none (ticket_in s.tickets n) ≡ false
         → IsFunded s → IsFunded (record s { tickets = with_target s.tickets n (unwrap_or o target.Unfunded) })
     funds None is named apart here funded = cc
     funds (Some to) is named apart here (no_cycle, there) =
-        keeps-target s no_cycle there n to (λ c same. (apart, named-there name s.currencies c (target-currency s name c (is ∙ ap Some same)))) here
+        keeps-target s no_cycle there n to (λ c same. (apart, target-there s to_fund c (is ∙ ap Some same))) here
 command-leads s (Unfund n) =
     unrefused (Leads Console s) s _ (command_effect s (Unfund n)) Stays (λ _.
     Then Stays (PutTicket n (option_map (retargeted target.Unfunded) (ticket_in s.tickets n))) (refl, amount-in s.tickets n target.Unfunded, λ (cycle, there). keeps-unfund s cycle there n target.Unfunded refl))
@@ -327,11 +327,11 @@ command-leads s (SetTicket n amount) =
     (refl, λ _. amount-small (ticket_in s.tickets n) amount passed.0, λ (cycle, funds). (HasNoCycle-amount (funding_of s) n amount place there cycle, FundsThere-amount (funding_of s) n amount place there funds)))
 command-leads s (MakeThread name script) =
     unrefused (Leads Console s) s _ (command_effect s (MakeThread name script)) Stays (λ _. Then Stays (NewThread (record { name = name; script = script })) refl)
-command-leads s (RemoveThread name) =
-    unrefused (Leads Console s) s _ (command_effect s (RemoveThread name)) Stays (λ e.
-    let passed = all-pass ((is_none (thread_named s name), NoThread) ∷ (not (option_any (is_dead_in s) (thread_named s name)), Alive)
-    ∷ (option_any (is_thread_in_use s) (thread_named s name), InUse) ∷ []) e in
-    Then Stays (DropThread (unwrap_or (thread_named s name) 0)) (refl, ended (thread_named s name) passed.0 passed.1.0))
+command-leads s (RemoveThread thread) =
+    unrefused (Leads Console s) s _ (command_effect s (RemoveThread thread)) Stays (λ e.
+    let passed = all-pass ((is_none (thread_meant s thread), NoThread) ∷ (not (option_any (is_dead_in s) (thread_meant s thread)), Alive)
+    ∷ (option_any (is_thread_in_use s) (thread_meant s thread), InUse) ∷ []) e in
+    Then Stays (DropThread (unwrap_or (thread_meant s thread) 0)) (refl, ended (thread_meant s thread) passed.0 passed.1.0))
   where
     holds : (b : Bool) → not b ≡ false → b ≡ true
     holds true e = refl
@@ -342,7 +342,7 @@ command-leads s (RemoveThread name) =
     ended (Some t) named alive = is-dead (status_of s.records t) (holds (is_dead_in s t) alive)
 command-leads s (MakeFunded amount currency name script) =
     unrefused (Leads Console s) s _ (command_effect s (MakeFunded amount currency name script)) Stays (λ e.
-    let passed = all-pass ((is_bad_amount amount, BadAmount) ∷ (is_none (currency_named s currency), NoCurrency) ∷ (not (is_good_name name), BadName)
+    let passed = all-pass ((is_bad_amount amount, BadAmount) ∷ (is_none (currency_meant s currency), NoCurrency) ∷ (not (is_good_name name), BadName)
     ∷ (is_taken s name, NameTaken) ∷ (is_no_script s script, NoScript) ∷ (are_tickets_full s || are_threads_full s, Full) ∷ []) e in
     let to = target.Thread (length s.threads + 1) in
     Then (Then Stays (NewThread (record { name = name; script = script })) refl)

@@ -1,12 +1,12 @@
--- How large each size of a kernel may be.
+-- The bounds of a kernel's sizes.
 use Rattle.std.specs.Prelude.{ℕ, ◌≤◌, ◌==◌, ◌||◌, IsTrue}
 use Rattle.lot_machine.specs.declared.sizes.Sizes.{Sizes}
 
--- n is one of the numbers from the first up to the last
+-- n is in the range from the first to the last, both included
 abbrev pub IsBetween : ℕ → ℕ → ℕ → Type 0
 IsBetween first last n = (first ≤ n) × (n ≤ last)
 
--- one of base is worth 1, or 256 for finer shares
+-- the unit is 1, or 256 for finer shares: the value of one of base
 abbrev pub IsUnit : ℕ → Type 0
 IsUnit unit = IsTrue ((unit == 1) || (unit == 256))
 

@@ -1,4 +1,4 @@
--- The primitive changes that every event is made of.
+-- The primitive changes that make up each event.
 use Rattle.std.specs.Prelude.{ℕ, Option, Some, None, List, [], ◌∷◌, ◌++◌, slice_set}
 use Rattle.lot_machine.specs.declared.ticket.Ticket.{Ticket}
 use Rattle.lot_machine.specs.declared.record.Record.{Record}
@@ -7,8 +7,8 @@ use Rattle.lot_machine.specs.declared.record.Status.TheVariants as status
 use Rattle.lot_machine.specs.Numbered.{set_number}
 use Rattle.lot_machine.specs.State.{State, Port, Mutex}
 
--- One more row at the end of a table, or another row in one of its places. What is removed leaves a gap, and a thread
--- that is made gets a row in each of three tables.
+-- Appends a row to a table or replaces one. Removal leaves a gap, and a new thread adds a row to each of three
+-- tables.
 pub data Change : Type 0 where
   NewTicket : Ticket → Change
   PutTicket : ℕ → Option Ticket → Change

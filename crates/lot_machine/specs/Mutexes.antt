@@ -11,7 +11,7 @@ use Rattle.lot_machine.specs.State.{Mutex, change_record}
 use Rattle.lot_machine.specs.declared.after.After.{After}
 use Rattle.lot_machine.specs.declared.after.After.TheVariants.{GoesOn, Leaves}
 
--- the threads and the mutexes after a trap, its outcome, and how the thread that made it leaves its processor
+-- the records and the mutexes after a trap, its outcome, and the disposition of the thread that made it
 pub record MutexTrap : Type 0 where
   pub records : List Record
   pub mutexes : List Mutex
@@ -22,7 +22,7 @@ pub record MutexTrap : Type 0 where
 abbrev pub mutex_at : List Mutex → ℕ → Mutex
 mutex_at mutexes m = unwrap_or (at_number mutexes m) (record { owner = None; waiters = [] })
 
--- A free mutex is taken, and the thread goes on. Otherwise it waits, after earlier ones (6.1).
+-- A lock takes a free mutex, and the thread goes on. Otherwise the thread waits behind earlier waiters (6.1).
 abbrev pub lock : List Record → List Mutex → ℕ → ℕ → MutexTrap
 lock records mutexes t m = made (mutex_at mutexes m).owner
   where
@@ -40,9 +40,9 @@ lock records mutexes t m = made (mutex_at mutexes m).owner
       after = Leaves (status.Waiting m);
     }
 
--- Without waiters the mutex becomes free, and the thread goes on. Otherwise a lottery over the waiters' values before
--- the release, in order of waiting, picks one of them; if all values are 0, it is the first. The picked one becomes
--- Ready and owner, the others go on waiting, and the releaser yields (6.1).
+-- Without waiters the mutex becomes free, and the releaser goes on. Otherwise a lottery over the waiters' values
+-- before the release, in order of waiting, picks one; if all values are 0, the first. The picked one becomes Ready
+-- and owner, the others go on waiting, and the releaser yields (6.1).
 abbrev pub unlock : List Record → List Mutex → (ℕ → ℕ) → ℕ → ℕ → MutexTrap
 unlock records mutexes value m d = made (mutex_at mutexes m).waiters
   where

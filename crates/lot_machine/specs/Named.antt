@@ -1,4 +1,4 @@
--- On which processor an event happens, and which thread its reply names.
+-- The processor of an event, and the thread that its reply names.
 use Rattle.std.specs.Prelude.{ℕ, Option, Some, None}
 use Rattle.lot_machine.specs.declared.event.Event.{Event}
 use Rattle.lot_machine.specs.declared.event.Event.TheVariants as event
@@ -15,7 +15,7 @@ processor_of (event.Preempt p ticks) = Some p
 processor_of (event.Overrun p ticks) = Some p
 processor_of (event.Wake t) = None
 
--- the thread that runs now, or that ran until its quantum ended or its trap was made
+-- the thread that the reply names: it runs now, or it ran until its quantum ended or its trap was made
 abbrev pub thread_in : Reply → Option ℕ
 thread_in (reply.Winner t number total delivered) = Some t
 thread_in (reply.Expired t ticks) = Some t

@@ -1,4 +1,4 @@
--- An invariant: true at the start, and kept by each event. So each reached state is sound.
+-- An invariant: true at the start and preserved by each event. It implies that each reachable state is sound.
 use Rattle.std.specs.Prelude.{◌≡◌, ℕ, ◌^◌, ◌<◌, ◌≤◌, None, Some, List, All, IfSome, length, map, slice_get}
 use Rattle.lot_machine.specs.declared.record.Record.{Record}
 use Rattle.lot_machine.specs.declared.record.Status.{Status}
@@ -8,21 +8,21 @@ use Rattle.lot_machine.specs.Numbered.{at_number}
 use Rattle.lot_machine.specs.State.{State, Port, Mutex, funding_of, status_of}
 use Rattle.lot_machine.specs.Facts.{HasNoCycle, FundsThere, RunsApart}
 
--- each of the threads has this status, and none stands there twice
+-- each of these threads has this status, and none is listed twice
 pub record IsQueue (records : List Record) (status : Status) (threads : List ℕ) : Type 0 where
   pub each : (place t : ℕ) → slice_get threads place ≡ Some t → status_of records t ≡ Some status
   pub once : (place other t : ℕ) → slice_get threads place ≡ Some t → slice_get threads other ≡ Some t → place ≡ other
 
--- Who waits at a port receives there, or has its call queued there; who waits for a mutex waits for it; and whom a
--- thread serves, it serves (4.6, 6.1).
+-- Each thread in a queue has the queue's status: Receiving or Queued at that port, Waiting for that mutex, or Served
+-- by that server (4.6, 6.1).
 pub record HasQueues (records : List Record) (clients : List (List ℕ)) (ports : List Port) (mutexes : List Mutex) : Type 0 where
   pub receivers : (p : ℕ) (port : Port) → at_number ports p ≡ Some port → IsQueue records (Receiving p) port.receivers
   pub callers : (p : ℕ) (port : Port) → at_number ports p ≡ Some port → IsQueue records (Queued p) (map (λ call. call.caller) port.calls)
   pub waiters : (m : ℕ) (mutex : Mutex) → at_number mutexes m ≡ Some mutex → IsQueue records (Waiting m) mutex.waiters
   pub served : (server : ℕ) (threads : List ℕ) → at_number clients server ≡ Some threads → IsQueue records (Served server) threads
 
--- Nothing makes a cycle, tickets fund only existing currencies, each processor has its own thread, those who wait
--- stand where their statuses say, threads that were removed are dead, and tickets and sizes are within their bounds.
+-- In order: no cycle, tickets fund existing currencies, threads run apart, queues match statuses, removed threads are
+-- dead, tickets and sizes are in bounds.
 pub record IsInOrder (s : State) : Type 0 where
   pub no_cycle : HasNoCycle (funding_of s)
   pub funds_there : FundsThere (funding_of s)

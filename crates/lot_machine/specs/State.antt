@@ -16,35 +16,35 @@ use Rattle.lot_machine.specs.Funding.{Funding}
 use Rattle.lot_machine.specs.Value.{thread_value}
 use Rattle.lot_machine.specs.Lottery.{weight}
 
--- a call that waits for a server: who calls, and the number that is sent
+-- a queued call: the caller, and the number that it sends
 pub record QueuedCall : Type 0 where
   pub caller : ℕ
   pub number : ℕ
 
--- a port: the calls and the threads that wait there, those that have waited longest first (4.6)
+-- a port: the queued calls and the receivers, each list with the one that has waited longest first (4.6)
 pub record Port : Type 0 where
   pub calls : List QueuedCall
   pub receivers : List ℕ
 
--- a mutex: its owner, and the threads that wait for it, the one that has waited longest first (6.1)
+-- a mutex: its owner and its waiters, the one that has waited longest first (6.1)
 pub record Mutex : Type 0 where
   pub owner : Option ℕ
   pub waiters : List ℕ
 
--- Tickets, threads, ports and mutexes are numbered from 1, and currencies from 0, which is base. What was removed stays
--- as a gap, so the lengths count what was made. Thread n has the nth of `threads`, of `records` and of `clients`; where it
--- was removed, its record stays Dead.
+-- Tickets, threads, ports and mutexes are numbered from 1; currencies are numbered from 0, which is base. Removal
+-- leaves a gap, so a list's length is the number ever made. Thread n is the nth of `threads`, `records` and
+-- `clients`; a removed thread's record stays Dead.
 pub record State : Type 0 where
   pub currencies : List (Option (List ℕ))  -- each currency's name
   pub tickets : List (Option Ticket)
-  pub threads : List (Option Thread)  -- the name and the script that each was made with
+  pub threads : List (Option Thread)  -- each thread's name and script
   pub records : List Record
-  pub clients : List (List ℕ)  -- whom each thread serves, in the order in which they were taken
+  pub clients : List (List ℕ)  -- the clients of each thread, in the order in which they were taken
   pub ports : List Port
   pub mutexes : List Mutex
   pub limits : Sizes
 
--- limits as plain numbers
+-- the limits as plain numbers
 abbrev pub sizes_of : Limits → Sizes
 sizes_of l = record {
   tickets = l.tickets;
@@ -58,7 +58,7 @@ sizes_of l = record {
   unit = l.unit;
 }
 
--- at the start: base alone, empty ports, free mutexes
+-- the opening state: base alone, empty ports and free mutexes
 abbrev pub opening : Sizes → State
 opening limits = record {
   currencies = Some (codes "base") ∷ [];
@@ -71,49 +71,49 @@ opening limits = record {
   limits = limits;
 }
 
--- the thread with this number, if it is there
+-- the name and script of the thread with this number, if it exists
 abbrev pub thread_at : List (Option Thread) → ℕ → Option Thread
 thread_at threads t = option_flatten (at_number threads t)
 
 -- ---- the funding graph of a state
 
--- what a thread lends to: a served one to its server, a waiting one to its mutex, any other to nobody (4.6, 6.1)
+-- the receiver of a thread's lend: a served thread's server, a waiting thread's mutex, or nobody (4.6, 6.1)
 abbrev pub lend_of : Status → Lend
 lend_of (Served server) = ToThread server
 lend_of (Waiting mutex) = ToMutex mutex
 lend_of other = Nobody
 
--- whether a thread competes or runs
+-- whether a thread with this status is live: it competes or runs
 abbrev pub is_live_status : Status → Bool
 is_live_status Ready = true
 is_live_status (Running processor used) = true
 is_live_status other = false
 
--- for each thread, whether it is live
+-- for each record, whether its thread is live
 abbrev pub live_in : List Record → List Bool
 live_in records = map (λ r. is_live_status r.status) records
 
--- the same, of the state's threads
+-- for each thread of the state, whether it is live
 abbrev pub live_of : State → List Bool
 live_of s = live_in s.records
 
--- the currencies, the tickets, the lends of threads and the owners of mutexes
+-- the state's funding: its currencies, tickets, lends and owners of mutexes
 abbrev pub funding_of : State → Funding
 funding_of s = record { currencies = map is_some s.currencies; tickets = s.tickets; lends = map (λ r. lend_of r.status) s.records; owners = map (λ m. m.owner) s.mutexes }
 
 -- ---- threads
 
--- whether the thread competes in draws
+-- whether a thread with this status competes in draws
 abbrev pub is_ready : Status → Bool
 is_ready Ready = true
 is_ready other = false
 
--- whether the thread has ended
+-- whether a thread with this status has ended
 abbrev pub is_dead : Status → Bool
 is_dead Dead = true
 is_dead other = false
 
--- whether the thread sleeps
+-- whether a thread with this status sleeps
 abbrev pub is_asleep : Status → Bool
 is_asleep Asleep = true
 is_asleep other = false
@@ -131,7 +131,7 @@ status_of records t = option_map (λ r. r.status) (at_number records t)
 abbrev pub used_by : List Record → ℕ → ℕ → Option ℕ
 used_by records p t = option_and_then (used_on p) (status_of records t)
 
--- the Ready threads by rising number
+-- the Ready threads in ascending order
 abbrev pub ready_threads : List Record → List ℕ
 ready_threads records = filter (λ t. option_any is_ready (status_of records t)) (numbers records)
 
@@ -139,7 +139,7 @@ ready_threads records = filter (λ t. option_any is_ready (status_of records t))
 abbrev pub thread_on : List Record → ℕ → Option ℕ
 thread_on records p = find (λ t. is_some (used_by records p t)) (numbers records)
 
--- the records after a change to one thread's
+-- the records after this change to one thread's
 abbrev pub change_record : (Record → Record) → List Record → ℕ → List Record
 change_record change records t = changed (at_number records t)
   where
@@ -155,6 +155,6 @@ value_of s t = thread_value s.limits.unit (funding_of s) (live_of s) t
 abbrev pub weight_of : State → ℕ → ℕ
 weight_of s t = weight (value_of s t) (option_and_then (λ r. r.compensation) (at_number s.records t)) s.limits.quantum
 
--- quanta and ticks stop at the greatest u64
+-- the number, or the largest 64-bit number if it is greater: quanta and ticks stop there
 abbrev pub saturated : ℕ → ℕ
 saturated n = min n (2 ^ 64 - 1)

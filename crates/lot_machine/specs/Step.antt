@@ -26,18 +26,19 @@ use Rattle.lot_machine.specs.declared.after.After.TheVariants.{GoesOn, Leaves, E
 use Rattle.lot_machine.specs.Ports.{PortTrap, first_client, call, receive, reply, serve}
 use Rattle.lot_machine.specs.Mutexes.{MutexTrap, mutex_at, lock, unlock}
 
--- processors are numbered from 1
+-- there is no processor with this number: they are numbered from 1
 abbrev pub is_bad_processor : State → ℕ → Bool
 is_bad_processor s p = (p == 0) || nat_lt s.limits.processors p
 
--- ---- draws, and how a processor is left without a trap
+-- ---- draws, and how a thread leaves its processor without a trap
 
--- The winner runs with nothing used; it has won one quantum more, and its compensation and what was delivered to it
--- end (3.4, 4.2).
+-- The winner's record: it runs with no ticks used and has won one more quantum; its compensation and its delivered
+-- number are cleared (3.4, 4.2).
 abbrev pub started : ℕ → Record → Record
 started p r = record r { status = status.Running p 0; compensation = None; delivered = None; quanta = saturated (r.quanta + 1) }
 
--- A draw is the lottery over the weights of the Ready threads by rising number. If nobody wins, nothing changes (4.2).
+-- A draw is the lottery over the weights of the Ready threads in ascending order. If nobody wins, nothing changes
+-- (4.2).
 abbrev pub draw : State → ℕ → ℕ → Step
 draw s p d = drawn (winner (map (weight_of s) (ready_threads s.records)) d)
   where
@@ -51,22 +52,22 @@ draw s p d = drawn (winner (map (weight_of s) (ready_threads s.records)) d)
     drawn None = record { state = s; reply = answer.Idle }
     drawn (Some w) = won (slice_index (ready_threads s.records) w.place) w
 
--- the thread is taken off its processor: it is Ready with this compensation, and has run this many ticks more (4.2)
+-- the thread leaves its processor: it is Ready with this compensation, and has run this many ticks more (4.2)
 abbrev pub stopped : State → ℕ → ℕ → Option ℕ → Step
 stopped s t ticks compensation = record {
   state = record s { records = change_record (λ r. with_ticks ticks (record r { status = status.Ready; compensation = compensation })) s.records t };
   reply = answer.Expired t ticks;
 }
 
--- the quantum ends: there is no compensation, and the rest of the quantum counts as used (4.2)
+-- the quantum ends: no compensation, and the rest of the quantum counts as used (4.2)
 abbrev pub expire : State → ℕ → ℕ → Step
 expire s t used = stopped s t (s.limits.quantum - used) None
 
--- the quantum ended this many ticks late: they count as used, and so the thread weighs less in its next draw (3.4, 4.5)
+-- the quantum ended this many ticks late: they count as used, so the thread weighs less in its next draw (3.4, 4.5)
 abbrev pub overrun : State → ℕ → ℕ → ℕ → Step
 overrun s t used late = stopped s t (s.limits.quantum - used + late) (Some (s.limits.quantum + late))
 
--- a thread that slept is Ready, with the compensation that it had when it began to sleep (4.4, 4.5)
+-- the sleeping thread becomes Ready, with the compensation from when it began to sleep (4.4, 4.5)
 abbrev pub wake : State → ℕ → Step
 wake s t = record { state = record s { records = change_record (λ r. record r { status = status.Ready }) s.records t }; reply = answer.Done }
 
@@ -90,17 +91,17 @@ trap_refusal s t (Unlock m d) = first_failing ((is_none (at_number s.mutexes m),
 trap_refusal s t Sleep = None
 trap_refusal s t Exit = None
 
--- the state after a trap's work, its outcome, and how the thread that made it leaves its processor
+-- the state after a trap, its outcome, and the disposition of the thread that made it
 pub record Effect : Type 0 where
   pub state : State
   pub outcome : Outcome
   pub after : After
 
--- a trap over ports, as a change of the state
+-- the effect of a trap at a port
 abbrev pub of_ports : State → PortTrap → Effect
 of_ports s e = record { state = record s { records = e.records; clients = e.clients; ports = e.ports }; outcome = e.outcome; after = e.after }
 
--- a trap over mutexes, as a change of the state
+-- the effect of a trap on a mutex
 abbrev pub of_mutexes : State → MutexTrap → Effect
 of_mutexes s e = record { state = record s { records = e.records; mutexes = e.mutexes }; outcome = e.outcome; after = e.after }
 
@@ -116,17 +117,17 @@ trap_effect s t (Unlock m d) = of_mutexes s (unlock s.records s.mutexes (value_o
 trap_effect s t Sleep = record { state = s; outcome = outcome.Slept; after = Leaves status.Asleep }
 trap_effect s t Exit = record { state = s; outcome = outcome.Exited; after = Ends }
 
--- a refused trap has no other effect, and the thread goes on
+-- the effect, unless there is a refusal, which changes nothing and lets the thread go on
 abbrev pub checked_effect : State → Option TrapRefusal → Effect → Effect
 checked_effect s None effect = effect
 checked_effect s (Some refusal) effect = record { state = s; outcome = outcome.Refused refusal; after = GoesOn }
 
--- whether a thread that goes on has used its quantum up
+-- whether a thread that would go on has used up its quantum
 abbrev pub ends_quantum : After → ℕ → ℕ → Bool
 ends_quantum GoesOn used quantum = nat_le quantum used
 ends_quantum other used quantum = false
 
--- the thread has run this many ticks, has then used this much of its quantum, and its trap has this effect
+-- the step of a trap with this effect, whose thread has run this many ticks and has used this much of its quantum
 abbrev pub finish_trap : State → ℕ → ℕ → ℕ → ℕ → Effect → Step
 finish_trap s p t ticks used effect = record {
   state = record effect.state { records = change_record (λ r. with_ticks ticks (after_trap effect.after p used s.limits.quantum r)) effect.state.records t };
@@ -143,7 +144,7 @@ trap s p t used ran action = finish_trap s p t (ran + 1) (used + ran + 1) (check
 abbrev pub thread_there : State → ℕ → ℕ
 thread_there s p = unwrap_or (thread_on s.records p) 0
 
--- the ticks that it has used, or 0 if none runs there
+-- the ticks that the thread on the processor has used, or 0 if none runs there
 abbrev pub used_there : State → ℕ → ℕ
 used_there s p = unwrap_or (option_and_then (used_by s.records p) (thread_on s.records p)) 0
 
@@ -164,7 +165,7 @@ event_refusal s (event.Overrun p ticks) =
 event_refusal s (event.Wake t) =
     first_failing ((is_none (thread_at s.threads t), NoThread) ∷ (not (option_any is_asleep (status_of s.records t)), NotAsleep) ∷ [])
 
--- The effect of an event that isn't refused. If it needs a thread on the processor, one runs there then.
+-- The effect of an event that passes its checks. If it needs a thread on the processor, one runs there.
 abbrev pub event_effect : State → Event → Step
 event_effect s (event.Command command) = command_step s command
 event_effect s (event.Draw p d) = draw s p d
@@ -174,7 +175,7 @@ event_effect s (event.Preempt p ticks) = stopped s (thread_there s p) ticks None
 event_effect s (event.Overrun p ticks) = overrun s (thread_there s p) (used_there s p) ticks
 event_effect s (event.Wake t) = wake s t
 
--- one event: the state after it and the reply. A refused event changes nothing
+-- one event: the state after it, and its reply; a refused event changes nothing
 abbrev pub step : State → Event → Step
 step s e = unless_refused s (event_refusal s e) (event_effect s e)
 
@@ -183,7 +184,7 @@ abbrev pub replies : State → List Event → List Reply
 replies s [] = []
 replies s (e ∷ es) = (step s e).reply ∷ replies (step s e).state es
 
--- the last state of a run
+-- the state at the end of a run
 abbrev pub state_after : State → List Event → State
 state_after s [] = s
 state_after s (e ∷ es) = state_after (step s e).state es

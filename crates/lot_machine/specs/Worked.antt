@@ -2,6 +2,8 @@
 use Rattle.std.specs.Prelude.{ℕ, Bool, List, [], ◌∷◌, map, codes, Option, Some}
 use Rattle.lot_machine.specs.declared.command.Command.TheVariants.{MakeTicket, RemoveTicket, MakeCurrency, RemoveCurrency, Fund, Unfund, SetTicket, MakeThread, MakeFunded}
 use Rattle.lot_machine.specs.declared.event.Event.{Event}
+use Rattle.lot_machine.specs.declared.reference.CurrencyRef.TheVariants as currency_ref
+use Rattle.lot_machine.specs.declared.reference.TargetRef.TheVariants as target_ref
 use Rattle.lot_machine.specs.declared.event.Event.TheVariants.{Command}
 use Rattle.lot_machine.specs.declared.reply.Reply.{Reply}
 use Rattle.lot_machine.specs.declared.record.Status.{Status}
@@ -18,41 +20,51 @@ use Rattle.lot_machine.specs.Rows.{currency_row}
 abbrev pub largest : Sizes
 largest = record { tickets = 65535; currencies = 4096; threads = 4096; ports = 2; mutexes = 2; processors = 2; scripts = 1; quantum = 100; unit = 1 }
 
--- the same, except that one of base is worth 256
+-- the sizes `largest` with unit 256
 abbrev pub finer : Sizes
 finer = record largest { unit = 256 }
 
 -- ---- commands
 
+-- the name of base
 abbrev pub base : List ℕ
 base = codes "base"
 
+-- make a ticket of this amount in the currency with this name
 abbrev pub mktkt : ℕ → List ℕ → Event
-mktkt amount currency = Command (MakeTicket amount currency)
+mktkt amount currency = Command (MakeTicket amount (currency_ref.Named currency))
 
+-- remove the ticket
 abbrev pub rmtkt : ℕ → Event
 rmtkt n = Command (RemoveTicket n)
 
+-- make a currency with this name
 abbrev pub mkcur : List ℕ → Event
 mkcur name = Command (MakeCurrency name)
 
+-- remove the currency with this name
 abbrev pub rmcur : List ℕ → Event
-rmcur name = Command (RemoveCurrency name)
+rmcur name = Command (RemoveCurrency (currency_ref.Named name))
 
+-- make the ticket fund the currency or thread with this name
 abbrev pub fund : ℕ → List ℕ → Event
-fund n name = Command (Fund n name)
+fund n name = Command (Fund n (target_ref.Named name))
 
+-- take away the ticket's target
 abbrev pub unfund : ℕ → Event
 unfund n = Command (Unfund n)
 
+-- set the ticket's amount
 abbrev pub settkt : ℕ → ℕ → Event
 settkt n amount = Command (SetTicket n amount)
 
+-- make a thread with this name and script 1
 abbrev pub mkthr : List ℕ → Event
 mkthr name = Command (MakeThread name 1)
 
+-- make a thread with this name and script 1, and a ticket of this amount in the currency that funds it
 abbrev pub fundx : ℕ → List ℕ → List ℕ → Event
-fundx amount currency name = Command (MakeFunded amount currency name 1)
+fundx amount currency name = Command (MakeFunded amount (currency_ref.Named currency) name 1)
 
 -- ---- results
 
@@ -60,37 +72,44 @@ fundx amount currency name = Command (MakeFunded amount currency name 1)
 abbrev pub after_in : Sizes → List Event → State
 after_in limits events = state_after (opening limits) events
 
--- the replies to the later events, from there on
+-- the replies to the later events, after the earlier ones
 abbrev pub answers_in : Sizes → List Event → List Event → List Reply
 answers_in limits earlier events = replies (after_in limits earlier) events
 
--- the same with the largest tables and unit 1
+-- the state after these events, from the start with sizes `largest`
 abbrev pub after : List Event → State
 after events = after_in largest events
 
+-- the replies to the later events, after the earlier ones, with sizes `largest`
 abbrev pub answers : List Event → List Event → List Reply
 answers earlier events = answers_in largest earlier events
 
--- the values, the weights and the statuses of the threads
+-- the values of the threads, in order
 abbrev pub values : State → List ℕ
 values s = map (value_of s) (numbers s.records)
 
+-- the weights of the threads, in order
 abbrev pub weights : State → List ℕ
 weights s = map (weight_of s) (numbers s.records)
 
+-- the statuses of the threads, in order
 abbrev pub statuses : State → List Status
 statuses s = map (λ r. r.status) s.records
 
 -- ---- rows of listings
 
+-- the rows of currencies 0 to 6
 abbrev pub shown_currencies : State → List (Option CurrencyRow)
 shown_currencies s = map (currency_row s) (0 ∷ 1 ∷ 2 ∷ 3 ∷ 4 ∷ 5 ∷ 6 ∷ [])
 
+-- a currency's row with these fields
 abbrev pub currency_shown : List ℕ → ℕ → ℕ → ℕ → ℕ → Option CurrencyRow
 currency_shown name backing issued active value = Some (record { name = name; backing = backing; issued = issued; active_amount = active; value = value })
 
+-- the row of a ticket that has a target, with these fields
 abbrev pub ticket_shown : ℕ → List ℕ → List ℕ → Bool → ℕ → Option TicketRow
 ticket_shown amount issuer to active value = Some (record { amount = amount; issuer = issuer; target = Some to; is_active = active; value = value })
 
+-- a thread's row with these fields
 abbrev pub thread_shown : List ℕ → Status → ℕ → ℕ → ℕ → ℕ → Option ThreadRow
 thread_shown name status value weight quanta ticks = Some (record { name = name; status = status; value = value; weight = weight; quanta = quanta; ticks = ticks })

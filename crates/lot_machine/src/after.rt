@@ -1,13 +1,13 @@
-//! How a thread goes on after its trap.
+//! A thread's disposition after its trap.
 
 use crate::Status;
 
-/// How a thread that made a trap leaves its processor, or stays on it.
+/// The effect of a trap on the thread that made it: it runs on, leaves its processor, or ends.
 #[derive(Clone, Copy, Debug, PartialEq, Eq)]
 pub enum After {
-    /// It runs on, if its quantum isn't used up.
+    /// It runs on, unless its quantum is used up.
     GoesOn,
-    /// It yields or blocks, and has this status then.
+    /// It yields or blocks, with this status afterwards.
     Leaves(Status),
     /// It has ended.
     Ends,

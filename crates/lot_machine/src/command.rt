@@ -2,7 +2,7 @@
 
 ghost use Rattle.std.specs.Prelude.{◌≡◌};
 
-use crate::Name;
+use crate::{CurrencyRef, Name, TargetRef, ThreadRef};
 
 /// The kind of rows in a listing.
 #[derive(Clone, Copy, Debug, PartialEq, Eq)]
@@ -18,7 +18,7 @@ pub enum Command {
     /// `mktkt`
     MakeTicket {
         amount: u64,
-        currency: Name,
+        currency: CurrencyRef,
     },
     /// `rmtkt`
     RemoveTicket {
@@ -30,35 +30,35 @@ pub enum Command {
     },
     /// `rmcur`
     RemoveCurrency {
-        currency: Name,
+        currency: CurrencyRef,
     },
     /// `fund`
     Fund {
         ticket: u64,
-        target: Name,
+        target: TargetRef,
     },
     /// `unfund`
     Unfund {
         ticket: u64,
     },
-    /// `settkt`: the ticket's amount changes, and what it funds stays
+    /// `settkt`: changes the ticket's amount and keeps its target
     SetTicket {
         ticket: u64,
         amount: u64,
     },
-    /// `mkthr`; script 0 is none
+    /// `mkthr`; script 0 means no script
     MakeThread {
         name: Name,
         script: u32,
     },
-    /// `rmthr`: a dead thread that nothing refers to any more; its name is free again
+    /// `rmthr`: removes a dead thread that nothing refers to; its name may then be used again
     RemoveThread {
-        thread: Name,
+        thread: ThreadRef,
     },
-    /// `fundx`: a new thread, and a new ticket that funds it
+    /// `fundx`: makes a thread, and a ticket that funds it
     MakeFunded {
         amount: u64,
-        currency: Name,
+        currency: CurrencyRef,
         name: Name,
         script: u32,
     },
@@ -67,7 +67,7 @@ pub enum Command {
 }
 
 impl Command {
-    /// The same command again. It takes no memory.
+    /// A copy of the command. It allocates nothing.
     pub fn copied(&self) -> Self
         ensures { result ≡ self.now }
     {

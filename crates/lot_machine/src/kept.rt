@@ -1,4 +1,4 @@
-//! Changes of the state keep what is true of each state that is reached: laws of the machine, with no code to run.
+//! Invariants that each change of the state preserves: laws of the machine, without executable code.
 ghost use Rattle.std.specs.Prelude.{◌≡◌, ◌<◌, ◌≤◌, ◌^◌, All, IfSome, ◌++◌, ◌∷◌, [], Some, None, true, false, Bool};
 ghost use Rattle.std.specs.Prelude.{Option, List, ℕ, length, slice_get, slice_set};
 ghost use Rattle.lot_machine.specs.declared.command.Command.{Command as Asked};
@@ -31,7 +31,7 @@ pub fn new_ticket_keeps()
         → FundsThere (record f { tickets = with_new_ticket f.tickets amount issuer to }) }
 {}
 
-/// A ticket that is removed makes no cycle, and tickets still fund only existing currencies.
+/// Removing a ticket makes no cycle, and tickets still fund only existing currencies.
 pub fn removed_ticket_keeps()
     ensures no_cycle { (f : Funding) (n : ℕ) → HasNoCycle f
         → HasNoCycle (record f { tickets = without_ticket f.tickets n }) }
@@ -39,7 +39,7 @@ pub fn removed_ticket_keeps()
         → FundsThere (record f { tickets = without_ticket f.tickets n }) }
 {}
 
-/// A ticket that now funds a thread, or nothing, makes no cycle, and tickets still fund only existing currencies.
+/// Retargeting a ticket to a thread, or to nothing, makes no cycle, and tickets still fund only existing currencies.
 pub fn unfunding_keeps()
     ensures no_cycle { (f : Funding) (n : ℕ) (to : Target) → currency_funded to ≡ None → HasNoCycle f
         → HasNoCycle (record f { tickets = with_target f.tickets n to }) }
@@ -47,8 +47,8 @@ pub fn unfunding_keeps()
         → FundsThere (record f { tickets = with_target f.tickets n to }) }
 {}
 
-/// A ticket that now funds a currency makes no cycle if `WouldCycle` says none, or if its test says so and the currency
-/// is there. Tickets still fund only existing currencies if this one exists.
+/// Retargeting a ticket to a currency makes no cycle unless `WouldCycle` holds; if the currency exists, its test
+/// `would_cycle` may stand for it. Tickets still fund only existing currencies if this currency exists.
 pub fn funding_keeps()
     ensures no_cycle { (f : Funding) (n issuer c : ℕ) → issuer_of f n ≡ Some issuer → ¬ WouldCycle f issuer c
         → HasNoCycle f
@@ -61,8 +61,8 @@ pub fn funding_keeps()
         → FundsThere (record f { tickets = with_target f.tickets n (Currency c) }) }
 {}
 
-/// A change of which currencies are there makes no cycle. Tickets still fund only those if one more is made, or if one
-/// that no ticket funds is removed.
+/// Making or removing currencies makes no cycle. Tickets still fund only existing currencies if a currency is made,
+/// or if one that no ticket funds is removed.
 pub fn currencies_keep()
     ensures no_cycle { (f : Funding) (currencies : List Bool) → HasNoCycle f
         → HasNoCycle (record f { currencies = currencies }) }
@@ -79,7 +79,8 @@ pub fn commands_keep()
         → FundsThere (funding_of (command_step s c).state) }
 {}
 
-/// A thread that now lends to another, or to nobody, makes no cycle if no lends lead from the receiver back to it.
+/// A thread that starts to lend to another, or stops lending, makes no cycle if no lends lead from the borrower back
+/// to it.
 pub fn lends_keep()
     ensures nobody { (f : Funding) (t : ℕ) → HasNoCycle f
         → HasNoCycle (record f { lends = set_number f.lends t Nobody }) }
@@ -92,7 +93,7 @@ pub fn lends_keep()
     ensures one_more { (f : Funding) → HasNoCycle f → HasNoCycle (record f { lends = f.lends ++ Nobody ∷ [] }) }
 {}
 
-/// A mutex that becomes free makes no cycle, nor does one that is now owned by a thread which lends to nobody.
+/// A mutex that becomes free makes no cycle, and neither does one that passes to a thread which lends to nobody.
 pub fn owners_keep()
     ensures freed { (f : Funding) (m : ℕ) → HasNoCycle f
         → HasNoCycle (record f { owners = set_number f.owners m None }) }
@@ -100,7 +101,7 @@ pub fn owners_keep()
         → HasNoCycle (record f { owners = set_number f.owners m (Some w) }) }
 {}
 
-/// Tickets still fund only existing currencies, whatever threads lend and whoever owns mutexes.
+/// Tickets still fund only existing currencies, whatever the lends and the owners of mutexes become.
 pub fn lends_fund_nothing()
     ensures { (f : Funding) (lends : List Lend) (owners : List (Option ℕ)) → FundsThere f
         → FundsThere (record f { lends = lends; owners = owners }) }
@@ -113,7 +114,7 @@ pub fn stopping_keeps()
         → RunsApart (change_record change records t) }
 {}
 
-/// Each processor still has its own thread if a thread now runs on a processor on which nobody ran.
+/// Each processor still has its own thread if a thread starts to run on an idle processor.
 pub fn starting_keeps()
     ensures { (change : Record → Record) (records : List Record) (t p used : ℕ)
         → ((r : Record) → (change r).status ≡ Running p used) → thread_on records p ≡ None → RunsApart records
@@ -133,7 +134,7 @@ pub fn one_thread_more_keeps()
         → RunsApart records → RunsApart (records ++ r ∷ []) }
 {}
 
-/// Each event is a list of primitive changes.
+/// Each event is a sequence of primitive changes.
 pub fn steps_are_changes()
     ensures { (s : State) (e : Event) → (changes : List Change) × (applied_all s changes ≡ (step s e).state) }
 {}
@@ -143,8 +144,8 @@ pub fn events_keep_apart()
     ensures { (s : State) (e : Event) → RunsApart s.records → RunsApart (step s e).state.records }
 {}
 
-/// In a state that is in order an event leaves who runs on a processor that isn't the event's, and the ticks that each
-/// thread has used there.
+/// In a state that is in order, an event of one processor changes neither the thread that runs on another, nor the
+/// ticks that each thread has used there.
 pub fn other_processors_run_on()
     ensures thread { (s : State) (e : Event) (p : ℕ) → IsInOrder s → ¬ (processor_of e ≡ Some p)
         → thread_on (step s e).state.records p ≡ thread_on s.records p }
@@ -152,7 +153,7 @@ pub fn other_processors_run_on()
         → used_by (step s e).state.records p t ≡ used_by s.records p t }
 {}
 
-/// The thread that the reply to an event of a processor names doesn't run on another processor.
+/// The thread named in the reply to an event of one processor doesn't run on another processor.
 pub fn replies_name_their_own()
     ensures { (s : State) (e : Event) (p q t : ℕ) → processor_of e ≡ Some q → ¬ (q ≡ p)
         → thread_in (step s e).reply ≡ Some t → ¬ (thread_on s.records p ≡ Some t) }
@@ -163,14 +164,14 @@ pub fn limits_stay()
     ensures { (s : State) (e : Event) → (step s e).state.limits ≡ s.limits }
 {}
 
-/// Base's active tickets are worth less than 2 ^ 56 if amounts have 32 bits, no more tickets were made than may be, and
-/// sizes are within their bounds.
+/// Base's active tickets are worth less than 2 ^ 56 if amounts have 32 bits, no more tickets were made than the limit
+/// allows, and sizes are within their bounds.
 pub fn base_is_bounded()
     ensures { (s : State) → All (λ o. IfSome o (λ t. t.amount < 2 ^ 32)) s.tickets
         → length s.tickets ≤ s.limits.tickets → IsWithinBounds s.limits → base_value s < 2 ^ 56 }
 {}
 
-/// A state that is in order at the start stays so through each event, and so through each run.
+/// The opening state is in order, and each event, and so each run, preserves that.
 pub fn order_is_kept()
     ensures start { (limits : Sizes) → IsWithinBounds limits → IsInOrder (opening limits) }
     ensures event { (s : State) (e : Event) → IsInOrder s → IsInOrder (step s e).state }
@@ -182,7 +183,7 @@ pub fn order_is_sound()
     ensures { (s : State) → IsInOrder s → IsSound s }
 {}
 
-/// Each state that a run reaches from the start is sound if sizes are within their bounds.
+/// Each state that a run from the start reaches is sound if sizes are within their bounds.
 pub fn reached_states_are_sound()
     ensures { (limits : Sizes) (events : List Event) → IsWithinBounds limits
         → IsSound (state_after (opening limits) events) }

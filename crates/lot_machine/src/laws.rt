@@ -1,4 +1,4 @@
-//! Consequences of the definitions: laws of the machine, with no code to run.
+//! Consequences of the definitions: laws of the machine, without executable code.
 ghost use Rattle.std.specs.Prelude.{◌≡◌, ◌+◌, ◌==◌, ◌*◌, ◌/◌, sum_by, count_by, slice_get, ◌≤◌, ◌↔◌, ◌⊎◌, ◌<◌, ◌^◌};
 ghost use Rattle.std.specs.Prelude.{Some, ◌%◌, ◌≢◌, Contains, IsTrue, MatchOption, sum, List, Bool, ℕ, length};
 ghost use Rattle.lot_machine.specs.Bounds.{IsWithinBounds};
@@ -27,27 +27,28 @@ ghost use Rattle.lot_machine.specs.Step.{draw};
 ghost use Rattle.lot_machine.specs.Lends.{LendsLead, LendsOnTo, IsBacked, lends_lead, lends_on_to, IsLendChain, IsLive};
 ghost use Rattle.lot_machine.specs.Lends.{lends_lead_within, is_backed_within, is_backed};
 
-/// The test that follows lends is true if and only if a chain of lends, no longer than it may follow, leads there.
+/// The test that follows lends is true if and only if a chain of lends, within the test's length, leads there.
 pub fn lends_are_followed()
     ensures { (k : ℕ) (f : Funding) (t u : ℕ)
         → IsTrue (lends_lead_within k f t u) ↔ ((chain : List ℕ) × IsLendChain f t chain u × (length chain ≤ k)) }
 {}
 
-/// The test for a backed thread is true if and only if such a chain leads to a live thread.
+/// The test for a backed thread is true if and only if a chain of lends, within the test's length, leads to a live
+/// thread.
 pub fn backing_is_followed()
     ensures { (k : ℕ) (f : Funding) (live : List Bool) (t : ℕ) → IsTrue (is_backed_within k f live t)
         ↔ ((chain : List ℕ) × (u : ℕ) × IsLendChain f t chain u × IsLive live u × (length chain ≤ k)) }
 {}
 
-/// The test for an active ticket is true if and only if a chain of tickets that begins with it, with no more after it
-/// than the test may follow, ends at a backed thread.
+/// The test for an active ticket is true if and only if a chain of tickets begins with it and ends at a backed
+/// thread, with no more tickets after the first than the test may follow.
 pub fn activity_is_followed()
     ensures { (k : ℕ) (f : Funding) (live : List Bool) (n : ℕ) (target : Target) → target_of f n ≡ Some target
         → IsTrue (activates_within k f live target)
         ↔ ((rest : List ℕ) × (t : ℕ) × IsChain f n rest (Thread t) × IsTrue (is_backed f live t) × (length rest ≤ k)) }
 {}
 
-/// The test for a cycle is true if and only if the currencies are the same, or a chain of no more tickets than the test
+/// The test for a cycle is true if and only if both currencies are one, or a chain of no more tickets than the test
 /// may follow leads from one to the other.
 pub fn cycles_are_followed()
     ensures { (k : ℕ) (f : Funding) (c issuer : ℕ) → IsTrue (reaches_within k f c issuer)
@@ -55,14 +56,14 @@ pub fn cycles_are_followed()
         × IsChain f first rest (Currency issuer) × (length rest < k))) }
 {}
 
-/// Somebody wins if the weights sum to more than 0. The winner's number is below the sum, and its place is the first
+/// A thread wins if the weights sum to more than 0. The winner's number is below the sum, and its index is the first
 /// whose running sum is greater than the number.
 pub fn winner_is_first_above()
     ensures { (ws : List ℕ) (d : ℕ) → MatchOption (winner ws d) (sum ws ≡ 0) (λ w.
         IsFirstAbove ws w.number w.place × (w.number ≡ d % sum ws) × (w.number < sum ws) × (w.total ≡ sum ws)) }
 {}
 
-/// Of the numbers below the sum of the weights, each place wins with exactly as many as it weighs, and so does each
+/// Of the numbers below the sum of the weights, each index wins with exactly as many as its weight, and so does each
 /// Ready thread in a draw.
 pub fn shares_are_exact()
     ensures place { (ws : List ℕ) (place weight : ℕ) → slice_get ws place ≡ Some weight
@@ -72,8 +73,8 @@ pub fn shares_are_exact()
 {}
 
 /// If nothing makes a cycle, and tickets fund only existing currencies, an active base ticket is worth its amount
-/// times the unit, another active ticket its share of its currency's value, and any other ticket nothing (4.4). More
-/// depth than there are user currencies changes no value.
+/// times the unit, another active ticket its share of its currency's value, and any other ticket nothing (4.4).
+/// Recursion deeper than the number of user currencies changes no value.
 pub fn values_unfold()
     ensures user_ticket { (f : Funding) → HasNoCycle f → FundsThere f → (unit : ℕ) (live : List Bool) (t : Ticket)
         → IsTrue (is_active f live t) → t.issuer ≢ 0
@@ -88,14 +89,14 @@ pub fn values_unfold()
         → ticket_value_within k unit f live t ≡ ticket_value unit f live t }
 {}
 
-/// If lends make no cycle, lent funding counts once: the live threads together are worth as much as the backed threads'
-/// own tickets together.
+/// If lends make no cycle, lent funding counts once: the live threads together are worth as much as the backed
+/// threads' own tickets together.
 pub fn lent_counts_once()
     ensures { (s : State) → HasNoCycle (funding_of s) → CountsOnce s }
 {}
 
-/// If nothing makes a cycle, and tickets fund only existing currencies, the live threads together are worth at
-/// most what base's active tickets are, and so is each currency. A draw's total is at most that times the quantum, if
+/// If nothing makes a cycle, and tickets fund only existing currencies, neither the live threads together nor any
+/// currency is worth more than base's active tickets. A draw's total is at most that value times the quantum, if
 /// sizes are within their bounds.
 pub fn values_are_bounded()
     ensures values { (s : State) → HasNoCycle (funding_of s) → FundsThere (funding_of s) → live_value s ≤ base_value s }
@@ -131,8 +132,8 @@ pub fn tickets_are_exact()
         → IsTrue (would_cycle f issuer c) ↔ WouldCycle f issuer c }
 {}
 
-/// If lends make no cycle, a thread is worth its own tickets, the threads that lend to it directly, and the mutexes
-/// that it owns, each counted once.
+/// If lends make no cycle, a thread is worth the sum of its own tickets, the threads that lend to it directly, and
+/// the mutexes that it owns, each counted once.
 pub fn thread_values_add_up()
     ensures { (f : Funding) → HasNoCycle f → (unit : ℕ) (live : List Bool) (t : ℕ) → 0 < t → t ≤ length f.lends
         → thread_value unit f live t
@@ -140,7 +141,7 @@ pub fn thread_values_add_up()
         + sum_by (mutex_value unit f live) (owned_by f t) }
 {}
 
-/// An active ticket's issuer has at least the ticket's amount active, so more than 0 if the ticket's amount is.
+/// An active ticket's issuer has at least the ticket's amount active, and so more than 0 if the amount is.
 pub fn issuers_are_active()
     ensures amount { (f : Funding) (live : List Bool) (n : ℕ) (t : Ticket) → ticket_at f n ≡ Some t
         → IsTrue (is_active f live t) → t.amount ≤ active_amount f live t.issuer }
@@ -159,8 +160,8 @@ pub fn node_values_are_bounded()
         → node ≢ nodes.Currency 0 → node_value unit f live node ≤ active_amount f live 0 * unit }
 {}
 
-/// The edges into a node are exactly those that lead into it, each once, and as many as are counted. Any list of
-/// exactly those, each once, has the same sums.
+/// The list of edges into a node holds each such edge exactly once, and its length is the counted number. Any other
+/// list that holds each exactly once has the same sums.
 pub fn edges_into_are_exact()
     ensures edges { (f : Funding) (node : Node) → HasEachOnce (edges_into f node) (LeadsInto f node) }
     ensures count { (f : Funding) (node : Node) → length (edges_into f node) ≡ edge_count_into f node }
@@ -168,8 +169,8 @@ pub fn edges_into_are_exact()
         → HasEachOnce edges (LeadsInto f node) → sum_by counted edges ≡ sum_by counted (edges_into f node) }
 {}
 
-/// The edges into a node together pass on a sum over the tickets that fund it, over the threads that lend to
-/// it, and over the mutexes that it owns.
+/// The sum that the edges into a node pass on is the sum over the tickets that fund it, the threads that lend to it,
+/// and the mutexes that it owns.
 pub fn shares_are_sums()
     ensures currency { (f : Funding) (unit : ℕ) (live : List Bool) (worth : Node → ℕ) (c : ℕ)
         → shares_into unit f live worth (nodes.Currency c)
@@ -190,7 +191,7 @@ pub fn node_values_solve()
         → HasEquation f node → Solves unit f live (node_value unit f live) node }
 {}
 
-/// The solution is unique then: values that solve each equation are the nodes' values, whatever base is given. The same
+/// The solution is unique: values that solve each equation are the nodes' values, for any value of base. The same
 /// holds for a set of nodes, if the edges into them come only from these nodes and base.
 pub fn solutions_are_node_values()
     ensures all { (f : Funding) → HasNoCycle f → FundsThere f → (unit : ℕ) (live : List Bool) (worth : Node → ℕ)
@@ -204,8 +205,8 @@ pub fn solutions_are_node_values()
         → (node : Node) → ¬ Contains unknown node → HasEquation f node → worth node ≡ node_value unit f live node }
 {}
 
-/// The equation of a node reads the values of the nodes from which an edge leads to it, and never base's. It is the
-/// same if the same edges lead into the node and pass on as much.
+/// The equation of a node reads only the values of the nodes with an edge into it, and never base's. It is unchanged
+/// if these edges stay and pass on as much.
 pub fn equations_are_local()
     ensures reads { (f : Funding) (unit : ℕ) (live : List Bool) (worth other : Node → ℕ) (node : Node)
         → ((from : Node) → IsEdge f from node → from ≢ nodes.Currency 0 → worth from ≡ other from)
@@ -216,14 +217,14 @@ pub fn equations_are_local()
         → shares_into unit f live worth node ≡ shares_into unit g now_live worth node }
 {}
 
-/// If nothing makes a cycle, and tickets fund only existing currencies, no way over edges of any kind leads back
-/// to where an edge came from.
+/// If nothing makes a cycle, and tickets fund only existing currencies, no path over edges of any kind leads back to
+/// its start.
 pub fn no_way_leads_back()
     ensures { (f : Funding) → HasNoCycle f → FundsThere f → (from next : Node) → IsEdge f from next
         → ¬ Reaches f next from }
 {}
 
-/// If nothing makes a cycle, and tickets fund only existing currencies, nodes have ranks that rise along edges.
+/// If nothing makes a cycle, and tickets fund only existing currencies, the nodes have ranks that rise along edges.
 pub fn ranks_rise()
     ensures { (f : Funding) → HasNoCycle f → FundsThere f
         → (rank : Node → ℕ) × ((from to : Node) → IsEdge f from to → rank from < rank to) }

@@ -13,6 +13,7 @@ mod limits;
 mod name;
 mod numbers;
 mod record;
+mod reference;
 mod refusal;
 mod reply;
 mod row;
@@ -32,6 +33,7 @@ pub use numbers::{
     CurrencyNumber, MutexNumber, PortNumber, Processor, ThreadNumber, TicketNumber, index_of,
 };
 pub use record::{Record, Status, Thread};
+pub use reference::{CurrencyRef, TargetRef, ThreadRef};
 pub use refusal::{Refusal, TrapRefusal};
 pub use reply::{Outcome, Reply};
 pub use row::{CurrencyRow, ThreadRow, TicketRow};

@@ -1,7 +1,7 @@
 //! The limits of a kernel.
 ghost use Rattle.lot_machine.specs.Bounds.{IsWithinBounds};
 
-/// Sizes that are within their bounds.
+/// Sizes within their bounds.
 #[derive(Clone, Copy, Debug, PartialEq, Eq)]
 pub struct Limits {
     pub tickets: u32,

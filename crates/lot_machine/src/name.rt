@@ -6,7 +6,7 @@ ghost use Rattle.lot_machine.specs.Commands as names;
 use arrayvec::ArrayVec;
 use std::marker::Model;
 
-/// A name of at most 16 bytes, whether good or not.
+/// A name of at most 16 bytes, not necessarily a good one.
 #[derive(Clone, Debug, PartialEq, Eq, Drop)]
 pub struct Name {
     bytes: ArrayVec<u8, 16>,
@@ -23,7 +23,7 @@ impl Model for Name {
 }
 
 impl Name {
-    /// The name with this text, or `None` if it has more than 16 bytes.
+    /// The name with this text, or `None` if the text has more than 16 bytes.
     pub fn new(text: &str) -> Option<Self>
         ensures fits { IsSome result ↔ (length text.now ≤ 16) }
         ensures bytes { IfSome result (λ name. name ≡ text.now) }
@@ -31,7 +31,7 @@ impl Name {
         Self::from_bytes(text.as_bytes())
     }
 
-    /// The name of these bytes, or `None` if they are more than 16.
+    /// The name with these bytes, or `None` if there are more than 16.
     pub fn from_bytes(bytes: &[u8]) -> Option<Self>
         ensures fits { IsSome result ↔ (length bytes.now ≤ 16) }
         ensures bytes { IfSome result (λ name. name ≡ bytes.now) }
@@ -41,7 +41,7 @@ impl Name {
         Some(Name { bytes: copy })
     }
 
-    /// The same name again. It takes no memory.
+    /// A copy of the name. It allocates nothing.
     pub fn copied(&self) -> Self
         ensures { result ≡ self.now }
     {
@@ -59,7 +59,7 @@ impl Name {
     }
 }
 
-/// Whether bytes are a good name: a letter a to z, and then letters a to z, digits, `_` or `-`.
+/// Whether the bytes are a good name: a letter a to z, followed by letters a to z, digits, `_` or `-`.
 pub fn is_good_name(bytes: &[u8]) -> bool
     ensures { result ≡ names.is_good_name bytes.now }
 {
@@ -69,7 +69,7 @@ pub fn is_good_name(bytes: &[u8]) -> bool
     is_letter(*first) && are_name_bytes(others)
 }
 
-/// Whether each byte may stand after a name's first.
+/// Whether each byte may follow a name's first.
 fn are_name_bytes(bytes: &[u8]) -> bool
     ensures { result ≡ list_all names.is_name_byte bytes.now }
 {
@@ -83,7 +83,7 @@ fn is_letter(byte: u8) -> bool
     97 <= byte && byte <= 122
 }
 
-/// Whether the byte may stand after a name's first.
+/// Whether the byte may follow a name's first.
 fn is_name_byte(byte: u8) -> bool
     ensures { result ≡ names.is_name_byte byte }
 {

@@ -1,12 +1,12 @@
-//! The sizes that a kernel is made with.
+//! The sizes of a kernel, fixed when it is made.
 ghost use Rattle.std.specs.Prelude.{◌≡◌, IfSome, IsSome, IsTrue, ◌↔◌};
 ghost use Rattle.lot_machine.specs.Bounds.{IsWithinBounds};
 ghost use Rattle.lot_machine.specs.State.{sizes_of};
 
 use crate::Limits;
 
-/// The sizes of a kernel: how many tickets, user currencies and threads may be made, how many ports, mutexes,
-/// processors and scripts there are, how many ticks a quantum has, and how much one of base is worth.
+/// The sizes of a kernel: the largest numbers of tickets, user currencies and threads ever made, the numbers of
+/// ports, mutexes, processors and scripts, the ticks of a quantum, and the value of one of base.
 #[derive(Clone, Copy, Debug, PartialEq, Eq)]
 pub struct Sizes {
     /// 1 to 65535.
@@ -30,7 +30,7 @@ pub struct Sizes {
 }
 
 impl Sizes {
-    /// The smallest sizes that are within their bounds.
+    /// The smallest sizes within their bounds.
     pub const SMALLEST: Sizes = Sizes {
         tickets: 1,
         currencies: 1,
@@ -42,7 +42,7 @@ impl Sizes {
         quantum: 1,
         unit: 1,
     };
-    /// The largest sizes that are within their bounds.
+    /// The largest sizes within their bounds.
     pub const LARGEST: Sizes = Sizes {
         tickets: 65535,
         currencies: 4096,
@@ -57,7 +57,7 @@ impl Sizes {
 }
 
 impl Limits {
-    /// The limits of these sizes, or `None` if one is out of its bounds.
+    /// The limits with these sizes, or `None` if one is out of its bounds.
     pub fn new(sizes: Sizes) -> Option<Self>
         ensures some { IsSome result ↔ IsWithinBounds sizes }
         ensures sizes { IfSome result (λ limits. sizes_of limits ≡ sizes) }

@@ -1,4 +1,4 @@
--- What the clauses of lotteries, locks and unlocks see.
+-- Lotteries, locks and unlocks as their contracts see them.
 use Rattle.std.specs.Prelude.{◌≡◌, ℕ, Option, List, map}
 use Rattle.lot_machine.specs.declared.funding.Node.{Node}
 use Rattle.lot_machine.specs.Mutexes.{MutexTrap}
@@ -7,20 +7,20 @@ use Rattle.lot_queues.specs.QueueLists.{QueueLists}
 use Rattle.lot_threads.specs.declared.effect.Effect.{Effect}
 use Rattle.lot_threads.specs.Threaded.{Threaded}
 
--- how many waiters there is room for, and those that are listed, in the order of waiting
+-- the largest number of waiters, and the listed waiters in the order of waiting
 pub record Listed : Type 0 where
   pub room : ℕ
   pub waiters : List ℕ
 
--- who owns each mutex
+-- the owner of each mutex
 abbrev pub owners_of : List Mutex → List (Option ℕ)
 owners_of mutexes = map (λ (m : Mutex). m.owner) mutexes
 
--- the threads after a trap over mutexes, with these nodes stale
+-- the threads after a trap on a mutex, with these stale nodes
 abbrev pub with_mutexes : Threaded → MutexTrap → List Node → Threaded
 with_mutexes v e stale = record v { records = e.records; owners = owners_of e.mutexes; stale = stale }
 
--- a trap over mutexes has had this effect, and has left these threads and queues
+-- the trap on a mutex has this effect and leads to these threads and queues
 pub record IsMutexTrap (v : Threaded) (q : QueueLists) (trap : MutexTrap) (effect : Effect) (new : Threaded) (left : QueueLists) : Type 0 where
   pub outcome : effect.outcome ≡ trap.outcome
   pub after : effect.after ≡ trap.after

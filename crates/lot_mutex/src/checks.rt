@@ -1,4 +1,4 @@
-//! Checks of the requirements of `lock` and `unlock` on threads and queues.
+//! Checks of the premises of `lock` and `unlock` about threads and queues.
 ghost use Rattle.std.specs.Prelude.{◌≡◌, ◌↔◌, ◌<◌, Contains, IsTrue, Some, length, slice_index, take};
 ghost use Rattle.lot_machine.specs.declared.record.Status.TheVariants as status;
 ghost use Rattle.lot_machine.specs.Order.{IsQueue};
@@ -21,7 +21,7 @@ pub fn are_waiting(threads: &Threads, waiters: &[u32], mutex: MutexNumber) -> bo
     true
 }
 
-/// Whether the threads and the queues have the same owner of each mutex, or none.
+/// Whether the threads and the queues agree about the owner of each mutex.
 pub fn have_same_owners(threads: &Threads, queues: &Queues) -> bool
     ensures { IsTrue result ↔ (owners_of queues.now.mutexes ≡ threads.now.owners) }
 {
@@ -45,7 +45,7 @@ fn is_waiting(threads: &Threads, thread: u32, mutex: u32) -> bool
     }
 }
 
-/// Whether the thread at this place doesn't stand at an earlier one.
+/// Whether the thread at this index isn't listed at an earlier one.
 fn is_first(waiters: &[u32], place: usize) -> bool
     requires { place < length waiters.now }
     ensures { IsTrue result ↔ (¬ Contains (take place waiters.now) (slice_index waiters.now place)) }

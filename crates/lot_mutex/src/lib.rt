@@ -1,8 +1,8 @@
-//! Lottery mutexes, with all that the waiters for a mutex lend to its owner (6.1).
+//! Lottery mutexes, with the lends of waiters to a mutex's owner (6.1).
 //!
-//! `lock` and `unlock` take the threads and the queues by reference, and change both as the machine's definitions say.
-//! The thread that makes the trap stays Running: the function returns how it goes on or leaves as an `After`. A
-//! `Lottery` holds a lottery over the waiters' values, and has room for it; only `Lottery::new` takes memory.
+//! `lock` and `unlock` take the threads and the queues by reference, and change both according to the machine's
+//! definitions. The thread that makes the trap remains Running: the function returns its disposition as an `After`. A
+//! `Lottery` holds a lottery over the waiters' values, with scratch memory for it; only `Lottery::new` allocates.
 #![tactic(auto)]
 
 mod checks;

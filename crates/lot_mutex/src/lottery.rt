@@ -17,13 +17,13 @@ use std::alloc::{AllocError, Global};
 use std::marker::Model;
 use std::mem::size_of;
 
-// What a waiter takes for its number and for what it is worth.
+// The memory of one waiter's number and value.
 const WAITER_BYTES: u64 = size_of::<u32>() as u64 + size_of::<u128>() as u64;
 
-/// Room for the lottery of a mutex: who waits for it, and what each is worth.
+/// Scratch memory for the lottery of a mutex: its waiters and their values.
 #[derive(Drop)]
 pub struct Lottery {
-    /// How many waiters there is room for.
+    /// The largest number of waiters.
     room: u32,
     waiters: Vec<u32>,
     worths: Vec<u128>,
@@ -45,7 +45,7 @@ impl Model for Lottery {
 }
 
 impl Lottery {
-    /// Room for this many waiters, and none yet. It takes all the memory that a lottery needs.
+    /// Room for this many waiters, and none yet. It allocates all the memory that a lottery needs.
     pub fn new(alloc: Global, threads: u32) -> Result<Lottery, AllocError>
         ensures { IfOk result (λ made. made ≡ record { room = threads; waiters = [] }) }
     {
@@ -56,21 +56,21 @@ impl Lottery {
         })
     }
 
-    /// How many bytes `new` asks of the allocator in all: 20 for each thread.
+    /// The total of bytes that `new` requests from the allocator: 20 for each thread.
     pub fn bytes(threads: u32) -> u64
         ensures { result ≡ 20 * threads }
     {
         WAITER_BYTES * threads as u64
     }
 
-    /// How many waiters there is room for.
+    /// The largest number of waiters.
     pub fn room(&self) -> u32
         ensures { result ≡ self.now.room }
     {
         self.room
     }
 
-    /// Lists who waits for a mutex.
+    /// Lists the waiters for a mutex.
     pub(crate) fn list(&mut self, queues: &Queues, mutex: u32)
         requires mutex { IsThere queues.now.mutexes mutex }
         requires room { queues.now.room ≡ self.old.room }
@@ -85,7 +85,7 @@ impl Lottery {
         self.waiters.is_empty()
     }
 
-    /// The waiter that the lottery picks: the winner, or the one that has waited longest if nobody wins.
+    /// The next owner: the lottery's winner, or the waiter that has waited longest if nobody wins.
     pub(crate) fn picked(&self, drawn: Option<Drawn>) -> u32
         requires some { self.now.waiters ≢ [] }
         requires within { IfSome drawn (λ w. w.place < length self.now.waiters) }
@@ -97,8 +97,8 @@ impl Lottery {
         }
     }
 
-    /// Holds a lottery with the number `d` over the values of the listed waiters for the mutex: `None` if they sum to
-    /// 0. No value is stale then.
+    /// Holds a lottery with the number `d` over the values of the listed waiters for the mutex. Returns `None` if
+    /// they sum to 0. Requires that no value is stale.
     pub(crate) fn hold(&mut self, threads: &Threads, mutex: u32, d: u128) -> Option<Drawn>
         requires settled { threads.now.stale ≡ [] }
         requires mutex { IsMutex (funding_in threads.now) mutex }
@@ -116,7 +116,7 @@ impl Lottery {
     }
 }
 
-/// Lists what each of these threads is worth, none of which is stale.
+/// Lists the values of these threads, none of which is stale.
 fn list_worths(threads: &Threads, waiters: &[u32], worths: &mut Vec<u128>)
     requires settled { threads.now.stale ≡ [] }
     requires there { All (IsThreadOf threads.now) waiters.now }

@@ -21,7 +21,7 @@ use lot_queues::Queues;
 use lot_threads::{Effect, Threads};
 use lot_value::Change;
 
-/// A lock by a thread that runs: it takes a free mutex; otherwise it waits, after earlier threads.
+/// A lock by a running thread: it takes a free mutex, or otherwise waits behind earlier threads.
 pub fn lock(
     threads: &mut Threads,
     queues: &mut Queues,
@@ -61,9 +61,9 @@ pub fn lock(
     }
 }
 
-/// An unlock by the owner, which runs: without waiters the mutex becomes free. Otherwise the unlock settles what is
-/// stale, and a lottery with the number `d` over the waiters' values picks the next owner; if the values sum to 0, the
-/// first waiter is the next owner.
+/// An unlock by the running owner. Without waiters the mutex becomes free. Otherwise the unlock settles stale nodes,
+/// and a lottery with the number `d` over the waiters' values picks the next owner; if the values sum to 0, the first
+/// waiter is the next owner.
 pub fn unlock(
     threads: &mut Threads,
     queues: &mut Queues,
@@ -120,7 +120,7 @@ pub fn unlock(
     }
 }
 
-/// Frees a mutex for which nobody waits.
+/// Frees a mutex without waiters.
 fn free(threads: &mut Threads, queues: &mut Queues, mutex: u32) -> Effect
     requires mutex { IsThere queues.old.mutexes mutex }
     requires nobody { (mutex_at queues.old.mutexes mutex).waiters ≡ [] }
@@ -149,7 +149,7 @@ fn drawn_numbers(drawn: Option<Drawn>) -> Option<(u64, u64)>
     Some((won.number as u64, won.total as u64))
 }
 
-/// Passes a mutex to one of its waiters: that one is Ready and owner, and the others go on waiting.
+/// Passes a mutex to one of its waiters, which becomes Ready and owner, while the others go on waiting.
 fn pass(threads: &mut Threads, queues: &mut Queues, owner: u32, mutex: u32, next: u32)
     requires mutex { IsThere queues.old.mutexes mutex }
     requires owner { (mutex_at queues.old.mutexes mutex).owner ≡ Some owner }

@@ -1,10 +1,10 @@
--- What `play` writes of a program's turns.
+-- The output of `play` for a program's turns.
 pub mod Texts
--- What a listing has for each number.
+-- The contents of a listing, number by number.
 pub mod Listing
 -- The outcome of an input that is played, or shown in another way.
 pub mod Played
--- The first few of a kind.
+-- The first few items of a kind.
 pub mod Kept
 -- The warnings of a run.
 pub mod Leaving

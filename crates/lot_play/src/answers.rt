@@ -15,7 +15,7 @@ use lot_print::{Heading, Page, write_reply};
 use lot_simulation::LineStyle;
 use std::io::Write;
 
-/// Puts the lines of a turn on the page. A listing is written at once.
+/// Puts the lines of a turn on the page. It writes a listing at once.
 #[inline(always)]
 pub fn put_answer<W: Write>(
     system: &mut System,
@@ -41,7 +41,7 @@ pub fn put_answer<W: Write>(
     }
 }
 
-/// What the line of the actor's turn needs in addition to its event and reply.
+/// The facts that the line of the actor's turn needs in addition to its event and reply.
 #[inline(always)]
 pub fn heading(system: &System, style: LineStyle, actor: u32) -> Heading
     ensures style { result.style ≡ style }
@@ -56,7 +56,7 @@ pub fn heading(system: &System, style: LineStyle, actor: u32) -> Heading
     }
 }
 
-/// How a turn is written: with its time, if it has one.
+/// The style of a turn's lines: with its time, if it has one.
 #[inline(always)]
 pub fn style_of(turn: &Turn) -> LineStyle
     ensures { result ≡ style_at turn.now.time }

@@ -1,4 +1,4 @@
-//! The end of a run's output: the report, and the history as lines that give it back.
+//! The end of a run's output: the report, and the history as lines that reproduce it.
 ghost use Rattle.std.specs.Prelude.{◌≡◌, false, true, OnOk};
 ghost use Rattle.lot_simulation.specs.Output.{end_text};
 ghost use Rattle.lot_io.specs.Writing.{Writes};
@@ -9,7 +9,7 @@ use lot_io::{IoFault, Watched, flush};
 use lot_print::write_history;
 use std::io::Write;
 
-/// Writes the report, and after it the history as lines that an input of this unit may have, which give it back; then
+/// Writes the report, and then the history as lines that an input of this unit may have and that reproduce it; then
 /// flushes.
 pub fn write_end<W: Write>(system: &mut System, writer: &mut Watched<W>) -> Result<(), IoFault>
     requires { writer.old.failed ≡ false }
@@ -22,7 +22,7 @@ pub fn write_end<W: Write>(system: &mut System, writer: &mut Watched<W>) -> Resu
     flush(writer)
 }
 
-/// Writes the report, and after it the history.
+/// Writes the report, and then the history.
 fn write_texts<W: Write>(system: &mut System, writer: &mut Watched<W>) -> Result<(), IoFault>
     requires { writer.old.failed ≡ false }
     ensures same { system.new ≡ system.old }

@@ -1,14 +1,14 @@
-//! The first few of a kind.
+//! The first few items of a kind.
 ghost use Rattle.std.specs.Prelude.{◌≡◌, ◌-◌, ◌≤◌, IfOk, length};
 ghost use Rattle.lot_play.specs.Kept.{kept_with, none_kept};
 
 use std::alloc::{AllocError, Global};
 use std::marker::Model;
 
-/// How many of a kind are listed one by one.
+/// The largest number of items listed one by one.
 const LISTED: usize = 8;
 
-/// The first few of a kind, and how many there are in all.
+/// The first few items of a kind, and the number of all.
 #[derive(Debug, Drop)]
 pub struct FirstFew<T: Drop> {
     first: Vec<T>,
@@ -30,7 +30,7 @@ impl<T: Drop> Model for FirstFew<T> {
 }
 
 impl<T: Drop> FirstFew<T> {
-    /// None yet, with room for those that are listed. It allocates all the memory that will ever be used.
+    /// None yet, with room for the listed ones. It allocates all the memory that will ever be used.
     pub(crate) fn none(alloc: Global) -> Result<Self, AllocError>
         ensures { IfOk result (λ few. few ≡ none_kept) }
     {
@@ -40,7 +40,7 @@ impl<T: Drop> FirstFew<T> {
         })
     }
 
-    /// One more.
+    /// Adds one more.
     pub(crate) fn add(&mut self, one: T)
         ensures { self.new ≡ kept_with self.old one }
     {
@@ -50,7 +50,7 @@ impl<T: Drop> FirstFew<T> {
         self.count = self.count.saturating_add(1);
     }
 
-    /// The first of them, in order.
+    /// The listed items, in order.
     pub fn first(&self) -> &[T]
         ensures items { result.now ≡ self.now.first }
         ensures few { length result.now ≤ 8 }
@@ -58,7 +58,7 @@ impl<T: Drop> FirstFew<T> {
         self.first.as_slice()
     }
 
-    /// How many there are in addition to the first.
+    /// The number of items after the listed ones.
     pub fn others(&self) -> usize
         ensures { result ≡ self.now.count - length self.now.first }
     {

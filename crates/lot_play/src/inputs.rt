@@ -14,17 +14,17 @@ use lot_text::{ParseFault, parse};
 use std::alloc::Global;
 use std::io::{Read, Write};
 
-/// The outcome of an input that was read.
+/// The outcome of an input.
 #[derive(Clone, Copy, Debug, PartialEq, Eq)]
 pub enum Played {
     /// Its schedule was played to the end.
     Done,
-    /// The input was refused, and the refusal was written.
+    /// The input was refused, and the line that says so was written.
     Refused,
 }
 
 /// Reads an input, makes its turns, and writes a line for each turn and then the report; or one line, if the input is
-/// refused. With a fault nothing was written, unless the writer has failed.
+/// refused. On a fault it has written nothing, unless the writer failed.
 pub fn play<R: Read, W: Write>(
     alloc: Global,
     reader: &mut Watched<R>,
@@ -40,8 +40,8 @@ pub fn play<R: Read, W: Write>(
     play_bytes(alloc, bytes.as_slice(), &mut warnings, writer)
 }
 
-/// Plays the input in `bytes`, or writes why it is refused, as `play` does, for callers that report more: the run's
-/// warnings are stored in `warnings`. It allocates all its memory before the first turn.
+/// Plays the input in `bytes`, or writes its refusal, as `play` does, for callers that report more: it stores the
+/// run's warnings in `warnings`. It allocates all its memory before the first turn.
 pub fn play_bytes<W: Write>(
     alloc: Global,
     bytes: &[u8],

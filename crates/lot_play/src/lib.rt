@@ -1,5 +1,4 @@
-//! Plays a program: has observers follow its turns, and writes what `play` writes of them: a line for each turn, the
-//! listings, and the report.
+//! Plays a program: observers follow its turns, and `play` writes a line for each turn, the listings, and the report.
 #![tactic(auto)]
 
 mod answers;

@@ -19,7 +19,7 @@ use lot_text::Program;
 use std::alloc::Global;
 use std::io::Write;
 
-/// Writes a line for each turn, a page of them at a time, and records the warnings.
+/// Writes a line for each turn, page by page, and records the warnings.
 #[derive(Drop)]
 struct Lines<'a, W> {
     page: Page,
@@ -57,7 +57,7 @@ impl<'a, W: Write> Observer for Lines<'a, W> {
 }
 
 impl<'a, W: Write> Lines<'a, W> {
-    /// Writes the lines that wait.
+    /// Writes the pending lines.
     fn write_out(&mut self) -> Result<(), IoFault>
         requires { self.old.writer.now.failed ≡ false }
         ensures same { self.new.writer.ghost_name ≡ self.old.writer.ghost_name }
@@ -67,7 +67,7 @@ impl<'a, W: Write> Lines<'a, W> {
     }
 }
 
-/// Puts the lines of a turn on the page, and records its warning. A listing is written at once.
+/// Puts the lines of a turn on the page, and records its warning. It writes a listing at once.
 #[inline(always)]
 fn put_made<W: Write>(
     system: &mut System,

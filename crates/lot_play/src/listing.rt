@@ -15,8 +15,8 @@ use lot_print::{write_currency, write_listing_line, write_thread, write_ticket};
 use lot_simulation::LineStyle;
 use std::io::Write;
 
-/// Writes an actor's turn that asked for a listing of the kernel as it is: how many rows there are, and a line for
-/// each, by rising number.
+/// Writes the line of an actor's turn that requests a listing, and the listing of the kernel at present: the number
+/// of rows, and a line for each, in ascending order.
 pub(crate) fn write_listing<W: Write>(
     system: &mut System,
     style: LineStyle,
@@ -35,7 +35,7 @@ pub(crate) fn write_listing<W: Write>(
     write_rows(system, style, kind, writer)
 }
 
-/// How many rows the listing has.
+/// The number of rows in the listing.
 fn count_rows(system: &mut System, kind: Kind) -> u32
     ensures same { system.new ≡ system.old }
     ensures count { result ≡ rows_among (world_of system.old).state kind
@@ -93,7 +93,7 @@ fn write_rows<W: Write>(
     Ok(())
 }
 
-/// Writes the line of the row with this number, if there is one.
+/// Writes the line of the row with this number, if it exists.
 fn write_row<W: Write>(
     system: &mut System,
     style: LineStyle,

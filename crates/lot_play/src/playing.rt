@@ -1,4 +1,4 @@
-//! Playing a program through.
+//! Playing a whole program.
 ghost use Rattle.std.specs.Prelude.{◌≡◌, List, [], ◌++◌, IfErr, OnOk};
 ghost use Rattle.lot_playback.specs.Stages.{HasMade, turns_left};
 ghost use Rattle.lot_playback.specs.Turns.{MadeTurn, program_turns};
@@ -6,8 +6,8 @@ ghost use Rattle.lot_playback.specs.Turns.{MadeTurn, program_turns};
 use lot_playback::{Observer, Playback, Turn};
 use lot_text::Program;
 
-/// Makes all turns of a program of which none is made yet, and has the observer follow them. It stops if the observer
-/// does.
+/// Makes all turns of a program, none of which has been made, and lets the observer follow them. It stops when the
+/// observer does.
 #[inline(always)]
 pub fn play_through<O: Observer>(
     program: &Program,

@@ -32,7 +32,7 @@ fn write_threads<W: Write>(system: &mut System, writer: &mut Watched<W>) -> Resu
     Ok(())
 }
 
-/// Writes the line of the thread with this number, if there is one.
+/// Writes the line of the thread with this number, if it exists.
 fn write_thread<W: Write>(
     system: &mut System,
     number: u32,

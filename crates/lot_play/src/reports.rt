@@ -1,4 +1,4 @@
-//! The end of a play's output: the report after all turns, in either order.
+//! The end of a play's output: the report after all turns, with a schedule or timed.
 ghost use Rattle.std.specs.Prelude.{◌≡◌, [], false, true, OnOk, length};
 ghost use Rattle.lot_io.specs.Writing.{Writes};
 ghost use Rattle.lot_playback.specs.Orders.{IsAtPlace, IsAtTime, IsInOrder, made_in};
@@ -14,7 +14,8 @@ use lot_playback::{Order, Playback, Timekeeper};
 use lot_text::Program;
 use std::io::Write;
 
-/// Ends a play whose turns are all made: writes the report, flushes, and records in the warnings how the system ended.
+/// Ends a play whose turns are all made: writes the report, flushes, and records the end of the system in the
+/// warnings.
 pub fn end_play<W: Write>(
     program: &Program,
     playback: Playback,
@@ -54,7 +55,7 @@ fn write_last_report<W: Write>(
     }
 }
 
-/// Writes the report of a schedule that was played.
+/// Writes the report of a schedule.
 fn report_scheduled<W: Write>(
     program: &Program,
     system: &mut System,
@@ -71,7 +72,7 @@ fn report_scheduled<W: Write>(
     write_report(system, writer)
 }
 
-/// Writes the report of turns that were made in the order of time.
+/// Writes the report of a timed program.
 fn report_in_time<W: Write>(
     program: &Program,
     system: &mut System,

@@ -1,4 +1,4 @@
-//! The report of turns in the order of time.
+//! The report of a timed program.
 ghost use Rattle.std.specs.Prelude.{◌≡◌, ◌<◌, ◌^◌, [], false};
 ghost use Rattle.std.specs.List.{flat_map, range_with_len};
 ghost use Rattle.std.specs.Option.{option_map_or};
@@ -26,8 +26,8 @@ use lot_print::{
 use lot_text::Program;
 use std::io::Write;
 
-/// Writes the report of a system that has made all of its program's turns in the order of time: a line for each
-/// thread, a line for each processor, and the totals.
+/// Writes the report of a system that has made all of its timed program's turns: a line for each thread, a line for
+/// each processor, and the totals.
 pub fn write_timed_report<W: Write>(
     program: &Program,
     system: &mut System,
@@ -47,7 +47,7 @@ pub fn write_timed_report<W: Write>(
     write_total(system, timekeeper, writer)
 }
 
-/// When the play ended: at the end that the input says, or, if there is no more room, with the last turn.
+/// The time at which the play ended: the end that the input gives, or the last turn's time if there was no more room.
 fn ended_at(program: &Program, system: &System, timekeeper: &Timekeeper) -> u32
     requires program { system.now.setting.program ≡ program.now }
     requires end { IsAtEnd system.now timekeeper.now }
@@ -92,7 +92,7 @@ fn live_value(system: &mut System) -> u128
     sum
 }
 
-/// The thread's value if it is live, otherwise 0.
+/// The thread's value if it is live, and 0 otherwise.
 fn live_value_of(system: &mut System, thread: u32) -> u64
     ensures value { result ≡ live_part (world_of system.old).state thread
         (value_of (world_of system.old).state thread) }

@@ -1,4 +1,4 @@
-//! The warnings of a run, in addition to its output.
+//! The warnings of a run, which aren't part of its output.
 
 ghost use Rattle.std.specs.Prelude.{◌≡◌, IfOk, length};
 ghost use Rattle.lot_play.specs.Kept.{none_kept};
@@ -13,27 +13,27 @@ use std::alloc::{AllocError, Global};
 /// A command that the kernel refused.
 #[derive(Clone, Copy, Debug, PartialEq, Eq)]
 pub struct RefusedCommand {
-    /// How many commands come before it in the input.
+    /// The number of commands before it in the input.
     pub place: usize,
     pub refusal: Refusal,
 }
 
-/// A thread that no later turn can move on.
+/// A thread that can never make progress again.
 #[derive(Debug, Drop)]
 pub struct StuckThread {
     pub name: Name,
-    /// What it waits for, or Ready if it weighs nothing.
+    /// Its status: the reason why it waits, or Ready if it weighs nothing.
     pub status: Status,
 }
 
 /// The warnings of a run, which aren't part of its output.
 #[derive(Debug, Drop)]
 pub struct Warnings {
-    /// How many commands were made.
+    /// The number of commands made.
     pub made: usize,
-    /// Those of them that were refused.
+    /// The refused ones among them.
     pub refused: FirstFew<RefusedCommand>,
-    /// How many commands were never made.
+    /// The number of commands never made.
     pub unmade: usize,
     /// The Ready threads with a weight of 0.
     pub weightless: FirstFew<StuckThread>,
@@ -42,7 +42,7 @@ pub struct Warnings {
 }
 
 impl Warnings {
-    /// No warnings. It allocates all the memory that noting will ever use.
+    /// No warnings. It allocates all the memory that recording will ever use.
     pub fn none(alloc: Global) -> Result<Self, AllocError>
         ensures { IfOk result (λ warnings. warnings
             ≡ record { made = 0; refused = none_kept; unmade = 0; weightless = none_kept; waiting = none_kept }) }
@@ -77,7 +77,7 @@ impl Warnings {
         self.made = self.made.saturating_add(1);
     }
 
-    /// Records the state at the end of a run.
+    /// Records the warnings about the state at the end of a run.
     pub fn note_end(&mut self, system: &mut System)
         ensures kept { (self.new.made ≡ self.old.made) × (self.new.refused ≡ self.old.refused) }
         ensures unmade { self.new.unmade ≡ length (world_of system.old).commands }
@@ -92,7 +92,7 @@ impl Warnings {
         }
     }
 
-    /// Records a thread as it is at the end; `is_over` says whether no thread can run any more.
+    /// Records the warning, if any, about a thread at the end; `is_over` tells whether no thread can run any more.
     fn note_thread(&mut self, system: &mut System, row: ThreadRow, is_over: bool)
         ensures kept { (self.new.made ≡ self.old.made) × (self.new.refused ≡ self.old.refused)
             × (self.new.unmade ≡ self.old.unmade) }

@@ -1,4 +1,4 @@
--- Turns in the order of time, of a system.
+-- Timed turns of a system.
 use Rattle.std.specs.Prelude.{◌≡◌, ℕ, ◌+◌, ◌-◌, ◌<◌, ◌≤◌, ◌*◌, ◌^◌, nat_le, Bool, true, false, Option, Some, None, List, ◌++◌, length, map, take, drop, slice_index_or, All, if◌then◌else◌}
 use Rattle.lot_machine.specs.declared.action.Action.TheVariants as action
 use Rattle.lot_machine.specs.declared.event.Event.{Event}
@@ -25,13 +25,13 @@ use Rattle.lot_engine.specs.Seen.{Seen, commands_made, world_of}
 abbrev pub moment_of : Seen → ℕ → List Clock → Moment
 moment_of seen time clocks = record { world = world_of seen; time = time; clocks = clocks; times = drop (commands_made seen) seen.setting.program.times }
 
--- of two turns that may come next, if there are any, the one that is done first; of two at the same time the first
+-- the earlier of two turns, if there are any, or the first of them if both have one time
 abbrev pub sooner_of : Option Due → Option Due → Option Due
 sooner_of None other = other
 sooner_of (Some due) None = Some due
 sooner_of (Some due) (Some other) = if nat_le due.time other.time then Some due else Some other
 
--- no processor was idle for longer than so many turns may last
+-- each processor's idle time is within the range of so many turns
 abbrev pub HaveIdled : ℕ → List Clock → Type 0
 HaveIdled turns clocks = All (λ clock. clock.idle ≤ turns * 2 ^ 32) clocks
 
@@ -43,26 +43,26 @@ cost_of_slice given = made given.trap
     made None = given.budget
     made (Some trap) = given.ticks + 1
 
--- ---- what is tracked from turn to turn
+-- ---- the records from turn to turn
 
 -- whether the event is a lock
 abbrev pub is_locking : Event → Bool
 is_locking (event.Trap p ran (action.Lock mutex)) = true
 is_locking other = false
 
--- how a reply changes who waits for a mutex, if it is one to a lock, and if not
+-- the change that a reply makes to the threads that wait for a mutex, given whether its event is a lock
 abbrev pub change_by : Bool → Reply → WaitChange
 change_by true (reply.Trapped thread ticks outcome.Waits ends) = Begins thread
 change_by locks (reply.Trapped thread ticks (outcome.Passed to drawn) ends) = Ends to
 change_by locks other = Nobody
 
--- how a thread has waited in these turns, and no more than n turns can have it wait
+-- a thread's waits in these turns, which are within the range of n turns
 pub record IsWaits (change : Answer → WaitChange) (done : List TimedTurn) (n t : ℕ) (waits : Waits) : Type 0 where
   pub exact : waits ≡ waits_in change done t
   pub count : waits.count ≤ n
   pub total : waits.total ≤ n * 2 ^ 32
 
--- the same of each thread, the first with number 1
+-- each thread's waits in these turns, starting with thread 1
 abbrev pub AreWaits : (Answer → WaitChange) → List TimedTurn → ℕ → List Waits → Type 0
 AreWaits change done n waits = (place : ℕ) (d : Waits) → place < length waits → IsWaits change done n (place + 1) (slice_index_or waits place d)
 
@@ -71,7 +71,7 @@ pub record HaveFollowed (time : ℕ) (change : WaitChange) (old new : List Waits
   pub count : length new ≡ length old
   pub each : (place : ℕ) (d : Waits) → place < length old → slice_index_or new place d ≡ waits_after (place + 1) time (slice_index_or old place d) change
 
--- one more wait is within range of each
+-- each thread's waits leave room for one more
 abbrev pub AreFew : List Waits → Type 0
 AreFew waits = (place : ℕ) (d : Waits) → place < length waits → ((slice_index_or waits place d).count < 2 ^ 31) × ((slice_index_or waits place d).total < 2 ^ 63)
 
@@ -83,7 +83,7 @@ pub record HasFollowed (done : List TimedTurn) (n : ℕ) (timekeeper : Timekeepe
   pub refused : timekeeper.refused ≡ total_of refusals_in (actor_turns done)
   pub few : timekeeper.refused ≤ n
 
--- it has room for the program's processors and threads
+-- the records have room for the program's processors and threads
 pub record HasRoomFor (program : Program) (timekeeper : Timekeeper) : Type 0 where
   pub clocks : length timekeeper.clocks.processors.items ≡ program.limits.processors
   pub mutexes : length timekeeper.mutexes.threads.items ≡ program.limits.threads
@@ -91,23 +91,23 @@ pub record HasRoomFor (program : Program) (timekeeper : Timekeeper) : Type 0 whe
 
 -- ---- turns that a system has made
 
--- the moment of a system that is followed
+-- the moment of a system with these records
 abbrev pub moment_in : Seen → Timekeeper → Moment
 moment_in seen timekeeper = moment_of seen timekeeper.clocks.time timekeeper.clocks.processors.items
 
--- the program's turns in time that a system has made: as many as its history has entries
+-- the timed turns that a system has made: as many as its history has entries
 abbrev pub turns_done : Program → Seen → List TimedTurn
 turns_done program seen = take (length seen.history) (timed_turns program)
 
--- the next of the program's turns in time, if there is one
+-- the list of the next timed turn, or the empty list at the end
 abbrev pub next_turns : Program → Seen → List TimedTurn
 next_turns program seen = take 1 (drop (length seen.history) (timed_turns program))
 
--- the turn that a system makes when this is due
+-- the turn that a system makes if this one is due
 abbrev pub due_turn : Seen → Due → TimedTurn
 due_turn seen due = record { time = due.time; actor = due.actor; turn = turn_in seen due.actor }
 
--- The system has made turns of the program in time and no others, and the timekeeper has tracked these turns.
+-- The system has made timed turns of the program and no others, and the records are those of these turns.
 pub record IsFollowed (program : Program) (seen : Seen) (timekeeper : Timekeeper) : Type 0 where
   pub program_is : seen.setting.program ≡ program
   pub room_is : seen.setting.room ≡ timed_room
@@ -118,13 +118,13 @@ pub record IsFollowed (program : Program) (seen : Seen) (timekeeper : Timekeeper
   pub room : HasRoomFor program timekeeper
   pub followed : HasFollowed (turns_done program seen) (length seen.history) timekeeper
 
--- this turn comes next, no later than the program's end, and there is room for it
+-- this is the next turn, no later than the program's end, and there is room for it
 pub record IsDue (program : Program) (seen : Seen) (timekeeper : Timekeeper) (due : Due) : Type 0 where
   pub room : length seen.history < seen.setting.room
   pub first : next_due program (moment_in seen timekeeper) ≡ Some due
   pub within : due.time < 2 ^ 32
 
--- the system has made all of its program's turns in time
+-- the system has made all turns of its timed program
 pub record IsAtEnd (seen : Seen) (timekeeper : Timekeeper) : Type 0 where
   pub followed : IsFollowed seen.setting.program seen timekeeper
   pub all : turns_done seen.setting.program seen ≡ timed_turns seen.setting.program

@@ -1,8 +1,8 @@
--- The turns of a program: those of its schedule, or those in the order of time.
+-- The turns of a program: those of its schedule, or timed ones.
 pub mod Turns
--- How far a program is played.
+-- The progress of a play.
 pub mod Stages
--- Turns in the order of time.
+-- Timed turns of a system.
 pub mod InTime
--- Whose turn is next.
+-- The next turn of a play.
 pub mod Orders

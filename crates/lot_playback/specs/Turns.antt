@@ -1,4 +1,4 @@
--- The turns of a program: those of its schedule, or those in the order of time.
+-- The turns of a program: those of its schedule, or timed ones.
 use Rattle.std.specs.Prelude.{ℕ, Option, Some, None, List, [], ◌∷◌}
 use Rattle.std.specs.List.{flat_map}
 use Rattle.lot_simulation.specs.Report.{ActorTurn}
@@ -6,7 +6,7 @@ use Rattle.lot_simulation.specs.Timed.{TimedTurn, timed_turns}
 use Rattle.lot_simulation.specs.World.{Program, World, Answer, Turn, opening_world, system_turn}
 use Rattle.lot_simulation.specs.World.Answer.{Answered, Ended}
 
--- when a turn is made, if the program's turns have times; by which actor, in which world, and what comes of it
+-- a turn: its time if the program is timed, its actor, the world before it, and its result
 pub record MadeTurn : Type 0 where
   pub time : Option ℕ
   pub actor : ℕ
@@ -24,20 +24,20 @@ abbrev pub scheduled_turns : Program → World → List ℕ → List MadeTurn
 scheduled_turns program w [] = []
 scheduled_turns program w (actor ∷ actors) = scheduled_turn program w actor ∷ scheduled_turns program (system_turn program w actor).world actors
 
--- ---- turns in the order of time
+-- ---- timed turns
 
--- the turn, which was made in this world
+-- the timed turn, made in this world
 abbrev pub turn_in_time : World → TimedTurn → MadeTurn
 turn_in_time w done = record { time = Some done.time; actor = done.actor; before = w; turn = done.turn }
 
--- these turns, the first of them made in this world, and each other in the world after the one before
+-- these timed turns, the first of them made in this world, and each other in the world after the one before
 abbrev pub turns_in_time : World → List TimedTurn → List MadeTurn
 turns_in_time w [] = []
 turns_in_time w (done ∷ others) = turn_in_time w done ∷ turns_in_time done.turn.world others
 
 -- ---- the program's turns
 
--- those in the order of time if the program has a duration, otherwise those of its schedule
+-- timed turns if the program has a duration, and otherwise those of its schedule
 abbrev pub turns_by : Program → Option ℕ → List MadeTurn
 turns_by program None = scheduled_turns program (opening_world program) program.schedule
 turns_by program (Some duration) = turns_in_time (opening_world program) (timed_turns program)
@@ -51,7 +51,7 @@ abbrev pub world_after_turns : World → List MadeTurn → World
 world_after_turns w [] = w
 world_after_turns w (made ∷ others) = world_after_turns made.turn.world others
 
--- an actor's turn as a report counts it; none if no command was left
+-- an actor's turn as a report counts it; none if no command remained
 abbrev pub counted_turn : ℕ → Answer → List ActorTurn
 counted_turn actor (Answered e r) = record { actor = actor; answer = Answered e r } ∷ []
 counted_turn actor Ended = []

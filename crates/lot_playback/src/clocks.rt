@@ -1,4 +1,4 @@
-//! Whose turn is next in time.
+//! The next turn in time order.
 ghost use Rattle.std.specs.Prelude.{◌≡◌, ℕ, ◌<◌, ◌≤◌, ◌+◌, ◌^◌, List, false, map, replicate, IfOk, IfSome, vec_len};
 ghost use Rattle.lot_machine.specs.Bounds.{IsBetween};
 ghost use Rattle.lot_machine.specs.declared.event.Event.{Event as EventRecord};
@@ -22,14 +22,14 @@ use std::alloc::{AllocError, Global};
 /// The processors' clocks.
 #[derive(Debug, Drop)]
 pub struct Clocks {
-    /// When the last turn was made.
+    /// The time of the last turn.
     pub time: u32,
-    /// Each processor's clock, the first with number 1.
+    /// Each processor's clock, starting with processor 1.
     pub processors: Vec<Clock>,
 }
 
 impl Clocks {
-    /// At the start it is 0 everywhere.
+    /// The clocks at the start, all at 0.
     pub(crate) fn open(alloc: Global, processors: u32) -> Result<Clocks, AllocError>
         ensures clocks { IfOk result (λ t. t.processors.items
             ≡ replicate processors (record { time = 0; waits = false; idle = 0 })) }
@@ -46,7 +46,7 @@ impl Clocks {
         })
     }
 
-    /// The next turn, unless all processors wait and no command is left, or it would be made after the end.
+    /// The next turn; there is none if all processors wait and no command remains, or if it would come after the end.
     pub fn next_due(&self, program: &Program, system: &System) -> Option<Due>
         requires program { system.now.setting.program ≡ program.now }
         requires clocks { vec_len self.now.processors ≡ program.now.limits.processors }
@@ -61,7 +61,7 @@ impl Clocks {
         Some(due)
     }
 
-    /// The turn that would be made first; of turns at the same time, that of the lowest actor.
+    /// The earliest turn; among turns at one time, that of the lowest actor.
     fn earliest(&self, program: &Program, system: &System) -> Option<Due>
         requires program { system.now.setting.program ≡ program.now }
         requires clocks { vec_len self.now.processors ≡ program.now.limits.processors }
@@ -98,7 +98,7 @@ impl Clocks {
         self.processors[processor as usize - 1]
     }
 
-    /// Records a turn that this actor made at this time, with this reply: its clock afterwards, and who waits.
+    /// Records this actor's turn at this time, with this reply: its clock afterwards, and the waiting processors.
     pub(crate) fn follow(&mut self, time: u32, actor: u32, reply: Reply)
         requires there { actor ≤ vec_len self.old.processors }
         requires idled { (turns : ℕ) × (turns < 2 ^ 31) × HaveIdled turns self.old.processors.items }
@@ -123,7 +123,7 @@ impl Clocks {
         self.processors[actor as usize - 1] = Clock { time, waits, idle };
     }
 
-    /// No processor waits any more, since a turn was made at this time.
+    /// Ends the waits of all processors, since a turn was made at this time.
     fn wake(&mut self, time: u32)
         requires idled { (turns : ℕ) × (turns < 2 ^ 31) × HaveIdled turns self.old.processors.items }
         ensures time { self.new.time ≡ self.old.time }
@@ -137,7 +137,7 @@ impl Clocks {
         }
     }
 
-    /// How long the processor was idle, up to this time.
+    /// The ticks that the processor was idle, up to this time.
     pub fn idle_until(&self, end: u32, processor: u32) -> u64
         requires there { IsBetween 1 (vec_len self.now.processors) processor }
         requires idled { (turns : ℕ) × (turns < 2 ^ 31) × HaveIdled turns self.now.processors.items }
@@ -147,7 +147,7 @@ impl Clocks {
     }
 }
 
-/// The console's turn, if a command is left.
+/// The console's turn, if a command remains.
 fn console_due(program: &Program, system: &System) -> Option<Due>
     requires { system.now.setting.program ≡ program.now }
     ensures { (now : ℕ) (clocks : List ClockRecord)
@@ -160,7 +160,7 @@ fn console_due(program: &Program, system: &System) -> Option<Due>
     })
 }
 
-/// The turn of an actor that is made so many ticks after this time.
+/// The turn of an actor this many ticks after this time.
 fn due_after(time: u32, cost: u32, actor: u32) -> Due
     ensures { result ≡ record { time = time + cost; actor = actor } }
 {
@@ -170,8 +170,8 @@ fn due_after(time: u32, cost: u32, actor: u32) -> Due
     }
 }
 
-/// The cost of the processor's next turn: nothing for a draw, the rest of the quantum for an expiry, the work and one
-/// tick more for a trap.
+/// The cost of the processor's next turn: nothing for a draw, the rest of the quantum for an expiry, and the work and
+/// one more tick for a trap.
 fn cost(program: &Program, system: &System, processor: u32) -> u32
     requires program { system.now.setting.program ≡ program.now }
     requires there { 0 < processor }
@@ -193,7 +193,7 @@ fn cost_of_slice(slice: &Slice) -> u32
     }
 }
 
-/// The clock of a processor that waits no more, since another turn was made at this time.
+/// The clock of a processor whose wait, if any, ends at this time.
 fn woken(clock: Clock, time: u32) -> Clock
     requires { clock.idle < 2 ^ 63 }
     ensures { result ≡ timed.woken time clock }
@@ -208,7 +208,7 @@ fn woken(clock: Clock, time: u32) -> Clock
     }
 }
 
-/// Of two turns that may come next, if there are any, the one that is made first; of two at the same time the first.
+/// The earlier of two turns, if there are any, or the first of them if both have one time.
 fn sooner_of(first: Option<Due>, second: Option<Due>) -> Option<Due>
     ensures { result ≡ in_time.sooner_of first second }
 {

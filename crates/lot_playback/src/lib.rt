@@ -1,5 +1,4 @@
-//! A program's turns, one after another, whichever order they come in: those of a schedule, or those that are due by
-//! clocks.
+//! A program's turns, one after another, in either order: those of a schedule, or those due by clocks.
 #![tactic(auto)]
 
 mod clocks;

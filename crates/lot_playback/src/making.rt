@@ -8,7 +8,7 @@ use crate::{NextTurn, Timekeeper, Turn};
 use lot_engine::System;
 use lot_text::Program;
 
-/// Whose turn is next at this place of the schedule.
+/// The turn at this place of the schedule, if there is one.
 #[inline(always)]
 pub(crate) fn next_scheduled(program: &Program, system: &System, place: usize) -> Option<NextTurn>
     requires program { system.now.setting.program ≡ program.now }
@@ -26,7 +26,7 @@ pub(crate) fn next_scheduled(program: &Program, system: &System, place: usize) -
     })
 }
 
-/// Whose turn is next by the clocks.
+/// The next turn by the clocks, if there is one.
 #[inline(always)]
 pub(crate) fn next_in_time(
     program: &Program,

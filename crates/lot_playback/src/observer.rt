@@ -1,4 +1,4 @@
-//! What is made of a program's turns.
+//! Observers of a program's turns.
 ghost use Rattle.std.specs.Prelude.{◌≡◌, ℕ, List, ◌∷◌, [], ◌++◌, IfErr, OnOk};
 ghost use Rattle.lot_simulation.specs.World.{Program as ProgramRecord, World};
 ghost use Rattle.lot_engine.specs.Seen.{world_of};
@@ -9,18 +9,18 @@ use crate::Turn;
 use lot_engine::System;
 use lot_text::Program;
 
-/// Follows a program's turns, one after another, and makes something of them.
+/// Follows a program's turns, one after another, and produces a result from them.
 pub trait Observer {
-    /// Why it stops the play.
+    /// The reason why it stops the play.
     type Fault;
 
-    // what it has made of these turns of the program, and what it was before them
+    // its state after these turns of the program, given its state before them
     ghost observed: { ProgramRecord → List MadeTurn → Self → Self → Type 0 };
 
-    // the same, and it has seen the world in which this actor's turn is next
+    // its state after these turns, once it has seen the world in which this actor's turn is next
     ghost awaits: { ProgramRecord → List MadeTurn → World → ℕ → Self → Self → Type 0 };
 
-    // it has stopped at the last of these turns
+    // its state and its fault after it stopped at the last of these turns
     ghost stopped: { ProgramRecord → List MadeTurn → Self → Self → Self.Fault → Type 0 };
 
     /// Sees the system before this actor's turn.

@@ -1,4 +1,4 @@
-//! A program that is played, a turn at a time.
+//! The play of a program, turn by turn.
 ghost use Rattle.std.specs.Prelude.{◌≡◌, List, [], ◌∷◌, ◌++◌, IfErr, IfNone, IfOk, IfSome, IsSome, None, OnOk};
 ghost use Rattle.lot_playback.specs.Orders.{IsInOrder, made_in};
 ghost use Rattle.lot_playback.specs.Stages.{HasMade, IsNext, MakesTurn, turns_left};
@@ -12,22 +12,22 @@ use lot_text::Program;
 use std::alloc::{AllocError, Global};
 use std::marker::Model;
 
-/// A system that makes the turns of its program: those of the schedule, or those in the order of time if the program
-/// has a duration.
+/// A system that makes the turns of its program: those of the schedule, or, if the program has a duration, timed
+/// turns.
 ///
-/// Contracts see the system, and how many of the program's turns it has made.
+/// Contracts see the system, and the number of the program's turns made.
 #[derive(Drop)]
 pub struct Playback {
     system: System,
     order: Order,
 }
 
-/// Whose turn is next.
+/// The order of the turns, and the position in it.
 #[derive(Drop)]
 pub enum Order {
-    /// That of the actor at this place of the schedule.
+    /// The next turn is that of the actor at this place of the schedule.
     Scheduled(usize),
-    /// That which is due first, by these clocks.
+    /// The next turn is the first one due by these clocks.
     InTime(Timekeeper),
 }
 
@@ -44,8 +44,8 @@ impl Model for Playback {
 }
 
 impl Playback {
-    /// The program, before its first turn. It allocates all the memory that its turns will ever use, and fails only
-    /// if out of memory.
+    /// The program before its first turn. It allocates all the memory that its turns will ever use, and fails only if
+    /// out of memory.
     pub fn open(alloc: Global, program: &Program) -> Result<Playback, AllocError>
         ensures none { IfOk result (λ playback. playback.made ≡ 0) }
         ensures made { IfOk result (λ playback. HasMade program.now [] playback.seen) }
@@ -70,7 +70,7 @@ impl Playback {
         })
     }
 
-    /// A program whose turns come in the order of time.
+    /// A timed program.
     fn open_timed(alloc: Global, program: &Program) -> Result<Playback, AllocError>
         requires { IsSome program.now.duration }
         ensures none { IfOk result (λ playback. playback.made ≡ 0) }
@@ -84,7 +84,7 @@ impl Playback {
         })
     }
 
-    /// Whose turn is next, if there is one.
+    /// The next turn, if there is one.
     #[inline(always)]
     pub fn next_due(&self, program: &Program) -> Option<NextTurn>
         requires { self.now.seen.setting.program ≡ program.now }
@@ -97,8 +97,8 @@ impl Playback {
         }
     }
 
-    /// Makes the turn that is next, and stores it in `turn`, whose event is large: no turn of a play copies one. It
-    /// allocates no memory.
+    /// Makes the next turn, and stores it in `turn`: a turn's event is large, and no play copies one. It allocates no
+    /// memory.
     #[inline(always)]
     fn make(&mut self, program: &Program, next: NextTurn, turn: &mut Turn)
         requires program { self.old.seen.setting.program ≡ program.now }
@@ -125,7 +125,7 @@ impl Playback {
         Some(turn)
     }
 
-    /// Makes the turn that is next, stores it in `turn`, and has the observer follow it.
+    /// Makes the next turn, stores it in `turn`, and lets the observer follow it.
     #[inline(always)]
     pub fn play_turn<O: Observer>(
         &mut self,
@@ -155,7 +155,7 @@ impl Playback {
         observer.after(program, &mut self.system, turn)
     }
 
-    /// The system, with the turns that were made, and whose turn is next.
+    /// The system with the turns made, and the position in their order.
     pub fn into_parts(self) -> (System, Order)
         ensures system { result.0 ≡ self.seen }
         ensures order { IsInOrder result.0 result.1 }

@@ -1,4 +1,4 @@
-//! Making a program's turns in the order of time, and tracking what the report needs in addition to the system.
+//! The records of a timed play, which its report needs in addition to the system.
 ghost use Rattle.std.specs.Prelude.{◌≡◌, ℕ, ◌<◌, ◌≤◌, ◌+◌, ◌^◌, ◌++◌, List, [], ◌∷◌, IfOk, false, replicate, vec_len};
 ghost use Rattle.lot_simulation.specs.TimedReport as reports;
 ghost use Rattle.lot_simulation.specs.Timed.{TimedTurn, clocks_after, is_idle_draw};
@@ -13,25 +13,25 @@ use lot_machine::{Event, Reply};
 use lot_text::Program;
 use std::alloc::{AllocError, Global};
 
-/// The most turns that a program makes in the order of time.
+/// The largest number of turns that a timed program makes.
 pub const MOST_TURNS: u32 = 1000000;
 
-/// What is tracked from turn to turn, in addition to the system, when turns are made in the order of time.
+/// The records that a timed play keeps from turn to turn, in addition to the system.
 #[derive(Debug, Drop)]
 pub struct Timekeeper {
     /// The processors' clocks.
     pub clocks: Clocks,
-    /// How each thread has waited for mutexes.
+    /// Each thread's waits for mutexes.
     pub mutexes: WaitTable,
-    /// How each thread has waited for replies.
+    /// Each thread's waits for replies.
     pub replies: WaitTable,
-    /// How many commands were refused.
+    /// The number of refused commands.
     pub refused: u64,
 }
 
 impl Timekeeper {
-    /// Before the program's first turn. It allocates all the memory that it will ever use, and fails only if out of
-    /// memory.
+    /// The records before the program's first turn. It allocates all the memory that they will ever use, and fails
+    /// only if out of memory.
     pub fn open(alloc: Global, program: &Program) -> Result<Timekeeper, AllocError>
         ensures time { IfOk result (λ timekeeper. timekeeper.clocks.time ≡ 0) }
         ensures clocks { IfOk result (λ timekeeper. timekeeper.clocks.processors.items
@@ -49,7 +49,7 @@ impl Timekeeper {
         })
     }
 
-    /// Records a turn that this actor made at this time, with its event and reply.
+    /// Records this actor's turn at this time, with its event and reply.
     pub(crate) fn follow(&mut self, time: u32, actor: u32, event: &Event, reply: Reply)
         requires there { actor ≤ vec_len self.old.clocks.processors }
         requires followed { (done : List TimedTurn) × (n : ℕ) × (n < 2 ^ 31) × HasFollowed done n self.old }
@@ -69,7 +69,7 @@ impl Timekeeper {
     }
 }
 
-/// 1 if the kernel refused a command, otherwise 0.
+/// 1 if the kernel refused a command, and 0 otherwise.
 fn refusals_in(reply: Reply) -> u64
     ensures refusals { result ≡ reports.refusals_in reply }
     ensures few { result ≤ 1 }

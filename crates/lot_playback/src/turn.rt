@@ -1,32 +1,32 @@
 //! A turn of a program.
 use lot_machine::{Event, Reply};
 
-/// Whose turn is next.
+/// The next turn: its actor, and its time if it is timed.
 #[derive(Clone, Copy, Debug, PartialEq, Eq)]
 pub struct NextTurn {
-    /// When it will be made, in ticks, if the program's turns come in the order of time.
+    /// Its time in ticks, if the program is timed.
     pub time: Option<u32>,
     /// 0 is the console, and the others are the processors.
     pub actor: u32,
 }
 
-/// A turn that was made. Its event and reply are large, so that each turn of a play is stored over the one before.
+/// A turn that was made. Its event and reply are large, so a play stores each turn over the one before.
 #[derive(Debug, PartialEq, Eq, Drop)]
 pub struct Turn {
-    /// When it was made, in ticks, if the program's turns come in the order of time.
+    /// Its time in ticks, if the program is timed.
     pub time: Option<u32>,
     /// 0 is the console, and the others are the processors.
     pub actor: u32,
-    /// Whether it is one of the console after its last command. Then its event and reply mean nothing.
+    /// Whether it is the console's after its last command. Its event and reply are meaningless then.
     pub has_ended: bool,
-    /// What the actor asked of the kernel.
+    /// The actor's event.
     pub event: Event,
-    /// What the kernel replied.
+    /// The kernel's reply.
     pub reply: Reply,
 }
 
 impl Turn {
-    /// Room for a turn, before one is made.
+    /// A blank turn, to be overwritten.
     pub fn blank() -> Turn {
         Turn {
             time: None,

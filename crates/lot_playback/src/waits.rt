@@ -1,4 +1,4 @@
-//! How threads wait for mutexes and for replies.
+//! Threads' waits for mutexes and for replies.
 ghost use Rattle.std.specs.Prelude.{◌≡◌, ◌<◌, ◌+◌, ◌^◌, ◌++◌, [], ◌∷◌, ℕ, List, IfOk, vec_len};
 ghost use Rattle.lot_machine.specs.Bounds.{IsBetween};
 ghost use Rattle.lot_simulation.specs.Timed.{TimedTurn};
@@ -16,7 +16,7 @@ use lot_machine::{Action, Event, Outcome, Reply};
 use lot_simulation::{WaitChange, Waits};
 use std::alloc::{AllocError, Global};
 
-/// Never.
+/// The waits of a thread that has never waited.
 const NO_WAITS: Waits = Waits {
     count: 0,
     total: 0,
@@ -24,7 +24,7 @@ const NO_WAITS: Waits = Waits {
     since: None,
 };
 
-/// How each thread has waited, the first with number 1.
+/// Each thread's waits, starting with thread 1.
 #[derive(Debug, Drop)]
 pub struct WaitTable {
     /// The waits of each thread.
@@ -32,7 +32,7 @@ pub struct WaitTable {
 }
 
 impl WaitTable {
-    /// None of so many threads has waited.
+    /// The table of this many threads, none of which has waited.
     pub(crate) fn open(alloc: Global, threads: u32) -> Result<WaitTable, AllocError>
         ensures none { (kind : WorldAnswer → WaitChangeRecord)
             → IfOk result (λ table. AreWaits kind [] 0 table.threads.items) }
@@ -43,7 +43,7 @@ impl WaitTable {
         })
     }
 
-    /// How the thread with this number has waited.
+    /// The waits of the thread with this number.
     pub fn of(&self, thread: u32) -> Waits
         requires { IsBetween 1 (vec_len self.now.threads) thread }
         ensures { (kind : WorldAnswer → WaitChangeRecord) (done : List TimedTurn) (n : ℕ)
@@ -52,7 +52,7 @@ impl WaitTable {
         self.threads[thread as usize - 1]
     }
 
-    /// Records the change that a turn made at this time. It ignores a thread that doesn't exist.
+    /// Records the change that a turn made at this time. It ignores a nonexistent thread.
     pub(crate) fn follow(&mut self, time: u32, change: WaitChange)
         requires bounded { (kind : WorldAnswer → WaitChangeRecord) × (done : List TimedTurn) × (n : ℕ) × (n < 2 ^ 31)
             × AreWaits kind done n self.old.threads.items }
@@ -68,7 +68,7 @@ impl WaitTable {
         }
     }
 
-    /// The thread waits from this time on.
+    /// Starts the thread's wait at this time.
     fn begin(&mut self, time: u32, thread: u32)
         ensures { HaveFollowed time (Begins thread) self.old.threads.items self.new.threads.items }
     {
@@ -82,7 +82,7 @@ impl WaitTable {
         };
     }
 
-    /// The thread has waited until this time.
+    /// Ends the thread's wait at this time.
     fn end(&mut self, time: u32, thread: u32)
         requires { AreFew self.old.threads.items }
         ensures { HaveFollowed time (Ends thread) self.old.threads.items self.new.threads.items }
@@ -95,7 +95,7 @@ impl WaitTable {
     }
 }
 
-/// The thread has waited until this time, if it has waited at all.
+/// The waits after the current wait, if any, ends at this time.
 fn wait_ended(waits: Waits, time: u32) -> Waits
     requires { (waits.count < 2 ^ 31) × (waits.total < 2 ^ 63) }
     ensures { result ≡ timed.wait_ended time waits }
@@ -112,7 +112,7 @@ fn wait_ended(waits: Waits, time: u32) -> Waits
     }
 }
 
-/// How a turn with this event and reply changes who waits for a mutex.
+/// The change that a turn with this event and reply makes to the threads that wait for a mutex.
 #[tactic(auto, using(crate::proofs::WaitFacts::change_by_locking))]
 pub(crate) fn mutex_change(event: &Event, reply: Reply) -> WaitChange
     ensures { result ≡ timed.mutex_change (Answered event.now reply) }
@@ -120,7 +120,8 @@ pub(crate) fn mutex_change(event: &Event, reply: Reply) -> WaitChange
     change_by(is_locking(event), reply)
 }
 
-/// How a turn with this reply changes who waits for a mutex, given whether its event is a lock.
+/// The change that a turn with this reply makes to the threads that wait for a mutex, given whether its event is a
+/// lock.
 fn change_by(locks: bool, reply: Reply) -> WaitChange
     ensures { result ≡ in_time.change_by locks reply }
 {
@@ -162,7 +163,7 @@ fn is_lock(action: Action) -> bool
     matches!(action, Action::Lock(_))
 }
 
-/// How a turn with this reply changes who waits for a reply.
+/// The change that a turn with this reply makes to the threads that wait for a reply.
 pub(crate) fn reply_change(reply: Reply) -> WaitChange
     ensures { (e : EventRecord) → result ≡ timed.reply_change (Answered e reply) }
 {

@@ -1,4 +1,4 @@
--- A trap over ports: the queues after it, and all that it does.
+-- A trap at a port: the queues after it, and its whole effect.
 use Rattle.std.specs.Prelude.{◌≡◌}
 use Rattle.lot_machine.specs.declared.funding.Node.{Node}
 use Rattle.lot_machine.specs.Ports.{PortTrap}
@@ -10,8 +10,8 @@ use Rattle.lot_threads.specs.Threaded.{Threaded, IsStaleIn, MakesStaleIn, with_r
 abbrev pub with_ports : QueueLists → PortTrap → QueueLists
 with_ports q e = record q { clients = e.clients; ports = e.ports }
 
--- A trap over ports has had this effect, and has left these threads and queues. What was stale stays so, and no more
--- gets stale than the change of the threads makes.
+-- The trap at a port has this effect and leads to these threads and queues; stale nodes stay stale, and new ones are
+-- reached from touched nodes.
 pub record IsPortTrap (v : Threaded) (q : QueueLists) (trap : PortTrap) (effect : Effect) (new : Threaded) (left : QueueLists) : Type 0 where
   pub outcome : effect.outcome ≡ trap.outcome
   pub after : effect.after ≡ trap.after

@@ -1,4 +1,4 @@
-//! Calls, their receipt and their replies (4.6).
+//! Calls, receives and replies (4.6).
 ghost use Rattle.std.specs.Prelude.{◌≡◌, Some, length};
 ghost use Rattle.lot_machine.specs.Ports as machine;
 ghost use Rattle.lot_machine.specs.Ports.{first_client};
@@ -11,7 +11,7 @@ use lot_machine::{After, Outcome, PortNumber, Status, ThreadNumber};
 use lot_queues::Queues;
 use lot_threads::{Effect, Threads};
 
-/// A call to a port: the thread that has waited longest to receive there serves it, or it is queued.
+/// A call to a port: the thread that has waited longest to receive there serves it, or otherwise it is queued.
 pub fn call(
     threads: &mut Threads,
     queues: &mut Queues,
@@ -42,7 +42,7 @@ pub fn call(
     }
 }
 
-/// A receipt at a port by a thread that runs: the call that has waited longest is taken, or the thread waits there.
+/// A receive at a port by a running thread: it takes the call that has waited longest, or otherwise waits there.
 pub fn receive(
     threads: &mut Threads,
     queues: &mut Queues,
@@ -102,7 +102,7 @@ pub fn reply(
     }
 }
 
-/// A reply of a thread that runs to its next client, and then its receipt at a port.
+/// A reply of a running thread to its next client, followed by a receive at a port.
 pub fn serve(
     threads: &mut Threads,
     queues: &mut Queues,
@@ -128,7 +128,7 @@ pub fn serve(
     }
 }
 
-/// The outcome of a reply to a client and of the receipt after it.
+/// The outcome of a serve, from the client that got the reply and the outcome of the receive.
 fn replied_then(to: u32, receipt: Outcome) -> Outcome
     ensures { result ≡ machine.replied_then (Replied to) receipt }
 {

@@ -1,4 +1,4 @@
--- The text of lots: of those that take part in a lottery.
+-- The text of lots, the entries of a lottery.
 use Rattle.std.specs.Prelude.{ℕ, ◌+◌, ◌==◌, Bool, true, false, List, [], ◌++◌, codes}
 use Rattle.std.specs.Fmt.{decimal}
 use Rattle.lot_simulation.specs.declared.style.LineStyle.{LineStyle}
@@ -7,23 +7,23 @@ use Rattle.lot_print.specs.declared.lots.Lot.{Lot}
 use Rattle.lot_print.specs.declared.lots.Lottery.{Lottery}
 use Rattle.lot_print.specs.declared.lots.Lottery.TheVariants.{OfProcessor, OfMutex}
 
--- what a lottery calls those who take part in it
+-- the word for an entrant in this kind of lottery
 abbrev pub part_word : Lottery → List ℕ
 part_word OfProcessor = codes " lot thread "
 part_word OfMutex = codes " lot waiter "
 
--- and what they bring to it
+-- the word for its weight in this kind of lottery
 abbrev pub weight_word : Lottery → List ℕ
 weight_word OfProcessor = codes " weight "
 weight_word OfMutex = codes " value "
 
--- the mark at the winner's line
+-- the mark on the winner's line
 abbrev pub mark : Bool → List ℕ
 mark true = codes " wins"
 mark false = []
 
--- The line of a lot, if this thread has won: what it weighs, and that the numbers are its own from `first` on, as many
--- as it weighs. What it weighs is printed as in listings, and the numbers are as those of draws.
+-- The line of a lot, given the winner: its weight, and its numbers, from `first` on, as many as its weight. The
+-- weight is printed as in listings, the numbers as in draws.
 abbrev pub lot_line : LineStyle → ℕ → ℕ → Lottery → ℕ → ℕ → Lot → List ℕ
 lot_line style unit actor lottery winner first lot =
     front style ++ (decimal actor ++ (part_word lottery ++ (decimal lot.thread ++ (codes " " ++ (lot.name ++ (weight_word lottery ++ (value_text style unit lot.weight

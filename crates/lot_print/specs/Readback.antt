@@ -1,12 +1,12 @@
--- When the lines that are printed for a history are read as that history.
+-- The condition that a history's printed lines are read as that history.
 use Rattle.std.specs.Prelude.{◌≡◌, ◌+◌, ◌≤◌, ℕ, false, Some, None, Ok, List, ◌++◌, length, All}
 use Rattle.lot_machine.specs.Bounds.{IsUnit}
 use Rattle.lot_simulation.specs.Lines.{lines_of}
 use Rattle.lot_simulation.specs.Reading.{Reading}
 use Rattle.lot_simulation.specs.Grammar.{read_lines}
 
--- No script is open, the actors are the console and the processors, and neither the schedule nor the input grows past
--- what an input may have, if the text begins after this many bytes.
+-- No script is open, the actors are the console and the processors, and the schedule and the input stay within their
+-- limits, if the text begins after this many bytes.
 pub record HasRoom (r : Reading) (start : ℕ) (history text : List ℕ) : Type 0 where
   pub unit : IsUnit r.unit
   pub untimed : r.is_timed ≡ false
@@ -16,7 +16,7 @@ pub record HasRoom (r : Reading) (start : ℕ) (history text : List ℕ) : Type 
   pub schedule_length : length r.schedule + length history ≤ 1000000
   pub input_length : start + length text ≤ 16777216
 
--- The text, from the line of this number on, is read as these further turns in the schedule. Nothing else changes,
+-- The text, whose first line has this number, is read as these further turns in the schedule. Nothing else changes,
 -- except that the header has ended.
 abbrev pub IsReadAs : ℕ → ℕ → Reading → List ℕ → List ℕ → Type 0
 IsReadAs n start r text history =

@@ -1,4 +1,4 @@
--- The report's lines of what was counted, by the numbers that they show.
+-- The report's lines of totals, from the numbers that they print.
 use Rattle.std.specs.Prelude.{ℕ, List, ◌++◌, codes}
 use Rattle.std.specs.Fmt.{decimal}
 use Rattle.lot_machine.specs.declared.row.ThreadRow.{ThreadRow}
@@ -6,19 +6,19 @@ use Rattle.lot_simulation.specs.declared.timed.Waits.{Waits}
 use Rattle.lot_simulation.specs.Texts.{newline}
 use Rattle.lot_simulation.specs.TimedReport.{percent_text, waits_text}
 
--- a processor's line: the draws that somebody won there, the others, and the ticks used there
+-- a processor's line: its won draws, its idle draws, and the ticks used there
 abbrev pub processor_line : ℕ → ℕ → ℕ → ℕ → List ℕ
 processor_line p quanta idles ticks =
     codes "processor " ++ (decimal p ++ (codes " quanta " ++ (decimal quanta ++ (codes " idle " ++ (decimal idles ++ (codes " ticks " ++ (decimal ticks ++ newline)))))))
 
--- the last line: how many turns were made, and what was counted in all of them
+-- the last line: the number of turns, and the counts over all of them
 abbrev pub total_line : ℕ → ℕ → ℕ → List ℕ
 total_line turns quanta ticks =
     codes "total turns " ++ (decimal turns ++ (codes " quanta " ++ (decimal quanta ++ (codes " ticks " ++ (decimal ticks ++ newline)))))
 
--- ---- turns in the order of time
+-- ---- timed reports
 
--- a thread's line: its row, the ticks of all threads, its live value and that of all, and how it has waited
+-- a thread's line: its row, the ticks of all threads, its live value and that of all, and its waits
 abbrev pub timed_thread_line : ℕ → ThreadRow → ℕ → ℕ → ℕ → Waits → Waits → List ℕ
 timed_thread_line n row all live values mutexes replies =
     codes "thread " ++ (decimal n ++ (codes " " ++ (row.name ++ (codes " quanta " ++ (decimal row.quanta
@@ -26,14 +26,13 @@ timed_thread_line n row all live values mutexes replies =
     ++ (codes " value " ++ (percent_text live values
     ++ (waits_text (codes " mutex") mutexes ++ (waits_text (codes " reply") replies ++ newline)))))))))))))
 
--- a processor's line: the draws that somebody won there, the others, the ticks used there, and those in which it was
--- idle
+-- a processor's line: its won draws, its idle draws, the ticks used there, and the ticks in which it was idle
 abbrev pub timed_processor_line : ℕ → ℕ → ℕ → ℕ → ℕ → List ℕ
 timed_processor_line p quanta idles ticks unused =
     codes "processor " ++ (decimal p ++ (codes " quanta " ++ (decimal quanta ++ (codes " idle " ++ (decimal idles ++ (codes " ticks " ++ (decimal ticks
     ++ (codes " unused " ++ (decimal unused ++ newline)))))))))
 
--- the last line: what was counted in all turns, and how many commands were refused or never made
+-- the last line: the counts over all turns, and the numbers of commands refused and never made
 abbrev pub timed_total_line : ℕ → ℕ → ℕ → ℕ → ℕ → List ℕ
 timed_total_line turns quanta ticks refused left =
     codes "total turns " ++ (decimal turns ++ (codes " quanta " ++ (decimal quanta ++ (codes " ticks " ++ (decimal ticks

@@ -11,7 +11,7 @@ use lot_io::{IoFault, Watched};
 use lot_simulation::{Format, SCHEDULE_WORD};
 use std::io::Write;
 
-/// Writes the history of a run as lines that an input of the format's unit may have, which give it back: `schedule`
+/// Writes the history of a run as lines that reproduce it, as allowed in an input of the format's unit: `schedule`
 /// lines in `lottery 1`, and otherwise `runs` lines.
 pub fn write_history<W: Write>(
     writer: &mut Watched<W>,
@@ -27,7 +27,7 @@ pub fn write_history<W: Write>(
     }
 }
 
-/// Writes the history in `schedule` lines of 64 actors each, the last with those that remain.
+/// Writes the history in `schedule` lines of 64 actors each; the last has the rest.
 fn write_schedule<W: Write>(writer: &mut Watched<W>, history: &[u8]) -> Result<(), IoFault>
     requires { writer.old.failed ≡ false }
     ensures { Writes W.contents writer.old writer.new result (reports.schedule_lines history.now) }

@@ -4,8 +4,8 @@ ghost use Rattle.lot_simulation.specs.Reading.{Reading};
 ghost use Rattle.lot_simulation.specs.Report.{history_lines};
 ghost use Rattle.lot_print.specs.Readback.{HasRoom, IsReadAs};
 
-/// The lines that are printed for a history, `schedule` lines or `runs` lines as the input's version has them, are read
-/// as that history, wherever a body line may stand.
+/// The lines printed for a history, `schedule` lines or `runs` lines as the input's format has them, are read as that
+/// history, wherever a body line may stand.
 pub fn histories_are_read_back()
     ensures { (n start : ℕ) (r : Reading) (history : List ℕ) → HasRoom r start history (history_lines r.unit history)
         → IsReadAs n start r (history_lines r.unit history) history }

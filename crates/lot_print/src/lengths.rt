@@ -1,9 +1,9 @@
-//! How many bytes lines have at most: sums of what their parts have. Clauses have these numbers as figures, and the
-//! proofs of the functions that put the parts show that the figures hold.
+//! The largest numbers of bytes in lines, as sums over their parts. Clauses have these numbers as literals, and the
+//! proofs of the functions that append the parts show that they are right.
 
 use lot_simulation::SCHEDULE_WORD;
 
-/// How many actors a `schedule` line has at most.
+/// The largest number of actors in a `schedule` line.
 pub(crate) const ACTORS: usize = 64;
 
 /// A number of 8, 32 or 64 bits.
@@ -13,7 +13,7 @@ const NUMBER: usize = 10;
 
 const LONG_NUMBER: usize = 20;
 
-/// A quotient: a number of 128 bits, and three digits behind a point.
+/// A quotient: a number of 128 bits, and three digits after the point.
 const QUOTIENT: usize = 39 + 4;
 
 /// A name.
@@ -25,16 +25,16 @@ const FRONT: usize = NUMBER + 1;
 /// A word, a number and its name.
 const NAMED: usize = b"currency ".len() + NUMBER + 1 + NAME;
 
-/// Draws that were won, and ticks that were used.
+/// The draws won, and the ticks used.
 const COUNTS: usize = b" quanta ".len() + LONG_NUMBER + b" ticks ".len() + LONG_NUMBER;
 
-/// Time and actor of a turn.
+/// The time and the actor of a turn.
 const HEADING: usize = FRONT + NUMBER + 1;
 
-/// Who ran, and for how many ticks.
+/// The thread that ran, and its ticks.
 const RAN: usize = b"thread ".len() + NUMBER + b" ticks ".len() + NUMBER;
 
-/// The longest outcome of a trap: to whom a mutex was passed on, and the draw.
+/// The longest outcome of a trap: the new owner of a mutex, and the draw.
 const OUTCOME: usize = b"unlock ".len()
     + NUMBER
     + b" to ".len()
@@ -50,7 +50,7 @@ const END: usize = b" expire\n".len();
 /// The line of a turn.
 pub(crate) const TURN: usize = HEADING + RAN + 1 + OUTCOME + END;
 
-/// The page on which such lines wait.
+/// The page on which such lines are collected.
 pub(crate) const PAGE: usize = 4096;
 
 /// A ticket's row.
@@ -96,7 +96,7 @@ const THREAD_ROW: usize = FRONT
     + COUNTS
     + 1;
 
-/// Who takes part in a lottery.
+/// An entrant of a lottery.
 const LOT: usize = FRONT
     + NUMBER
     + b" lot thread ".len()
@@ -114,7 +114,7 @@ const LOT: usize = FRONT
 /// The longest line of a listing, of a lottery or of the report.
 pub(crate) const ROW: usize = 256;
 
-/// How often and how long a thread has waited.
+/// The number and the length of a thread's waits.
 const WAITS: usize = b" mutex".len()
     + b" waits ".len()
     + LONG_NUMBER
@@ -123,13 +123,13 @@ const WAITS: usize = b" mutex".len()
     + b" longest ".len()
     + LONG_NUMBER;
 
-/// A part in percent.
+/// A share in percent.
 const PERCENT: usize = b" share ".len() + QUOTIENT + 1;
 
-/// A thread's line in the report of turns in the order of time.
+/// A thread's line in a timed report.
 const TIMED_THREAD: usize = NAMED + COUNTS + PERCENT + PERCENT + WAITS + WAITS + 1;
 
-/// The longest line of such a report.
+/// The longest line of a timed report.
 pub(crate) const TIMED_ROW: usize = 512;
 
 /// A `schedule` line.

@@ -1,6 +1,6 @@
-//! Outputs: what is printed for replies, listings, totals, histories and refused inputs. Each function writes one text
-//! to a writer that is watched, or a beginning of it if the writer fails, and takes no memory. The lines of turns wait
-//! on a page, and are written together.
+//! Outputs: the texts of replies, listings, totals, histories and refused inputs. Each function writes one text to a
+//! watched writer, or a beginning of it if the writer fails, and allocates nothing. The lines of turns are collected
+//! on a page, and written together.
 #![tactic(auto)]
 
 mod histories;

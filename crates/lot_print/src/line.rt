@@ -1,4 +1,4 @@
-//! A line that is put together, and then written by one call.
+//! A line that is assembled, and then written by one call.
 ghost use Rattle.std.specs.Prelude.{◌≡◌, ◌<◌, ◌≤◌, ◌+◌, ◌/◌, ◌%◌, ◌^◌, ◌++◌, ◌∷◌, [], false, length};
 ghost use Rattle.std.specs.Fmt.{decimal};
 ghost use Rattle.lot_simulation.specs.Texts.{behind_point, drawn_value, front, quotient_text, value_text};
@@ -18,13 +18,14 @@ static PAIRS: [u8; 200] = *b"0001020304050607080910111213141516171819\
     6061626364656667686970717273747576777879\
     8081828384858687888990919293949596979899";
 
-/// A line, or a part of one, of at most `N` bytes. It takes no memory.
+/// A line, or a part of one, of at most `N` bytes. It allocates nothing.
 ///
-/// Not an `ArrayVec`, which writes over each byte that it lets go, and compares its length with its room at each byte.
+/// It isn't an `ArrayVec`, which overwrites each byte that it drops, and compares its length with its capacity at
+/// each byte.
 #[derive(Debug, Drop)]
 pub(crate) struct Line<const N: usize> {
     bytes: [u8; N],
-    /// How many of the bytes, from the first on, are the line.
+    /// The number of the line's bytes, which are the first ones.
     len: usize,
 }
 
@@ -50,7 +51,7 @@ impl<const N: usize> Line<N> {
         }
     }
 
-    /// How many bytes it has.
+    /// The number of its bytes.
     #[inline(always)]
     pub(crate) fn len(&self) -> usize
         ensures len { result ≡ length self.now }
@@ -59,7 +60,7 @@ impl<const N: usize> Line<N> {
         self.len
     }
 
-    /// Takes all bytes away.
+    /// Removes all bytes.
     #[inline(always)]
     pub(crate) fn clear(&mut self)
         ensures { self.new ≡ [] }
@@ -67,7 +68,7 @@ impl<const N: usize> Line<N> {
         self.len = 0;
     }
 
-    /// Puts the text at the end.
+    /// Appends the text.
     #[inline(always)]
     pub(crate) fn push_text(&mut self, text: &str)
         requires { length self.old + length text.now ≤ N }
@@ -77,7 +78,7 @@ impl<const N: usize> Line<N> {
         self.push_bytes(text.as_bytes());
     }
 
-    /// Puts a word at the end whose bytes are known where this is compiled: it becomes a few stores.
+    /// Appends a word whose bytes are known at compile time: it compiles to a few stores.
     #[inline(always)]
     pub(crate) fn push_word(&mut self, word: &str)
         requires { length self.old + length word.now ≤ N }
@@ -89,7 +90,7 @@ impl<const N: usize> Line<N> {
         }
     }
 
-    /// Puts the bytes at the end.
+    /// Appends the bytes.
     #[inline(always)]
     pub(crate) fn push_bytes(&mut self, bytes: &[u8])
         requires { length self.old + length bytes.now ≤ N }
@@ -103,7 +104,7 @@ impl<const N: usize> Line<N> {
         self.len = end;
     }
 
-    /// Puts the number at the end.
+    /// Appends the number.
     #[inline(always)]
     pub(crate) fn push_number<I: Integer>(&mut self, number: I)
         requires { length self.old + I.MAX_STR_LEN ≤ N }
@@ -114,7 +115,7 @@ impl<const N: usize> Line<N> {
         self.push_text(buffer.format(number));
     }
 
-    /// Puts the text and then the number at the end.
+    /// Appends the text and then the number.
     #[inline(always)]
     pub(crate) fn push_field<I: Integer>(&mut self, text: &str, number: I)
         requires { length self.old + length text.now + I.MAX_STR_LEN ≤ N }
@@ -125,8 +126,8 @@ impl<const N: usize> Line<N> {
         self.push_number(number);
     }
 
-    /// Puts the text and then the number at the end. Its digits go where they belong, since a buffer of their own costs
-    /// more.
+    /// Appends the text and then the number. The digits go directly to their places, since a separate buffer would
+    /// cost more.
     #[inline(always)]
     pub(crate) fn push_count(&mut self, text: &str, number: u32)
         requires { length self.old + length text.now + 10 ≤ N }
@@ -143,7 +144,7 @@ impl<const N: usize> Line<N> {
         }
     }
 
-    /// The same of a number that may be wider.
+    /// Appends the text and then the number, which may be wider than 32 bits.
     #[inline(always)]
     pub(crate) fn push_wide(&mut self, text: &str, number: u128)
         requires { length self.old + length text.now + 39 ≤ N }
@@ -157,7 +158,7 @@ impl<const N: usize> Line<N> {
         }
     }
 
-    /// Puts the text and then the quotient at the end, with at most three digits behind the point.
+    /// Appends the text and then the quotient, with at most three digits after the point.
     #[inline(never)]
     pub(crate) fn push_quotient(&mut self, text: &str, number: u128, divisor: u128)
         requires room { length self.old + length text.now + 43 ≤ N }
@@ -170,7 +171,7 @@ impl<const N: usize> Line<N> {
         self.push_thousandths((number % divisor * 1000 / divisor) as u32);
     }
 
-    /// Puts thousandths at the end: a point and up to three digits, without a 0 at the end; nothing if there are none.
+    /// Appends thousandths: a point and up to three digits, without a 0 at the end; nothing for 0.
     fn push_thousandths(&mut self, thousandths: u32)
         requires { (length self.old + 4 ≤ N) × (thousandths < 1000) }
         ensures text { self.new ≡ self.old ++ behind_point thousandths }
@@ -191,7 +192,7 @@ impl<const N: usize> Line<N> {
         self.push_digit(thousandths % 10);
     }
 
-    /// Puts what a line of this style begins with.
+    /// Appends the start of a line in this style: its time, in timed style.
     #[inline(always)]
     pub(crate) fn push_front(&mut self, style: LineStyle)
         requires { length self.old + 11 ≤ N }
@@ -204,7 +205,7 @@ impl<const N: usize> Line<N> {
         }
     }
 
-    /// Puts the text and then a value, which is kept in so many parts to the unit.
+    /// Appends the text and then a value, given in this many base units per unit.
     pub(crate) fn push_value(&mut self, text: &str, style: LineStyle, unit: u32, value: u128)
         requires room { length self.old + length text.now + 43 ≤ N }
         requires unit { 0 < unit }
@@ -218,7 +219,7 @@ impl<const N: usize> Line<N> {
         }
     }
 
-    /// Puts the text and then a number that was drawn, or the total that it was drawn from.
+    /// Appends the text and then a drawn number, or the total that it was drawn from.
     #[inline(always)]
     pub(crate) fn push_drawn(&mut self, text: &str, style: LineStyle, unit: u32, number: u128)
         requires room { length self.old + length text.now + 43 ≤ N }
@@ -233,7 +234,7 @@ impl<const N: usize> Line<N> {
         }
     }
 
-    /// Puts the digits of a number that has five or more at the end.
+    /// Appends the digits of a number that has five or more.
     #[inline(never)]
     fn push_long(&mut self, number: u32)
         requires { (length self.old + 10 ≤ N) × (10000 ≤ number) }
@@ -245,7 +246,7 @@ impl<const N: usize> Line<N> {
         self.push_pair(number % 10000 % 100);
     }
 
-    /// Puts the digits of a number below 1000000 at the end.
+    /// Appends the digits of a number below 1000000.
     #[inline(always)]
     fn push_up_to_six(&mut self, number: u32)
         requires { (length self.old + 6 ≤ N) × (number < 1000000) }
@@ -260,7 +261,7 @@ impl<const N: usize> Line<N> {
         }
     }
 
-    /// Puts the digits of a number below 10000 at the end.
+    /// Appends the digits of a number below 10000.
     #[inline(always)]
     fn push_up_to_four(&mut self, number: u32)
         requires { (length self.old + 4 ≤ N) × (number < 10000) }
@@ -275,7 +276,7 @@ impl<const N: usize> Line<N> {
         }
     }
 
-    /// Puts the digits of a number below 100 at the end.
+    /// Appends the digits of a number below 100.
     #[inline(always)]
     fn push_up_to_two(&mut self, number: u32)
         requires { (length self.old + 2 ≤ N) × (number < 100) }
@@ -289,7 +290,7 @@ impl<const N: usize> Line<N> {
         }
     }
 
-    /// Puts two digits at the end, those of a number below 100, with a 0 in front if it has one.
+    /// Appends the two digits of a number below 100, with a leading 0 if it is below 10.
     #[inline(always)]
     fn push_pair(&mut self, number: u32)
         requires { (length self.old + 2 ≤ N) × (number < 100) }
@@ -302,7 +303,7 @@ impl<const N: usize> Line<N> {
         self.push_byte(ones);
     }
 
-    /// Puts a digit, 0 to 9, at the end.
+    /// Appends a digit, 0 to 9.
     #[inline(always)]
     fn push_digit(&mut self, digit: u32)
         requires { (length self.old + 1 ≤ N) × (digit < 10) }
@@ -312,7 +313,7 @@ impl<const N: usize> Line<N> {
         self.push_byte(b'0' + digit as u8);
     }
 
-    /// Puts a byte at the end.
+    /// Appends a byte.
     #[inline(always)]
     fn push_byte(&mut self, byte: u8)
         requires { length self.old + 1 ≤ N }

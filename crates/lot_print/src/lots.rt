@@ -1,4 +1,4 @@
-//! The lines of those who take part in a lottery.
+//! The lines of a lottery's entrants.
 ghost use Rattle.std.specs.Prelude.{◌≡◌, ◌<◌, ◌≤◌, ◌+◌, ◌^◌, ◌++◌, codes, false, length};
 ghost use Rattle.std.specs.Fmt.{decimal};
 ghost use Rattle.lot_simulation.specs.Texts.{drawn_value, newline, value_text};
@@ -11,26 +11,26 @@ use lot_io::{IoFault, Watched};
 use lot_machine::Name;
 use std::io::Write;
 
-/// Whose lottery it is.
+/// The kind of a lottery, by its holder.
 #[derive(Clone, Copy, Debug, PartialEq, Eq)]
 pub enum Lottery {
-    /// A processor's, among the Ready threads by what they weigh.
+    /// A processor's, among the Ready threads, by their weights.
     OfProcessor,
-    /// A mutex's, among those who wait for it by what they are worth.
+    /// A mutex's, among its waiters, by their values.
     OfMutex,
 }
 
-/// A thread's part in a lottery.
+/// A thread's entry in a lottery.
 #[derive(Debug, PartialEq, Eq, Drop)]
 pub struct Lot {
     pub thread: u32,
     pub name: Name,
-    /// What it weighs in the lottery.
+    /// Its weight in the lottery.
     pub weight: u128,
 }
 
-/// Writes the line of a lot in a lottery that this thread has won: what it weighs, and which numbers are its own, of
-/// which this is the first. It stands before the line of the actor's turn.
+/// Writes the line of a lot in a lottery with this winner: its weight, and its range of numbers, of which this is the
+/// first. The line precedes that of the actor's turn.
 pub fn write_lot<W: Write>(
     writer: &mut Watched<W>,
     heading: Heading,
@@ -64,7 +64,7 @@ fn lot_text(heading: Heading, lottery: Lottery, winner: u32, first: u128, lot: &
     line
 }
 
-/// Puts who takes part.
+/// Appends the entrant.
 fn push_part(line: &mut RowLine, lottery: Lottery, lot: &Lot)
     requires { length line.old ≤ 21 }
     ensures text { line.new ≡ line.old
@@ -80,7 +80,7 @@ fn push_part(line: &mut RowLine, lottery: Lottery, lot: &Lot)
     line.push_bytes(lot.name.as_bytes());
 }
 
-/// Puts what it weighs in the lottery.
+/// Appends its weight in the lottery.
 fn push_weight(line: &mut RowLine, heading: Heading, lottery: Lottery, weight: u128)
     requires room { length line.old ≤ 60 }
     requires unit { 0 < heading.unit }
@@ -94,7 +94,7 @@ fn push_weight(line: &mut RowLine, heading: Heading, lottery: Lottery, weight: u
     line.push_value(word, heading.style, heading.unit, weight);
 }
 
-/// Puts the first of its numbers, and what they are below.
+/// Appends its first number, and the bound below which its numbers are.
 fn push_numbers(line: &mut RowLine, heading: Heading, first: u128, below: u128)
     requires room { length line.old ≤ 111 }
     requires unit { 0 < heading.unit }
@@ -107,7 +107,7 @@ fn push_numbers(line: &mut RowLine, heading: Heading, first: u128, below: u128)
     line.push_drawn(" below ", heading.style, heading.unit, below);
 }
 
-/// Puts the mark at the winner's line, and the line's end.
+/// Appends the mark on the winner's line, and the line's end.
 fn push_mark(line: &mut RowLine, wins: bool)
     requires { length line.old ≤ 210 }
     ensures { line.new ≡ line.old ++ (mark wins ++ newline) }

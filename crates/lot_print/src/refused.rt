@@ -24,7 +24,7 @@ pub fn write_fault<W: Write>(writer: &mut Watched<W>, fault: InputFault) -> Resu
     line.write_to(writer)
 }
 
-/// Puts why an input is refused, and the line's end.
+/// Appends the reason why an input is refused, and the line's end.
 fn push_reason(line: &mut RowLine, refusal: InputRefusal)
     requires { length line.old ≤ 46 }
     ensures { line.new ≡ line.old ++ (codes " "
@@ -39,7 +39,7 @@ fn push_reason(line: &mut RowLine, refusal: InputRefusal)
     line.push_text("\n");
 }
 
-/// Puts a refusal: its code and its name.
+/// Appends a refusal: its code and its name.
 pub(crate) fn push_refused<const N: usize>(line: &mut Line<N>, code: u32, name: &str)
     requires { (length line.old + 33 ≤ N) × (length name.now ≤ 14) }
     ensures text { line.new ≡ line.old ++ refused code name.now }
@@ -48,7 +48,7 @@ pub(crate) fn push_refused<const N: usize>(line: &mut Line<N>, code: u32, name: 
     push_code(line, "refused ", code, name);
 }
 
-/// Puts a text, and then the code and the name of a refusal.
+/// Appends a text, and then the code and the name of a refusal.
 fn push_code<const N: usize>(line: &mut Line<N>, text: &str, code: u32, name: &str)
     requires { (length line.old + 33 ≤ N) × (length text.now ≤ 8) × (length name.now ≤ 14) }
     ensures text { line.new ≡ line.old ++ (text.now ++ (decimal code ++ (codes " " ++ name.now))) }
@@ -59,7 +59,7 @@ fn push_code<const N: usize>(line: &mut Line<N>, text: &str, code: u32, name: &s
     line.push_text(name);
 }
 
-/// The code that is printed for a refused command or event.
+/// The printed code of a refused command or event.
 pub(crate) fn refusal_code(refusal: Refusal) -> u32
     ensures { result ≡ code_of refusal }
 {
@@ -88,7 +88,7 @@ pub(crate) fn refusal_code(refusal: Refusal) -> u32
     }
 }
 
-/// The name that is printed for a refused command or event.
+/// The printed name of a refused command or event.
 pub(crate) fn refusal_name(refusal: Refusal) -> &'static str
     ensures name { result.now ≡ name_of refusal }
     ensures short { length result.now ≤ 14 }
@@ -118,7 +118,7 @@ pub(crate) fn refusal_name(refusal: Refusal) -> &'static str
     }
 }
 
-/// The code that is printed for a refused trap.
+/// The printed code of a refused trap.
 pub(crate) fn trap_refusal_code(refusal: TrapRefusal) -> u32
     ensures { result ≡ trap_code_of refusal }
 {
@@ -132,7 +132,7 @@ pub(crate) fn trap_refusal_code(refusal: TrapRefusal) -> u32
     }
 }
 
-/// The name that is printed for a refused trap.
+/// The printed name of a refused trap.
 pub(crate) fn trap_refusal_name(refusal: TrapRefusal) -> &'static str
     ensures name { result.now ≡ trap_name_of refusal }
     ensures short { length result.now ≤ 14 }
@@ -147,7 +147,7 @@ pub(crate) fn trap_refusal_name(refusal: TrapRefusal) -> &'static str
     }
 }
 
-/// The code that is printed for a refused input.
+/// The printed code of a refused input.
 pub(crate) fn input_refusal_code(refusal: InputRefusal) -> u32
     ensures { result ≡ input_code_of refusal }
 {
@@ -163,7 +163,7 @@ pub(crate) fn input_refusal_code(refusal: InputRefusal) -> u32
     }
 }
 
-/// The name that is printed for a refused input.
+/// The printed name of a refused input.
 pub(crate) fn input_refusal_name(refusal: InputRefusal) -> &'static str
     ensures name { result.now ≡ input_name_of refusal }
     ensures short { length result.now ≤ 14 }

@@ -16,19 +16,19 @@ use lot_machine::{Action, Event, Outcome, Refusal, Reply};
 use lot_simulation::LineStyle;
 use std::io::Write;
 
-/// What the line of a turn needs in addition to the reply.
+/// The facts that a turn's line needs in addition to the reply.
 #[derive(Clone, Copy, Debug)]
 pub struct Heading {
-    /// How it's printed.
+    /// The style of the line.
     pub style: LineStyle,
-    /// In how many parts to the unit values are kept: 1 or 256.
+    /// The base units in one unit of value: 1 or 256.
     pub unit: u32,
-    /// Whose turn it was.
+    /// The turn's actor.
     pub actor: u32,
 }
 
-/// Puts the line of an actor's turn on the page: the reply to this event, which asks for no listing. If the page has
-/// no room for it, the lines there are written first.
+/// Puts the line of an actor's turn on the page: the reply to this event, which requests no listing. If the page has
+/// no room for it, it writes the page first.
 #[inline(always)]
 pub fn write_reply<W: Write>(
     writer: &mut Watched<W>,
@@ -48,7 +48,8 @@ pub fn write_reply<W: Write>(
     Ok(())
 }
 
-/// The same for a turn of the console without a command.
+/// Puts the line of a console's turn without a command on the page. If the page has no room for it, it writes the
+/// page first.
 pub fn write_ended<W: Write>(
     writer: &mut Watched<W>,
     page: &mut Page,
@@ -63,7 +64,7 @@ pub fn write_ended<W: Write>(
     Ok(())
 }
 
-/// Puts the line of an actor's turn.
+/// Appends the line of an actor's turn.
 #[inline(always)]
 fn push_turn<const N: usize>(line: &mut Line<N>, heading: Heading, event: &Event, reply: &Reply)
     requires room { length line.old + 192 ≤ N }
@@ -75,7 +76,7 @@ fn push_turn<const N: usize>(line: &mut Line<N>, heading: Heading, event: &Event
     push_reply(line, heading, event, reply);
 }
 
-/// Puts the line of a turn of the console without a command.
+/// Appends the line of a console's turn without a command.
 fn push_ended<const N: usize>(line: &mut Line<N>, heading: Heading)
     requires { length line.old + 192 ≤ N }
     ensures { line.new ≡ line.old ++ (front heading.style
@@ -86,7 +87,7 @@ fn push_ended<const N: usize>(line: &mut Line<N>, heading: Heading)
     line.push_text("\n");
 }
 
-/// Puts what the line of a turn begins with.
+/// Appends the start of a turn's line.
 #[inline(always)]
 fn push_heading<const N: usize>(line: &mut Line<N>, heading: Heading)
     requires { length line.old + 192 ≤ N }
@@ -98,7 +99,7 @@ fn push_heading<const N: usize>(line: &mut Line<N>, heading: Heading)
     line.push_word(" ");
 }
 
-/// Puts the reply to the event, and the line's end.
+/// Appends the reply to the event, and the line's end.
 #[inline(always)]
 fn push_reply<const N: usize>(line: &mut Line<N>, heading: Heading, event: &Event, reply: &Reply)
     requires room { length line.old + 170 ≤ N }
@@ -136,7 +137,7 @@ fn push_reply<const N: usize>(line: &mut Line<N>, heading: Heading, event: &Even
     }
 }
 
-/// Puts why the event was refused, and the line's end.
+/// Appends the reason why the event was refused, and the line's end.
 #[inline(never)]
 fn push_refusal<const N: usize>(line: &mut Line<N>, why: Refusal)
     requires { length line.old + 170 ≤ N }
@@ -146,7 +147,7 @@ fn push_refusal<const N: usize>(line: &mut Line<N>, why: Refusal)
     line.push_text("\n");
 }
 
-/// Puts the word and the number of what was made, and the line's end.
+/// Appends the word and the number of the new ticket, currency or thread, and the line's end.
 #[inline(never)]
 fn push_made<const N: usize>(line: &mut Line<N>, word: &str, number: u32)
     requires { (length line.old + 20 ≤ N) × (length word.now ≤ 9) }
@@ -157,7 +158,7 @@ fn push_made<const N: usize>(line: &mut Line<N>, word: &str, number: u32)
     line.push_word("\n");
 }
 
-/// Puts the ticket and the thread that were made, and the line's end.
+/// Appends the new ticket and the new thread, and the line's end.
 #[inline(never)]
 fn push_funded<const N: usize>(line: &mut Line<N>, ticket: u32, thread: u32)
     requires { length line.old + 170 ≤ N }
@@ -168,7 +169,7 @@ fn push_funded<const N: usize>(line: &mut Line<N>, ticket: u32, thread: u32)
     push_made(line, " ", thread);
 }
 
-/// Puts the draw that this thread won with this number of this total, and the line's end.
+/// Appends the draw that this thread won, with this number and total, and the line's end.
 #[inline(always)]
 fn push_winner<const N: usize>(
     line: &mut Line<N>,
@@ -194,7 +195,7 @@ fn push_winner<const N: usize>(
     line.push_word("\n");
 }
 
-/// Puts the thread that ran, and for how many ticks.
+/// Appends the thread that ran, and its ticks.
 #[inline(always)]
 fn push_ran<const N: usize>(line: &mut Line<N>, thread: u32, ticks: u32)
     requires { length line.old + 170 ≤ N }
@@ -205,7 +206,7 @@ fn push_ran<const N: usize>(line: &mut Line<N>, thread: u32, ticks: u32)
     line.push_count(" ticks ", ticks);
 }
 
-/// Puts the outcome of the event, a trap, whether the quantum was used up, and the line's end.
+/// Appends the outcome of the event, a trap, whether the quantum was used up, and the line's end.
 #[inline(never)]
 fn push_trap_of<const N: usize>(
     line: &mut Line<N>,
@@ -231,7 +232,7 @@ fn push_trap_of<const N: usize>(
     }
 }
 
-/// Puts the outcome of a trap. An outcome that the action never has is no text.
+/// Appends the outcome of a trap; nothing for an outcome that the action never has.
 fn push_trap<const N: usize>(
     line: &mut Line<N>,
     style: LineStyle,
@@ -281,7 +282,7 @@ fn push_trap<const N: usize>(
     }
 }
 
-/// Puts the port of a receipt, whose call was taken, and the number that it sent.
+/// Appends the port of a receive, the client whose call was taken, and the number that it sent.
 fn push_received<const N: usize>(line: &mut Line<N>, port: u32, client: u32, number: u32)
     requires { length line.old + 51 ≤ N }
     ensures text { line.new ≡ line.old ++ received_text port client number }
@@ -292,7 +293,7 @@ fn push_received<const N: usize>(line: &mut Line<N>, port: u32, client: u32, num
     line.push_count(" got ", number);
 }
 
-/// Puts whom a reply went to, before the outcome of the receipt after it.
+/// Appends the client that got a reply, before the outcome of the receive.
 fn push_replied_then<const N: usize>(line: &mut Line<N>, client: u32)
     requires { length line.old + 24 ≤ N }
     ensures text { line.new ≡ line.old ++ (replied_text client ++ codes " ") }
@@ -302,7 +303,7 @@ fn push_replied_then<const N: usize>(line: &mut Line<N>, client: u32)
     line.push_text(" ");
 }
 
-/// Puts the port or mutex of a trap, and the trap's outcome there.
+/// Appends the port or mutex of a trap, and the trap's outcome there.
 #[inline(always)]
 fn push_state<const N: usize>(line: &mut Line<N>, word: &str, number: u32, state: &str)
     requires { (length line.old + 25 ≤ N) × (length word.now ≤ 8) × (length state.now ≤ 7) }
@@ -313,7 +314,7 @@ fn push_state<const N: usize>(line: &mut Line<N>, word: &str, number: u32, state
     line.push_text(state);
 }
 
-/// Puts how the mutex was passed on: by a lottery, or to the one that had waited longest.
+/// Appends the choice of the mutex's new owner: by a lottery, or the one that had waited longest.
 fn push_draw<const N: usize>(
     line: &mut Line<N>,
     style: LineStyle,

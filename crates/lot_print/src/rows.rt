@@ -12,7 +12,7 @@ use lot_machine::{CurrencyRow, Kind, Limits, Name, Status, ThreadRow, TicketRow}
 use lot_simulation::LineStyle;
 use std::io::Write;
 
-/// Writes the line of an actor's turn that asked for a listing: what it is of, and how many rows follow.
+/// Writes the line of an actor's turn that requested a listing: the listing's kind, and the number of its rows.
 pub fn write_listing_line<W: Write>(
     writer: &mut Watched<W>,
     style: LineStyle,
@@ -65,7 +65,7 @@ fn ticket_text(style: LineStyle, limits: Limits, number: u32, row: &TicketRow) -
     line
 }
 
-/// Puts a ticket's amount, and the currency that it's in.
+/// Appends a ticket's amount, and its issuer.
 fn push_amount(line: &mut RowLine, amount: u32, issuer: &Name)
     requires { length line.old ≤ 200 }
     ensures text { line.new ≡ line.old ++ (codes " amount " ++ (decimal amount ++ (codes " in " ++ issuer.now))) }
@@ -76,7 +76,7 @@ fn push_amount(line: &mut RowLine, amount: u32, issuer: &Name)
     line.push_bytes(issuer.as_bytes());
 }
 
-/// Puts what a ticket funds; `-` if it funds nothing.
+/// Appends a ticket's target, or `-` if it has none.
 fn push_target(line: &mut RowLine, target: &Option<Name>)
     requires { length line.old ≤ 200 }
     ensures text { line.new ≡ line.old ++ (codes " funds " ++ target_text target.now) }
@@ -89,7 +89,7 @@ fn push_target(line: &mut RowLine, target: &Option<Name>)
     }
 }
 
-/// Puts whether a ticket is active.
+/// Appends whether a ticket is active.
 fn push_activity(line: &mut RowLine, is_active: bool)
     requires { length line.old ≤ 200 }
     ensures text { line.new ≡ line.old ++ activity_text is_active }
@@ -156,7 +156,7 @@ fn thread_text(style: LineStyle, limits: Limits, number: u32, row: &ThreadRow) -
     line
 }
 
-/// Puts what a thread is doing.
+/// Appends a thread's status.
 fn push_status(line: &mut RowLine, status: Status)
     requires { length line.old ≤ 50 }
     ensures text { line.new ≡ line.old ++ status_text status }
@@ -177,7 +177,7 @@ fn push_status(line: &mut RowLine, status: Status)
     }
 }
 
-/// Puts a word, a number and its name.
+/// Appends a word, a number and its name.
 pub(crate) fn push_named<const N: usize>(line: &mut Line<N>, word: &str, number: u32, name: &Name)
     requires { (length line.old + 36 ≤ N) × (length word.now ≤ 9) }
     ensures text { line.new ≡ line.old ++ (word.now ++ (decimal number ++ (codes " " ++ name.now))) }
@@ -188,7 +188,7 @@ pub(crate) fn push_named<const N: usize>(line: &mut Line<N>, word: &str, number:
     line.push_bytes(name.as_bytes());
 }
 
-/// Puts the end of a line: draws that were won, and ticks that were used.
+/// Appends the end of a line: the draws won, and the ticks used.
 pub(crate) fn push_used(line: &mut RowLine, quanta: u64, ticks: u64)
     requires { length line.old ≤ 200 }
     ensures { line.new ≡ line.old ++ used_text quanta ticks }
@@ -197,7 +197,7 @@ pub(crate) fn push_used(line: &mut RowLine, quanta: u64, ticks: u64)
     line.push_text("\n");
 }
 
-/// Puts draws that were won, and ticks that were used.
+/// Appends the draws won, and the ticks used.
 pub(crate) fn push_counts<const N: usize>(line: &mut Line<N>, quanta: u64, ticks: u64)
     requires { length line.old + 55 ≤ N }
     ensures text { line.new ≡ line.old ++ (codes " quanta " ++ (decimal quanta ++ (codes " ticks " ++ decimal ticks))) }
@@ -207,7 +207,7 @@ pub(crate) fn push_counts<const N: usize>(line: &mut Line<N>, quanta: u64, ticks
     line.push_field(" ticks ", ticks);
 }
 
-/// Puts a currency's value: base, which is currency 0, is worth its active amount.
+/// Appends a currency's value: base, which is currency 0, is worth its active amount.
 fn push_currency_value(
     line: &mut RowLine,
     style: LineStyle,

@@ -1,4 +1,4 @@
-//! The text of totals of turns in the order of time.
+//! The text of a timed report.
 ghost use Rattle.std.specs.Prelude.{◌≡◌, ◌<◌, ◌≤◌, ◌+◌, ◌^◌, ◌++◌, false, length};
 ghost use Rattle.lot_simulation.specs.TimedReport.{percent_text, waits_text};
 ghost use Rattle.lot_print.specs.Totals.{timed_processor_line, timed_thread_line, timed_total_line};
@@ -12,25 +12,25 @@ use lot_machine::ThreadRow;
 use lot_simulation::Waits;
 use std::io::Write;
 
-/// The line of a report of turns in the order of time.
+/// A line of a timed report.
 type TimedLine = Line<TIMED_ROW>;
 
-/// What the report of turns in the order of time says of a thread, in addition to its row.
+/// The numbers that a timed report gives for a thread, in addition to its row.
 #[derive(Clone, Copy, Debug)]
 pub struct ThreadShares {
     /// The ticks that all threads have used.
     pub all_ticks: u64,
-    /// The thread's value, if it is live, and otherwise 0.
+    /// The thread's value if it is live, and 0 otherwise.
     pub live_value: u64,
     /// The value of all live threads, below 2^96.
     pub all_values: u128,
-    /// How it has waited for mutexes, and for replies.
+    /// Its waits for mutexes, followed by those for replies.
     pub mutexes: Waits,
     pub replies: Waits,
 }
 
-/// What it says of a processor: the draws that somebody won there, the others, the ticks used there, and those in
-/// which it was idle.
+/// The numbers that a timed report gives for a processor: its won draws, its idle draws, the ticks used there, and
+/// the ticks in which it was idle.
 #[derive(Clone, Copy, Debug)]
 pub struct TimedProcessorTotal {
     pub processor: u32,
@@ -40,8 +40,8 @@ pub struct TimedProcessorTotal {
     pub unused: u64,
 }
 
-/// What it says at its end: how many turns were made, what was counted in all of them, and how many commands were
-/// refused or never made.
+/// The last line's numbers in a timed report: the number of turns, the counts over all of them, and the numbers of
+/// commands refused and never made.
 #[derive(Clone, Copy, Debug)]
 pub struct TimedWholeTotal {
     pub turns: u64,
@@ -51,7 +51,7 @@ pub struct TimedWholeTotal {
     pub left: u64,
 }
 
-/// Writes a thread's line.
+/// Writes a thread's line of a timed report.
 pub fn write_timed_thread_total<W: Write>(
     writer: &mut Watched<W>,
     number: u32,
@@ -67,7 +67,7 @@ pub fn write_timed_thread_total<W: Write>(
     thread_line(number, row, shares).write_to(writer)
 }
 
-/// A thread's line.
+/// A thread's line of a timed report.
 fn thread_line(number: u32, row: &ThreadRow, shares: ThreadShares) -> TimedLine
     requires { shares.all_values < 2 ^ 96 }
     ensures { result
@@ -90,7 +90,7 @@ fn thread_line(number: u32, row: &ThreadRow, shares: ThreadShares) -> TimedLine
     line
 }
 
-/// Puts the text and then a part of a whole in percent; 0 if there is nothing.
+/// Appends the text and then a part of a whole in percent; 0 if the whole is 0.
 fn push_percent(line: &mut TimedLine, text: &str, part: u64, whole: u128)
     requires room { (length line.old ≤ 256) × (length text.now ≤ 7) }
     requires whole { whole < 2 ^ 96 }
@@ -106,7 +106,7 @@ fn push_percent(line: &mut TimedLine, text: &str, part: u64, whole: u128)
     line.push_text("%");
 }
 
-/// Puts how often and how long a thread has waited for this, if it has.
+/// Appends the number of a thread's waits of this kind, their mean and the longest, if it has waited.
 fn push_waits(line: &mut TimedLine, what: &str, waits: Waits)
     requires { (length line.old ≤ 400) × (length what.now ≤ 6) }
     ensures text { line.new ≡ line.old ++ waits_text what.now waits }
@@ -121,7 +121,7 @@ fn push_waits(line: &mut TimedLine, what: &str, waits: Waits)
     line.push_field(" longest ", waits.longest);
 }
 
-/// Writes a processor's line.
+/// Writes a processor's line of a timed report.
 pub fn write_timed_processor_total<W: Write>(
     writer: &mut Watched<W>,
     total: TimedProcessorTotal,
@@ -133,7 +133,7 @@ pub fn write_timed_processor_total<W: Write>(
     processor_line(total).write_to(writer)
 }
 
-/// A processor's line.
+/// A processor's line of a timed report.
 fn processor_line(total: TimedProcessorTotal) -> TimedLine
     ensures { result ≡ timed_processor_line total.processor total.quanta total.idles total.ticks total.unused }
 {
@@ -147,7 +147,7 @@ fn processor_line(total: TimedProcessorTotal) -> TimedLine
     line
 }
 
-/// Writes the last line.
+/// Writes the last line of a timed report.
 pub fn write_timed_whole_total<W: Write>(
     writer: &mut Watched<W>,
     total: TimedWholeTotal,
@@ -159,7 +159,7 @@ pub fn write_timed_whole_total<W: Write>(
     total_line(total).write_to(writer)
 }
 
-/// The last line.
+/// The last line of a timed report.
 fn total_line(total: TimedWholeTotal) -> TimedLine
     ensures { result ≡ timed_total_line total.turns total.quanta total.ticks total.refused total.left }
 {

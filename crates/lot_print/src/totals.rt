@@ -10,7 +10,7 @@ use lot_io::{IoFault, Watched, write_bytes};
 use lot_machine::ThreadRow;
 use std::io::Write;
 
-/// What the report says of a processor: the draws that somebody won there, the others, and the ticks used there.
+/// The numbers that the report gives for a processor: its won draws, its idle draws, and the ticks used there.
 #[derive(Clone, Copy, Debug)]
 pub struct ProcessorTotal {
     pub processor: u32,
@@ -19,7 +19,7 @@ pub struct ProcessorTotal {
     pub ticks: u64,
 }
 
-/// What the report says at its end: how many turns were made, and what was counted in all of them.
+/// The numbers in the report's last line: the number of turns, and the counts over all of them.
 #[derive(Clone, Copy, Debug)]
 pub struct WholeTotal {
     pub turns: u64,

@@ -1,4 +1,4 @@
--- Workers at the seats of a system that is passed around as a baton.
+-- Workers at the seats of a system passed around as a baton.
 use Rattle.std.specs.Prelude.{◌≡◌, ◌⊎◌, ℕ, ◌+◌, ◌<◌, List, Option, Some, None, length}
 use Rattle.lot_simulation.specs.World.{Program}
 use Rattle.lot_engine.specs.declared.fault.TurnFault.{TurnFault}
@@ -12,11 +12,11 @@ use Rattle.lot_processors.specs.Workers.{EachSeat, Stops, turns_for}
 
 -- ---- turns
 
--- how many turns a seat has made, in the history that it has seen
+-- the number of turns that a seat has made, in the history that it has seen
 abbrev pub made_by : Seat → ℕ
 made_by s = turns_by s.actor s.seen.history
 
--- it is the seat of the same station and actor, and what it has seen begins with what it had seen
+-- the new seat has the old one's station and actor, and the history that it has seen extends the old one's
 pub record Continues (before after : Seat) : Type 0 where
   pub station : after.station ≡ before.station
   pub actor : after.actor ≡ before.actor
@@ -29,8 +29,8 @@ pub record HasMade (n : ℕ) (before after : Seat) : Type 0 where
 
 -- ---- faults
 
--- The fault stops a turn of the seat's actor at the end of what the seat has seen, which is a legal history. The work
--- in hand was the actor's at the end of a beginning of it, and the actor has had no turn since then.
+-- The fault stops a turn of the seat's actor after the legal history that the seat has seen. The work at hand was the
+-- actor's after a prefix of it, and the actor has made no turn since.
 pub record StopsTurn (program : Program) (s : Seat) (fault : TurnFault) : Type 0 where
   pub work : Option Work
   pub earlier : Seen
@@ -49,12 +49,12 @@ pub record HasStopped (program : Program) (n : ℕ) (fault : TurnFault) (before 
 
 -- ---- the seats of a run
 
--- the seat has made the turns that the program has for its actor, and keeps no fault
+-- the seat has made all of its actor's turns in the program, and stores no fault
 pub record HasMadeAll (program : Program) (before after : Seat) : Type 0 where
   pub made : HasMade (turns_for program before.actor) before after
   pub no_fault : after.stopped ≡ None
 
--- the seat has made all its turns; or a fault stopped it before, and it keeps that fault
+-- the seat has made all its turns; or a fault stopped it before, and it stores that fault
 abbrev pub HasWorked : Program → Seat → Seat → Type 0
 HasWorked program before after =
     HasMadeAll program before after
@@ -64,8 +64,8 @@ HasWorked program before after =
 abbrev pub AllMade : Program → List Seat → List Seat → Type 0
 AllMade program before after = EachSeat before after (λ k s t. HasMadeAll program s t)
 
--- The fault is the one that stopped the seat at some place, which keeps none. Each seat before it has made all its
--- turns, and each one after it has worked.
+-- The fault stopped some seat, which doesn't store it any more. Each seat before it has made all its turns, and each
+-- seat after it has worked.
 pub record FirstStops (program : Program) (fault : TurnFault) (before after : List Seat) : Type 0 where
   pub place : ℕ
   pub there : place < length before
@@ -73,7 +73,7 @@ pub record FirstStops (program : Program) (fault : TurnFault) (before after : Li
   pub stopped : EachSeat before after (λ k s t. k ≡ place → HasStopped program (turns_for program s.actor) fault s t × (t.stopped ≡ None))
   pub later : EachSeat before after (λ k s t. place < k → HasWorked program s t)
 
--- The fault is that of the seat at some place, from which it was taken; none before it had one.
+-- The fault was taken from some seat; no seat before it had one.
 pub record IsFirstFault (found : TurnFault) (before after : List Seat) : Type 0 where
   pub place : ℕ
   pub there : place < length before

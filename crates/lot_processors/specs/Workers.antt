@@ -17,21 +17,21 @@ use Rattle.lot_processors.specs.declared.fault.RunFault.TheVariants.{Turn}
 use Rattle.lot_processors.specs.declared.free_runs.FreeRunFault.{FreeRunFault}
 use Rattle.lot_processors.specs.declared.free_runs.FreeRunFault.TheVariants.{Memory, Run, CountsDiffer}
 
--- how many turns a free run of the program has for this actor: for the console one for each command, for a processor as
--- many as the program says
+-- the number of this actor's turns in a free run of the program: one for each command for the console, and the
+-- program's number of turns for a processor
 abbrev pub turns_for : Program → ℕ → ℕ
 turns_for program actor = if actor == 0 then length program.commands else program.turns
 
 -- ---- turns
 
--- the reply is that to a turn of the actor, in a system of this program and room after some legal history
+-- this is the reply to a turn of the actor, in a system of this program and room after some legal history
 pub record IsReply (setting : Setting) (actor : ℕ) (reply : Reply) : Type 0 where
   pub given : Option Parts
   pub answer : Answer
   pub is : answer.reply ≡ reply
   pub turn : AtSome setting (λ x. Goes x actor given × Answers x actor answer)
 
--- The seat has made n more turns. Each had one of these replies, in order, and the seat's quanta and ticks grew by
+-- The seat has made n more turns. Each got one of these replies, in order, and the seat's quanta and ticks grew by
 -- those of the replies.
 pub record HasMade (setting : Setting) (n : ℕ) (before after : Holder) : Type 0 where
   pub actor : after.actor ≡ before.actor
@@ -44,14 +44,14 @@ pub record HasMade (setting : Setting) (n : ℕ) (before after : Holder) : Type 
 
 -- ---- faults
 
--- An actor that has this work in hand and makes its turn in this system is stopped by the fault: the work doesn't fit
--- the program at hand, or the turn with the slice of the work has the fault.
+-- The fault stops the actor's turn with this work in this system: the work doesn't fit the given program, or the turn
+-- with the slice of the work has the fault.
 abbrev pub Stops : Program → ℕ → Option Work → Seen → TurnFault → Type 0
 Stops program actor work now fault =
     IsStale program work fault ⊎ ((given : Option Parts) × Matches program work given × Faults now actor given fault)
 
--- The fault stops a turn of the actor in a station of this program and room: after some legal history the work in
--- hand is the actor's, and after some legal history the turn is stopped.
+-- The fault stops a turn of the actor in a station of this program and room: the work at hand is the actor's after
+-- some legal history, and the turn is stopped after some legal history.
 pub record StopsTurn (setting : Setting) (program : Program) (actor : ℕ) (fault : TurnFault) : Type 0 where
   pub work : Option Work
   pub had : AtSome setting (λ x. IsWorkOf x actor work)
@@ -66,16 +66,16 @@ pub record HasStopped (setting : Setting) (program : Program) (n : ℕ) (fault :
 
 -- ---- the seats of a run
 
--- it is so of the seats at each place before and after
+-- this holds for the seats at each index, before and after
 abbrev pub EachSeat : {S : Type 0} → List S → List S → (ℕ → S → S → Type 0) → Type 0
 EachSeat {S} before after IsSo = (k : ℕ) (d : S) → k < length before → IsSo k (slice_index_or before k d) (slice_index_or after k d)
 
--- the seat has made the turns that the program has for its actor, and keeps no fault
+-- the seat has made all of its actor's turns in the program, and stores no fault
 pub record HasMadeAll (setting : Setting) (program : Program) (before after : Holder) : Type 0 where
   pub made : HasMade setting (turns_for program before.actor) before after
   pub no_fault : after.stopped ≡ None
 
--- the seat has made all its turns; or a fault stopped it before, and it keeps that fault
+-- the seat has made all its turns; or a fault stopped it before, and it stores that fault
 abbrev pub HasWorked : Setting → Program → Holder → Holder → Type 0
 HasWorked setting program before after =
     HasMadeAll setting program before after
@@ -85,8 +85,8 @@ HasWorked setting program before after =
 abbrev pub AllMade : Setting → Program → List Holder → List Holder → Type 0
 AllMade setting program before after = EachSeat before after (λ k s t. HasMadeAll setting program s t)
 
--- The fault is the one that stopped the seat at some place, which keeps none. Each seat before it has made all its
--- turns, and each one after it has worked.
+-- The fault stopped some seat, which doesn't store it any more. Each seat before it has made all its turns, and each
+-- seat after it has worked.
 pub record FirstStops (setting : Setting) (program : Program) (fault : TurnFault) (before after : List Holder) : Type 0 where
   pub place : ℕ
   pub there : place < length before
@@ -98,7 +98,7 @@ pub record FirstStops (setting : Setting) (program : Program) (fault : TurnFault
 abbrev pub fault_in : RunFault → TurnFault
 fault_in (Turn fault) = fault
 
--- The fault is that of the seat at some place, from which it was taken; none before it had one.
+-- The fault was taken from some seat; no seat before it had one.
 pub record IsFirstFault (found : TurnFault) (before after : List Holder) : Type 0 where
   pub place : ℕ
   pub there : place < length before
@@ -108,7 +108,7 @@ pub record IsFirstFault (found : TurnFault) (before after : List Holder) : Type 
 
 -- ---- free runs
 
--- how many turns a free run of the program has in all
+-- the number of turns in a free run of the program
 abbrev pub turns_in_all : Program → ℕ
 turns_in_all program = length program.commands + program.limits.processors * program.turns
 
@@ -116,19 +116,19 @@ turns_in_all program = length program.commands + program.limits.processors * pro
 abbrev pub free_setting : Program → Setting
 free_setting program = record { program = program; room = turns_in_all program }
 
--- The history is a legal one of the program, and has each actor as often as a free run has turns for it.
+-- The history is legal for the program, and has each actor's number of turns in a free run.
 pub record IsFreeRun (program : Program) (history : List ℕ) : Type 0 where
   pub legal : IsLegal program (turns_in_all program) history
   pub turns : (actor : ℕ) → actor ≤ program.limits.processors → count_by (λ a. a == actor) history ≡ turns_for program actor
 
--- this fault stopped the first of the stopped seats of a new system of the program
+-- this is the fault of the first stopped seat in a free run of the program
 pub record IsStopped (program : Program) (fault : TurnFault) : Type 0 where
   pub before : List Holder
   pub after : List Holder
   pub dealt : AreDealt (record { setting = free_setting program; history = [] }) before
   pub first : FirstStops (free_setting program) program fault before after
 
--- the seats of a new system of the program made all their turns, and its history has others
+-- the seats of a new system of the program made all their turns, but its history has others
 pub record HasOthers (program : Program) : Type 0 where
   pub before : List Holder
   pub after : List Holder
@@ -139,8 +139,8 @@ pub record HasOthers (program : Program) : Type 0 where
   pub legal : IsLegalIn closed
   pub differ : ¬ CountsAgree closed after
 
--- Why a free run has no system to give back: out of memory, a worker was stopped, or the system's history doesn't
--- have the turns that the seats have made.
+-- The reason why a free run returns no system: out of memory, a worker stopped early, or the system's history doesn't
+-- have the turns that the seats made.
 abbrev pub IsFaultOf : Program → FreeRunFault → Type 0
 IsFaultOf program Memory = Unit {0}
 IsFaultOf program (Run run) = IsStopped program (fault_in run)

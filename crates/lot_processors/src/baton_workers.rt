@@ -12,13 +12,13 @@ use std::sync::Wait;
 use std::thread;
 use std::thread::Threads;
 
-/// Makes the program's turns by the seats, which are all of the station's, in order, as `run_all` does: the console's
-/// makes one for each command, and each processor's as many as the program has turns. Each seat has a worker, on a
-/// thread of its own if one can be started; it stops at its first fault. All have stopped when this returns. It may
-/// block.
+/// Makes the program's turns through the seats, which must be all of the station's, in order, as `run_all` does: the
+/// console's seat makes one for each command, and each processor's as many as the program has turns. Each seat has a
+/// worker, on a thread of its own if one can be started; it stops at its first fault. All workers have stopped when
+/// this returns. It may block.
 ///
-/// Returns the fault of the first seat that a fault stopped, and takes it out of that seat. A later seat that was
-/// stopped keeps its own fault, until `BatonSeat::take_fault` takes it out or the next run begins.
+/// Returns the fault of the first seat that a fault stopped, and removes it from that seat. A later seat that was
+/// stopped keeps its own fault, until `BatonSeat::take_fault` removes it or the next run begins.
 pub fn run_all_baton<G: Gate + Sync, R: Threads + Wait + Sync>(
     rt: &R,
     station: &BatonStation,
@@ -42,7 +42,7 @@ pub fn run_all_baton<G: Gate + Sync, R: Threads + Wait + Sync>(
     }
 }
 
-/// The fault of the first seat that has one, which is taken out of it.
+/// The fault of the first seat that has one; it is removed from that seat.
 fn first_fault(seats: &mut [BatonSeat]) -> Option<TurnFault>
     ensures none { result ≡ None → (seats.new ≡ seats.old) × All (λ seat. seat.stopped ≡ None) seats.old }
     ensures some { IfSome result (λ fault. IsFirstFault fault seats.old seats.new) }
@@ -56,7 +56,7 @@ fn first_fault(seats: &mut [BatonSeat]) -> Option<TurnFault>
     None
 }
 
-/// The turns of the seat's actor, until one isn't made; then the seat keeps the fault.
+/// Makes the turns of the seat's actor, until one fails; then the seat stores the fault.
 fn work_for(
     rt: &impl Wait,
     station: &BatonStation,
@@ -74,7 +74,7 @@ fn work_for(
     }
 }
 
-/// The turns of the seat's actor, until one isn't made.
+/// Makes the turns of the seat's actor, until one fails.
 fn actor_turns(
     rt: &impl Wait,
     station: &BatonStation,
@@ -95,7 +95,7 @@ fn actor_turns(
     }
 }
 
-/// A turn of the console for each command.
+/// Makes a turn of the console for each command.
 fn command_turns(
     rt: &impl Wait,
     station: &BatonStation,
@@ -115,7 +115,7 @@ fn command_turns(
     Ok(())
 }
 
-/// The turns of a processor, each after the gate and with the slice of its work.
+/// Makes the turns of a processor, each after passing the gate and with the slice of its work.
 fn processor_turns(
     rt: &impl Wait,
     station: &BatonStation,

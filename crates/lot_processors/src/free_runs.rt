@@ -1,4 +1,4 @@
-//! A free run of a program: a system of its own, whose turns workers make.
+//! Free runs: workers make the turns of a program's own system.
 ghost use Rattle.std.specs.Prelude.{◌≡◌, ◌+◌, [], IfErr, IfOk, OnOk, length};
 ghost use Rattle.lot_processors.specs.Workers as workers;
 ghost use Rattle.lot_processors.specs.Workers.{AllMade, FirstStops, IsFaultOf, IsFreeRun, fault_in, free_setting};
@@ -14,22 +14,22 @@ use std::sync::ledger::{Blank, Ledger};
 use std::thread::Threads;
 use thiserror::Error;
 
-/// Why a free run has no system to give back.
+/// The reason why a free run returns no system.
 #[derive(Debug, Drop, Error)]
 pub enum FreeRunFault {
     /// Out of memory, before any turn.
     #[error("out of memory")]
     Memory,
-    /// A worker has stopped early: the fault that stopped the first seat that was stopped.
+    /// A worker stopped early; this is the fault of the first stopped seat.
     #[error("{0}")]
     Run(RunFault),
-    /// All workers have made all their turns, and the history has others.
+    /// All workers made all their turns, but the history has others.
     #[error("what the seats count isn't what the history has")]
     CountsDiffer,
 }
 
-/// Opens a system of the program, lets workers run all its commands and make all its processors' turns, and gives the
-/// system back. It may block.
+/// Opens a system of the program, lets workers make all its commands and all its processors' turns, and returns the
+/// system. It may block.
 pub fn free_run<G: Gate + Sync, R: Threads + Wait + Sync>(
     rt: &R,
     alloc: Global,
@@ -56,15 +56,15 @@ pub fn free_run<G: Gate + Sync, R: Threads + Wait + Sync>(
     )
 }
 
-/// How many turns a free run of the program has: one for each command, and as many for each processor as the program
-/// says.
+/// The number of turns in a free run of the program: one for each command, and for each processor the program's
+/// number of turns.
 fn turns_in_all(program: &Program) -> u32
     ensures { result ≡ workers.turns_in_all program.now }
 {
     program.commands().len() as u32 + program.limits().processors * program.turns()
 }
 
-/// Has the turns of the program made in this system, which has had none, and gives it back.
+/// Lets workers make the turns of the program in this system, which has had none, and returns it.
 fn run_system<
     T: TurnLedger + Send + Sync,
     Q: Ledger + Send + Sync,

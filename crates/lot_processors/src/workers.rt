@@ -12,12 +12,13 @@ use std::sync::ledger::Ledger;
 use std::thread;
 use std::thread::Threads;
 
-/// Makes the program's turns by the seats, which are all of the station's, in order: the console's makes one for each
-/// command, and each processor's as many as the program has turns. Each seat has a worker, on a thread of its own if
-/// one can be started; it stops at its first fault. All have stopped when this returns. It may block.
+/// Makes the program's turns through the seats, which must be all of the station's, in order: the console's seat
+/// makes one for each command, and each processor's as many as the program has turns. Each seat has a worker, on a
+/// thread of its own if one can be started; it stops at its first fault. All workers have stopped when this returns.
+/// It may block.
 ///
-/// Returns the fault of the first seat that a fault stopped, and takes it out of that seat. A later seat that was
-/// stopped keeps its own fault, until `Seat::take_fault` takes it out or the next run begins.
+/// Returns the fault of the first seat that a fault stopped, and removes it from that seat. A later seat that was
+/// stopped keeps its own fault, until `Seat::take_fault` removes it or the next run begins.
 pub fn run_all<
     T: TurnLedger + Send + Sync,
     Q: Ledger + Send + Sync,
@@ -44,7 +45,7 @@ pub fn run_all<
     }
 }
 
-/// The fault of the first seat that has one, which is taken out of it.
+/// The fault of the first seat that has one; it is removed from that seat.
 fn first_fault<T: TurnLedger, Q: Ledger, K: Ledger>(
     seats: &mut [Seat<T, Q, K>],
 ) -> Option<TurnFault>
@@ -60,7 +61,7 @@ fn first_fault<T: TurnLedger, Q: Ledger, K: Ledger>(
     None
 }
 
-/// The turns of the seat's actor, until one isn't made; then the seat keeps the fault.
+/// Makes the turns of the seat's actor, until one fails; then the seat stores the fault.
 fn work_for<T: TurnLedger, Q: Ledger, K: Ledger>(
     rt: &impl Wait,
     station: &Station<T, Q, K>,
@@ -77,7 +78,7 @@ fn work_for<T: TurnLedger, Q: Ledger, K: Ledger>(
     }
 }
 
-/// The turns of the seat's actor, until one isn't made.
+/// Makes the turns of the seat's actor, until one fails.
 fn actor_turns<T: TurnLedger, Q: Ledger, K: Ledger>(
     rt: &impl Wait,
     station: &Station<T, Q, K>,
@@ -97,7 +98,7 @@ fn actor_turns<T: TurnLedger, Q: Ledger, K: Ledger>(
     }
 }
 
-/// A turn of the console for each command.
+/// Makes a turn of the console for each command.
 fn command_turns<T: TurnLedger, Q: Ledger, K: Ledger>(
     rt: &impl Wait,
     station: &Station<T, Q, K>,
@@ -117,7 +118,7 @@ fn command_turns<T: TurnLedger, Q: Ledger, K: Ledger>(
     Ok(())
 }
 
-/// The turns of a processor, each after the gate and with the slice of its work.
+/// Makes the turns of a processor, each after passing the gate and with the slice of its work.
 fn processor_turns<T: TurnLedger, Q: Ledger, K: Ledger>(
     rt: &impl Wait,
     station: &Station<T, Q, K>,

@@ -1,6 +1,6 @@
--- How the fields of `Queues` hold who waits where; no public clause cites this file.
--- The node of thread t is t - 1. The clients of each thread that there is room for come first among the lists, then the
--- calls of each port, the receivers of each port, and the waiters of each mutex.
+-- The representation of the queues in the fields of `Queues`; no public clause cites this file. The node of thread t
+-- is t - 1. The lists are, in order: the clients of each possible thread, the calls of each port, the receivers of
+-- each port, and the waiters of each mutex.
 use Rattle.std.specs.Prelude.{◌≡◌, ℕ, ◌+◌, ◌-◌, ◌<◌, ◌≤◌, List, Option, None, Contains, length, map, slice_index, slice_index_or, slice_set}
 use Rattle.std.specs.List.{range_with_len}
 use Rattle.lot_machine.specs.State.{Port, Mutex, QueuedCall}
@@ -20,11 +20,11 @@ receivers_list layout p = layout.room + layout.ports + (p - 1)
 abbrev pub waiters_list : Layout → ℕ → ℕ
 waiters_list layout m = layout.room + layout.ports + layout.ports + (m - 1)
 
--- how many lists there are
+-- the number of lists
 abbrev pub list_count : Layout → ℕ
 list_count layout = layout.room + layout.ports + layout.ports + layout.mutexes
 
--- the fields: the lists, the number that each thread sent last, each mutex's owner, and how many threads there are
+-- the fields: the lists, the number that each thread sent last, the owner of each mutex, and the number of threads
 pub record Fields : Type 0 where
   pub lists : NodeLists
   pub sent : List ℕ
@@ -32,7 +32,7 @@ pub record Fields : Type 0 where
   pub threads : ℕ
   pub layout : Layout
 
--- the lists with these nodes in one of them, all others the same
+-- the lists with these nodes in one of them, and the others unchanged
 abbrev pub relisted : NodeLists → ℕ → List ℕ → NodeLists
 relisted lists list nodes = record lists { lists = slice_set lists.lists list nodes }
 
@@ -48,21 +48,21 @@ call_of sent node = record { caller = node + 1; number = slice_index sent node }
 abbrev pub clients_in : Fields → ℕ → List ℕ
 clients_in f t = threads_in f.lists (t - 1)
 
--- a port
+-- a port's calls and receivers
 abbrev pub port_in : Fields → ℕ → Port
 port_in f p = record {
   calls = map (call_of f.sent) (nodes_of f.lists (calls_list f.layout p));
   receivers = threads_in f.lists (receivers_list f.layout p);
 }
 
--- a mutex
+-- a mutex's owner and waiters
 abbrev pub mutex_in : Fields → ℕ → Mutex
 mutex_in f m = record {
   owner = slice_index_or f.owners (m - 1) None;
   waiters = threads_in f.lists (waiters_list f.layout m);
 }
 
--- who waits where
+-- the queues in the fields
 unfoldable pub seen : Fields → QueueLists
 seen f = record {
   clients = map (clients_in f) (range_with_len 1 f.threads);
@@ -71,7 +71,7 @@ seen f = record {
   room = f.layout.room;
 }
 
--- what holds of the fields
+-- the invariant of the fields
 pub record IsLaidOut (f : Fields) : Type 0 where
   pub consistent : IsConsistent f.lists
   pub nodes : f.lists.nodes ≡ f.layout.room
@@ -81,5 +81,5 @@ pub record IsLaidOut (f : Fields) : Type 0 where
   pub threads : f.threads ≤ f.layout.room
   -- the nodes in a list are those of existing threads
   pub made : (list node : ℕ) → Contains (nodes_of f.lists list) node → node < f.threads
-  -- a missing thread serves nobody
+  -- a thread that doesn't exist serves nobody
   pub unused : (list node : ℕ) → list < f.layout.room → Contains (nodes_of f.lists list) node → list < f.threads

@@ -1,18 +1,19 @@
--- What the clauses of `Queues` see: who waits where, in the words of the machine's definitions.
+-- The queues as the contracts of `Queues` see them, in terms of the machine's definitions.
 use Rattle.std.specs.Prelude.{ℕ, ◌<◌, ◌≤◌, List, [], Option, None, Contains, length, map, replicate}
 use Rattle.lot_machine.specs.Numbered.{set_number}
 use Rattle.lot_machine.specs.State.{Port, Mutex, QueuedCall}
 use Rattle.lot_machine.specs.Ports.{port_at, clients_of}
 use Rattle.lot_machine.specs.Mutexes.{mutex_at}
 
--- Whom each thread serves, and who waits at each port and mutex: the machine's fields of these names (4.6, 6.1).
+-- The clients of each thread, and each port and mutex with its queues: the machine's fields of these names (4.6,
+-- 6.1).
 pub record QueueLists : Type 0 where
   pub clients : List (List ℕ)
   pub ports : List Port
   pub mutexes : List Mutex
-  pub room : ℕ  -- how many threads there may be
+  pub room : ℕ  -- the largest number of threads
 
--- at the start: no threads, empty ports, free mutexes
+-- the queues at the start: no threads, empty ports, free mutexes
 abbrev pub empty_queues : ℕ → ℕ → ℕ → QueueLists
 empty_queues ports mutexes threads = record {
   clients = [];
@@ -21,15 +22,15 @@ empty_queues ports mutexes threads = record {
   room = threads;
 }
 
--- n is the number of one of them
+-- n is the number of an element of the list
 abbrev pub IsThere : {A : Type 0} → List A → ℕ → Type 0
 IsThere xs n = (0 < n) × (n ≤ length xs)
 
--- whose calls wait at the port
+-- the callers whose calls are queued at the port
 abbrev pub callers_at : List Port → ℕ → List ℕ
 callers_at ports p = map (λ call. call.caller) (port_at ports p).calls
 
--- the thread waits at no port and for no mutex, and nobody serves it
+-- the thread waits at no port and for no mutex, and no thread serves it
 pub record IsNowhere (q : QueueLists) (t : ℕ) : Type 0 where
   pub calls : (p : ℕ) → ¬ Contains (callers_at q.ports p) t
   pub receivers : (p : ℕ) → ¬ Contains (port_at q.ports p).receivers t

@@ -1,4 +1,4 @@
-//! A law of the machine's definitions about who waits where, with no code to run.
+//! A law of the machine's definitions about queues, without executable code.
 ghost use Rattle.std.specs.Prelude.{◌≡◌, ◌||◌, IsTrue, Some, List, ℕ};
 ghost use Rattle.lot_machine.specs.declared.record.Record.{Record};
 ghost use Rattle.lot_machine.specs.declared.record.Status.{Status};
@@ -6,7 +6,7 @@ ghost use Rattle.lot_machine.specs.Order.{HasQueues};
 ghost use Rattle.lot_machine.specs.State.{is_dead, is_live_status, status_of};
 ghost use Rattle.lot_queues.specs.QueueLists.{QueueLists, IsNowhere};
 
-/// If each thread in a queue has that queue's status, a thread that is Ready, runs or has ended stands in none.
+/// If each thread in a queue has that queue's status, no queue holds a thread that is Ready, runs or has ended.
 pub fn others_stand_nowhere()
     ensures { (records : List Record) (q : QueueLists) (t : ℕ) (status : Status)
         → HasQueues records q.clients q.ports q.mutexes

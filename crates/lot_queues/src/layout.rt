@@ -1,10 +1,10 @@
-//! Which list holds which queue.
+//! The list of each queue.
 ghost use Rattle.std.specs.Prelude.{◌≡◌, ◌-◌, ◌<◌};
 ghost use Rattle.lot_queues.specs.Fields as fields;
 
 use lot_machine::index_of;
 
-/// How many threads there is room for, and how many ports and mutexes there are.
+/// The largest number of threads, and the numbers of ports and mutexes.
 #[derive(Clone, Copy, Debug)]
 pub(crate) struct Layout {
     pub(crate) room: u32,
@@ -13,7 +13,7 @@ pub(crate) struct Layout {
 }
 
 impl Layout {
-    /// How many lists there are.
+    /// The number of lists.
     pub(crate) fn list_count(self) -> usize
         ensures { result ≡ fields.list_count self }
     {
@@ -42,7 +42,7 @@ impl Layout {
     }
 }
 
-/// The node of a thread, which is the list of its clients too.
+/// The node of a thread, which is also the number of its list of clients.
 pub(crate) fn node_of(thread: u32) -> usize
     requires { 0 < thread }
     ensures { result ≡ thread - 1 }

@@ -18,23 +18,23 @@ use std::alloc::{AllocError, Global};
 use std::marker::Model;
 use std::mem::size_of;
 
-// What a thread takes for the number that it sent, and a mutex for its owner.
+// The memory for the number that a thread sent, and for a mutex's owner.
 const SENT_BYTES: u64 = size_of::<u32>() as u64;
 
 const OWNER_BYTES: u64 = size_of::<Option<u32>>() as u64;
 
-/// A call that was taken from its port: who called, and the number that was sent.
+/// A call taken from its port: the caller, and the number that it sent.
 #[derive(Clone, Copy, Debug, PartialEq, Eq)]
 pub struct TakenCall {
     pub caller: u32,
     pub number: u32,
 }
 
-/// Who waits where. Threads, ports and mutexes are numbered from 1.
+/// The queues. Threads, ports and mutexes are numbered from 1.
 #[derive(Debug, Drop)]
 pub struct Queues {
     lists: Lists,
-    // The number that each thread sent with its last call that was queued.
+    // The number that each thread sent with its last queued call.
     sent: Vec<u32>,
     owners: Vec<Option<u32>>,
     threads: u32,
@@ -66,9 +66,9 @@ impl Model for Queues {
 }
 
 impl Queues {
-    /// Empty ports, free mutexes, and room for this many threads, of which there are none yet.
+    /// Empty ports and free mutexes, and room for this many threads, of which there are none yet.
     ///
-    /// `AllocError` if memory runs out, or if the queues and the threads together are more than a `u32` can number.
+    /// Fails with `AllocError` if out of memory, or if a `u32` can't number the queues and the threads together.
     pub fn new(alloc: Global, ports: u32, mutexes: u32, threads: u32) -> Result<Self, AllocError>
         ensures { IfOk result (λ made. made ≡ empty_queues ports mutexes threads) }
     {
@@ -86,7 +86,7 @@ impl Queues {
         })
     }
 
-    /// How many bytes `new` asks of the allocator in all.
+    /// The total of bytes that `new` requests from the allocator.
     pub fn bytes(ports: u32, mutexes: u32, threads: u32) -> u64
         ensures { result ≡ 16 * ports + 16 * mutexes + 28 * threads }
     {
@@ -100,28 +100,28 @@ impl Queues {
             + OWNER_BYTES * mutexes as u64
     }
 
-    /// How many threads there may be.
+    /// The largest number of threads.
     pub fn room(&self) -> u32
         ensures { result ≡ self.now.room }
     {
         self.layout.room
     }
 
-    /// How many threads there are.
+    /// The number of threads.
     pub fn threads(&self) -> u32
         ensures { result ≡ length self.now.clients }
     {
         self.threads
     }
 
-    /// How many ports there are.
+    /// The number of ports.
     pub fn ports(&self) -> u32
         ensures { result ≡ length self.now.ports }
     {
         self.layout.ports
     }
 
-    /// How many mutexes there are.
+    /// The number of mutexes.
     pub fn mutexes(&self) -> u32
         ensures { result ≡ length self.now.mutexes }
     {
@@ -136,7 +136,7 @@ impl Queues {
         self.threads += 1;
     }
 
-    /// Whether a thread stands in no queue, as the calls that put it into one require.
+    /// Whether a thread is in no queue, as the calls that put it into one require.
     pub fn is_nowhere(&self, thread: u32) -> bool
         requires { IsThere self.now.clients thread }
         ensures { IsTrue result ↔ IsNowhere self.now thread }
@@ -144,7 +144,7 @@ impl Queues {
         self.lists.list_of(node_of(thread)).is_none()
     }
 
-    /// Puts a thread's call after those that wait at a port.
+    /// Queues a thread's call at a port, behind earlier calls.
     pub fn push_call(&mut self, port: u32, caller: u32, number: u32)
         requires port_there { IsThere self.old.ports port }
         requires thread_there { IsThere self.old.clients caller }
@@ -159,7 +159,7 @@ impl Queues {
         self.sent[node] = number;
     }
 
-    /// Takes the call that has waited longest at a port, or `None` if none waits.
+    /// Takes the call that has waited longest at a port, or returns `None` if there is none.
     pub fn take_call(&mut self, port: u32) -> Option<TakenCall>
         requires port_there { IsThere self.old.ports port }
         ensures first { option_map queued_call result ≡ slice_get (port_at self.old.ports port).calls 0 }
@@ -176,7 +176,7 @@ impl Queues {
         taken_call(&self.sent, node)
     }
 
-    /// Puts a thread after those that wait at a port to receive.
+    /// Puts a thread behind those that wait at a port to receive.
     pub fn push_receiver(&mut self, port: u32, thread: u32)
         requires port_there { IsThere self.old.ports port }
         requires thread_there { IsThere self.old.clients thread }
@@ -190,7 +190,7 @@ impl Queues {
             .push_back(self.layout.receivers(port), node_of(thread));
     }
 
-    /// Takes the thread that has waited longest at a port to receive, or `None` if none waits.
+    /// Takes the thread that has waited longest at a port to receive, or returns `None` if there is none.
     pub fn take_receiver(&mut self, port: u32) -> Option<u32>
         requires port_there { IsThere self.old.ports port }
         ensures first { result ≡ slice_get (port_at self.old.ports port).receivers 0 }
@@ -225,7 +225,7 @@ impl Queues {
         self.lists.push_back(node_of(server), node_of(thread));
     }
 
-    /// Takes the first client of a server, or `None` if it serves nobody.
+    /// Takes the first client of a server, or returns `None` if it serves nobody.
     pub fn take_client(&mut self, server: u32) -> Option<u32>
         requires server_there { IsThere self.old.clients server }
         ensures first { result ≡ machine.first_client self.old.clients server }
@@ -242,7 +242,7 @@ impl Queues {
         thread_of(node)
     }
 
-    /// Who owns a mutex, or `None` if it is free.
+    /// The owner of a mutex, or `None` if it is free.
     pub fn owner(&self, mutex: u32) -> Option<u32>
         requires { IsThere self.now.mutexes mutex }
         ensures { result ≡ (mutex_at self.now.mutexes mutex).owner }
@@ -257,7 +257,7 @@ impl Queues {
         &self.owners
     }
 
-    /// Makes a thread the owner of a mutex, or the mutex free.
+    /// Makes a thread the owner of a mutex; `None` makes the mutex free.
     pub fn set_owner(&mut self, mutex: u32, owner: Option<u32>)
         requires { IsThere self.old.mutexes mutex }
         ensures { self.new ≡ record self.old { mutexes = with_owner self.old.mutexes mutex owner } }
@@ -265,7 +265,7 @@ impl Queues {
         self.owners[index_of(mutex)] = owner;
     }
 
-    /// Puts a thread after those that wait for a mutex.
+    /// Puts a thread behind the waiters of a mutex.
     pub fn push_waiter(&mut self, mutex: u32, thread: u32)
         requires mutex_there { IsThere self.old.mutexes mutex }
         requires thread_there { IsThere self.old.clients thread }
@@ -279,7 +279,7 @@ impl Queues {
             .push_back(self.layout.waiters(mutex), node_of(thread));
     }
 
-    /// Takes a thread from those that wait for the mutex for which it waits.
+    /// Removes a thread from the waiters of the mutex for which it waits.
     pub fn take_waiter(&mut self, thread: u32)
         requires waits { IsWaiter self.old.mutexes thread }
         ensures taken { (m place : ℕ) → slice_get (mutex_at self.old.mutexes m).waiters place ≡ Some thread
@@ -294,7 +294,8 @@ impl Queues {
         self.lists.remove(node_of(thread));
     }
 
-    /// Lists in `out` the threads that wait for a mutex, the one that has waited longest first. It takes no memory.
+    /// Stores in `out` the threads that wait for a mutex, the one that has waited longest first. It allocates
+    /// nothing.
     pub fn list_waiters(&self, mutex: u32, out: &mut Vec<u32>)
         requires mutex_there { IsThere self.now.mutexes mutex }
         requires room { self.now.room ≤ vec_capacity out.old }
@@ -306,7 +307,7 @@ impl Queues {
     }
 }
 
-/// Takes the first node out of a list, if there is one.
+/// Takes the first node of a list, if there is one.
 fn take_first(lists: &mut Lists, list: usize) -> Option<usize>
     requires { list < length lists.old.lists }
     ensures first { result ≡ node_at lists.old list 0 }
@@ -342,7 +343,7 @@ fn taken_call(sent: &[u32], node: Option<usize>) -> Option<TakenCall>
     })
 }
 
-/// Lists the threads of a list.
+/// Stores the threads of a list in `out`.
 fn list_threads(lists: &Lists, list: usize, out: &mut Vec<u32>)
     requires list { list < length lists.now.lists }
     requires room { lists.now.nodes ≤ vec_capacity out.old }

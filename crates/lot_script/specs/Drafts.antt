@@ -1,4 +1,4 @@
--- Which lines make a script.
+-- The lines that make a script.
 use Rattle.std.specs.Prelude.{◌≡◌, ℕ, ◌+◌, ◌-◌, ◌<◌, ◌≤◌, ◌==◌, nat_lt, nat_le, Bool, true, ◌||◌, ⊤, List, [], ◌∷◌, ◌++◌, length, fold, All}
 use Rattle.lot_simulation.specs.declared.script.Line.{Line}
 use Rattle.lot_simulation.specs.declared.script.Line.TheVariants as line
@@ -7,40 +7,40 @@ use Rattle.lot_simulation.specs.declared.input.InputRefusal.{InputRefusal}
 use Rattle.lot_simulation.specs.declared.input.InputRefusal.TheVariants.{BadLine, BadNumber, TooDeep, TooLong}
 use Rattle.lot_machine.specs.Bounds.{IsBetween}
 
--- the lines of a script so far, and how many loops are open after them
+-- the lines of a script so far, and the number of loops open after them
 pub record Draft : Type 0 where
   pub lines : List Line
   pub loops : ℕ
 
--- how many loops are open after a line, given how many are open before it
+-- the number of loops open after a line, given the number before it
 abbrev pub loops_after : ℕ → Line → ℕ
 loops_after loops (line.Loop n) = loops + 1
 loops_after loops line.End = loops - 1
 loops_after loops other = loops
 
--- one more line
+-- the draft with one more line
 abbrev pub pushed : Draft → Line → Draft
 pushed d l = record { lines = d.lines ++ l ∷ []; loops = loops_after d.loops l }
 
--- a `compute` has a tick or more, a `loop` 1 to 65535 copies, and no line is an exit
+-- the line is valid: a `compute` has at least one tick, a `loop` 1 to 65535 copies, and it is no exit
 abbrev pub IsLine : Line → Type 0
 IsLine (line.Compute n) = 0 < n
 IsLine (line.Loop n) = IsBetween 1 65535 n
 IsLine (line.Trap Exit) = ⊥
 IsLine other = ⊤
 
--- eight loops may be open at once, and an `end` ends an open one
+-- the line nests: at most eight loops may be open at once, and an `end` ends an open one
 abbrev pub CanNest : ℕ → Line → Type 0
 CanNest loops (line.Loop n) = loops < 8
 CanNest loops line.End = 0 < loops
 CanNest loops other = ⊤
 
--- each of the lines nests, given how many loops are open before the first
+-- each of the lines nests, given the number of loops open before the first
 abbrev pub Nests : ℕ → List Line → Type 0
 Nests loops [] = ⊤
 Nests loops (l ∷ lines) = CanNest loops l × Nests (loops_after loops l) lines
 
--- how many loops are open after the lines
+-- the number of loops open after the lines
 abbrev pub open_count : List Line → ℕ
 open_count lines = fold loops_after 0 lines
 
@@ -58,11 +58,11 @@ pub record IsScript (lines : List Line) : Type 0 where
   pub nests : Nests 0 lines
   pub closed : open_count lines ≡ 0
 
--- whether there are as many lines as there may be
+-- whether there are as many lines as are allowed
 abbrev pub is_full : Draft → Bool
 is_full d = nat_le 1024 (length d.lines)
 
--- why a line can't come next, in order
+-- the checks of whether a line can come next, in order
 abbrev pub line_checks : Draft → Line → List (Bool × InputRefusal)
 line_checks d (line.Compute n) = (n == 0, BadNumber) ∷ (is_full d, TooLong) ∷ []
 line_checks d (line.Loop n) = (n == 0 || nat_lt 65535 n, BadNumber) ∷ (nat_le 8 d.loops, TooDeep) ∷ (is_full d, TooLong) ∷ []

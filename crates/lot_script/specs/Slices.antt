@@ -1,4 +1,4 @@
--- What a slice of a script keeps.
+-- The fields of a slice.
 use Rattle.std.specs.Prelude.{◌≡◌, ℕ, Option, List}
 use Rattle.lot_simulation.specs.declared.script.Line.{Line}
 use Rattle.lot_simulation.specs.declared.script.ScriptTrap.{ScriptTrap}
@@ -6,8 +6,8 @@ use Rattle.lot_machine.specs.Bounds.{IsBetween}
 use Rattle.lot_simulation.specs.Script.{slice}
 use Rattle.lot_script.specs.Places.{Place, Fits, context_at}
 
--- a script's lines, where a thread began and with which budget, the ticks of work that it did and the trap that
--- followed, if one did, and where it is then
+-- a script's lines, the start and the budget of a slice, its ticks of work and the trap after them, if any, and its
+-- end
 pub record Parts : Type 0 where
   pub lines : List Line
   pub start : Place
@@ -23,7 +23,7 @@ pub record IsSlice (parts : Parts) : Type 0 where
   pub sliced : slice (context_at parts.lines parts.start) parts.budget ≡ record { ticks = parts.ticks; trap = parts.trap; end = context_at parts.lines parts.end }
   pub end_fits : Fits parts.lines parts.end
 
--- slices of scripts with the same lines, from the same place, with the same budget
+-- both slices are of scripts with the same lines, from the same place, with the same budget
 pub record IsSameSlice (one other : Parts) : Type 0 where
   pub lines : one.lines ≡ other.lines
   pub start : one.start ≡ other.start

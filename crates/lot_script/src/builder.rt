@@ -1,4 +1,4 @@
-//! Scripts as they are written.
+//! Building scripts.
 ghost use Rattle.std.specs.Prelude.{◌≡◌, ◌↔◌, ◌<◌, ◌≤◌, [], length, OnOk, OnErr, IsTrue};
 ghost use Rattle.lot_machine.specs.Bounds.{IsBetween};
 ghost use Rattle.lot_simulation.specs.Reading.{checked};
@@ -27,10 +27,10 @@ impl Model for ScriptBuilder {
 }
 
 impl ScriptBuilder {
-    /// How many lines a script may have.
+    /// The largest number of lines of a script.
     pub const MOST_LINES: usize = 1024;
 
-    /// No line yet. It takes no memory.
+    /// No lines. It allocates nothing.
     pub fn new(alloc: Global) -> Self
         ensures { result ≡ record { lines = []; loops = 0 } }
     {
@@ -40,7 +40,7 @@ impl ScriptBuilder {
         }
     }
 
-    /// How many lines there are, at most 1024.
+    /// The number of lines, at most 1024.
     pub fn len(&self) -> usize
         ensures count { result ≡ length self.now.lines }
         ensures most { result ≤ 1024 }
@@ -48,7 +48,7 @@ impl ScriptBuilder {
         self.lines.len()
     }
 
-    /// How many loops are open, at most 8.
+    /// The number of open loops, at most 8.
     pub fn open_loops(&self) -> u32
         ensures count { result ≡ self.now.loops }
         ensures most { result ≤ 8 }
@@ -56,9 +56,9 @@ impl ScriptBuilder {
         self.open_loops
     }
 
-    /// Whether the line can come next; otherwise the refusal that an input with it gets: `BadNumber` for a `compute` or
-    /// a `loop` out of its range, `TooDeep` for a ninth open loop, `BadLine` for an `end` without a loop and for an
-    /// exit, which no line is, and `TooLong` for line 1025, checked in this order.
+    /// Returns `Ok` if the line can come next, and otherwise the refusal for an input with it: `BadNumber` for a
+    /// `compute` or a `loop` out of its range, `TooDeep` for a ninth open loop, `BadLine` for an `end` without a loop
+    /// and for an exit, which no line is, and `TooLong` for line 1025, checked in this order.
     pub fn check(&self, line: Line) -> Result<(), InputRefusal>
         ensures checks { result ≡ checked (line_checks self.now line) tt }
         ensures number { OnOk result (IsLine line) }
@@ -83,7 +83,7 @@ impl ScriptBuilder {
         Ok(())
     }
 
-    /// One more line. If out of memory, it changes nothing.
+    /// Adds one line. If out of memory, it changes nothing.
     pub fn push(&mut self, line: Line) -> Result<(), AllocError>
         requires number { IsLine line }
         requires nesting { CanNest self.old.loops line }
@@ -117,7 +117,7 @@ fn is_in(range: Range, number: u32) -> bool
     range.first <= number && number <= range.last
 }
 
-/// How many loops are open after a line, given how many are open before it.
+/// The number of open loops after a line, given the number before it.
 fn loops_after(open_loops: u32, line: Line) -> u32
     requires { CanNest open_loops line }
     ensures { result ≡ loops_after open_loops line }

@@ -1,8 +1,8 @@
-//! Scripts of simulated threads, and what a processor does of one at a time.
+//! Scripts of simulated threads, and the slices of them that processors run.
 //!
 //! A `Script` means a list of marks, each worth one tick, and of traps. It ends with an exit trap. Loops are unrolled
-//! in that list and never in memory. A `Place` is a thread's place in the list, with its accumulator. A `Slice` is
-//! what the thread does from there with a budget of ticks.
+//! in that list, never in memory. A `Place` is a thread's place in the list, with its accumulator. A `Slice` is the
+//! thread's work from there with a budget of ticks.
 #![tactic(auto)]
 
 mod builder;

@@ -1,4 +1,4 @@
-//! The loops that a thread is in.
+//! The loops around a thread's place.
 ghost use Rattle.std.specs.Prelude.{◌≡◌, ◌↔◌, ◌<◌, [], ◌∷◌, length, reverse, IsTrue};
 ghost use Rattle.lot_script.specs.Drafts.{CanNest, IsLine};
 ghost use Rattle.lot_script.specs.Places.{AreCopies, IsCopy, open_after};
@@ -7,17 +7,17 @@ use arrayvec::ArrayVec;
 use lot_simulation::Line;
 use std::marker::Model;
 
-/// A loop that a thread is in.
+/// A loop around a thread's place.
 #[derive(Clone, Copy, Debug, Default, PartialEq, Eq)]
 pub(crate) struct OpenLoop {
     /// The line at which its body begins.
     pub(crate) body: u16,
-    /// How many copies of the body come after this one.
+    /// The number of copies of the body after this one.
     pub(crate) left: u16,
 }
 
 impl OpenLoop {
-    /// Whether it is the other loop, in its first copy or a later one.
+    /// Whether it is the given loop, in its first copy or a later one.
     fn is_copy(self, first: OpenLoop) -> bool
         ensures { IsTrue result ↔ IsCopy self first }
     {
@@ -25,7 +25,7 @@ impl OpenLoop {
     }
 }
 
-/// The loops that are open somewhere, at most 8. The contracts see the innermost first.
+/// The open loops at some place, at most 8. The contracts see the innermost first.
 #[derive(Debug, PartialEq, Eq, Drop)]
 pub(crate) struct OpenLoops {
     /// The outermost first.
@@ -60,7 +60,7 @@ impl OpenLoops {
         }
     }
 
-    /// The same loops again, taken over one by one, since there are seldom more than two. It takes no memory.
+    /// A copy of the loops, made one by one, since there are seldom more than two. It allocates nothing.
     #[inline(always)]
     pub(crate) fn copied(&self) -> Self
         ensures { result ≡ self.now }
@@ -72,7 +72,7 @@ impl OpenLoops {
         OpenLoops { stack }
     }
 
-    /// Whether they are the same loops, with as many copies left of each.
+    /// Whether both have the same loops, with as many copies left of each.
     #[inline(always)]
     pub(crate) fn is_same(&self, other: &OpenLoops) -> bool
         ensures { IsTrue result ↔ (self.now ≡ other.now) }
@@ -80,7 +80,7 @@ impl OpenLoops {
         self.stack.as_slice() == other.stack.as_slice()
     }
 
-    /// This loop is innermost now.
+    /// Adds an innermost loop.
     pub(crate) fn push(&mut self, innermost: OpenLoop)
         requires { length self.old < 8 }
         ensures { self.new ≡ innermost ∷ self.old }
@@ -88,7 +88,7 @@ impl OpenLoops {
         self.stack.push(innermost);
     }
 
-    /// Takes the innermost loop out.
+    /// Removes the innermost loop and returns it.
     pub(crate) fn pop(&mut self) -> OpenLoop
         requires { 0 < length self.old }
         ensures innermost { self.old ≡ result ∷ self.new }
@@ -97,7 +97,7 @@ impl OpenLoops {
         self.stack.pop().unwrap()
     }
 
-    /// Goes past the line of this number: a `loop` opens a loop, in its first copy, and an `end` closes one.
+    /// Passes the line with this number: a `loop` opens a loop, in its first copy, and an `end` closes one.
     pub(crate) fn follow(&mut self, number: usize, line: Line)
         requires line { IsLine line }
         requires nests { CanNest (length self.old) line }
@@ -116,7 +116,7 @@ impl OpenLoops {
         }
     }
 
-    /// Whether they are these loops, each in its first copy or a later one.
+    /// Whether these are the given loops, each in its first copy or a later one.
     pub(crate) fn are_copies(&self, firsts: &OpenLoops) -> bool
         ensures { IsTrue result ↔ AreCopies self.now firsts.now }
     {
@@ -124,7 +124,7 @@ impl OpenLoops {
     }
 }
 
-/// Whether the loops are these, each in its first copy or a later one. Both have the outermost first.
+/// Whether the loops are the given ones, each in its first copy or a later one. Both lists have the outermost first.
 fn are_copies(loops: &[OpenLoop], firsts: &[OpenLoop]) -> bool
     ensures { IsTrue result ↔ AreCopies (reverse loops.now) (reverse firsts.now) }
 {

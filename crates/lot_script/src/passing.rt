@@ -1,4 +1,4 @@
-//! A thread's way through its script, line by line.
+//! Advancing a thread through its script, line by line.
 ghost use Rattle.std.specs.Prelude.{◌≡◌, ◌<◌, ◌≤◌, slice_get};
 ghost use Rattle.lot_script.specs.Drafts.{IsScript};
 ghost use Rattle.lot_script.specs.Places.{Advances, Fits, IsMarked, Passes, Stands};
@@ -6,7 +6,7 @@ ghost use Rattle.lot_script.specs.Places.{Advances, Fits, IsMarked, Passes, Stan
 use crate::{Place, Script};
 use lot_simulation::{Line, ScriptTrap};
 
-/// What a thread does next.
+/// The next step of a thread.
 #[derive(Clone, Copy, Debug)]
 pub(crate) enum Advance {
     /// It passes this many marks.
@@ -15,7 +15,7 @@ pub(crate) enum Advance {
 }
 
 impl Script {
-    /// Passes marks at the place, at least one and at most `most`; or makes the trap that stands there.
+    /// Passes marks at the place, at least one and at most `most`; or makes the trap at the place.
     #[inline(always)]
     pub(crate) fn advance(&self, place: &mut Place, most: u32) -> Advance
         requires fits { Fits self.now place.old }
@@ -32,7 +32,7 @@ impl Script {
         Advance::Marks(self.pass(place, line, most))
     }
 
-    /// Passes marks of the line at the place, at least one and at most `most`. Returns how many.
+    /// Passes marks of the line at the place, at least one and at most `most`. Returns their number.
     #[inline(always)]
     fn pass(&self, place: &mut Place, line: Line, most: u32) -> u32
         requires stands { Stands self.now place.old line }
@@ -53,7 +53,7 @@ impl Script {
         1
     }
 
-    /// The line that comes next, or `None` after the last.
+    /// The next line, or `None` after the last.
     #[inline(always)]
     pub(crate) fn next_line(&self, place: &Place) -> Option<Line>
         ensures line { result ≡ slice_get self.now place.now.line }

@@ -1,4 +1,4 @@
-//! Where a thread is in its script.
+//! A thread's place in its script.
 ghost use Rattle.std.specs.Prelude.{◌≡◌, ◌↔◌, ◌+◌, ◌-◌, ◌%◌, ◌<◌, ◌≤◌, ◌∷◌, length, List, min, IsTrue};
 ghost use Rattle.lot_machine.specs.Bounds.{IsBetween};
 ghost use Rattle.lot_script.specs.declared.open_loops.OpenLoop.{OpenLoop as OpenLoopRecord};
@@ -9,13 +9,14 @@ use std::marker::Model;
 /// A thread's place in its script, and its accumulator.
 #[derive(Debug, PartialEq, Eq, Drop)]
 pub struct Place {
-    /// The line that comes next.
+    /// The index of the next line.
     pub(crate) line: usize,
-    /// The ticks that are done of it, if it is a `compute`.
+    /// The ticks done of the next line, if it is a `compute`.
     pub(crate) done: u32,
-    // Before the loops, since the two numbers of 32 bits then leave no gap, which a copy of the whole would wait for.
+    // It comes before the loops, since the two numbers of 32 bits then leave no gap, for which a copy of the whole
+    // would wait.
     pub(crate) accumulator: u32,
-    /// The loops that it is in.
+    /// The loops around the place.
     pub(crate) loops: OpenLoops,
 }
 
@@ -35,7 +36,7 @@ impl Model for Place {
 }
 
 impl Place {
-    /// The same place again. It takes no memory.
+    /// A copy of the place. It allocates nothing.
     #[inline(always)]
     pub fn copied(&self) -> Self
         ensures { result ≡ self.now }
@@ -48,7 +49,7 @@ impl Place {
         }
     }
 
-    /// Whether the other is the same place with the same accumulator.
+    /// Whether the other place is equal, with the same accumulator.
     #[inline(always)]
     pub fn is_same(&self, other: &Place) -> bool
         ensures { IsTrue result ↔ (self.now ≡ other.now) }
@@ -66,7 +67,7 @@ impl Place {
         self.accumulator
     }
 
-    /// Makes the accumulator this number, as for a thread that was handed it.
+    /// Sets the accumulator, as for a thread to which this number is delivered.
     #[inline(always)]
     pub fn set_accumulator(&mut self, number: u32)
         ensures { self.new ≡ record self.old { accumulator = number } }
@@ -74,7 +75,7 @@ impl Place {
         self.accumulator = number;
     }
 
-    /// Goes on with the next line.
+    /// Advances to the next line.
     #[inline(always)]
     pub(crate) fn leave_line(&mut self)
         requires { self.old.line < 1024 }
@@ -84,7 +85,7 @@ impl Place {
         self.done = 0;
     }
 
-    /// Does work of a `compute` of this many ticks, as much as is left of it and at most `most`. Returns how much.
+    /// Does work of a `compute` of this many ticks: the rest of it, but at most `most`. Returns the ticks done.
     #[inline(always)]
     pub(crate) fn work(&mut self, ticks: u32, most: u32) -> u32
         requires line { self.old.line < 1024 }
@@ -102,7 +103,7 @@ impl Place {
         left
     }
 
-    /// Makes the accumulator this number.
+    /// Sets the accumulator to this number.
     pub(crate) fn set(&mut self, number: u32)
         requires { self.old.line < 1024 }
         ensures { self.new ≡ record self.old { line = self.old.line + 1; done = 0; accumulator = number } }

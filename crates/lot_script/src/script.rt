@@ -10,7 +10,7 @@ use lot_simulation::Line;
 use std::alloc::{AllocError, Global};
 use std::marker::Model;
 
-/// What a simulated thread does, line by line. A `ScriptBuilder` makes one.
+/// The script of a simulated thread, line by line. A `ScriptBuilder` makes one.
 #[derive(Debug, Drop)]
 pub struct Script {
     pub(crate) lines: Vec<Line>,
@@ -38,7 +38,7 @@ impl Script {
         self.lines.as_slice()
     }
 
-    /// The same script again, in memory of its own.
+    /// A copy of the script, in memory of its own.
     pub fn copied(&self, alloc: Global) -> Result<Script, AllocError>
         ensures { IfOk result (λ script. script ≡ self.now) }
     {
@@ -53,13 +53,13 @@ impl Script {
         self.lines() == other.lines()
     }
 
-    /// Where a thread begins: at the first line, with accumulator 0.
+    /// The place at which a thread begins: the first line, with accumulator 0.
     pub fn start(&self) -> Place
         ensures first { result ≡ first_place }
         ensures whole { context_at self.now result ≡ whole_context self.now }
         ensures fits { Fits self.now result }
     {
-        // Opens the value for the proof alone, which then knows that its lines make a script.
+        // Brings the invariant into the proof: the lines make a script.
         let _ = &self.lines;
         Place {
             line: 0,
@@ -69,7 +69,7 @@ impl Script {
         }
     }
 
-    /// Whether the place is one of a script with these lines.
+    /// Whether the place fits a script with these lines.
     pub fn fits(&self, place: &Place) -> bool
         ensures fits { IsTrue result ↔ Fits self.now place.now }
         ensures rest { Fits self.now place.now → IsRestOf (rest_at self.now place.now) (unrolled self.now) }
@@ -93,7 +93,7 @@ impl Script {
     }
 }
 
-/// Whether this many ticks may be done of the line.
+/// Whether this many ticks of the line may be done.
 fn can_be_done(line: Option<Line>, done: u32) -> bool
     ensures { IsTrue result ↔ CanBeDone line done }
 {

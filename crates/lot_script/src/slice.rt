@@ -9,7 +9,7 @@ use crate::{Place, Script};
 use lot_simulation::ScriptTrap;
 use std::marker::Model;
 
-/// What a thread does of its script with a budget of ticks: ticks of work, and then a trap or the end of the budget.
+/// The work of a thread in its script within a budget of ticks: ticks of work, and then a trap or the budget's end.
 #[derive(Debug, Drop)]
 pub struct Slice<'a> {
     script: &'a Script,
@@ -52,22 +52,21 @@ impl<'a> Slice<'a> {
         self.script
     }
 
-    /// Where the thread began.
+    /// The place at which it began.
     pub fn start(&self) -> &Place
         ensures { result.now ≡ self.now.start }
     {
         &self.start
     }
 
-    /// The ticks that it had, 1 to 1000.
+    /// The budget in ticks, 1 to 1000.
     pub fn budget(&self) -> u32
         ensures { result ≡ self.now.budget }
     {
         self.budget
     }
 
-    /// Whether the other is the same slice: one of a script with the same lines, from the same place, with the same
-    /// budget.
+    /// Whether the other slice is equal: of a script with the same lines, from the same place, with the same budget.
     pub fn is_same(&self, other: &Slice<'_>) -> bool
         ensures same { IsTrue result ↔ IsSameSlice self.now other.now }
         ensures does { IsTrue result → (self.now.ticks ≡ other.now.ticks) × (self.now.trap ≡ other.now.trap) }
@@ -77,7 +76,7 @@ impl<'a> Slice<'a> {
             && self.budget == other.budget
     }
 
-    /// The ticks of work that it did. A trap's own tick isn't counted.
+    /// The ticks of work. A trap's own tick isn't counted.
     pub fn ticks(&self) -> u32
         ensures ticks { result ≡ self.now.ticks }
         ensures exact { IsSlice self.now }
@@ -85,7 +84,7 @@ impl<'a> Slice<'a> {
         self.ticks
     }
 
-    /// The trap that it made, or `None` if the budget was used up before one.
+    /// The trap at its end, or `None` if the budget was used up before one.
     pub fn trap(&self) -> Option<ScriptTrap>
         ensures trap { result ≡ self.now.trap }
         ensures exact { IsSlice self.now }
@@ -93,7 +92,7 @@ impl<'a> Slice<'a> {
         self.trap
     }
 
-    /// Its place then: after the trap, except that it never passes an exit.
+    /// The place at its end: after the trap, except that it never passes an exit.
     pub fn end(&self) -> &Place
         ensures end { result.now ≡ self.now.end }
         ensures exact { IsSlice self.now }
@@ -102,7 +101,7 @@ impl<'a> Slice<'a> {
     }
 }
 
-/// What a thread did of its script with a budget of ticks: ticks of work, and then a trap or the end of the budget.
+/// The result of a slice: ticks of work, and then a trap or the budget's end.
 #[derive(Clone, Copy, Debug, PartialEq, Eq)]
 pub struct SliceDone {
     /// The ticks of work. A trap's own tick isn't counted.
@@ -112,8 +111,8 @@ pub struct SliceDone {
 }
 
 impl Script {
-    /// Moves a place of this script on, as a slice with a budget of 1 to 1000 ticks does: after the trap, except that
-    /// it never passes an exit. It takes no memory, and as many steps as it passes lines.
+    /// Advances a place of this script by a slice with a budget of 1 to 1000 ticks: to after the trap, except that it
+    /// never passes an exit. It allocates nothing, and takes as many steps as it passes lines.
     #[inline(always)]
     pub fn pass_slice(&self, place: &mut Place, budget: u32) -> SliceDone
         requires fits { Fits self.now place.old }
@@ -142,7 +141,7 @@ impl Script {
         SliceDone { ticks, trap: None }
     }
 
-    /// What a thread of this script does from `start` with a budget of 1 to 1000 ticks. It takes no memory, and as
+    /// The slice of this script from `start` with a budget of 1 to 1000 ticks. It allocates nothing, and takes as
     /// many steps as it passes lines.
     #[inline(always)]
     pub fn slice(&self, start: Place, budget: u32) -> Slice<'_>

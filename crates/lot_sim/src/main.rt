@@ -1,6 +1,6 @@
 //! `lot_sim play` reads an input from standard input and writes the lines and the report of its turns; `lot_sim run`
-//! has workers make its turns, and writes the report and a schedule that gives it back; `lot_sim explain` also writes
-//! who took part in each lottery that was won; `lot_sim shares` and `lot_sim chart` write what each thread has had
+//! lets workers make its turns, and writes the report and a schedule that reproduces them; `lot_sim explain` also
+//! writes the entrants of each won lottery; `lot_sim shares` and `lot_sim chart` write each thread's ticks or draws
 //! over time, as a table and as a picture.
 #![tactic(auto)]
 
@@ -8,7 +8,7 @@ use lot_command::{status, unread_status};
 use std::process::ExitCode;
 use std::{env, io};
 
-/// The exit status if memory runs out before the words are read.
+/// The exit status if out of memory before the words are read.
 const NO_MEMORY: u8 = 3;
 
 fn main(rt: HostRuntime) -> ExitCode {

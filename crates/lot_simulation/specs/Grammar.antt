@@ -1,4 +1,4 @@
--- What an input says, or on which line it is refused.
+-- The meaning of an input, or the line on which it is refused.
 use Rattle.std.specs.Prelude.{ℕ, ◌+◌, ◌-◌, ◌%◌, max, ◌==◌, nat_lt, nat_le, Bool, true, false, not, ◌&&◌, ◌||◌, Option, Some, None, is_none, Result, Ok, Err, List, [], ◌∷◌, ◌++◌, length, map, sum_by, replicate, codes, unwrap_or, option_map, if◌then◌else◌}
 use Rattle.std.specs.List.{flat_map, range_with_len}
 use Rattle.std.specs.Str.{bytes_eq}
@@ -8,6 +8,9 @@ use Rattle.lot_simulation.specs.declared.script.ScriptTrap.TheVariants as trap
 use Rattle.lot_machine.specs.declared.command.Command.{Command}
 use Rattle.lot_machine.specs.declared.command.Command.TheVariants.{MakeTicket, RemoveTicket, MakeCurrency, RemoveCurrency, Fund, Unfund, SetTicket, MakeThread, RemoveThread, MakeFunded, List as Listing}
 use Rattle.lot_machine.specs.declared.command.Kind.TheVariants.{Tickets, Currencies, Threads}
+use Rattle.lot_machine.specs.declared.reference.CurrencyRef.TheVariants as currency_ref
+use Rattle.lot_machine.specs.declared.reference.ThreadRef.TheVariants as thread_ref
+use Rattle.lot_machine.specs.declared.reference.TargetRef.TheVariants as target_ref
 use Rattle.lot_simulation.specs.declared.input.HeaderWord.{HeaderWord}
 use Rattle.lot_simulation.specs.declared.input.HeaderWord.TheVariants as header
 use Rattle.lot_simulation.specs.declared.input.BodyWord.{BodyWord}
@@ -24,14 +27,14 @@ use Rattle.lot_simulation.specs.Reading.{OpenScript, Reading, opening_reading, �
 use Rattle.lot_machine.specs.Lottery.{mixed_seed}
 use Rattle.lot_simulation.specs.World.{Program}
 
--- whether it isn't said yet how long the input runs, though that must be said
+-- whether the duration, which a timed input must give, is still missing
 abbrev pub lacks_duration : Reading → Bool
 lacks_duration r = r.is_timed && is_none r.duration
 
 -- ---- lines of the header
 
--- The first line that isn't ignored: `lottery 1` means unit 1, and `lottery 2` unit 256. In `lottery 3` turns come in
--- the order of time, with unit 256.
+-- The first line that isn't ignored: `lottery 1` means unit 1, and `lottery 2` unit 256. `lottery 3` means a timed
+-- input, with unit 256.
 abbrev pub first_line : List (List ℕ) → Result Reading InputRefusal
 first_line (word ∷ version ∷ []) =
     if bytes_eq word (codes "lottery") && bytes_eq version (codes "1") then Ok (opening_reading false 1)
@@ -40,7 +43,7 @@ first_line (word ∷ version ∷ []) =
     else Err BadHeader
 first_line other = Err BadHeader
 
--- what a line of the header says
+-- the reading after a line of the header
 abbrev pub header_line : Reading → HeaderWord → List (List ℕ) → Result Reading InputRefusal
 header_line r header.Processors (p ∷ []) = do
   processors ← number_between 1 64 p
@@ -66,7 +69,7 @@ header_line r header.Limits (t ∷ c ∷ h ∷ []) = do
   Ok (record r { tickets = tickets; currencies = currencies; threads = threads })
 header_line r word tokens = Err BadLine
 
--- A header word that doesn't come after those so far is out of order, repeated, or after the body.
+-- A header line is refused if its word is out of order, repeated, or after the body.
 abbrev pub header_in_order : Reading → HeaderWord → List (List ℕ) → Result Reading InputRefusal
 header_in_order r word tokens = do
   before ← checked ((nat_le (header_place word) r.place, BadHeader) ∷ []) r
@@ -75,19 +78,19 @@ header_in_order r word tokens = do
 
 -- ---- lines of a script
 
--- one line more
+-- the script with one more line
 abbrev pub with_line : OpenScript → Line → OpenScript
 with_line s l = record s { lines = s.lines ++ l ∷ [] }
 
--- whether the script has as many lines as one may have
+-- whether the script has as many lines as are allowed
 abbrev pub is_full : OpenScript → Bool
 is_full s = nat_le 1024 (length s.lines)
 
--- the script goes on with this line
+-- the reading after the script gets this line
 abbrev pub add_line : Reading → OpenScript → Line → Result Reading InputRefusal
 add_line r s l = checked ((is_full s, TooLong) ∷ []) (record r { unclosed = Some (with_line s l) })
 
--- what a line of a script says
+-- the reading after a line of a script
 abbrev pub script_line : Reading → OpenScript → ScriptWord → List (List ℕ) → Result Reading InputRefusal
 script_line r s script.Compute (n ∷ []) = do
   ticks ← number_between 1 4294967295 n
@@ -115,14 +118,14 @@ script_line r s script.EndScript [] =
     checked ((nat_lt 0 s.loops, BadLine) ∷ []) (record r { unclosed = None; scripts = r.scripts ++ record { name = s.name; lines = s.lines } ∷ [] })
 script_line r s word tokens = Err BadLine
 
--- ---- several words on a line of a script, if turns come in the order of time
+-- ---- several words on a line of a script, in a timed input
 
--- a word of a script, and the tokens that belong to it
+-- a word of a script, and its arguments
 pub record Phrase : Type 0 where
   pub word : List ℕ
   pub tokens : List (List ℕ)
 
--- the words to which no token belongs; to each other word belongs the token after it
+-- whether the word takes no argument; each other word takes one
 abbrev pub stands_alone : ScriptWord → Bool
 stands_alone script.End = true
 stands_alone script.Yield = true
@@ -130,11 +133,11 @@ stands_alone script.Reply = true
 stands_alone script.EndScript = true
 stands_alone word = false
 
--- whether the token is such a word
+-- whether the token is a word that takes no argument
 abbrev pub is_alone : List ℕ → Bool
 is_alone token = unwrap_or (option_map stands_alone (word_in timed_script_words token)) false
 
--- the words of a line, each with what belongs to it
+-- the words of a line, each with its arguments
 abbrev pub phrases_of : List (List ℕ) → List Phrase
 phrases_of [] = []
 phrases_of (word ∷ []) = record { word = word; tokens = [] } ∷ []
@@ -143,42 +146,42 @@ phrases_of (word ∷ next ∷ tokens) =
 
 -- ---- lines of the body
 
--- the names of the scripts so far
+-- the names of the scripts read so far
 abbrev pub script_names : Reading → List (List ℕ)
 script_names r = map (λ s. s.name) r.scripts
 
--- when a command is made that comes now: at the time that was said last, if turns come in the order of time
+-- the time of a command that comes next: in a timed input the last `at`
 abbrev pub time_of_next : Reading → List ℕ
 time_of_next r = if r.is_timed then r.time ∷ [] else []
 
--- one command more
+-- the reading after one more command
 abbrev pub add_command : Reading → Command → Result Reading InputRefusal
 add_command r c = checked ((nat_le 100000 (length r.commands), TooLong) ∷ []) (record r { commands = r.commands ++ c ∷ []; times = r.times ++ time_of_next r })
 
--- turns of one actor in a row
+-- several turns of one actor in a row
 pub record ActorRun : Type 0 where
   pub actor : ℕ
   pub count : ℕ
 
--- an actor, and how many turns in a row it has
+-- an actor and its number of turns in a row, from their tokens
 abbrev pub run_of : ℕ → List ℕ → List ℕ → Result ActorRun InputRefusal
 run_of processors first second = do
   actor ← actor_below processors first
   count ← number_between 1 1000000 second
   Ok (record { actor = actor; count = count })
 
--- the actors of runs, in order
+-- the actors of the runs, in order
 abbrev pub actors_of : List ActorRun → List ℕ
 actors_of runs = flat_map (λ run. replicate run.count run.actor) runs
 
--- the schedule goes on with as many actors as the runs have
+-- the schedule extended by the actors of these runs
 abbrev pub add_runs : Reading → List ActorRun → Result Reading InputRefusal
 add_runs r runs = do
   fitting ← checked ((nat_lt 1000000 (length r.schedule + sum_by (λ run. run.count) runs), TooLong) ∷ []) runs
   Ok (record r { schedule = r.schedule ++ actors_of fitting })
 
--- What a line of the body says. There are no runs if the unit is 1, and neither runs nor a schedule if turns come in
--- the order of time. Times don't fall.
+-- The reading after a line of the body. An input with unit 1 has no runs, and a timed input neither runs nor a
+-- schedule. Times never decrease.
 abbrev pub body_line : ℕ → Reading → BodyWord → List (List ℕ) → Result Reading InputRefusal
 body_line n r body.Port (token ∷ []) = do
   name ← new_name r.ports token
@@ -192,7 +195,7 @@ body_line n r body.Script (token ∷ []) = do
 body_line n r body.MakeTicket (a ∷ c ∷ []) = do
   amount ← any_number a
   currency ← any_name c
-  add_command r (MakeTicket amount currency)
+  add_command r (MakeTicket amount (currency_ref.Named currency))
 body_line n r body.RemoveTicket (t ∷ []) = do
   ticket ← any_number t
   add_command r (RemoveTicket ticket)
@@ -201,11 +204,11 @@ body_line n r body.MakeCurrency (token ∷ []) = do
   add_command r (MakeCurrency name)
 body_line n r body.RemoveCurrency (c ∷ []) = do
   currency ← any_name c
-  add_command r (RemoveCurrency currency)
+  add_command r (RemoveCurrency (currency_ref.Named currency))
 body_line n r body.Fund (t ∷ to ∷ []) = do
   ticket ← any_number t
   target ← any_name to
-  add_command r (Fund ticket target)
+  add_command r (Fund ticket (target_ref.Named target))
 body_line n r body.Unfund (t ∷ []) = do
   ticket ← any_number t
   add_command r (Unfund ticket)
@@ -215,7 +218,7 @@ body_line n r body.SetTicket (t ∷ a ∷ []) = do
   add_command r (SetTicket ticket amount)
 body_line n r body.RemoveThread (token ∷ []) = do
   thread ← any_name token
-  add_command r (RemoveThread thread)
+  add_command r (RemoveThread (thread_ref.Named thread))
 body_line n r body.MakeThread (token ∷ s ∷ []) = do
   name ← any_name token
   number ← script_number (script_names r) s
@@ -225,7 +228,7 @@ body_line n r body.MakeFunded (a ∷ c ∷ token ∷ s ∷ []) = do
   currency ← any_name c
   name ← any_name token
   number ← script_number (script_names r) s
-  add_command r (MakeFunded amount currency name number)
+  add_command r (MakeFunded amount (currency_ref.Named currency) name number)
 body_line n r body.ListTickets [] = add_command r (Listing Tickets)
 body_line n r body.ListCurrencies [] = add_command r (Listing Currencies)
 body_line n r body.ListThreads [] = add_command r (Listing Threads)
@@ -242,7 +245,7 @@ body_line n r body.Runs (first ∷ others) = do
   add_runs r runs
 body_line n r word tokens = Err BadLine
 
--- a line of the body ends the header
+-- a line of the body, which ends the header
 abbrev pub body_after_header : ℕ → Reading → BodyWord → List (List ℕ) → Result Reading InputRefusal
 body_after_header n r word tokens = do
   after ← body_line n r word tokens
@@ -250,24 +253,24 @@ body_after_header n r word tokens = do
 
 -- ---- a line
 
--- a line within a script, or a part of it
+-- a line within a script, or one phrase of it
 abbrev pub line_inside : Reading → OpenScript → Option ScriptWord → List (List ℕ) → Result Reading InputRefusal
 line_inside r s None tokens = Err BadLine
 line_inside r s (Some word) tokens = script_line r s word tokens
 
--- a word of a line within a script, with what belongs to it; nothing stands behind `endscript`
+-- one phrase within a script; nothing may follow `endscript`
 abbrev pub phrase_inside : Reading → Option OpenScript → Phrase → Result Reading InputRefusal
 phrase_inside r None phrase = Err BadLine
 phrase_inside r (Some s) phrase = line_inside r s (word_in timed_script_words phrase.word) phrase.tokens
 
--- the words of a line within a script, from left to right
+-- the phrases of a line within a script, from left to right
 abbrev pub phrases_inside : Reading → List Phrase → Result Reading InputRefusal
 phrases_inside r [] = Ok r
 phrases_inside r (phrase ∷ phrases) = do
   after ← phrase_inside r r.unclosed phrase
   phrases_inside after phrases
 
--- A line outside scripts. Before the first of the body the header has said how long the input runs, if it must.
+-- A line outside scripts. The first line of the body must come after the duration, in a timed input.
 abbrev pub line_outside : ℕ → Reading → Option HeaderWord → Option BodyWord → List (List ℕ) → Result Reading InputRefusal
 line_outside n r (Some word) other tokens = header_in_order r word tokens
 line_outside n r None (Some word) tokens = do
@@ -275,26 +278,26 @@ line_outside n r None (Some word) tokens = do
   body_after_header n before word tokens
 line_outside n r None None tokens = Err BadLine
 
--- the words that may begin lines of this input
+-- the words that may begin header lines of this input
 abbrev pub header_words_of : Reading → List (List ℕ × HeaderWord)
 header_words_of r = if r.is_timed then timed_header_words else header_words
 
+-- the words that may begin body lines of this input
 abbrev pub body_words_of : Reading → List (List ℕ × BodyWord)
 body_words_of r = if r.is_timed then timed_body_words else body_words
 
--- A line after the first, by its first token. A line within a script has one word, and several if turns come in the
--- order of time.
+-- A line after the first, by its first token. A line within a script is one phrase, or several in a timed input.
 abbrev pub later_line : ℕ → Reading → Option OpenScript → List ℕ → List (List ℕ) → Result Reading InputRefusal
 later_line n r (Some s) word tokens = if r.is_timed then phrases_inside r (phrases_of (word ∷ tokens)) else line_inside r s (word_in script_words word) tokens
 later_line n r None word tokens = line_outside n r (word_in (header_words_of r) word) (word_in (body_words_of r) word) tokens
 
--- a line that isn't ignored, by its tokens; nothing has been read before the first
+-- a line that isn't ignored, by its tokens; the first one has no reading before it
 abbrev pub token_line : ℕ → Option Reading → List (List ℕ) → Result Reading InputRefusal
 token_line n None tokens = first_line tokens
 token_line n (Some r) [] = Ok r
 token_line n (Some r) (word ∷ tokens) = later_line n r r.unclosed word tokens
 
--- a line of this number that isn't too long
+-- a line with this number that isn't too long
 abbrev pub fitting_line : ℕ → Option Reading → List ℕ → Bool → Result (Option Reading) InputRefusal
 fitting_line n reading line true = Ok reading
 fitting_line n reading line false = do
@@ -302,19 +305,19 @@ fitting_line n reading line false = do
   after ← token_line n reading (tokens_of printable)
   Ok (Some after)
 
--- What has been read after the line of this number, up to whose end the input has this many bytes.
+-- The reading after the line with this number; the input up to its end has this many bytes.
 abbrev pub read_line : ℕ → ℕ → Option Reading → List ℕ → Result (Option Reading) InputRefusal
 read_line n end reading line = do
   fitting ← checked ((nat_lt 4096 (length line) || nat_lt 16777216 end, TooLong) ∷ []) line
   fitting_line n reading fitting (is_ignored (tokens_of fitting))
 
--- a refusal, on this line
+-- the result, with this line number in a refusal
 abbrev pub refused_on : {A : Type 0} → ℕ → Result A InputRefusal → Result A InputFault
 refused_on n (Ok x) = Ok x
 refused_on n (Err refusal) = Err (record { line = n; refusal = refusal })
 
--- What has been read after the lines, the first of which has this number and comes after this many bytes. The first
--- line with a fault is refused.
+-- The reading after these lines, the first of which has this number and begins after this many bytes. The first
+-- faulty line is refused.
 abbrev pub read_lines : ℕ → ℕ → Option Reading → List (List ℕ) → Result (Option Reading) InputFault
 read_lines n start reading [] = Ok reading
 read_lines n start reading (line ∷ lines) = do
@@ -323,7 +326,7 @@ read_lines n start reading (line ∷ lines) = do
 
 -- ---- a whole input
 
--- the limits that were read
+-- the limits in the header
 abbrev pub limits_of : Reading → Sizes
 limits_of r = record {
   tickets = r.tickets;
@@ -337,11 +340,11 @@ limits_of r = record {
   unit = r.unit;
 }
 
--- The seeds if they are left out: processor p has seed p, or a mixed one if turns come in the order of time.
+-- The seeds unless the input gives them: seed p for processor p, or its mixed seed in a timed input.
 abbrev pub default_seeds : Reading → List ℕ
 default_seeds r = if r.is_timed then map mixed_seed (range_with_len 1 r.processors) else range_with_len 1 r.processors
 
--- what was read
+-- the program that was read
 abbrev pub program_of : Reading → Program
 program_of r = record {
   limits = limits_of r;
@@ -354,18 +357,18 @@ program_of r = record {
   times = r.times;
 }
 
--- A script that is still open is refused on the line where it began.
+-- A script left open is refused on the line where it begins.
 abbrev pub closed_program : Reading → Option OpenScript → Result Program InputFault
 closed_program r None = Ok (program_of r)
 closed_program r (Some s) = Err (record { line = s.begins; refusal = ScriptIsOpen })
 
--- An input of this many lines, all ignored, is refused on the last, or on line 1 if it has none; and so is one that has
--- a header alone, which lacks how long it runs.
+-- An input whose lines are all ignored is refused on its last line, or on line 1 if it has none. So is a header alone
+-- that lacks the duration of a timed input.
 abbrev pub whole_program : ℕ → Option Reading → Result Program InputFault
 whole_program count None = Err (record { line = max 1 count; refusal = BadHeader })
 whole_program count (Some r) = if lacks_duration r then Err (record { line = max 1 count; refusal = BadHeader }) else closed_program r r.unclosed
 
--- what the bytes say, or on which line they are refused and why
+-- the program in these bytes, or the line on which they are refused and why
 abbrev pub program_in : List ℕ → Result Program InputFault
 program_in bytes = do
   reading ← read_lines 1 0 None (lines_of bytes)

@@ -5,12 +5,12 @@ use Rattle.std.specs.List.{list_all, slice_split}
 use Rattle.std.specs.Char.{is_ascii_digit}
 use Rattle.std.specs.Str.Parse.{digits_value}
 
--- the lines that begin with this byte, if it isn't the byte 10 and these are the lines after it
+-- the lines with this byte, which isn't byte 10, before the first of them
 abbrev pub with_first_byte : ℕ → List (List ℕ) → List (List ℕ)
 with_first_byte b [] = (b ∷ []) ∷ []
 with_first_byte b (line ∷ lines) = (b ∷ line) ∷ lines
 
--- The lines, each with the byte 10 that ends it. The last line may lack it, but then it isn't empty.
+-- The lines, each with the byte 10 that ends it. Only the last line may lack it; then it isn't empty.
 abbrev pub lines_of : List ℕ → List (List ℕ)
 lines_of [] = []
 lines_of (b ∷ bs) = if b == 10 then (b ∷ []) ∷ lines_of bs else with_first_byte b (lines_of bs)
@@ -19,11 +19,11 @@ lines_of (b ∷ bs) = if b == 10 then (b ∷ []) ∷ lines_of bs else with_first
 abbrev pub without_end : List ℕ → List ℕ
 without_end line = take_while (λ b. not (b == 10)) line
 
--- the tokens: what stands between spaces
+-- the tokens: the parts of a line between spaces
 abbrev pub tokens_of : List ℕ → List (List ℕ)
 tokens_of line = filter (λ token. nat_lt 0 (length token)) (slice_split (λ b. b == 32) line)
 
--- whether it begins with `#`
+-- whether the token begins with `#`
 abbrev pub is_comment : List ℕ → Bool
 is_comment [] = false
 is_comment (b ∷ bs) = b == 35
@@ -33,14 +33,14 @@ abbrev pub is_ignored : List (List ℕ) → Bool
 is_ignored [] = true
 is_ignored (first ∷ others) = is_comment first
 
--- whether each byte is a space or prints
+-- whether each byte is printable ASCII or a space
 abbrev pub is_printable : List ℕ → Bool
 is_printable line = list_all (λ b. nat_le 32 b && nat_le b 126) line
 
--- one or more digits, without a leading zero except in `0` itself
+-- whether the token is one or more digits, without a leading zero except in `0` itself
 abbrev pub is_numeral : List ℕ → Bool
 is_numeral token = nat_lt 0 (length token) && not (nat_lt 1 (length token) && (slice_index token 0 == 48)) && list_all is_ascii_digit token
 
--- the number that a token is, if it is one
+-- the token as a number below 2 ^ 64, if it is one
 abbrev pub number_of : List ℕ → Option ℕ
 number_of token = then_some (is_numeral token && nat_le (digits_value 10 token) (2 ^ 64 - 1)) (digits_value 10 token)

@@ -14,56 +14,55 @@ use Rattle.lot_simulation.specs.TimedReport.{timed_report}
 use Rattle.lot_simulation.specs.World.{Program, World, Answer, Turn, opening_world, system_turn, system_run}
 use Rattle.lot_simulation.specs.World.Answer.{Answered, Ended}
 
--- the output for an answer, given the state after the turn
+-- the text of an answer, given the state after its turn
 abbrev pub answer_text : LineStyle → State → Answer → List ℕ
 answer_text style s (Answered e r) = reply_text style s e r
 answer_text style s Ended = refused 41 (codes "Ended") ++ newline
 
--- the lines of a turn, the first of which names the actor
+-- the lines of a turn; the first begins with the actor
 abbrev pub turn_text : LineStyle → ℕ → Turn → List ℕ
 turn_text style actor turn = front style ++ (decimal actor ++ (codes " " ++ answer_text style turn.world.state turn.answer))
 
--- the lines of the turns of these actors, from this world on
+-- the lines of these actors' turns, from this world on
 abbrev pub turn_texts : Program → World → List ℕ → List ℕ
 turn_texts program w [] = []
 turn_texts program w (actor ∷ actors) = turn_text Whole actor (system_turn program w actor) ++ turn_texts program (system_turn program w actor).world actors
 
--- the lines of the program's whole schedule, and the report of the history that it leaves
+-- the output for a program with a schedule: the lines of its turns, and the report of its history
 abbrev pub scheduled_output : Program → List ℕ
 scheduled_output program = turn_texts program (opening_world program) program.schedule ++ report program (system_run program program.schedule).history
 
--- the lines of a turn at its time
+-- the lines of a timed turn
 abbrev pub timed_text : TimedTurn → List ℕ
 timed_text done = turn_text (Timed done.time) done.actor done.turn
 
--- the lines of the program's turns in the order of time, and their report
+-- the output for a timed program: the lines of its turns, and their report
 abbrev pub timed_output : Program → List ℕ
 timed_output program = flat_map timed_text (timed_turns program) ++ timed_report program
 
--- what `play` writes of a program: a schedule is played, or turns in the order of time if the input says how long it
--- runs
+-- the output of `play` for a program: timed if it has a duration, and by its schedule otherwise
 abbrev pub played_output : Program → Option ℕ → List ℕ
 played_output program None = scheduled_output program
 played_output program (Some duration) = timed_output program
 
--- what `play` writes of what was read
+-- the output of `play` for a program, or the line for a refused input
 abbrev pub output_of : Result Program InputFault → List ℕ
 output_of (Ok program) = played_output program program.duration
 output_of (Err fault) = fault_line fault
 
--- what `play` writes if it reads these bytes
+-- the output of `play` for these bytes
 abbrev pub output : List ℕ → List ℕ
 output bytes = output_of (program_in bytes)
 
--- what a system with this history writes at its end
+-- the end of the output of `run`: the report of this history, and the history itself
 abbrev pub end_text : Program → List ℕ → List ℕ
 end_text program history = report program history ++ history_lines program.limits.unit history
 
--- what `run` writes of what was read, if the turns came in this order
+-- the output of `run` for a program with this history, or the line for a refused input
 abbrev pub run_output_of : Result Program InputFault → List ℕ → List ℕ
 run_output_of (Ok program) history = end_text program history
 run_output_of (Err fault) history = fault_line fault
 
--- what `run` writes if it reads these bytes, and the turns came in this order
+-- the output of `run` for these bytes, if the turns came in this order
 abbrev pub run_output : List ℕ → List ℕ → List ℕ
 run_output bytes history = run_output_of (program_in bytes) history

@@ -1,4 +1,4 @@
--- What has been read of an input so far, and what a token is read as.
+-- The part of an input read so far, and the meaning of tokens.
 use Rattle.std.specs.Prelude.{ℕ, ◌+◌, ◌-◌, ◌^◌, nat_lt, Bool, not, ◌||◌, Option, Some, None, is_none, Result, Ok, Err, List, [], ◌∷◌, length, position, option_map, unwrap_or}
 use Rattle.std.specs.Str.{bytes_eq}
 use Rattle.lot_simulation.specs.declared.script.Line.{Line}
@@ -8,41 +8,41 @@ use Rattle.lot_simulation.specs.declared.input.InputRefusal.TheVariants.{BadLine
 use Rattle.lot_machine.specs.Commands.{first_failing, is_good_name}
 use Rattle.lot_simulation.specs.Lines.{number_of}
 
--- a script that was closed
+-- a closed script
 pub record NamedScript : Type 0 where
   pub name : List ℕ
   pub lines : List Line
 
--- a script that isn't closed yet: where it began, and how many of its loops are open
+-- an open script: the line where it begins, its lines so far, and the number of its open loops
 pub record OpenScript : Type 0 where
   pub name : List ℕ
   pub begins : ℕ
   pub lines : List Line
   pub loops : ℕ
 
--- What the lines since the first have said. The header's place is that of its last line, and 7 from the body on.
+-- The contents of the lines read so far. The header's place is that of its last line, and 7 from the body on.
 pub record Reading : Type 0 where
   pub place : ℕ
-  pub is_timed : Bool  -- whether its turns come in the order of time
+  pub is_timed : Bool  -- whether the input is timed
   pub unit : ℕ
   pub processors : ℕ
   pub quantum : ℕ
   pub turns : ℕ
-  pub duration : Option ℕ  -- the ticks that it runs for
+  pub duration : Option ℕ  -- in ticks
   pub seeds : Option (List ℕ)
   pub tickets : ℕ
   pub currencies : ℕ
   pub threads : ℕ
-  pub ports : List (List ℕ)  -- names, as those of mutexes
+  pub ports : List (List ℕ)  -- names, as for mutexes
   pub mutexes : List (List ℕ)
   pub scripts : List NamedScript
   pub unclosed : Option OpenScript
   pub commands : List Command
-  pub time : ℕ  -- when the commands to come are made
-  pub times : List ℕ  -- when those so far are
+  pub time : ℕ  -- the time of the next commands
+  pub times : List ℕ  -- the times of the commands so far
   pub schedule : List ℕ
 
--- after the first line, which says whether turns come in the order of time, and the unit
+-- the reading after the first line, which gives the unit and says whether the input is timed
 abbrev pub opening_reading : Bool → ℕ → Reading
 opening_reading is_timed unit = record {
   place = 0;
@@ -66,15 +66,15 @@ opening_reading is_timed unit = record {
   schedule = [];
 }
 
--- ---- answers
+-- ---- results
 
 infixl 10 ◌>>=◌
--- reads on with what was read; a refusal ends it
+-- continues with the value; a refusal stops here
 abbrev pub ◌>>=◌ : {A B E : Type 0} → Result A E → (A → Result B E) → Result B E
 (Ok x) >>= f = f x
 (Err e) >>= f = Err e
 
--- x, unless one of the checks fails: then the refusal of the first that does
+-- x, or the refusal of the first check that fails
 abbrev pub checked : {A : Type 0} → List (Bool × InputRefusal) → A → Result A InputRefusal
 checked {A} checks x = made (first_failing checks)
   where
@@ -82,7 +82,7 @@ checked {A} checks x = made (first_failing checks)
     made None = Ok x
     made (Some refusal) = Err refusal
 
--- each token, from left to right
+-- reads each token, from left to right
 abbrev pub each : {A : Type 0} → (List ℕ → Result A InputRefusal) → List (List ℕ) → Result (List A) InputRefusal
 each read [] = Ok []
 each read (token ∷ tokens) = do
@@ -90,7 +90,7 @@ each read (token ∷ tokens) = do
   xs ← each read tokens
   Ok (x ∷ xs)
 
--- each pair of tokens, from left to right; a last one alone isn't read
+-- reads each pair of tokens, from left to right; a last token without a partner is ignored
 abbrev pub each_pair : {A : Type 0} → (List ℕ → List ℕ → Result A InputRefusal) → List (List ℕ) → Result (List A) InputRefusal
 each_pair read [] = Ok []
 each_pair read (token ∷ []) = Ok []
@@ -101,7 +101,7 @@ each_pair read (first ∷ second ∷ tokens) = do
 
 -- ---- tokens
 
--- a number from the first up to the last
+-- a number in this range, both ends included
 abbrev pub number_between : ℕ → ℕ → List ℕ → Result ℕ InputRefusal
 number_between first last token = made (number_of token)
   where
@@ -109,11 +109,11 @@ number_between first last token = made (number_of token)
     made None = Err BadNumber
     made (Some n) = checked ((nat_lt n first || nat_lt last n, BadNumber) ∷ []) n
 
--- an amount or a ticket's number in a command: the kernel judges it
+-- an amount or a ticket's number in a command: any 64-bit number, which the kernel then judges
 abbrev pub any_number : List ℕ → Result ℕ InputRefusal
 any_number token = number_between 0 (2 ^ 64 - 1) token
 
--- an actor: 0 is the console, and the others are processors
+-- an actor: 0 is the console, and each other number a processor
 abbrev pub actor_below : ℕ → List ℕ → Result ℕ InputRefusal
 actor_below processors token = made (number_of token)
   where
@@ -121,28 +121,28 @@ actor_below processors token = made (number_of token)
     made None = Err BadNumber
     made (Some n) = checked ((nat_lt processors n, BadActor) ∷ []) n
 
--- a name has at most 16 bytes
+-- whether the name has more than 16 bytes
 abbrev pub is_long_name : List ℕ → Bool
 is_long_name token = nat_lt 16 (length token)
 
--- the number of the first that has this name, from 1 on
+-- the number of the first of these with this name, from 1
 abbrev pub number_named : List (List ℕ) → List ℕ → Option ℕ
 number_named names token = option_map (λ place. place + 1) (position (bytes_eq token) names)
 
--- a name in a command: the kernel judges it
+-- a name in a command: any of at most 16 bytes, which the kernel then judges
 abbrev pub any_name : List ℕ → Result (List ℕ) InputRefusal
 any_name token = checked ((is_long_name token, TooLong) ∷ []) token
 
--- a name that is given to a port, a mutex or a script: a good one that no other of its kind has
+-- the name of a new port, mutex or script: a good one that no other of its kind has
 abbrev pub new_name : List (List ℕ) → List ℕ → Result (List ℕ) InputRefusal
 new_name names token =
     checked ((is_long_name token, TooLong) ∷ (not (is_good_name token) || not (is_none (number_named names token)), BadLine) ∷ []) token
 
--- a port or a mutex of a script's line, by its number
+-- the number of the port or mutex with this name, in a line of a script
 abbrev pub known_name : List (List ℕ) → List ℕ → Result ℕ InputRefusal
 known_name names token =
     checked ((is_long_name token, TooLong) ∷ (is_none (number_named names token), UnknownName) ∷ []) (unwrap_or (number_named names token) 0)
 
--- a script of a command, by its number; 0 if no script so far has the name
+-- the number of the script with this name, in a command; 0 if there is none so far
 abbrev pub script_number : List (List ℕ) → List ℕ → Result ℕ InputRefusal
 script_number names token = checked ((is_long_name token, TooLong) ∷ []) (unwrap_or (number_named names token) 0)

@@ -1,4 +1,4 @@
--- The report, and the lines that give a history back.
+-- The report, and the lines that reproduce a history.
 use Rattle.std.specs.Prelude.{ℕ, zero, suc, ◌+◌, ◌-◌, ◌==◌, List, [], ◌∷◌, ◌++◌, length, filter, sum_by, codes, if◌then◌else◌}
 use Rattle.std.specs.List.{flat_map, range_with_len}
 use Rattle.std.specs.Fmt.{decimal}
@@ -14,18 +14,18 @@ use Rattle.lot_simulation.specs.World.Answer.{Answered, Ended}
 
 -- ---- counts
 
--- an actor, and the answer of its turn
+-- an actor, and the answer to its turn
 pub record ActorTurn : Type 0 where
   pub actor : ℕ
   pub answer : Answer
 
--- each actor with its answer
+-- each actor paired with its answer
 abbrev pub beside : List ℕ → List Answer → List ActorTurn
 beside [] answers = []
 beside (actor ∷ actors) [] = []
 beside (actor ∷ actors) (answer ∷ answers) = record { actor = actor; answer = answer } ∷ beside actors answers
 
--- the turns that these actors make, from the program's opening world
+-- these actors' turns, from the program's opening world
 abbrev pub turns_made : Program → List ℕ → List ActorTurn
 turns_made program actors = beside actors (system_answers program (opening_world program) actors)
 
@@ -34,23 +34,23 @@ abbrev pub quanta_in : Reply → ℕ
 quanta_in (reply.Winner thread number total delivered) = 1
 quanta_in other = 0
 
--- 1 if a draw found nobody
+-- 1 if a draw was idle
 abbrev pub idles_in : Reply → ℕ
 idles_in reply.Idle = 1
 idles_in other = 0
 
--- the ticks of an expiry or a trap
+-- the ticks reported by an expiry or a trap
 abbrev pub ticks_in : Reply → ℕ
 ticks_in (reply.Expired thread ticks) = ticks
 ticks_in (reply.Trapped thread ticks came ends) = ticks
 ticks_in other = 0
 
--- the count of an answer: its reply's, or 0 without one
+-- the count of an answer's reply, or 0 if it has none
 abbrev pub count_in : (Reply → ℕ) → Answer → ℕ
 count_in count (Answered e r) = count r
 count_in count Ended = 0
 
--- the count over all turns, and over the turns of one actor
+-- the sum of a count over these turns
 abbrev pub total_of : (Reply → ℕ) → List ActorTurn → ℕ
 total_of count turns = sum_by (λ turn. count_in count turn.answer) turns
 
@@ -65,43 +65,43 @@ abbrev pub thread_total : ℕ → ThreadRow → List ℕ
 thread_total n row =
     codes "thread " ++ (decimal n ++ (codes " " ++ (row.name ++ (codes " quanta " ++ (decimal row.quanta ++ (codes " ticks " ++ (decimal row.ticks ++ newline)))))))
 
--- a processor's line: the draws that somebody won there, the others, and the ticks used there
+-- a processor's line: its won draws, its idle draws, and the ticks used there
 abbrev pub processor_total : List ActorTurn → ℕ → List ℕ
 processor_total turns p =
     codes "processor " ++ (decimal p ++ (codes " quanta " ++ (decimal (total_of quanta_in (turns_of p turns))
     ++ (codes " idle " ++ (decimal (total_of idles_in (turns_of p turns))
     ++ (codes " ticks " ++ (decimal (total_of ticks_in (turns_of p turns)) ++ newline)))))))
 
--- the last line: the number of turns, and the counts of all of them
+-- the last line: the number of turns, and the counts over all of them
 abbrev pub whole_total : ℕ → List ActorTurn → List ℕ
 whole_total made turns =
     codes "total turns " ++ (decimal made ++ (codes " quanta " ++ (decimal (total_of quanta_in turns)
     ++ (codes " ticks " ++ (decimal (total_of ticks_in turns) ++ newline)))))
 
--- the report of a world to which these turns led
+-- the report of the world after these turns
 abbrev pub report_of : World → List ActorTurn → List ℕ
 report_of w turns =
     codes "report" ++ (newline ++ (lines_for thread_total (thread_row w.state) (numbers w.state.records)
     ++ (flat_map (processor_total turns) (range_with_len 1 w.state.limits.processors) ++ whole_total (length w.history) turns)))
 
--- the report of the program's run over this history
+-- the report of the program's run with this history
 abbrev pub report : Program → List ℕ → List ℕ
 report program history = report_of (system_run program history) (turns_made program history)
 
--- ---- lines that give a history back
+-- ---- lines that reproduce a history
 
--- these lists with x at the front of the first, or x alone if there is none
+-- these lists with x in front of the first, or the list of x alone if there is none
 abbrev pub with_first : {A : Type 0} → A → List (List A) → List (List A)
 with_first x [] = (x ∷ []) ∷ []
 with_first x (xs ∷ others) = (x ∷ xs) ∷ others
 
--- The list in groups: the first has as many elements as there is room, and each later one as many as the size.
+-- The list in groups: the first has at most this room, and each later one at most this size.
 abbrev pub groups_after : {A : Type 0} → ℕ → ℕ → List A → List (List A)
 groups_after size room [] = []
 groups_after size zero (x ∷ xs) = [] ∷ with_first x (groups_after size (size - 1) xs)
 groups_after size (suc room) (x ∷ xs) = with_first x (groups_after size room xs)
 
--- the list in groups of this size, the last of which may be shorter
+-- the list in groups of this size; the last may be shorter
 abbrev pub groups_of : {A : Type 0} → ℕ → List A → List (List A)
 groups_of size xs = groups_after size size xs
 
@@ -113,17 +113,17 @@ actor_text actor = codes " " ++ decimal actor
 abbrev pub schedule_line : List ℕ → List ℕ
 schedule_line actors = codes "schedule" ++ (flat_map actor_text actors ++ newline)
 
--- the history in lines of 64 actors; the last line has those that remain
+-- the history in lines of 64 actors; the last line has the rest
 abbrev pub schedule_lines : List ℕ → List ℕ
 schedule_lines history = flat_map schedule_line (groups_of 64 history)
 
--- these runs with one turn of the actor before them
+-- the runs with one turn of the actor before them
 abbrev pub run_before : ℕ → List ActorRun → List ActorRun
 run_before actor [] = record { actor = actor; count = 1 } ∷ []
 run_before actor (run ∷ runs) =
     if run.actor == actor then record run { count = run.count + 1 } ∷ runs else record { actor = actor; count = 1 } ∷ run ∷ runs
 
--- the history in runs; neighbours have different actors
+-- the history in runs; neighbouring runs have different actors
 abbrev pub runs_in : List ℕ → List ActorRun
 runs_in [] = []
 runs_in (actor ∷ actors) = run_before actor (runs_in actors)
@@ -136,10 +136,10 @@ run_text run = codes " " ++ (decimal run.actor ++ (codes " " ++ decimal run.coun
 abbrev pub runs_line : List ActorRun → List ℕ
 runs_line runs = codes "runs" ++ (flat_map run_text runs ++ newline)
 
--- the history in lines of 32 runs; the last line has those that remain
+-- the history in lines of 32 runs; the last line has the rest
 abbrev pub runs_lines : List ℕ → List ℕ
 runs_lines history = flat_map runs_line (groups_of 32 (runs_in history))
 
--- the history as an input of this unit writes it
+-- the history as lines of an input with this unit
 abbrev pub history_lines : ℕ → List ℕ → List ℕ
 history_lines unit history = if unit == 1 then schedule_lines history else runs_lines history

@@ -13,7 +13,7 @@ pub data Item : Type 0 where
   Add : ℕ → Item
   Traps : ScriptTrap → Item
 
--- what a line that is neither `loop` nor `end` adds: n marks of work, one mark, or a trap
+-- the items of a line that is neither `loop` nor `end`: n marks of work, one mark, or a trap
 abbrev pub items_of : Line → List Item
 items_of (line.Compute n) = replicate n Work
 items_of (line.Set n) = Set n ∷ []
@@ -22,8 +22,8 @@ items_of (line.Loop n) = []
 items_of line.End = []
 items_of (line.Trap trap) = Traps trap ∷ []
 
--- What lines mean, in pieces: what stands before the `end` of the innermost open loop, what stands from there to the
--- next such `end`, and so on outwards.
+-- The meaning of lines, in pieces: the items up to the `end` of the innermost open loop, those from there to the next
+-- such `end`, and so on outwards.
 pub record Pieces : Type 0 where
   pub first : List Item
   pub others : List (List Item)
@@ -37,14 +37,14 @@ first_of_list (xs ∷ rest) = xs
 abbrev pub looped : ℕ → Pieces → Pieces
 looped n p = record { first = Work ∷ repeat n (p.first ++ Work ∷ []) ++ first_of_list p.others; others = drop 1 p.others }
 
--- the lines from here on, in pieces; after the last line comes an exit trap
+-- the lines from here on, in pieces; an exit trap follows the last line
 abbrev pub pieces : List Line → Pieces
 pieces [] = record { first = Traps Exit ∷ []; others = [] }
 pieces (line.Loop n ∷ lines) = looped n (pieces lines)
 pieces (line.End ∷ lines) = record { first = []; others = (pieces lines).first ∷ (pieces lines).others }
 pieces (l ∷ lines) = record { first = items_of l ++ (pieces lines).first; others = (pieces lines).others }
 
--- A script means a list of marks and traps, with its loops unrolled, that ends with an exit trap.
+-- The meaning of a script: a list of marks and traps, with its loops unrolled, that ends with an exit trap.
 abbrev pub unrolled : List Line → List Item
 unrolled lines = (pieces lines).first
 
@@ -53,16 +53,16 @@ pub record Context : Type 0 where
   pub rest : List Item
   pub accumulator : ℕ
 
--- a thread begins with the whole script, and accumulator 0
+-- the context of a new thread: the whole script, and accumulator 0
 abbrev pub start : List Line → Context
 start lines = record { rest = unrolled lines; accumulator = 0 }
 
--- the trap that it is, if it is one
+-- the item's trap, if it is one
 abbrev pub trap_of : Item → Option ScriptTrap
 trap_of (Traps t) = Some t
 trap_of other = None
 
--- whether it is a mark
+-- whether the item is a mark
 abbrev pub is_mark : Item → Bool
 is_mark i = is_none (trap_of i)
 
@@ -72,18 +72,19 @@ accumulated a (Set n) = n
 accumulated a (Add n) = (a + n) % 4294967296
 accumulated a other = a
 
--- what a thread does with a budget of ticks: ticks of work, then a trap or, with none, the end of its quantum
+-- the work of a thread within a budget of ticks: ticks of work, and then a trap or, without one, the end of its
+-- quantum
 pub record Slice : Type 0 where
   pub ticks : ℕ
   pub trap : Option ScriptTrap
   pub end : Context
 
--- the rest after a trap, except that a script never passes its exit
+-- the rest of a script after a trap; it stays at its exit
 abbrev pub rest_after : List Item → Option ScriptTrap → List Item
 rest_after rest (Some Exit) = rest
 rest_after rest trap = drop 1 rest
 
--- The slice passes the marks before the first trap, at most as many as the budget. If that is the whole budget, it is
+-- The slice passes the marks before the first trap, but no more than the budget. If it uses the whole budget, it is
 -- an expiry; otherwise the trap follows.
 abbrev pub slice : Context → ℕ → Slice
 slice context budget = cut (min budget (prefix_len is_mark context.rest))

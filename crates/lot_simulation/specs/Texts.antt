@@ -37,12 +37,12 @@ newline = 10 ∷ []
 
 -- ---- styles
 
--- what a line of a turn begins with: its time, if it has one
+-- the start of a turn's line: its time, in timed style
 abbrev pub front : LineStyle → List ℕ
 front Whole = []
 front (Timed time) = decimal time ++ codes " "
 
--- thousandths, as up to three digits behind a point: no 0 at the end, and nothing at all if there are none
+-- thousandths as a point and up to three digits, without zeros at the end; nothing for 0
 abbrev pub behind_point : ℕ → List ℕ
 behind_point m =
     if m == 0 then []
@@ -50,27 +50,27 @@ behind_point m =
     else if m % 10 == 0 then codes "." ++ (decimal (m / 100) ++ decimal (m / 10 % 10))
     else codes "." ++ (decimal (m / 100) ++ (decimal (m / 10 % 10) ++ decimal (m % 10)))
 
--- the quotient, with at most three digits behind the point; what comes after them is left out
+-- the quotient, with at most three digits after the point; further digits are cut off
 abbrev pub quotient_text : ℕ → ℕ → List ℕ
 quotient_text n d = decimal (n / d) ++ behind_point (n % d * 1000 / d)
 
--- a value, which is kept in so many parts to the unit
+-- a value, given in this many base units per unit
 abbrev pub value_text : LineStyle → ℕ → ℕ → List ℕ
 value_text Whole unit value = decimal (value / unit)
 value_text (Timed time) unit value = quotient_text value unit
 
--- a number that was drawn, or the total that it was drawn from: those of whole style are printed as they are kept
+-- a drawn number, or the total that it was drawn from; whole style prints it in base units
 abbrev pub drawn_value : LineStyle → ℕ → ℕ → List ℕ
 drawn_value Whole unit n = decimal n
 drawn_value (Timed time) unit n = quotient_text n unit
 
 -- ---- refusals
 
--- a refusal is printed as its code and its name
+-- a refusal, as its code and its name
 abbrev pub refused : ℕ → List ℕ → List ℕ
 refused code name = codes "refused " ++ (decimal code ++ (codes " " ++ name))
 
--- the codes of commands and events that are refused
+-- the code of a refused command or event
 abbrev pub refusal_code : Refusal → ℕ
 refusal_code refusal.BadName = 1
 refusal_code refusal.NameTaken = 2
@@ -94,7 +94,7 @@ refusal_code refusal.NotRunning = 22
 refusal_code refusal.BadTicks = 23
 refusal_code refusal.NotAsleep = 24
 
--- their names
+-- the name of a refused command or event
 abbrev pub refusal_name : Refusal → List ℕ
 refusal_name refusal.BadName = codes "BadName"
 refusal_name refusal.NameTaken = codes "NameTaken"
@@ -118,7 +118,7 @@ refusal_name refusal.NotRunning = codes "NotRunning"
 refusal_name refusal.BadTicks = codes "BadTicks"
 refusal_name refusal.NotAsleep = codes "NotAsleep"
 
--- the codes of traps that are refused
+-- the code of a refused trap
 abbrev pub trap_refusal_code : TrapRefusal → ℕ
 trap_refusal_code trap_refusal.NoPort = 30
 trap_refusal_code trap_refusal.NothingToReply = 32
@@ -127,7 +127,7 @@ trap_refusal_code trap_refusal.NotOwner = 34
 trap_refusal_code trap_refusal.AlreadyOwner = 35
 trap_refusal_code trap_refusal.LockCycle = 36
 
--- their names
+-- the name of a refused trap
 abbrev pub trap_refusal_name : TrapRefusal → List ℕ
 trap_refusal_name trap_refusal.NoPort = codes "NoPort"
 trap_refusal_name trap_refusal.NothingToReply = codes "NothingToReply"
@@ -136,7 +136,7 @@ trap_refusal_name trap_refusal.NotOwner = codes "NotOwner"
 trap_refusal_name trap_refusal.AlreadyOwner = codes "AlreadyOwner"
 trap_refusal_name trap_refusal.LockCycle = codes "LockCycle"
 
--- the codes of inputs that are refused
+-- the code of a refused input
 abbrev pub input_refusal_code : InputRefusal → ℕ
 input_refusal_code input_refusal.BadHeader = 50
 input_refusal_code input_refusal.BadLine = 51
@@ -147,7 +147,7 @@ input_refusal_code input_refusal.TooDeep = 55
 input_refusal_code input_refusal.TooLong = 56
 input_refusal_code input_refusal.BadActor = 57
 
--- their names
+-- the name of a refused input
 abbrev pub input_refusal_name : InputRefusal → List ℕ
 input_refusal_name input_refusal.BadHeader = codes "BadHeader"
 input_refusal_name input_refusal.BadLine = codes "BadLine"
@@ -158,7 +158,7 @@ input_refusal_name input_refusal.TooDeep = codes "TooDeep"
 input_refusal_name input_refusal.TooLong = codes "TooLong"
 input_refusal_name input_refusal.BadActor = codes "BadActor"
 
--- the one line that is printed of a refused input
+-- the one line for a refused input
 abbrev pub fault_line : InputFault → List ℕ
 fault_line fault =
     codes "refused line " ++ (decimal fault.line ++ (codes " " ++ (decimal (input_refusal_code fault.refusal)
@@ -166,15 +166,16 @@ fault_line fault =
 
 -- ---- traps
 
--- how the mutex's new owner was picked: by a lottery, or as the one that had waited longest
+-- the choice of the mutex's new owner: by a lottery, or the one that had waited longest
 abbrev pub drawn_text : LineStyle → ℕ → Option (ℕ × ℕ) → List ℕ
 drawn_text style unit None = codes " oldest"
 drawn_text style unit (Some drawn) = codes " draw " ++ (drawn_value style unit drawn.0 ++ (codes " of " ++ drawn_value style unit drawn.1))
 
--- a receipt at a port: whose call was taken, and the number that it sent, or that the thread waits
+-- a receive at a port: the client whose call was taken, and the number that it sent
 abbrev pub received_text : ℕ → ℕ → ℕ → List ℕ
 received_text port client number = codes "receive " ++ (decimal port ++ (codes " client " ++ (decimal client ++ (codes " got " ++ decimal number))))
 
+-- a receive at a port without a call: the thread waits
 abbrev pub receiving_text : ℕ → List ℕ
 receiving_text port = codes "receive " ++ (decimal port ++ codes " waits")
 
@@ -182,7 +183,7 @@ receiving_text port = codes "receive " ++ (decimal port ++ codes " waits")
 abbrev pub replied_text : ℕ → List ℕ
 replied_text client = codes "reply client " ++ decimal client
 
--- The text of a trap's outcome. An outcome that an action never has gives no text.
+-- The text of a trap's outcome; empty for an outcome that its action never has.
 abbrev pub trap_text : LineStyle → ℕ → Action → Outcome → List ℕ
 trap_text style unit made (outcome.Refused why) = refused (trap_refusal_code why) (trap_refusal_name why)
 trap_text style unit action.Yield outcome.Yielded = codes "yield"
@@ -201,12 +202,12 @@ trap_text style unit action.Sleep outcome.Slept = codes "sleep"
 trap_text style unit action.Exit outcome.Exited = codes "exit"
 trap_text style unit other never = []
 
--- the same, of the event that the trap was
+-- the text of a trap's outcome, given its event
 abbrev pub trap_text_of : LineStyle → ℕ → Event → Outcome → List ℕ
 trap_text_of style unit (event.Trap p ran made) came = trap_text style unit made came
 trap_text_of style unit other came = []
 
--- whether the quantum was used up
+-- the mark for a used-up quantum, if it is
 abbrev pub ends_text : Bool → List ℕ
 ends_text true = codes " ends"
 ends_text false = []
@@ -236,7 +237,7 @@ ticket_line style unit n row =
     ++ (codes " funds " ++ (unwrap_or row.target (codes "-") ++ (activity_text row.is_active
     ++ (codes " value " ++ (value_text style unit row.value ++ newline)))))))))))
 
--- a currency's value as it is shown: base, which is currency 0, is worth its active amount
+-- a currency's value as printed: base, which is currency 0, is worth its active amount
 abbrev pub currency_value : LineStyle → ℕ → ℕ → ℕ → List ℕ
 currency_value style unit n value = if n == 0 then decimal value else value_text style unit value
 
@@ -258,11 +259,11 @@ thread_line style unit n row =
 abbrev pub lines_for : {R : Type 0} → (ℕ → R → List ℕ) → (ℕ → Option R) → List ℕ → List ℕ
 lines_for text row ns = flat_map (λ n. option_map_or (text n) (row n) []) ns
 
--- how many rows there are
+-- the number of existing rows
 abbrev pub row_count : {R : Type 0} → (ℕ → Option R) → List ℕ → ℕ
 row_count row ns = length (filter (λ n. is_some (row n)) ns)
 
--- a listing: how many rows it has, and then their lines, by rising number
+-- a listing: the number of its rows, and then their lines in ascending order
 abbrev pub listing_text : LineStyle → State → Kind → List ℕ
 listing_text style s Tickets =
     codes "lstkt " ++ (decimal (row_count (ticket_row s) (numbers s.tickets)) ++ (newline ++ lines_for (ticket_line style s.limits.unit) (ticket_row s) (numbers s.tickets)))
@@ -273,12 +274,12 @@ listing_text style s Threads =
 
 -- ---- replies
 
--- the number that was delivered to a winner, if any
+-- the number delivered to a winner, if any
 abbrev pub delivered_text : Option ℕ → List ℕ
 delivered_text None = []
 delivered_text (Some number) = codes " got " ++ decimal number
 
--- A reply that asks for no listing. What ends its line is part of it.
+-- The text of a reply without a listing, with the end of its line; empty for a listing's.
 abbrev pub plain_text : LineStyle → ℕ → Event → Reply → List ℕ
 plain_text style unit e (reply.Ticket n) = codes "ticket " ++ (decimal n ++ newline)
 plain_text style unit e (reply.Currency n) = codes "currency " ++ (decimal n ++ newline)
@@ -294,7 +295,7 @@ plain_text style unit e (reply.Trapped thread ticks came ends) =
     codes "thread " ++ (decimal thread ++ (codes " ticks " ++ (decimal ticks ++ (codes " " ++ (trap_text_of style unit e came ++ (ends_text ends ++ newline))))))
 plain_text style unit e (reply.Refused why) = refused (refusal_code why) (refusal_name why) ++ newline
 
--- a reply, and its listing, given the state after the event
+-- a reply, and its listing if it has one, given the state after the event
 abbrev pub reply_text : LineStyle → State → Event → Reply → List ℕ
 reply_text style s e (reply.List kind) = listing_text style s kind
 reply_text style s e other = plain_text style s.limits.unit e other

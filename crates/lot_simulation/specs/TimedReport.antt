@@ -1,4 +1,4 @@
--- The output for turns in the order of time.
+-- The report of a timed input.
 use Rattle.std.specs.Prelude.{ℕ, ◌+◌, ◌-◌, ◌*◌, max, ◌==◌, Option, Some, None, List, [], ◌++◌, length, map, fold, codes, if◌then◌else◌}
 use Rattle.std.specs.List.{flat_map, range_with_len}
 use Rattle.std.specs.Option.{option_map_or}
@@ -26,15 +26,15 @@ use Rattle.lot_simulation.specs.World.Answer.{Answered}
 
 -- ---- waits
 
--- never
+-- the waits of a thread that has never waited
 abbrev pub no_waits : Waits
 no_waits = record { count = 0; total = 0; longest = 0; since = None }
 
--- it waits from this time on
+-- the waits after a wait begins at this time
 abbrev pub wait_begun : ℕ → Waits → Waits
 wait_begun time waits = record waits { since = Some time }
 
--- it has waited until this time
+-- the waits after the current wait, if any, ends at this time
 abbrev pub wait_ended : ℕ → Waits → Waits
 wait_ended time waits = made waits.since
   where
@@ -42,13 +42,13 @@ wait_ended time waits = made waits.since
     made None = waits
     made (Some since) = record { count = waits.count + 1; total = waits.total + (time - since); longest = max waits.longest (time - since); since = None }
 
--- Who waits for a mutex: a thread whose lock finds it taken, until an unlock passes it on (6.1).
+-- A thread waits for a mutex from the lock that finds it taken until the unlock that passes it on (6.1).
 abbrev pub mutex_change : Answer → WaitChange
 mutex_change (Answered (event.Trap p ran (action.Lock mutex)) (reply.Trapped thread ticks outcome.Waits ends)) = Begins thread
 mutex_change (Answered e (reply.Trapped thread ticks (outcome.Passed to drawn) ends)) = Ends to
 mutex_change other = Nobody
 
--- Who waits for a reply: a thread that has called, until it is replied to (4.6).
+-- A thread waits for a reply from its call until the reply to it (4.6).
 abbrev pub reply_change : Answer → WaitChange
 reply_change (Answered e (reply.Trapped thread ticks (outcome.ServedBy server) ends)) = Begins thread
 reply_change (Answered e (reply.Trapped thread ticks outcome.Queued ends)) = Begins thread
@@ -57,7 +57,7 @@ reply_change (Answered e (reply.Trapped thread ticks (outcome.RepliedThenReceive
 reply_change (Answered e (reply.Trapped thread ticks (outcome.RepliedThenWaits to) ends)) = Ends to
 reply_change other = Nobody
 
--- the thread's waits after a change at this time
+-- the thread's waits after this change at this time
 abbrev pub waits_after : ℕ → ℕ → Waits → WaitChange → Waits
 waits_after t time waits Nobody = waits
 waits_after t time waits (Begins u) = if u == t then wait_begun time waits else waits
@@ -69,22 +69,22 @@ waits_in change turns t = fold (λ waits done. waits_after t done.time waits (ch
 
 -- ---- the report
 
--- a part of a whole in percent, with at most three digits behind the point; 0 if there is nothing
+-- a part of a whole in percent, with at most three digits after the point; 0 if the whole is 0
 abbrev pub percent_text : ℕ → ℕ → List ℕ
 percent_text part whole = (if whole == 0 then codes "0" else quotient_text (part * 100) whole) ++ codes "%"
 
--- how often and how long a thread has waited for this, if it has
+-- the number of a thread's waits of this kind, their mean and the longest; nothing if it has never waited
 abbrev pub waits_text : List ℕ → Waits → List ℕ
 waits_text what waits =
     if waits.count == 0 then []
     else what ++ (codes " waits " ++ (decimal waits.count ++ (codes " mean " ++ (quotient_text waits.total waits.count ++ (codes " longest " ++ decimal waits.longest)))))
 
--- what the thread's value counts for among the live ones
+-- the thread's part of the live value: its own value if it is live, and 0 otherwise
 abbrev pub live_part : State → ℕ → ℕ → ℕ
 live_part s t value = if is_live (live_of s) t then value else 0
 
--- A thread's line: its name, the draws it has won, the ticks it has used and their share of all ticks, its share of the
--- live values, and how it has waited for mutexes and for replies.
+-- A thread's line: its name, the draws it has won, the ticks it has used and their share of all ticks, its share of
+-- the live value, and its waits for mutexes and for replies.
 abbrev pub timed_thread_total : State → List TimedTurn → ℕ → ℕ → ThreadRow → List ℕ
 timed_thread_total s turns all t row =
     codes "thread " ++ (decimal t ++ (codes " " ++ (row.name ++ (codes " quanta " ++ (decimal row.quanta
@@ -93,19 +93,19 @@ timed_thread_total s turns all t row =
     ++ (waits_text (codes " mutex") (waits_in mutex_change turns t)
     ++ (waits_text (codes " reply") (waits_in reply_change turns t) ++ newline)))))))))))))
 
--- each actor with its answer
+-- each timed turn's actor with its answer
 abbrev pub actor_turns : List TimedTurn → List ActorTurn
 actor_turns turns = map (λ done. record { actor = done.actor; answer = done.turn.answer }) turns
 
--- how long a processor was idle, up to this time
+-- the ticks that a processor was idle, up to this time
 abbrev pub idle_until : ℕ → Clock → ℕ
 idle_until end clock = if clock.waits then clock.idle + (end - clock.time) else clock.idle
 
--- Where a processor's clock stands at this time: at the time of its last turn, or at this one if the processor waits.
+-- A processor's clock at this time: the time of its last turn, or this time if the processor waits.
 abbrev pub clock_at : ℕ → Clock → ℕ
 clock_at end clock = if clock.waits then end else clock.time
 
--- a processor's line: the draws that somebody won there, the others, the ticks used there, and how long it was idle
+-- a processor's line: its won draws, its idle draws, the ticks used there, and the ticks that it was idle
 abbrev pub timed_processor_total : Moment → ℕ → List ActorTurn → ℕ → List ℕ
 timed_processor_total m end turns p =
     codes "processor " ++ (decimal p ++ (codes " quanta " ++ (decimal (total_of quanta_in (turns_of p turns))
@@ -118,7 +118,7 @@ abbrev pub refusals_in : Reply → ℕ
 refusals_in (reply.Refused why) = 1
 refusals_in other = 0
 
--- the counts of all turns, and the numbers of commands that were refused or never made
+-- the counts over all turns, and the numbers of refused commands and of commands never made
 abbrev pub timed_whole_total : Moment → List ActorTurn → List ℕ
 timed_whole_total m turns =
     codes "total turns " ++ (decimal (length turns) ++ (codes " quanta " ++ (decimal (total_of quanta_in turns)
@@ -126,17 +126,17 @@ timed_whole_total m turns =
     ++ (codes " refused " ++ (decimal (total_of refusals_in turns)
     ++ (codes " left " ++ (decimal (length m.world.commands) ++ newline)))))))))
 
--- a line for each thread
+-- the lines of all threads
 abbrev pub timed_thread_lines : State → List TimedTurn → ℕ → List ℕ
 timed_thread_lines s turns all = flat_map (λ t. option_map_or (timed_thread_total s turns all t) (thread_row s t) []) (numbers s.records)
 
--- the report of the moment to which these turns led
+-- the report of the moment after these turns
 abbrev pub timed_report_of : Moment → ℕ → List TimedTurn → List ℕ
 timed_report_of m end turns =
     codes "report" ++ (newline ++ (timed_thread_lines m.world.state turns (total_of ticks_in (actor_turns turns))
     ++ (flat_map (timed_processor_total m end (actor_turns turns)) (range_with_len 1 m.world.state.limits.processors)
     ++ timed_whole_total m (actor_turns turns))))
 
--- the report of the program's turns in the order of time
+-- the report of a timed program
 abbrev pub timed_report : Program → List ℕ
 timed_report program = timed_report_of (last_moment program) (ended_at program (last_moment program)) (timed_turns program)

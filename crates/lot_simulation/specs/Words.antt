@@ -10,21 +10,21 @@ use Rattle.lot_simulation.specs.declared.input.ScriptWord.TheVariants as script
 use Rattle.lot_simulation.specs.declared.script.PortTrap.TheVariants.{Call, Receive, Serve}
 use Rattle.lot_simulation.specs.declared.script.MutexTrap.TheVariants.{Lock, Unlock}
 
--- what a token stands for in a table of texts
+-- the word with this spelling in a table, if there is one
 abbrev pub word_in : {W : Type 0} → List (List ℕ × W) → List ℕ → Option W
 word_in table token = option_map (λ entry. entry.1) (find (λ entry. bytes_eq entry.0 token) table)
 
--- the words of the header, in the order in which their lines come
+-- the words of the header, in the order of their lines
 abbrev pub header_words : List (List ℕ × HeaderWord)
 header_words =
     (codes "lottery", header.Lottery) ∷ (codes "processors", header.Processors) ∷ (codes "quantum", header.Quantum)
     ∷ (codes "turns", header.Turns) ∷ (codes "seed", header.Seed) ∷ (codes "limits", header.Limits) ∷ []
 
--- the same of an input whose turns come in the order of time, which also says how long it runs
+-- the words of a timed input's header: also `for`, which gives the duration
 abbrev pub timed_header_words : List (List ℕ × HeaderWord)
 timed_header_words = (codes "for", header.For) ∷ header_words
 
--- a header word's place in that order
+-- a header word's place in the order of the lines
 abbrev pub header_place : HeaderWord → ℕ
 header_place header.Lottery = 0
 header_place header.Processors = 1
@@ -44,8 +44,7 @@ body_words =
     ∷ (codes "lscur", body.ListCurrencies) ∷ (codes "lsthr", body.ListThreads) ∷ (codes "schedule", body.Schedule)
     ∷ (codes "runs", body.Runs) ∷ []
 
--- The same of an input whose turns come in the order of time, which also says when its commands are made, and may give
--- tickets other amounts and remove threads.
+-- The words of a timed input's body: also `at`, which gives commands their time, `settkt` and `rmthr`.
 abbrev pub timed_body_words : List (List ℕ × BodyWord)
 timed_body_words = (codes "at", body.At) ∷ (codes "settkt", body.SetTicket) ∷ (codes "rmthr", body.RemoveThread) ∷ body_words
 
@@ -58,6 +57,6 @@ script_words =
     ∷ (codes "lock", script.OnMutex Lock) ∷ (codes "unlock", script.OnMutex Unlock) ∷ (codes "endscript", script.EndScript)
     ∷ []
 
--- the same of an input whose turns come in the order of time, whose servers may reply and receive in one trap
+-- the words of a timed input's scripts: also `serve`, to reply and receive in one trap
 abbrev pub timed_script_words : List (List ℕ × ScriptWord)
 timed_script_words = (codes "serve", script.AtPort Serve) ∷ script_words

@@ -23,8 +23,8 @@ use Rattle.lot_machine.specs.Commands.{Step}
 use Rattle.lot_machine.specs.Step.{step, used_there}
 use Rattle.lot_simulation.specs.Script.{Context, Slice, slice, start}
 
--- What an input says: a system, how many turns each processor has in a free run, and whose turns a scheduled one has;
--- or how many ticks it runs for, if its turns come in the order of time.
+-- The contents of an input: the kernel's limits, seeds, scripts and commands; the turns of each processor in a free
+-- run, and the schedule; or the duration of a timed input.
 pub record Program : Type 0 where
   pub limits : Sizes
   pub seeds : List ℕ  -- one for each processor
@@ -33,18 +33,19 @@ pub record Program : Type 0 where
   pub commands : List Command
   pub schedule : List ℕ
   pub duration : Option ℕ
-  pub times : List ℕ  -- when the commands are made, in the order of time
+  pub times : List ℕ  -- the commands' times, in a timed program
 
--- the kernel's state, each thread's context, each processor's generator, the commands left, and who has had turns
+-- the kernel's state, each thread's context, each processor's generator, the remaining commands, and the actors of
+-- the turns so far
 pub record World : Type 0 where
   pub state : State
   pub contexts : List Context
   pub generators : List ℕ
-  pub is_wide : Bool  -- whether wide numbers are drawn
+  pub is_wide : Bool  -- whether it draws wide numbers
   pub commands : List Command
   pub history : List ℕ
 
--- At the start: no thread, all commands, and no turn made. Wide numbers are drawn if turns come in the order of time.
+-- The opening world: no thread, all commands, no turn made. A timed program draws wide numbers.
 abbrev pub opening_world : Program → World
 opening_world program = record { state = opening program.limits; contexts = []; generators = program.seeds; is_wide = is_some program.duration; commands = program.commands; history = [] }
 
@@ -54,11 +55,11 @@ opening_world program = record { state = opening program.limits; contexts = []; 
 abbrev pub generator_of : World → ℕ → ℕ
 generator_of w p = unwrap_or (at_number w.generators p) 0
 
--- the number that a generator with this value gives, a wide one or not
+-- the number from a generator with this value, wide or not
 abbrev pub number_from : Bool → ℕ → ℕ
 number_from is_wide seed = if is_wide then wide_number seed else drawn_number seed
 
--- the generator's value after that number
+-- the generator's value after that number, wide or not
 abbrev pub seed_from : Bool → ℕ → ℕ
 seed_from is_wide seed = if is_wide then seed_after_wide_number seed else seed_after_number seed
 
@@ -66,15 +67,15 @@ seed_from is_wide seed = if is_wide then seed_after_wide_number seed else seed_a
 abbrev pub number_of : World → ℕ → ℕ
 number_of w p = number_from w.is_wide (generator_of w p)
 
--- where the thread is in its script
+-- the thread's position in its script, and its accumulator
 abbrev pub context_of : World → ℕ → Context
 context_of w t = unwrap_or (at_number w.contexts t) (record { rest = []; accumulator = 0 })
 
--- what the thread on the processor does with the rest of its quantum
+-- the slice of the thread on the processor, within the rest of its quantum
 abbrev pub slice_on : World → ℕ → ℕ → Slice
 slice_on w p t = slice (context_of w t) (w.state.limits.quantum - used_there w.state p)
 
--- Calls, replies and servings carry the accumulator, and an unlock the drawn number.
+-- A trap of a script as an action: calls, replies and serves carry the accumulator, and an unlock the drawn number.
 abbrev pub action_of : ScriptTrap → ℕ → ℕ → Action
 action_of script_trap.Yield accumulator drawn = action.Yield
 action_of script_trap.Reply accumulator drawn = action.Reply accumulator
@@ -85,7 +86,7 @@ action_of (script_trap.OnMutex Lock mutex) accumulator drawn = action.Lock mutex
 action_of (script_trap.OnMutex Unlock mutex) accumulator drawn = action.Unlock mutex drawn
 action_of script_trap.Exit accumulator drawn = action.Exit
 
--- the slice as an event: an expiry, or its ticks and then its trap
+-- the slice as an event: an expiry, or a trap after its ticks
 abbrev pub event_of_slice : ℕ → ℕ → Slice → Event
 event_of_slice p drawn s = made s.trap
   where
@@ -93,7 +94,7 @@ event_of_slice p drawn s = made s.trap
     made None = event.Expire p
     made (Some trap) = event.Trap p s.ticks (action_of trap s.end.accumulator drawn)
 
--- a processor without a thread draws; one with a thread does its slice
+-- the processor's next event: a draw if it is idle, and otherwise its thread's slice
 abbrev pub processor_event : World → ℕ → Event
 processor_event w p = made (thread_on w.state.records p)
   where
@@ -103,7 +104,7 @@ processor_event w p = made (thread_on w.state.records p)
 
 -- ---- the world after it
 
--- whether the event takes a drawn number: a draw and an unlock do
+-- whether the event consumes a drawn number, as a draw and an unlock do
 abbrev pub takes_number : Event → Bool
 takes_number (event.Draw p d) = true
 takes_number (event.Trap p ran (action.Unlock mutex d)) = true
@@ -113,18 +114,18 @@ takes_number other = false
 abbrev pub generators_after : World → ℕ → Event → List ℕ
 generators_after w p e = if takes_number e then set_number w.generators p (seed_from w.is_wide (generator_of w p)) else w.generators
 
--- the number that was received with a call
+-- the number received with a call
 abbrev pub number_delivered : Outcome → Option ℕ
 number_delivered (Received client number) = Some number
 number_delivered (RepliedThenReceived to client number) = Some number
 number_delivered other = None
 
--- a number that is handed over becomes the accumulator
+-- the context after a delivery: the number becomes the accumulator
 abbrev pub delivered_to : Option ℕ → Context → Context
 delivered_to None context = context
 delivered_to (Some number) context = record context { accumulator = number }
 
--- the contexts after a turn of a processor: the thread that ran has the slice's end, and what it was handed
+-- the contexts after a processor's turn: the thread that ran is at its slice's end, with any number delivered to it
 abbrev pub contexts_after : World → ℕ → Reply → List Context
 contexts_after w p (reply.Winner t number total delivered) = set_number w.contexts t (delivered_to delivered (context_of w t))
 contexts_after w p (reply.Trapped t ticks outcome ends) =
@@ -132,24 +133,24 @@ contexts_after w p (reply.Trapped t ticks outcome ends) =
 contexts_after w p (reply.Expired t ticks) = set_number w.contexts t (slice_on w p t).end
 contexts_after w p other = w.contexts
 
--- a thread that is made gets its script's list, and accumulator 0
+-- the contexts of new threads: the script from its start, and accumulator 0
 abbrev pub new_contexts : Program → State → State → List Context
 new_contexts program old new =
     map (λ t. start (unwrap_or (option_and_then (λ made. at_number program.scripts made.script) t) [])) (drop (length old.threads) new.threads)
 
 -- ---- turns
 
--- the answer of a turn: the event and its reply, or that no command is left
+-- the answer to a turn: the event and its reply, or that no command is left
 pub data Answer : Type 0 where
   Answered : Event → Reply → Answer
   Ended : Answer
 
--- a world and an answer
+-- the world after a turn, and the answer
 pub record Turn : Type 0 where
   pub world : World
   pub answer : Answer
 
--- the console's next command; without one nothing changes
+-- the console's next command; nothing changes if none is left
 abbrev pub console_turn : Program → World → List Command → Turn
 console_turn program w [] = record { world = w; answer = Ended }
 console_turn program w (c ∷ cs) = made (step w.state (event.Command c))
@@ -160,7 +161,7 @@ console_turn program w (c ∷ cs) = made (step w.state (event.Command c))
       answer = Answered (event.Command c) done.reply;
     }
 
--- a turn of a processor, which is this event
+-- the turn in which a processor makes this event
 abbrev pub processor_turn : World → ℕ → Event → Turn
 processor_turn w p e = made (step w.state e)
   where
@@ -170,30 +171,30 @@ processor_turn w p e = made (step w.state e)
       answer = Answered e done.reply;
     }
 
--- A turn of actor 0, the console, is its next command; a turn of a processor is its event.
+-- A turn of actor 0, the console, makes its next command; a turn of a processor makes its next event.
 abbrev pub system_turn : Program → World → ℕ → Turn
 system_turn program w actor = if actor == 0 then console_turn program w w.commands else processor_turn w actor (processor_event w actor)
 
--- the answers of turns, in order
+-- the answers to these actors' turns, in order
 abbrev pub system_answers : Program → World → List ℕ → List Answer
 system_answers program w [] = []
 system_answers program w (actor ∷ actors) = (system_turn program w actor).answer ∷ system_answers program (system_turn program w actor).world actors
 
--- the last world
+-- the world after these actors' turns
 abbrev pub system_after : Program → World → List ℕ → World
 system_after program w [] = w
 system_after program w (actor ∷ actors) = system_after program (system_turn program w actor).world actors
 
--- a run from the program's opening world
+-- the world after a run from the program's opening world
 abbrev pub system_run : Program → List ℕ → World
 system_run program actors = system_after program (opening_world program) actors
 
--- the answer of the last turn of a run from the program's opening world
+-- the answer to the last turn of a run from the program's opening world
 abbrev pub last_answer : Program → List ℕ → Option Answer
 last_answer program actors = last_or None (system_answers program (opening_world program) actors)
 
--- A legal history has the console and the processors as its actors, is no longer than there is room, and has the
--- console no more often than there are commands.
+-- A legal history: its actors are the console and the processors, it fits the room, and the console occurs no more
+-- often than there are commands.
 pub record IsLegal (program : Program) (room : ℕ) (history : List ℕ) : Type 0 where
   pub actors : All (λ actor. actor ≤ program.limits.processors) history
   pub within_room : length history ≤ room

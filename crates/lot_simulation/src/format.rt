@@ -4,7 +4,7 @@ ghost use Rattle.lot_machine.specs.Bounds.{IsUnit};
 ghost use Rattle.lot_simulation.specs.Formats as formats;
 ghost use Rattle.lot_simulation.specs.Words.{word_in};
 
-/// The format of an input, which its first line says. Whatever depends on the format asks one of its methods.
+/// The format of an input, given on its first line. Code that depends on the format calls one of its methods.
 #[derive(Clone, Copy, Debug, PartialEq, Eq)]
 pub enum Format {
     /// `lottery 1`
@@ -16,7 +16,7 @@ pub enum Format {
 }
 
 impl Format {
-    /// The format that this word says after `lottery`, if it says one.
+    /// The format with this word after `lottery`, if there is one.
     pub fn of_word(word: &[u8]) -> Option<Format>
         ensures { result ≡ word_in formats.versions word.now }
     {
@@ -28,7 +28,7 @@ impl Format {
         }
     }
 
-    /// In how many parts to the unit values are kept, 1 or 256.
+    /// The base units in one unit of value, 1 or 256.
     pub fn unit(self) -> u32
         ensures unit { result ≡ formats.unit_of self }
         ensures legal { IsUnit result }
@@ -39,8 +39,8 @@ impl Format {
         }
     }
 
-    /// Whether turns come in the order of time; otherwise a schedule says whose they are. Such an input says how long
-    /// it runs and when its commands are made, and each line that is printed of a turn begins with its time.
+    /// Whether an input of this format is timed: turns come in time order, and no schedule gives them. A timed input
+    /// gives its duration and the times of its commands, and each line printed for a turn begins with its time.
     #[inline(always)]
     pub fn is_timed(self) -> bool
         ensures { result ≡ formats.is_timed self }
@@ -51,7 +51,7 @@ impl Format {
         }
     }
 
-    /// Whether the processors' generators give wide numbers: they do if turns come in the order of time.
+    /// Whether the processors' generators give wide numbers, as in a timed input.
     #[inline(always)]
     pub fn draws_wide_numbers(self) -> bool
         ensures { result ≡ formats.is_timed self }
@@ -59,7 +59,7 @@ impl Format {
         self.is_timed()
     }
 
-    /// Whether its schedule may have lines of runs: not if the unit is 1, nor if turns come in the order of time.
+    /// Whether a schedule may have lines of runs: not with unit 1, nor in a timed input.
     pub fn has_runs(self) -> bool
         ensures { result ≡ not (formats.unit_of self == 1 || formats.is_timed self) }
     {

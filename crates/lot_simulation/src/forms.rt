@@ -1,49 +1,49 @@
-//! How the lines of an input are written: what stands behind the word that begins one.
+//! The forms of an input's lines: the arguments after each line's first word.
 
 use crate::input::BodyWord;
 
-/// Numbers from the first to the last.
+/// The numbers from the first to the last, both included.
 #[derive(Clone, Copy, Debug)]
 pub struct Range {
     pub first: u32,
     pub last: u32,
 }
 
-/// What a word behind the first of a line is to be.
+/// The meaning and range of an argument.
 #[derive(Clone, Copy, Debug)]
 pub enum Argument {
     Number(Range),
-    /// An amount or a ticket's number, which the kernel judges.
+    /// An amount or a ticket's number. Only the kernel checks it further.
     AnyNumber,
-    /// A name, which the kernel judges.
+    /// A name. Only the kernel checks it further.
     AnyName,
-    /// A good name that no earlier line gives that begins with this word.
+    /// A good name, new among the lines that begin with this word.
     NewName(BodyWord),
-    /// The name that an earlier line gives, which begins with this word.
+    /// A name given by an earlier line that begins with this word.
     KnownName(BodyWord),
     /// The console or a processor.
     Actor,
-    /// A time in the range that isn't before that of an earlier line.
+    /// A time in the range, not before that of an earlier line.
     Time(Range),
     /// The version of the format.
     Version,
 }
 
-/// How a line is written: the words behind its first, each with its name and what it is to be.
+/// The form of a line: the arguments after its first word, each with its name.
 #[derive(Clone, Copy, Debug)]
 pub enum Form {
-    /// Each comes once.
+    /// Each argument comes once.
     Once(&'static [(&'static str, Argument)]),
-    /// The same, of a command of the console.
+    /// Each argument comes once; the line is a command of the console.
     Command(&'static [(&'static str, Argument)]),
-    /// All of them come, at least once.
+    /// The arguments come once or more, as a group.
     Repeated(&'static [(&'static str, Argument)]),
-    /// They come once for each processor.
+    /// The arguments come once for each processor.
     PerProcessor(&'static [(&'static str, Argument)]),
 }
 
 impl Form {
-    /// The words behind the first, each with its name, as far as they don't come again.
+    /// The arguments after the first word, each with its name, without repetitions.
     pub fn arguments(self) -> &'static [(&'static str, Argument)] {
         match self {
             Form::Once(arguments)

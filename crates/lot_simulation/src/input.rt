@@ -1,4 +1,4 @@
-//! What an input is written in, and why one is refused.
+//! The words of an input, and the reasons for refusing one.
 
 use crate::script::{MutexTrap, PortTrap};
 
@@ -53,7 +53,7 @@ pub enum ScriptWord {
     EndScript,
 }
 
-/// Why an input is refused.
+/// The reason why an input is refused.
 #[derive(Clone, Copy, Debug, PartialEq, Eq)]
 pub enum InputRefusal {
     BadHeader,
@@ -66,7 +66,7 @@ pub enum InputRefusal {
     BadActor,
 }
 
-/// Where an input is refused, and why. Lines are numbered from 1.
+/// The line on which an input is refused, from 1, and the reason.
 #[derive(Clone, Copy, Debug, PartialEq, Eq)]
 pub struct InputFault {
     pub line: u32,

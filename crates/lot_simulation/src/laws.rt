@@ -1,4 +1,4 @@
-//! Laws of the definitions, with nothing to run.
+//! Laws of the definitions, without executable code.
 ghost use Rattle.std.specs.Prelude.{◌≡◌, ◌≤◌, ℕ, ◌+◌, List, length, map, sum_by};
 ghost use Rattle.std.specs.List.{range_with_len};
 ghost use Rattle.std.specs.List.Sorted.{IsNonDecreasing};
@@ -9,8 +9,8 @@ ghost use Rattle.lot_simulation.specs.Report.{idles_in, quanta_in, ticks_in, tot
 ghost use Rattle.lot_simulation.specs.Timed.{clock_of, ended_at, last_moment, timed_room, timed_schedule, timed_turns};
 ghost use Rattle.lot_simulation.specs.TimedReport.{actor_turns, clock_at, idle_until};
 
-/// The counts of each actor's turns add up to the counts of all turns of a legal history, and so do the numbers of
-/// turns.
+/// The counts of each actor's turns add up to the counts over all turns of a legal history, and the numbers of turns
+/// do too.
 pub fn actors_add_up()
     ensures turns { (program : Program) (room : ℕ) (history : List ℕ) → IsLegal program room history
         → sum_by (λ actor. length (turns_of actor (turns_made program history)))
@@ -21,15 +21,15 @@ pub fn actors_add_up()
         (range_with_len 0 (program.limits.processors + 1)) ≡ total_of count (turns_made program history) }
 {}
 
-/// In the order of time no turn comes before the one before it, if sizes are within their bounds and no command is made
-/// before the one before it.
+/// Timed turns are in order: no turn is earlier than the one before it, if sizes are within their bounds and no
+/// command is earlier than the one before it.
 pub fn times_never_fall()
     ensures { (program : Program) → IsWithinBounds program.limits → IsNonDecreasing program.times
         → IsNonDecreasing (map (λ done. done.time) (timed_turns program)) }
 {}
 
-/// Turns in the order of time are a run of the system. If each command has its time, their actors are a legal history.
-/// The run over this history makes the same turns, and it leads to the same world.
+/// Timed turns are a run of the system. If each command has its time, their actors are a legal history. The run with
+/// this history makes the same turns and ends in the same world.
 pub fn timed_turns_are_a_run()
     ensures legal { (program : Program) → length program.times ≡ length program.commands
         → IsLegal program timed_room (timed_schedule program) }
@@ -38,8 +38,8 @@ pub fn timed_turns_are_a_run()
     ensures world { (program : Program) → (last_moment program).world ≡ system_run program (timed_schedule program) }
 {}
 
-/// In the report of turns in the order of time a processor's ticks and its unused ticks add up to its clock, and no
-/// clock stands after the end, if sizes are within their bounds and no command is made before the one before it.
+/// In the report of a timed program a processor's ticks and its unused ticks add up to its clock, and no clock is
+/// after the end, if sizes are within their bounds and no command is earlier than the one before it.
 pub fn clocks_add_up()
     ensures sum { (program : Program) (p : ℕ) → IsWithinBounds program.limits → IsNonDecreasing program.times
         → IsBetween 1 program.limits.processors p
@@ -52,8 +52,8 @@ pub fn clocks_add_up()
         ≤ ended_at program (last_moment program) }
 {}
 
-/// In the report of turns in the order of time the threads' quanta and ticks add up to its totals, if sizes are within
-/// their bounds.
+/// In the report of a timed program the threads' quanta and ticks add up to its totals, if sizes are within their
+/// bounds.
 pub fn timed_threads_add_up()
     ensures quanta { (program : Program) → IsWithinBounds program.limits
         → sum_by (λ r. r.quanta) (last_moment program).world.state.records
@@ -63,7 +63,8 @@ pub fn timed_threads_add_up()
         ≡ total_of ticks_in (actor_turns (timed_turns program)) }
 {}
 
-/// In the same report the processors' quanta, idle draws and ticks add up to its totals, if each command has its time.
+/// In the report of a timed program the processors' quanta, idle draws and ticks add up to its totals, if each
+/// command has its time.
 pub fn timed_processors_add_up()
     ensures quanta { (program : Program) → length program.times ≡ length program.commands
         → sum_by (λ p. total_of quanta_in (turns_of p (actor_turns (timed_turns program))))

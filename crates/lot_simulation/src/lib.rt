@@ -1,5 +1,5 @@
-//! The vocabulary of a simulated system: scripts, what an input is written in, and why one is refused. Its definitions
-//! build on those of the machine.
+//! The vocabulary of a simulated system: scripts, the words of an input, and the reasons for refusing one. Its
+//! definitions build on those of the machine.
 #![tactic(auto)]
 
 mod format;

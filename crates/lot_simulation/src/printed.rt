@@ -27,7 +27,7 @@ pub fn two_processors()
     ensures { output two_processors_input ≡ two_processors_output }
 {}
 
-/// Nothing to do, with and without a byte that ends the line.
+/// Nothing to do, with and without a byte 10 at the end.
 #[tactic(auto, unfolding(crate::specs::OnLiterals::texts_on_literals))]
 pub fn nothing_to_do()
     ensures ended { output (text (codes "lottery 1" ∷ [])) ≡ empty_report }
@@ -66,7 +66,7 @@ pub fn free_runs()
     ensures no_runs { runs_lines [] ≡ [] }
 {}
 
-/// Inputs that are refused.
+/// Refused inputs.
 #[tactic(auto, unfolding(crate::specs::OnLiterals::texts_on_literals))]
 pub fn refused_inputs()
     ensures empty { output [] ≡ refused_on_line (codes "1 50 BadHeader") }

@@ -3,7 +3,7 @@
 use crate::forms::Range;
 use lot_machine::Sizes;
 
-/// How many processors there are.
+/// The number of processors.
 pub const PROCESSORS: Range = Range {
     first: Sizes::SMALLEST.processors,
     last: Sizes::LARGEST.processors,
@@ -21,7 +21,7 @@ pub const TURNS: Range = Range {
     last: 10000,
 };
 
-/// The ticks that an input runs for.
+/// The duration of a timed input, in ticks.
 pub const DURATION: Range = Range {
     first: 1,
     last: u32::MAX,
@@ -33,31 +33,31 @@ pub const SEED: Range = Range {
     last: 2147483646,
 };
 
-/// How many tickets may be made.
+/// The largest number of tickets ever made.
 pub const TICKETS: Range = Range {
     first: Sizes::SMALLEST.tickets,
     last: Sizes::LARGEST.tickets,
 };
 
-/// How many currencies may be made.
+/// The largest number of user currencies ever made.
 pub const CURRENCIES: Range = Range {
     first: Sizes::SMALLEST.currencies,
     last: Sizes::LARGEST.currencies,
 };
 
-/// How many threads may be made.
+/// The largest number of threads ever made.
 pub const THREADS: Range = Range {
     first: Sizes::SMALLEST.threads,
     last: Sizes::LARGEST.threads,
 };
 
-/// How many turns in a row an actor has in a schedule's run.
+/// The number of turns in one run of a schedule.
 pub const RUN: Range = Range {
     first: 1,
     last: 1000000,
 };
 
-/// When commands are made.
+/// The time of a command, in ticks.
 pub const TICK: Range = Range {
     first: 0,
     last: u32::MAX,
@@ -69,13 +69,13 @@ pub const WORK: Range = Range {
     last: u32::MAX,
 };
 
-/// What the accumulator is set to, or what is added to it.
+/// The number that `set` or `add` applies to the accumulator.
 pub const NUMBER: Range = Range {
     first: 0,
     last: u32::MAX,
 };
 
-/// How often a loop's body is run.
+/// The number of iterations of a loop.
 pub const TIMES: Range = Range {
     first: 1,
     last: 65535,

@@ -1,4 +1,4 @@
-//! Lines, tokens and numbers, and inputs that are refused.
+//! Worked rows for lines, tokens, numbers and refused inputs.
 ghost use Rattle.std.specs.Prelude.{◌≡◌, ◌++◌, [], ◌∷◌, codes, replicate};
 ghost use Rattle.lot_simulation.specs.Lines.{lines_of, tokens_of, number_of};
 ghost use Rattle.lot_simulation.specs.Output.{output};
@@ -15,7 +15,7 @@ pub fn lines_and_tokens()
     ensures leading { number_of (codes "007") ≡ None }
 {}
 
-/// Lines that are ignored, and bytes that no line may have.
+/// Ignored lines, and bytes that no line may have.
 #[tactic(auto, unfolding(crate::specs::OnLiterals::texts_on_literals))]
 pub fn lines()
     ensures spaces { output (text (codes "  lottery  1  " ∷ codes "   " ∷ codes " # any" ∷ (35 ∷ 9 ∷ 200 ∷ []) ∷ []))

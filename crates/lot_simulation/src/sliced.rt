@@ -1,4 +1,4 @@
-//! Small scripts, and the slices of them that a processor runs.
+//! Worked rows for small scripts and their slices.
 ghost use Rattle.std.specs.Prelude.{◌≡◌, ◌++◌, [], ◌∷◌, replicate};
 ghost use Rattle.lot_simulation.specs.declared.script.Line.TheVariants as line;
 ghost use Rattle.lot_simulation.specs.declared.script.ScriptTrap.TheVariants as trap;
@@ -6,7 +6,7 @@ ghost use Rattle.lot_simulation.specs.declared.script.PortTrap.TheVariants.{Call
 ghost use Rattle.lot_simulation.specs.Script.{unrolled, start, slice};
 ghost use Rattle.lot_simulation.specs.Script.Item.{Work, Set, Traps};
 
-/// A loop of two times three ticks, in one slice and in two.
+/// A loop of two iterations of three ticks, in one slice and in two.
 pub fn sliced_loop()
     ensures whole { unrolled (line.Loop 2 ∷ line.Compute 3 ∷ line.End ∷ []) ≡ replicate 9 Work ++ Traps trap.Exit ∷ [] }
     ensures short { slice (start (line.Loop 2 ∷ line.Compute 3 ∷ line.End ∷ [])) 9

@@ -1,11 +1,10 @@
-//! How lines are printed.
+//! Styles of printed lines.
 
-/// The style in which a line of a turn is printed.
+/// The style of the lines printed for a turn.
 #[derive(Clone, Copy, Debug, PartialEq, Eq)]
 pub enum LineStyle {
-    /// Values are whole numbers, as inputs of `lottery 1` and `lottery 2` have them.
+    /// Values are whole numbers, for inputs of `lottery 1` and `lottery 2`.
     Whole,
-    /// The line begins with this time, in ticks, and values have digits after the point, as inputs of `lottery 3` have
-    /// them.
+    /// The line begins with this time, in ticks, and values have digits after the point, for inputs of `lottery 3`.
     Timed(u32),
 }

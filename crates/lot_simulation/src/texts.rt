@@ -1,4 +1,4 @@
-//! Lines of replies, refusals and rows, one by one.
+//! Worked rows for the lines of replies, refusals and listings.
 ghost use Rattle.std.specs.Prelude.{◌≡◌, [], ◌∷◌, codes, true, false, Some, None};
 ghost use Rattle.lot_machine.specs.declared.action.Action.TheVariants as action;
 ghost use Rattle.lot_machine.specs.declared.record.Status.TheVariants as status;
@@ -30,7 +30,7 @@ pub fn command_refusals()
     ensures alive { refusal_line refusal.Alive ≡ text (codes "refused 16 Alive" ∷ []) }
 {}
 
-/// Each refusal of an event of a processor, and of a wake.
+/// Each refusal of an event other than a command: of a processor's, and of a wake.
 #[tactic(auto, unfolding(crate::specs::OnLiterals::texts_on_literals))]
 pub fn event_refusals()
     ensures bad_processor { refusal_line refusal.BadProcessor ≡ text (codes "refused 20 BadProcessor" ∷ []) }
@@ -57,7 +57,7 @@ pub fn trap_refusals()
         ≡ text (codes "thread 1 ticks 5 refused 36 LockCycle" ∷ []) }
 {}
 
-/// A trap that uses the quantum up, though its thread neither yields nor waits.
+/// A trap that uses up the quantum, though its thread neither yields nor waits.
 #[tactic(auto, unfolding(crate::specs::OnLiterals::texts_on_literals))]
 pub fn traps_that_end()
     ensures lock { trap_line (action.Lock 2) outcome.Locked true

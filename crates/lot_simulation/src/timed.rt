@@ -1,43 +1,43 @@
-//! Turns in the order of time.
+//! Clocks, due turns and waits of a timed input.
 
 /// A processor's clock. Times are in ticks.
 #[derive(Clone, Copy, Debug, PartialEq, Eq)]
 pub struct Clock {
-    /// When its last turn was made.
+    /// The time of its last turn.
     pub time: u32,
-    /// Whether it has waited since, because it found nobody to draw.
+    /// Whether it has waited since then, after an idle draw.
     pub waits: bool,
-    /// How long it has waited before.
+    /// The total of its earlier waits.
     pub idle: u64,
 }
 
 /// An actor whose turn may come next.
 #[derive(Clone, Copy, Debug, PartialEq, Eq)]
 pub struct Due {
-    /// When the turn would be made, in ticks.
+    /// The time at which the turn would be made, in ticks.
     pub time: u64,
     pub actor: u32,
 }
 
-/// How a thread has waited for mutexes, or for replies. Times are in ticks.
+/// A thread's waits for mutexes, or its waits for replies. Times are in ticks.
 #[derive(Clone, Copy, Debug, PartialEq, Eq)]
 pub struct Waits {
-    /// How often it has waited.
+    /// The number of its past waits.
     pub count: u32,
-    /// How long in all.
+    /// Their total.
     pub total: u64,
-    /// How long at most.
+    /// The longest of them.
     pub longest: u32,
-    /// Since when it waits now, if it does.
+    /// The start of the current wait, if it waits.
     pub since: Option<u32>,
 }
 
-/// A turn's change of the waiting threads.
+/// The change that a turn makes to the waiting threads.
 #[derive(Clone, Copy, Debug, PartialEq, Eq)]
 pub enum WaitChange {
     Nobody,
     /// This thread begins to wait.
     Begins(u32),
-    /// This thread has waited.
+    /// This thread's wait ends.
     Ends(u32),
 }

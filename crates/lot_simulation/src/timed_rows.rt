@@ -1,10 +1,10 @@
-//! Small inputs whose turns come in the order of time, and the output for them.
+//! Worked rows for small timed inputs and their output.
 ghost use Rattle.std.specs.Prelude.{◌≡◌, [], ◌∷◌, ◌++◌, codes};
 ghost use Rattle.lot_simulation.specs.Grammar.{program_in};
 ghost use Rattle.lot_simulation.specs.Output.{output};
 ghost use Rattle.lot_simulation.specs.Samples.{text, refused_on_line};
 
-/// Nothing to do: the processor finds nobody, and waits to the end.
+/// Nothing to do: the processor's draw is idle, and it waits to the end.
 #[tactic(auto, unfolding(crate::specs::OnLiterals::texts_on_literals, crate::specs::Timed::timed_room))]
 pub fn nothing_to_do()
     ensures { output (text (codes "lottery 3" ∷ codes "for 10" ∷ []))
@@ -42,7 +42,7 @@ pub fn commands_in_time()
         ∷ codes "total turns 7 quanta 3 ticks 200 refused 0 left 1" ∷ []) }
 {}
 
-/// A command comes before an expiry of the same time.
+/// A command comes before an expiry at the same time.
 #[tactic(auto, unfolding(crate::specs::OnLiterals::texts_on_literals, crate::specs::Timed::timed_room))]
 pub fn console_first()
     ensures { output (text (codes "lottery 3" ∷ codes "for 100" ∷ codes "seed 1" ∷ codes "script spin"
@@ -56,7 +56,7 @@ pub fn console_first()
         ∷ codes "total turns 5 quanta 2 ticks 100 refused 0 left 0" ∷ []) }
 {}
 
-/// Two processors and one thread. The one that finds nobody waits until a turn is made that isn't an idle draw.
+/// Two processors and one thread. The processor whose draw is idle waits until a turn that isn't an idle draw.
 #[tactic(auto, unfolding(crate::specs::OnLiterals::texts_on_literals, crate::specs::Timed::timed_room))]
 pub fn one_time()
     ensures { output (text (codes "lottery 3" ∷ codes "processors 2" ∷ codes "quantum 10" ∷ codes "for 25"
@@ -70,7 +70,7 @@ pub fn one_time()
         ∷ codes "total turns 9 quanta 2 ticks 13 refused 0 left 0" ∷ []) }
 {}
 
-/// A call and its reply, and how long the client has waited (4.6).
+/// A call and its reply, and the length of the client's wait (4.6).
 #[tactic(auto, unfolding(crate::specs::OnLiterals::texts_on_literals, crate::specs::Timed::timed_room))]
 pub fn waits_for_replies()
     ensures { output (text (codes "lottery 3" ∷ codes "quantum 10" ∷ codes "for 40" ∷ codes "port p"
@@ -111,7 +111,7 @@ pub fn serving()
         ∷ codes "total turns 20 quanta 7 ticks 9 refused 0 left 0" ∷ []) }
 {}
 
-/// A mutex and its lottery, and how long a thread has waited (6.1).
+/// A mutex and its lottery, and the length of a thread's wait (6.1).
 #[tactic(auto, unfolding(crate::specs::OnLiterals::texts_on_literals, crate::specs::Timed::timed_room))]
 pub fn waits_for_mutexes()
     ensures { output (text (codes "lottery 3" ∷ codes "quantum 10" ∷ codes "for 60" ∷ codes "mutex m"
@@ -157,8 +157,8 @@ pub fn behind_the_point()
         ∷ codes "total turns 9 quanta 1 ticks 0 refused 0 left 0" ∷ []) }
 {}
 
-/// Tickets that get other amounts. Inside its currency one thread gains what another loses, and the thread outside
-/// keeps its value; a currency that is backed with less is worth less.
+/// Changed amounts. Inside its currency one thread gains what another loses, and the thread outside keeps its value;
+/// a currency with less backing is worth less.
 #[tactic(auto, unfolding(crate::specs::OnLiterals::texts_on_literals, crate::specs::Timed::timed_room))]
 pub fn amounts_in_time()
     ensures { output (text (codes "lottery 3" ∷ codes "for 300" ∷ codes "seed 14" ∷ codes "script s"
@@ -182,8 +182,8 @@ pub fn amounts_in_time()
         ∷ codes "total turns 18 quanta 4 ticks 300 refused 2 left 0" ∷ []) }
 {}
 
-/// A thread that is removed once it has ended and no ticket funds it. It has no line in a listing and in the report
-/// then. Its name is given again, and its number isn't.
+/// A thread removed after it has ended and no ticket funds it: it has no line in listings or in the report
+/// afterwards. Its name is used again, its number isn't.
 #[tactic(auto, unfolding(crate::specs::OnLiterals::texts_on_literals, crate::specs::Timed::timed_room))]
 pub fn threads_removed()
     ensures { output (text (codes "lottery 3" ∷ codes "quantum 10" ∷ codes "for 30" ∷ codes "script short"
@@ -208,8 +208,8 @@ pub fn threads_removed()
         ∷ codes "total turns 23 quanta 5 ticks 30 refused 6 left 0" ∷ []) }
 {}
 
-/// Threads that stay, though they have ended and nothing funds them: thread 1 owns a mutex, and thread 3 has a client.
-/// The client waits for good, and hasn't ended.
+/// Threads that can't be removed, though they have ended and nothing funds them: thread 1 owns a mutex, and thread 3
+/// has a client. The client waits for good, and hasn't ended.
 #[tactic(auto, unfolding(crate::specs::OnLiterals::texts_on_literals, crate::specs::Timed::timed_room))]
 pub fn threads_kept()
     ensures { output (text (codes "lottery 3" ∷ codes "quantum 10" ∷ codes "for 8" ∷ codes "port p" ∷ codes "mutex m"
@@ -232,7 +232,7 @@ pub fn threads_kept()
         ∷ codes "total turns 20 quanta 3 ticks 5 refused 3 left 0" ∷ []) }
 {}
 
-/// Commands that are refused are counted.
+/// Refused commands are counted.
 #[tactic(auto, unfolding(crate::specs::OnLiterals::texts_on_literals, crate::specs::Timed::timed_room))]
 pub fn refused_commands()
     ensures { output (text (codes "lottery 3" ∷ codes "for 1" ∷ codes "mktkt 0 base" ∷ codes "mkthr a none"
@@ -242,7 +242,7 @@ pub fn refused_commands()
         ∷ codes "total turns 4 quanta 0 ticks 0 refused 3 left 0" ∷ []) }
 {}
 
-/// A thread that waits for good: nothing is due any more, and the processor waits to the end.
+/// A thread that waits for good: no turn is due any more, and the processor waits to the end.
 #[tactic(auto, unfolding(crate::specs::OnLiterals::texts_on_literals, crate::specs::Timed::timed_room))]
 pub fn waits_for_good()
     ensures { output (text (codes "lottery 3" ∷ codes "quantum 10" ∷ codes "for 50" ∷ codes "port p"
@@ -254,7 +254,7 @@ pub fn waits_for_good()
         ∷ codes "total turns 4 quanta 1 ticks 1 refused 0 left 0" ∷ []) }
 {}
 
-/// A thread that has used a third of its quantum weighs three times its value (4.5).
+/// A thread that used a third of its quantum weighs three times its value (4.5).
 #[tactic(auto, unfolding(crate::specs::OnLiterals::texts_on_literals, crate::specs::Timed::timed_room))]
 pub fn compensation()
     ensures { output (text (codes "lottery 3" ∷ codes "quantum 9" ∷ codes "for 12" ∷ codes "seed 5"
@@ -272,7 +272,7 @@ pub fn compensation()
         ∷ codes "total turns 8 quanta 3 ticks 12 refused 0 left 0" ∷ []) }
 {}
 
-/// Refusals of such inputs; other inputs refuse their words.
+/// Refusals of timed inputs; other inputs refuse their words.
 #[tactic(auto, unfolding(crate::specs::OnLiterals::texts_on_literals, crate::specs::Timed::timed_room))]
 pub fn refused_inputs()
     ensures lacks_body { output (text (codes "lottery 3" ∷ codes "mkcur a" ∷ []))
@@ -314,8 +314,8 @@ pub fn refused_inputs()
     ensures other { output (text (codes "lottery 4" ∷ [])) ≡ refused_on_line (codes "1 50 BadHeader") }
 {}
 
-/// A line of a script may have several words, each with its tokens; in other inputs it has one. A port may have the
-/// name of a word, and nothing stands behind `endscript`.
+/// Several words, each with its argument, on a line of a script; other inputs allow one. A port may have the name of
+/// a word, and nothing may follow `endscript`.
 #[tactic(auto, unfolding(crate::specs::OnLiterals::texts_on_literals, crate::specs::Timed::timed_room))]
 pub fn several_words()
     ensures same { program_in (text (codes "lottery 3" ∷ codes "for 9" ∷ codes "port end" ∷ codes "script s"

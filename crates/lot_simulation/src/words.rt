@@ -1,6 +1,6 @@
-//! The words that begin lines of an input, each with its spelling and with what stands behind it. No other place says
-//! so: the parser looks a token up here and takes its ranges from here, and what is told of a refused line names words
-//! and arguments as they stand here. `docs/check` compares this table with `docs/FORMATS.md`.
+//! The words of an input, each with its spelling and its arguments. This table is the only source: the parser looks
+//! up tokens and ranges here, and messages about refused lines take the names of words and arguments from here.
+//! `docs/check` compares this table with `docs/FORMATS.md`.
 ghost use Rattle.std.specs.Prelude.{◌≡◌, map, if◌then◌else◌};
 ghost use Rattle.lot_simulation.specs.Formats.{is_timed};
 ghost use Rattle.lot_simulation.specs.Words.{word_in, header_words, timed_header_words, body_words, timed_body_words};
@@ -16,19 +16,19 @@ use crate::input::{BodyWord, HeaderWord, ScriptWord};
 use crate::ranges;
 use crate::script::{MutexTrap, PortTrap};
 
-/// A word, its spelling, and how a line is written that it begins.
+/// A word, its spelling, and the form of a line that it begins.
 pub type WordRow<W> = (&'static [u8], W, Form);
 
 /// The word that begins the first line.
 pub const FIRST_WORD: &[u8] = b"lottery";
 
-/// The word of a line of a schedule, which says whose turn comes next.
+/// The first word of a line of a schedule, which lists actors.
 pub const SCHEDULE_WORD: &[u8] = b"schedule";
 
-/// The word of a line of a schedule with several turns of one actor in a row.
+/// The first word of a line of a schedule that lists runs, several turns of one actor in a row.
 pub const RUNS_WORD: &[u8] = b"runs";
 
-/// The words of the header, in the order of its lines, after `for`, which only some formats have.
+/// The words of the header in the order of their lines; first `for`, which only some formats have.
 pub const HEADER_WORDS: [WordRow<HeaderWord>; 7] = [
     (
         b"for",
@@ -71,7 +71,7 @@ pub const HEADER_WORDS: [WordRow<HeaderWord>; 7] = [
     ),
 ];
 
-/// The words of the body, after `at`, `settkt` and `rmthr`, which only some formats have.
+/// The words of the body; first `at`, `settkt` and `rmthr`, which only some formats have.
 pub const BODY_WORDS: [WordRow<BodyWord>; 19] = [
     (b"at", BodyWord::At, Once(&[("TICK", Time(ranges::TICK))])),
     (
@@ -159,7 +159,7 @@ pub const BODY_WORDS: [WordRow<BodyWord>; 19] = [
     ),
 ];
 
-/// The words of a script, after `serve`, which only some formats have.
+/// The words of a script; first `serve`, which only some formats have.
 pub const SCRIPT_WORDS: [WordRow<ScriptWord>; 13] = [
     (
         b"serve",
@@ -212,7 +212,7 @@ pub const SCRIPT_WORDS: [WordRow<ScriptWord>; 13] = [
     (b"endscript", ScriptWord::EndScript, Once(&[])),
 ];
 
-// The same tables as data of the program: a constant would be built anew at each call.
+// The tables above as static data: a constant would be built anew at each call.
 static HEADER_TABLE: [WordRow<HeaderWord>; 7] = HEADER_WORDS;
 
 static BODY_TABLE: [WordRow<BodyWord>; 19] = BODY_WORDS;
@@ -220,7 +220,7 @@ static BODY_TABLE: [WordRow<BodyWord>; 19] = BODY_WORDS;
 static SCRIPT_TABLE: [WordRow<ScriptWord>; 13] = SCRIPT_WORDS;
 
 impl HeaderWord {
-    /// The word of the header that the token is in an input of this format, if it is one.
+    /// The word of the header with this spelling in an input of this format, if there is one.
     pub fn of_token(format: Format, token: &[u8]) -> Option<HeaderWord>
         ensures { result ≡ word_in (if is_timed format then timed_header_words else header_words) token.now }
     {
@@ -231,7 +231,7 @@ impl HeaderWord {
         }
     }
 
-    /// Where the word's line comes in the header, from 0 on.
+    /// The place of the word's line in the header, from 0.
     pub fn place(self) -> u32
         ensures { result ≡ header_place self }
     {
@@ -240,7 +240,7 @@ impl HeaderWord {
 }
 
 impl BodyWord {
-    /// The word of the body that the token is in an input of this format, if it is one.
+    /// The word of the body with this spelling in an input of this format, if there is one.
     pub fn of_token(format: Format, token: &[u8]) -> Option<BodyWord>
         ensures { result ≡ word_in (if is_timed format then timed_body_words else body_words) token.now }
     {
@@ -253,7 +253,7 @@ impl BodyWord {
 }
 
 impl ScriptWord {
-    /// The word of a script that the token is in an input of this format, if it is one.
+    /// The word of a script with this spelling in an input of this format, if there is one.
     pub fn of_token(format: Format, token: &[u8]) -> Option<ScriptWord>
         ensures { result ≡ word_in (if is_timed format then timed_script_words else script_words) token.now }
     {
@@ -265,7 +265,7 @@ impl ScriptWord {
     }
 }
 
-/// The first word of the table that is spelled like the token, if there is one.
+/// The first word of the table with this spelling, if there is one.
 fn word_spelled<W: Copy>(mut table: &[WordRow<W>], token: &[u8]) -> Option<W>
     ensures { result ≡ word_in (map (λ row. (row.0.now, row.1)) table.entry.now) token.now }
 {

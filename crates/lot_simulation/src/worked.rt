@@ -1,4 +1,4 @@
-//! Whole systems, computed turn by turn.
+//! Worked rows for whole systems, turn by turn.
 ghost use Rattle.std.specs.Prelude.{◌≡◌, [], ◌∷◌, false, Some, None};
 ghost use Rattle.lot_simulation.specs.WorkedSystems.{played, first_run, finer_run, call_and_reply, serving};
 ghost use Rattle.lot_simulation.specs.WorkedSystems.{two_processors};
@@ -48,7 +48,7 @@ pub fn systems()
         ∷ Work ∷ Traps script_trap.Reply ∷ Traps script_trap.Exit ∷ [] }
 {}
 
-/// The answer of the last turn of a legal history, with its event, or nothing if there was no turn.
+/// The answer to the last turn of a legal history, with its event, or nothing if there was no turn.
 pub fn last_answers()
     ensures draw { last_answer two_processors (0 ∷ 1 ∷ [])
         ≡ Some (Answered (event.Draw 1 36090892629924) (reply.Winner 1 4 10 None)) }

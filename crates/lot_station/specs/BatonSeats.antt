@@ -1,4 +1,4 @@
--- Seats in contracts.
+-- Seats as contracts see them.
 use Rattle.std.specs.Prelude.{◌≡◌, ℕ, ◌+◌, Option, Some, None, List, [], ◌∷◌, length, slice_get}
 use Rattle.atomic_table.specs.Seated.{TableId}
 use Rattle.lot_script.specs.Slices.{Parts}
@@ -14,36 +14,36 @@ use Rattle.lot_station.specs.BatonViews.{claim, Extends}
 
 -- ---- seats and stations
 
--- a seat of a station: whose it is, the system as it last saw it, and the fault that stopped its worker
+-- a seat: its station, its actor, the system as it last saw it, and the fault that stopped its worker
 pub record Seat : Type 0 where
   pub station : TableId
   pub actor : ℕ
   pub seen : Seen
   pub stopped : Option TurnFault
 
--- a seat of these four
+-- a seat with these four fields
 abbrev pub seat : TableId → ℕ → Seen → Option TurnFault → Seat
 seat station actor seen stopped = record { station = station; actor = actor; seen = seen; stopped = stopped }
 
--- a station: which queue it is, and the last actor
+-- a station: its queue, and its last actor
 pub record Baton : Type 0 where
   pub id : TableId
   pub processors : ℕ
 
--- a station of these two
+-- a station with these two fields
 abbrev pub baton : TableId → ℕ → Baton
 baton id processors = record { id = id; processors = processors }
 
--- what the first claim has seen
+-- the system as the first claim saw it
 abbrev pub seen_in : List Claim → Seen
 seen_in [] = nothing_seen
 seen_in (c ∷ cs) = c.seen
 
--- what a seat claims
+-- a seat's claim: its own actor
 abbrev pub claim_of : Seat → Claim
 claim_of s = claim s.actor (s.actor + 1) s.seen
 
--- one of the seats that `open` gave with the station
+-- the seat is one that `open` dealt with the station
 abbrev pub IsSeatOf : Baton → Seat → Type 0
 IsSeatOf station s = (s.station ≡ station.id) × (s.seen.setting.program.limits.processors ≡ station.processors)
 
@@ -53,24 +53,23 @@ seat_counts s = counts_in s.seen s.actor
 
 -- ---- calls
 
--- It is a seat of the same station, for the same actor, over the same program and room, and the fault that it keeps
--- is the same.
+-- The new seat has the station, actor, program, room and stored fault of the old.
 pub record IsSameSeat (old new : Seat) : Type 0 where
   pub station : new.station ≡ old.station
   pub actor : new.actor ≡ old.actor
   pub setting : new.seen.setting ≡ old.seen.setting
   pub stopped : new.stopped ≡ old.stopped
 
--- It has seen a legal history of the same program and room that begins with what it had seen, and has no further turn
--- of its own, so the counters of its turns stay.
+-- The seat has seen a legal history of its program and room that extends the one it had seen without a turn of its
+-- own, so its counters stay.
 pub record Looks (old new : Seat) : Type 0 where
   pub legal : IsLegalIn new.seen
   pub begins : Extends new.seen old.seen
   pub turns : turns_by old.actor new.seen.history ≡ turns_by old.actor old.seen.history
   pub counts : counts_in new.seen old.actor ≡ seat_counts old
 
--- It has seen a legal history of the same program and room that begins with what it had seen and ends with this turn,
--- the only further one of its own. The result is the one there, and the counts of its turns grow by it.
+-- The seat has seen a legal history that extends the one it had seen and ends with this turn, its only further one.
+-- The result is that turn's, and the counters grow by it.
 pub record Turns (old : Seat) (given : Option Parts) (answer : Answer) (new : Seat) : Type 0 where
   pub legal : IsLegalIn new.seen
   pub before : Seen
@@ -81,7 +80,7 @@ pub record Turns (old : Seat) (given : Option Parts) (answer : Answer) (new : Se
   pub turns : turns_by old.actor new.seen.history ≡ turns_by old.actor old.seen.history + 1
   pub counts : counts_in new.seen old.actor ≡ counted_with (seat_counts old) answer.reply
 
--- the system begins with what the seat has seen, and has its actor as often
+-- the system's history extends the one that the seat has seen, without a turn of its own
 pub record Shows (x : Seen) (s : Seat) : Type 0 where
   pub begins : Extends x s.seen
   pub turns : turns_by s.actor x.history ≡ turns_by s.actor s.seen.history
@@ -92,7 +91,7 @@ pub record Shows (x : Seen) (s : Seat) : Type 0 where
 abbrev pub Dealt : TableId → Seen → List Seat → Type 0
 Dealt station seen seats = (k : ℕ) (s : Seat) → slice_get seats k ≡ Some s → s ≡ seat station k seen None
 
--- each seat once, in order
+-- there is one seat for each actor, in order
 abbrev pub HasEachSeat : ℕ → List Seat → Type 0
 HasEachSeat processors seats =
     (length seats ≡ processors + 1) × ((k : ℕ) (s : Seat) → slice_get seats k ≡ Some s → s.actor ≡ k)

@@ -18,7 +18,7 @@ pub record Holder : Type 0 where
 abbrev pub with_turn : Holder → Reply → Holder
 with_turn seat r = record seat { turns = seat.turns + 1; quanta = seat.quanta + quanta_in r; ticks = seat.ticks + ticks_in r }
 
--- the seat of an actor, with what the system's history has of that actor
+-- the seat of an actor, with its shares of the system's history
 abbrev pub dealt : Seen → ℕ → Holder
 dealt x actor = record {
   actor = actor;
@@ -28,7 +28,7 @@ dealt x actor = record {
   stopped = None;
 }
 
--- there is one seat for each actor, in order, with what the system's history has of that actor
+-- there is one seat for each actor, in order, with its shares of the system's history
 pub record AreDealt (x : Seen) (seats : List Holder) : Type 0 where
   pub count : length seats ≡ x.setting.program.limits.processors + 1
   pub each : (k : ℕ) (s : Holder) → slice_get seats k ≡ Some s → s ≡ dealt x k

@@ -10,33 +10,33 @@ use Rattle.lot_engine.specs.Seen.{Setting, Seen}
 abbrev pub turns_in : Seen → List ActorTurn
 turns_in x = turns_made x.setting.program x.history
 
--- how many turns of the actor a history has
+-- the number of the actor's turns in a history
 abbrev pub turns_by : ℕ → List ℕ → ℕ
 turns_by actor history = count_by (λ a. a == actor) history
 
--- how often the actor stands in the system's history
+-- the number of the actor's turns in the system's history
 abbrev pub times_in : Seen → ℕ → ℕ
 times_in x actor = turns_by actor x.history
 
--- the counters of all turns of the system's history
+-- the counters over all turns of the system's history
 abbrev pub counts_of : Seen → Counts
 counts_of x = counted (turns_in x)
 
--- the counters of the actor's turns there
+-- the counters over the actor's turns in the system's history
 abbrev pub counts_in : Seen → ℕ → Counts
 counts_in x actor = counted (turns_of actor (turns_in x))
 
--- the system's history is a legal one of its program and its room
+-- the system's history is legal for its program and room
 abbrev pub IsLegalIn : Seen → Type 0
 IsLegalIn x = IsLegal x.setting.program x.setting.room x.history
 
--- it is so of a system of this program and room, after some legal history
+-- this holds for a system of this program and room after some legal history
 pub record AtSome (setting : Setting) (IsSo : Seen → Type 0) : Type 0 where
   pub history : List ℕ
   pub legal : IsLegal setting.program setting.room history
   pub is_so : IsSo (record { setting = setting; history = history })
 
--- a program and a room, without any condition
+-- some program and room, without meaning
 abbrev pub no_setting : Setting
 no_setting = record {
   program = record {
@@ -52,6 +52,6 @@ no_setting = record {
   room = 0;
 }
 
--- a system of it that has had no turn
+-- a system of `no_setting` without turns
 abbrev pub nothing_seen : Seen
 nothing_seen = record { setting = no_setting; history = [] }

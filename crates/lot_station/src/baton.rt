@@ -1,5 +1,5 @@
-//! A system that its seats pass around as a baton: it is in a queue of one place, or in the hands of one seat. It
-//! takes no lock.
+//! A system that its seats pass around as a baton: it is in a queue of capacity one, or held by one seat. It takes no
+//! lock.
 mod rule;
 mod seat;
 mod station;

@@ -33,7 +33,7 @@ impl<T: TurnLedger, Q: Ledger, K: Ledger> Station<T, Q, K> {
 
     /// The next work of the seat's actor, as `System::work` returns it. It may block.
     ///
-    /// It is such as the system's program has after some legal history.
+    /// It is the work in the system's program after some legal history.
     pub fn work(&self, rt: &impl Wait, seat: &Seat<T, Q, K>) -> Option<Work>
         ensures { AtSome self.now (λ x. IsWorkOf x seat.now.actor result) }
     {

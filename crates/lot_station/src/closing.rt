@@ -11,11 +11,11 @@ use lot_engine::System;
 use std::sync::ledger::{Ledger, Share};
 
 impl<T: TurnLedger, Q: Ledger, K: Ledger> Station<T, Q, K> {
-    /// Takes the seats in, and gives the system back. Its history has each actor as often as its seat made turns, and
-    /// as many turns, quanta and ticks as all seats' shares together.
+    /// Takes the seats, and returns the system. Its history has as many turns of each actor as its seat made, and as
+    /// many turns, quanta and ticks as all seats' shares together.
     ///
-    /// It fails if and only if one of these is so: the seats aren't one for each actor, in order (`SeatMissing`); or
-    /// they are, but a share of turns isn't its actor's count in the history (`CountsDiffer`).
+    /// It fails if and only if the seats aren't one for each actor, in order (`SeatMissing`), or, if they are, a
+    /// share of turns isn't its actor's count in the history (`CountsDiffer`).
     pub fn close(self, seats: Vec<Seat<T, Q, K>>) -> Result<System, CloseFault<T, Q, K>>
         requires { (T.parts ≡ self.program.limits.processors + 1) × (Q.parts ≡ self.program.limits.processors + 1)
             × (K.parts ≡ self.program.limits.processors + 1) }
@@ -68,7 +68,7 @@ fn in_order<T: TurnLedger, Q: Ledger, K: Ledger>(processors: u32, seats: &[Seat<
     true
 }
 
-/// How often the actor stands in the system's history.
+/// The number of the actor's turns in the system's history.
 fn times(system: &System, actor: u32) -> u64
     requires { actor ≤ system.now.setting.program.limits.processors }
     ensures { result ≡ times_in system.now actor }
@@ -92,7 +92,7 @@ fn counts_agree<T: TurnLedger, Q: Ledger, K: Ledger>(
     true
 }
 
-/// All shares as three.
+/// All shares, joined to three.
 fn merged<T: TurnLedger, Q: Ledger, K: Ledger>(
     mut seats: Vec<Seat<T, Q, K>>,
 ) -> (Share<T>, Share<Q>, Share<K>)

@@ -1,4 +1,4 @@
-//! The system and the books under the lock.
+//! The system and its books under the lock.
 ghost use Rattle.std.specs.Prelude.{◌≡◌, length, IfOk, IfErr, OnErr};
 ghost use Rattle.lot_simulation.specs.Report as report;
 ghost use Rattle.lot_simulation.specs.Report.{total_of};
@@ -14,7 +14,7 @@ use lot_script::Slice;
 use std::marker::Brand;
 use std::sync::ledger::{Book, Ledger};
 
-/// The ledger of turns, which knows the program and the room of the system whose turns it counts.
+/// The ledger of turns, tied to the program and the room of the system whose turns it counts.
 pub trait TurnLedger: Ledger {
     ghost setting: { Setting };
 }
@@ -23,7 +23,7 @@ impl TurnLedger for Brand {
     ghost setting = { no_setting };
 }
 
-/// A system, and books of what its history has.
+/// A system, and the books of its history.
 #[derive(Drop)]
 pub(crate) struct Desk<T: TurnLedger, Q: Ledger, K: Ledger> {
     pub(crate) system: System,
@@ -38,7 +38,7 @@ pub(crate) struct Desk<T: TurnLedger, Q: Ledger, K: Ledger> {
 }
 
 impl<T: TurnLedger, Q: Ledger, K: Ledger> Desk<T, Q, K> {
-    /// The turn of the seat's actor, which is entered in the books and in the seat. A fault changes nothing.
+    /// Makes the turn of the seat's actor, and enters it in the books and in the seat. A fault changes nothing.
     pub(crate) fn turn(
         &mut self,
         seat: &mut Seat<T, Q, K>,
@@ -67,7 +67,7 @@ impl<T: TurnLedger, Q: Ledger, K: Ledger> Desk<T, Q, K> {
     }
 }
 
-/// 1 if a draw was won.
+/// 1 for a won draw.
 fn quanta_in(reply: Reply) -> u64
     ensures { result ≡ report.quanta_in reply }
 {

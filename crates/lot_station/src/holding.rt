@@ -1,11 +1,11 @@
-//! Shares whose amounts are known.
+//! Shares with known amounts.
 ghost use Rattle.std.specs.Prelude.{◌≡◌, ◌+◌, ◌<◌};
 ghost use Rattle.lot_station.specs.Shares.{IsEnough};
 
 use std::marker::Model;
 use std::sync::ledger::{Blank, Book, Ledger, Share};
 
-/// One part of a ledger, with its amount as a number: a share itself takes no bytes.
+/// One part of a ledger, with its amount as a number: a share itself has no size at run time.
 #[derive(Drop)]
 pub(crate) struct Holding<L: Ledger> {
     share: Share<L>,
@@ -23,7 +23,7 @@ impl<L: Ledger> Model for Holding<L> {
 }
 
 impl<L: Ledger> Holding<L> {
-    /// Takes one part with this amount out of the share.
+    /// Splits off one part with this amount from the share.
     pub(crate) fn split_off(all: &mut Share<L>, amount: u64) -> Self
         requires { IsEnough all.old.parts all.old.amount amount }
         ensures amount { result ≡ amount }
@@ -43,7 +43,7 @@ impl<L: Ledger> Holding<L> {
         self.amount
     }
 
-    /// Enters this much more in the book and in the part. The book then has this total.
+    /// Adds this much to the book and to the part. The book then has this total.
     pub(crate) fn add(&mut self, book: &mut Book<L>, more: u64, total: u64)
         requires { book.old.total + more ≡ total }
         ensures amount { self.new ≡ self.old + more }
@@ -55,7 +55,7 @@ impl<L: Ledger> Holding<L> {
         self.amount += more;
     }
 
-    /// Gives the part back.
+    /// Returns the part as a share.
     pub(crate) fn into_share(self) -> Share<L>
         ensures parts { result.parts ≡ 1 }
         ensures amount { result.amount ≡ self }
@@ -65,7 +65,7 @@ impl<L: Ledger> Holding<L> {
     }
 }
 
-/// The book and the whole share of a new ledger, with this total.
+/// The book of a new ledger with this total, and the share of the whole.
 pub(crate) fn opened<L: Ledger>(blank: Blank, total: u64) -> (Book<L>, Share<L>)
     requires ledger { (blank.name ≡ L.name) × (blank.parts ≡ L.parts) }
     requires some { 0 < L.parts }

@@ -1,4 +1,4 @@
-//! One system that many threads share: under a lock, or as a baton that its seats pass around.
+//! One system shared by many threads: under a lock, or as a baton that its seats pass around.
 #![tactic(auto)]
 
 mod baton;

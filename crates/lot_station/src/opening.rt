@@ -14,7 +14,7 @@ use std::sync::Mutex;
 use std::sync::ledger::{Blank, Ledger, Share};
 
 impl<T: TurnLedger, Q: Ledger, K: Ledger> Station<T, Q, K> {
-    /// Puts the system under a lock, and gives a seat for each actor, in order, with that actor's shares of the
+    /// Puts the system under a lock, and deals a seat for each actor, in order, with that actor's shares of the
     /// system's history. The blanks become the ledgers of turns, quanta and ticks, with one part for each seat. It
     /// fails only if out of memory, and then drops the system.
     pub fn open(
@@ -50,7 +50,7 @@ impl<T: TurnLedger, Q: Ledger, K: Ledger> Station<T, Q, K> {
     }
 }
 
-/// A seat for each actor, in order, with what the system's history has of that actor.
+/// A seat for each actor, in order, with that actor's shares of the system's history.
 fn deal<T: TurnLedger, Q: Ledger, K: Ledger>(
     alloc: Global,
     system: &System,

@@ -7,7 +7,7 @@ use lot_engine::TurnFault;
 use std::marker::Model;
 use std::sync::ledger::Ledger;
 
-/// The right of one actor to make turns, with its shares of the totals of all turns, and a place for the fault that
+/// The right of one actor to make turns, with its shares of the totals of all turns, and storage for the fault that
 /// stopped its user.
 #[derive(Drop)]
 pub struct Seat<T: TurnLedger, Q: Ledger, K: Ledger> {
@@ -43,7 +43,7 @@ impl<T: TurnLedger, Q: Ledger, K: Ledger> Seat<T, Q, K> {
         self.actor
     }
 
-    /// Its share of the turns: how many it made.
+    /// Its share of the turns: the number that it made.
     pub fn turns(&self) -> u64
         ensures { result ≡ self.now.turns }
     {
@@ -57,21 +57,21 @@ impl<T: TurnLedger, Q: Ledger, K: Ledger> Seat<T, Q, K> {
         self.quanta.amount()
     }
 
-    /// Its share of the ticks: those of the expiries and traps among its turns.
+    /// Its share of the ticks: the ticks of the expiries and traps among its turns.
     pub fn ticks(&self) -> u64
         ensures { result ≡ self.now.ticks }
     {
         self.ticks.amount()
     }
 
-    /// Keeps the fault that stopped the seat's user, in place of any that it had.
+    /// Stores the fault that stopped the seat's user, in place of any earlier one.
     pub fn stop(&mut self, fault: TurnFault)
         ensures { self.new ≡ record self.old { stopped = Some fault } }
     {
         self.stopped = Some(fault);
     }
 
-    /// Takes out the fault that stopped the seat's user, if one did.
+    /// Takes out the stored fault, if there is one.
     pub fn take_fault(&mut self) -> Option<TurnFault>
         ensures fault { result ≡ self.old.stopped }
         ensures taken { self.new ≡ record self.old { stopped = None } }

@@ -61,7 +61,7 @@ const SECOND_DRAW: Option<Reply> = Some(Reply::Winner {
     delivered: None,
 });
 
-/// What it writes after these turns.
+/// The output after these turns.
 const END: &str = "report
 thread 1 a quanta 2 ticks 100
 processor 1 quanta 1 idle 0 ticks 100
@@ -70,7 +70,7 @@ total turns 5 quanta 2 ticks 100
 schedule 0 1 2 1 2
 ";
 
-/// What the seats have after these turns.
+/// The seats' shares after these turns.
 const ENDED: [Shares; 3] = [(1, 0, 0), (2, 1, 100), (2, 1, 0)];
 
 /// The program of an input.

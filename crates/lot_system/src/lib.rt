@@ -1,5 +1,5 @@
-//! The simulated system, and `play`, which makes the turns of a program and writes them. All of it is in `lot_engine`
-//! and `lot_play`; this crate is where callers find both.
+//! The simulated system, and `play`, which makes the turns of a program and writes them. It re-exports `lot_engine`
+//! and `lot_play`, so that callers find both here.
 #![tactic(auto)]
 
 pub use lot_engine::{Answer, Counts, System, TurnFault, Work, laws, slice_for, slice_in};

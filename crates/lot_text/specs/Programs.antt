@@ -1,16 +1,16 @@
--- What is true of every program that an input says.
+-- The invariant of every parsed program.
 use Rattle.std.specs.Prelude.{◌≡◌, ℕ, ◌≤◌, length, All, IsSome}
 use Rattle.std.specs.List.Sorted.{IsNonDecreasing}
 use Rattle.lot_machine.specs.Bounds.{IsBetween, IsWithinBounds}
 use Rattle.lot_simulation.specs.World.{Program}
 
--- a seed of a generator
+-- the number is a valid seed of a generator
 abbrev pub IsSeed : ℕ → Type 0
 IsSeed seed = IsBetween 1 2147483646 seed
 
--- Its sizes are within their bounds. There is a seed for each processor, and a size says how many scripts there are.
--- The schedule's actors are the console and the processors. Turns, commands and schedule are no more than an input may
--- have. If its turns come in the order of time, each command has a time. Times don't fall.
+-- Sizes are within their bounds; each processor has a seed; the number of scripts is that of the sizes; the
+-- schedule's actors are the console and the processors; turns, commands and schedule are within the limits of inputs.
+-- If the program is timed, each command has a time. Times never decrease.
 pub record IsProgram (program : Program) : Type 0 where
   pub limits : IsWithinBounds program.limits
   pub seed_count : length program.seeds ≡ program.limits.processors

@@ -1,10 +1,10 @@
--- What a state of reading says.
+-- The reading in the fields of a state.
 use Rattle.std.specs.Prelude.{option_map}
 use Rattle.lot_simulation.specs.Formats.{is_timed, unit_of}
 use Rattle.lot_simulation.specs.Reading.{Reading}
 use Rattle.lot_text.specs.declared.reading.Reading.TheInside.{Inside}
 
--- what was read, by the fields that keep it
+-- the reading in these fields
 abbrev pub reading_of : Inside → Reading
 reading_of r = record {
   place = r.place;

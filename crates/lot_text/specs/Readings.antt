@@ -1,4 +1,4 @@
--- What is true of every state of reading an input.
+-- The invariant of every state of reading an input.
 use Rattle.std.specs.Prelude.{◌≡◌, ℕ, ◌<◌, ◌≤◌, Result, Ok, List, [], ◌∷◌, length, take, All, IsSome, IsTrue, Some, None, if◌then◌else◌}
 use Rattle.std.specs.List.Sorted.{IsNonDecreasing}
 use Rattle.std.specs.Option.{ForSome}
@@ -11,13 +11,13 @@ use Rattle.lot_simulation.specs.Reading.{Reading, OpenScript, ◌>>=◌, checked
 use Rattle.lot_script.specs.Drafts.{loops_after}
 use Rattle.lot_text.specs.Programs.{IsSeed}
 
--- seeds, as many as there are processors
+-- valid seeds, one for each processor
 pub record AreSeeds (processors : ℕ) (seeds : List ℕ) : Type 0 where
   pub count : length seeds ≡ processors
   pub each : All IsSeed seeds
 
--- All values read so far are within the bounds of an input. Right after the first line nothing is known that depends
--- on the number of processors.
+-- All values read so far are within the bounds of an input. Right after the first line, nothing that depends on the
+-- number of processors is known.
 pub record IsReading (r : Reading) : Type 0 where
   pub processors : IsBetween 1 64 r.processors
   pub quantum : IsBetween 1 1000 r.quantum
@@ -40,26 +40,26 @@ pub record IsReading (r : Reading) : Type 0 where
   pub unseeded : r.place ≡ 0 → r.seeds ≡ None
   pub unscheduled : r.place ≡ 0 → r.schedule ≡ []
 
--- what is read of a line of the body, with which the header ends
+-- the reading after a line of the body, which ends the header
 abbrev pub after_header : Result Reading InputRefusal → Result Reading InputRefusal
 after_header read = read >>= λ after. Ok (record after { place = 7 })
 
--- what was read, with this script open
+-- the reading with this script open
 abbrev pub within_script : Reading → OpenScript → Reading
 within_script r s = record r { unclosed = Some s }
 
--- how many of the tokens after a word of a script belong to it
+-- the number of arguments among the tokens after a word of a script
 abbrev pub argument_count : List ℕ → ℕ
 argument_count word = if is_alone word then 0 else 1
 
--- a word of a script that stands before these tokens, with what belongs to it
+-- a word of a script in front of these tokens, with its arguments
 abbrev pub phrase_at : List ℕ → List (List ℕ) → Phrase
 phrase_at word tokens = record { word = word; tokens = take (argument_count word) tokens }
 
--- the script goes on with this line, which may open or end a loop
+-- the reading after the script gets this line, which may open or end a loop
 abbrev pub line_added : Reading → OpenScript → Line → Result Reading InputRefusal
 line_added r s l = checked ((is_full s, TooLong) ∷ []) (within_script r (record (with_line s l) { loops = loops_after s.loops l }))
 
--- the schedule goes on with each pair of tokens as a run
+-- the reading after the schedule gets each pair of tokens as a run
 abbrev pub pairs_added : Reading → List (List ℕ) → Result Reading InputRefusal
 pairs_added r tokens = each_pair (run_of r.processors) tokens >>= λ runs. add_runs r runs

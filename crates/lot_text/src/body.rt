@@ -11,7 +11,7 @@ use crate::number::{actor_below, any_number, number_in};
 use crate::reading::{BODY, MOST_ENTRIES, OpenScript, Reading};
 use crate::runs::read_runs;
 use crate::tokens::Tokens;
-use lot_machine::{Command, Kind, Sizes, is_good_name};
+use lot_machine::{Command, CurrencyRef, Kind, Sizes, TargetRef, ThreadRef, is_good_name};
 use lot_script::ScriptBuilder;
 use lot_simulation::{BodyWord, InputRefusal, Range, ranges};
 use std::alloc::Global;
@@ -110,7 +110,7 @@ fn make_ticket(reading: &mut Reading, mut tokens: Tokens<'_>) -> Result<(), Line
     let amount = tokens.expected()?;
     let currency = tokens.only()?;
     let amount = any_number(amount)?;
-    let currency = any_name(currency)?;
+    let currency = CurrencyRef::Named(any_name(currency)?);
     reading.add_command(Command::MakeTicket { amount, currency })
 }
 
@@ -138,7 +138,7 @@ fn remove_currency(reading: &mut Reading, tokens: Tokens<'_>) -> Result<(), Line
         → Gives reading.new result (body_after_header n reading.old BodyWord.RemoveCurrency tokens.entry) }
 {
     let currency = tokens.only()?;
-    let currency = any_name(currency)?;
+    let currency = CurrencyRef::Named(any_name(currency)?);
     reading.add_command(Command::RemoveCurrency { currency })
 }
 
@@ -149,7 +149,7 @@ fn fund(reading: &mut Reading, mut tokens: Tokens<'_>) -> Result<(), LineFault>
     let ticket = tokens.expected()?;
     let target = tokens.only()?;
     let ticket = any_number(ticket)?;
-    let target = any_name(target)?;
+    let target = TargetRef::Named(any_name(target)?);
     reading.add_command(Command::Fund { ticket, target })
 }
 
@@ -168,7 +168,7 @@ fn remove_thread(reading: &mut Reading, mut tokens: Tokens<'_>) -> Result<(), Li
         → Gives reading.new result (body_after_header n reading.old BodyWord.RemoveThread tokens.entry) }
 {
     let thread = tokens.only()?;
-    let thread = any_name(thread)?;
+    let thread = ThreadRef::Named(any_name(thread)?);
     reading.add_command(Command::RemoveThread { thread })
 }
 
@@ -203,7 +203,7 @@ fn make_funded(reading: &mut Reading, mut tokens: Tokens<'_>) -> Result<(), Line
     let name = tokens.expected()?;
     let script = tokens.only()?;
     let amount = any_number(amount)?;
-    let currency = any_name(currency)?;
+    let currency = CurrencyRef::Named(any_name(currency)?);
     let name = any_name(name)?;
     let script = script_named(reading, script)?;
     reading.add_command(Command::MakeFunded {
@@ -239,7 +239,7 @@ fn list_threads(reading: &mut Reading, tokens: Tokens<'_>) -> Result<(), LineFau
     reading.add_command(Command::List(Kind::Threads))
 }
 
-/// A script of a command, by its number; 0 if no script so far has the name.
+/// The number of the script with this name, in a command; 0 if there is none so far.
 fn script_named(reading: &Reading, token: &[u8]) -> Result<u32, InputRefusal>
     ensures { result ≡ script_number_read (script_names reading.now) token.now }
 {
@@ -249,7 +249,7 @@ fn script_named(reading: &Reading, token: &[u8]) -> Result<u32, InputRefusal>
     Ok(reading.script_number(token))
 }
 
-/// `at TICK`: the commands to come are made then
+/// `at TICK`: the time of the commands after it
 fn at(reading: &mut Reading, tokens: Tokens<'_>) -> Result<(), LineFault>
     ensures { (n : ℕ) → Gives reading.new result (body_after_header n reading.old BodyWord.At tokens.entry) }
 {
@@ -303,7 +303,7 @@ fn runs(alloc: Global, reading: &mut Reading, tokens: Tokens<'_>) -> Result<(), 
     add_pairs(alloc, reading, tokens)
 }
 
-/// The schedule goes on with each pair of tokens as a run.
+/// Adds each pair of tokens to the schedule as a run.
 fn add_pairs(alloc: Global, reading: &mut Reading, tokens: Tokens<'_>) -> Result<(), LineFault>
     ensures { Gives reading.new result (after_header (pairs_added reading.old tokens.entry)) }
 {

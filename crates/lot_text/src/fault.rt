@@ -1,4 +1,4 @@
-//! Why an input isn't read.
+//! Faults of reading an input.
 ghost use Rattle.std.specs.Prelude.{◌≡◌};
 ghost use Rattle.lot_text.specs.declared.fault.LineFault.TheVariants.{Memory, Refused};
 ghost use Rattle.lot_text.specs.declared.fault.ParseFault.TheVariants as parse_fault;
@@ -8,7 +8,7 @@ use lot_simulation::{InputFault, InputRefusal};
 use std::alloc::{AllocError, AllocFailed};
 use thiserror::Error;
 
-/// Why an input isn't read to its end.
+/// The reason why an input isn't read to its end.
 #[derive(Debug, PartialEq, Eq, Drop, Error)]
 pub enum ParseFault {
     /// Out of memory.
@@ -27,7 +27,7 @@ impl From<AllocError> for ParseFault {
     }
 }
 
-/// Why a line isn't read.
+/// The reason why a line isn't read.
 #[derive(PartialEq, Eq, Drop)]
 pub(crate) enum LineFault {
     Memory,
@@ -35,7 +35,7 @@ pub(crate) enum LineFault {
 }
 
 impl LineFault {
-    /// The same fault, of the line with this number.
+    /// This fault, for the line with this number.
     pub(crate) fn on_line(self, line: u32) -> ParseFault
         ensures { result ≡ fault_on line self }
     {

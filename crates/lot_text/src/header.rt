@@ -12,7 +12,7 @@ use crate::tokens::Tokens;
 use lot_simulation::{FIRST_WORD, Format, HeaderWord, InputRefusal, ranges};
 use std::alloc::Global;
 
-/// The first line that isn't ignored, which says the format: `lottery 1`, `lottery 2` or `lottery 3`.
+/// The first line that isn't ignored, which gives the format: `lottery 1`, `lottery 2` or `lottery 3`.
 pub(crate) fn first_line(
     alloc: Global,
     word: &[u8],
@@ -30,7 +30,7 @@ pub(crate) fn first_line(
     }
 }
 
-/// A later line of the header, which has to come after those so far.
+/// A later line of the header, whose word must come after those so far.
 pub(crate) fn header_line(
     alloc: Global,
     reading: &mut Reading,
@@ -86,7 +86,7 @@ fn read_turns(reading: &mut Reading, tokens: Tokens<'_>) -> Result<(), LineFault
     Ok(())
 }
 
-/// `for TICKS`, in an input whose turns come in the order of time
+/// `for TICKS`, in a timed input
 fn read_duration(reading: &mut Reading, tokens: Tokens<'_>) -> Result<(), LineFault>
     requires { reading.old.place < 4 }
     ensures { Gives reading.new result (header_in_order reading.old HeaderWord.For tokens.entry) }

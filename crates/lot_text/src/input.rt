@@ -19,8 +19,8 @@ use crate::{ParseFault, Program};
 use lot_simulation::{BodyWord, Format, HeaderWord, InputFault, InputRefusal, ScriptWord};
 use std::alloc::Global;
 
-/// The program that the bytes of an input say, exactly. Otherwise the first line that has a fault, and the first of
-/// its faults; or `Memory`, if out of memory.
+/// Returns exactly the program in the bytes of an input. Otherwise returns the first faulty line with its first
+/// fault; or `Memory`, if out of memory.
 pub fn parse(alloc: Global, bytes: &[u8]) -> Result<Program, ParseFault>
     ensures program { IfOk result (λ program. program_in bytes.now ≡ Ok program) }
     ensures fault { IfErr result (IsFaultOf (program_in bytes.now)) }
@@ -48,7 +48,7 @@ pub fn parse(alloc: Global, bytes: &[u8]) -> Result<Program, ParseFault>
     }
 }
 
-/// Reads the line of this number. Up to its end the input has `end` bytes.
+/// Reads the line with this number. The input has `end` bytes up to the line's end.
 fn read_line(
     alloc: Global,
     reading: &mut Option<Reading>,
@@ -98,7 +98,7 @@ fn later_line(
     }
 }
 
-/// A line inside a script that has one word.
+/// A line inside a script that has one word with its arguments.
 fn line_inside(
     reading: &mut Reading,
     script: OpenScript,
@@ -116,7 +116,7 @@ fn line_inside(
     }
 }
 
-/// The words of a line inside a script, from left to right, each with what belongs to it.
+/// The words of a line inside a script, from left to right, each with its argument, if it takes one.
 fn phrases_inside(
     reading: &mut Reading,
     first: &[u8],
@@ -134,7 +134,7 @@ fn phrases_inside(
     }
 }
 
-/// A word of a line inside a script, with the token after it if that belongs to it.
+/// A word of a line inside a script, with its argument, if it takes one.
 fn phrase_inside(
     reading: &mut Reading,
     word: &[u8],

@@ -1,4 +1,4 @@
-//! Inputs: what their bytes say.
+//! Parsing of inputs.
 #![tactic(auto)]
 
 mod body;

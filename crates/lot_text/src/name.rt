@@ -7,14 +7,14 @@ ghost use Rattle.lot_simulation.specs.Reading.{known_name as known_name_read, nu
 use lot_machine::{Name, is_good_name};
 use lot_simulation::InputRefusal;
 
-/// A name in a command, which the kernel judges.
+/// A name in a command. Only the kernel checks it further.
 pub(crate) fn any_name(token: &[u8]) -> Result<Name, InputRefusal>
     ensures { result ≡ any_name_read token.now }
 {
     Name::from_bytes(token).ok_or(InputRefusal::TooLong)
 }
 
-/// A name that is given to a port or a mutex: a good one that no other of its kind has.
+/// The name of a new port or mutex: a good one that no other of its kind has.
 pub(crate) fn new_name(names: &[Name], token: &[u8]) -> Result<Name, InputRefusal>
     requires { length names.now ≤ 256 }
     ensures { result ≡ new_name_read names.now token.now }
@@ -26,7 +26,7 @@ pub(crate) fn new_name(names: &[Name], token: &[u8]) -> Result<Name, InputRefusa
     Ok(name)
 }
 
-/// A port or a mutex of a script's line, by its number.
+/// The number of the port or mutex with this name, in a line of a script.
 pub(crate) fn known_name(names: &[Name], token: &[u8]) -> Result<u32, InputRefusal>
     requires { length names.now ≤ 256 }
     ensures { result ≡ known_name_read names.now token.now }
@@ -37,7 +37,7 @@ pub(crate) fn known_name(names: &[Name], token: &[u8]) -> Result<u32, InputRefus
     number_named(names, token).ok_or(InputRefusal::UnknownName)
 }
 
-/// The number of the first of these names that is spelled this way, from 1 on.
+/// The number of the first of these names with this spelling, from 1.
 fn number_named(names: &[Name], token: &[u8]) -> Option<u32>
     requires { length names.now ≤ 256 }
     ensures { result ≡ number_named_read names.now token.now }
@@ -48,7 +48,7 @@ fn number_named(names: &[Name], token: &[u8]) -> Option<u32>
     }
 }
 
-/// The place of the first of these names that is spelled this way.
+/// The index of the first of these names with this spelling.
 fn place_named(names: &[Name], token: &[u8]) -> Option<usize>
     ensures place { result ≡ position (bytes_eq token.now) names.now }
     ensures within { IfSome result (λ place. place < length names.now) }

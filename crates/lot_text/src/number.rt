@@ -31,7 +31,7 @@ fn are_digits(token: &[u8]) -> bool
     token.iter().all(|b| b.is_ascii_digit())
 }
 
-/// The number that the digits write, or `None` if it has more than 64 bits.
+/// The number with these digits, or `None` if it has more than 64 bits.
 fn value(digits: &[u8]) -> Option<u64>
     requires { list_all is_ascii_digit digits.now ≡ true }
     ensures { result ≡ within_64_bits (digits_value 10 digits.now) }
@@ -46,7 +46,7 @@ fn value(digits: &[u8]) -> Option<u64>
     Some(value)
 }
 
-/// The number that this one makes with one more digit at its end.
+/// The number with one more digit at its end.
 fn with_digit(value: u64, digit: u8) -> Option<u64>
     requires { is_ascii_digit digit ≡ true }
     ensures { result ≡ within_64_bits (value * 10 + digit_value digit) }
@@ -55,7 +55,7 @@ fn with_digit(value: u64, digit: u8) -> Option<u64>
     tens.checked_add(u64::from(digit - b'0'))
 }
 
-/// The number that the token is, if it is one.
+/// The token as a number, if it is one.
 pub(crate) fn number(token: &[u8]) -> Option<u64>
     ensures { result ≡ number_of token.now }
 {
@@ -78,7 +78,7 @@ pub(crate) fn number_in(range: Range, token: &[u8]) -> Result<u32, InputRefusal>
     Ok(number as u32)
 }
 
-/// An amount or a ticket's number in a command, which the kernel judges.
+/// An amount or a ticket's number in a command. Only the kernel checks it further.
 pub(crate) fn any_number(token: &[u8]) -> Result<u64, InputRefusal>
     ensures { result ≡ any_number_read token.now }
 {

@@ -1,4 +1,4 @@
-//! The program that an input says.
+//! The program in an input.
 ghost use Rattle.std.specs.Prelude.{◌≡◌, is_some, IfOk};
 ghost use Rattle.lot_machine.specs.State.{sizes_of};
 ghost use Rattle.lot_simulation.specs.Formats.{is_timed, unit_of};
@@ -10,8 +10,8 @@ use lot_simulation::Format;
 use std::alloc::{AllocError, Global};
 use std::marker::Model;
 
-/// A system, its commands, how many turns each processor has in a free run, and whose turns come in a scheduled one;
-/// or how long it runs, if its turns come in the order of time.
+/// A system and its commands; the turns of each processor in a free run, and the schedule; or the duration, if the
+/// program is timed.
 #[derive(Debug, Drop)]
 pub struct Program {
     pub(crate) format: Format,
@@ -62,7 +62,7 @@ impl Model for Program {
 }
 
 impl Program {
-    /// The format of the input that says the program.
+    /// The format of the program's input.
     #[inline(always)]
     pub fn format(&self) -> Format
         ensures unit { unit_of result ≡ self.now.limits.unit }
@@ -72,7 +72,7 @@ impl Program {
         self.format
     }
 
-    /// How much there is room for, the processors, the quantum and the unit.
+    /// The sizes of the tables, the number of processors, the quantum and the unit.
     pub fn limits(&self) -> Limits
         ensures limits { sizes_of result ≡ self.now.limits }
         ensures legal { IsProgram self.now }
@@ -96,7 +96,7 @@ impl Program {
         self.turns
     }
 
-    /// The scripts, of which the first has number 1.
+    /// The scripts; the first has number 1.
     pub fn scripts(&self) -> &[Script]
         ensures scripts { result.now ≡ self.now.scripts }
         ensures legal { IsProgram self.now }
@@ -112,7 +112,7 @@ impl Program {
         self.commands.as_slice()
     }
 
-    /// Whose turns come in a scheduled run, 0 for the console and otherwise a processor's number, at most 1000000.
+    /// The actors of a scheduled run in order, 0 for the console and otherwise a processor's number, at most 1000000.
     pub fn schedule(&self) -> &[u8]
         ensures schedule { result.now ≡ self.now.schedule }
         ensures legal { IsProgram self.now }
@@ -120,7 +120,7 @@ impl Program {
         self.schedule.as_slice()
     }
 
-    /// How many ticks the input runs for, at least 1, if its turns come in the order of time (`lottery 3`).
+    /// The ticks for which a timed program (`lottery 3`) runs, at least 1; `None` for another program.
     pub fn duration(&self) -> Option<u32>
         ensures duration { result ≡ self.now.duration }
         ensures legal { IsProgram self.now }
@@ -128,7 +128,7 @@ impl Program {
         self.duration
     }
 
-    /// The tick at which each command is made, if turns come in the order of time; otherwise none. They don't fall.
+    /// The tick of each command, if the program is timed, and otherwise none. They never decrease.
     pub fn times(&self) -> &[u32]
         ensures times { result.now ≡ self.now.times }
         ensures legal { IsProgram self.now }
@@ -136,7 +136,7 @@ impl Program {
         self.times.as_slice()
     }
 
-    /// The same program again, in memory of its own. It fails only if out of memory.
+    /// A copy of the program, in memory of its own. It fails only if out of memory.
     pub fn copied(&self, alloc: Global) -> Result<Program, AllocError>
         ensures { IfOk result (λ program. program ≡ self.now) }
     {
@@ -154,7 +154,7 @@ impl Program {
     }
 }
 
-/// The same scripts again.
+/// A copy of the scripts.
 fn copied_scripts(alloc: Global, scripts: &[Script]) -> Result<Vec<Script>, AllocError>
     ensures { IfOk result (λ copies. copies.items ≡ scripts.now) }
 {
@@ -165,7 +165,7 @@ fn copied_scripts(alloc: Global, scripts: &[Script]) -> Result<Vec<Script>, Allo
     Ok(copies)
 }
 
-/// The same commands again.
+/// A copy of the commands.
 fn copied_commands(alloc: Global, commands: &[Command]) -> Result<Vec<Command>, AllocError>
     ensures { IfOk result (λ copies. copies.items ≡ commands.now) }
 {

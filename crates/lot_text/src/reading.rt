@@ -24,7 +24,7 @@ use lot_simulation::{Format, HEADER_WORDS, InputFault, InputRefusal};
 use std::alloc::{AllocError, Global};
 use std::marker::Model;
 
-/// A script that was closed.
+/// A closed script.
 #[derive(Drop)]
 pub(crate) struct NamedScript {
     pub(crate) name: Name,
@@ -39,7 +39,7 @@ impl Model for NamedScript {
     ghost view = { λ s. record { name = s.name; lines = s.script } };
 }
 
-/// A script that isn't closed yet: the line where it began, and its lines so far.
+/// An open script: the line where it begins, and its lines so far.
 #[derive(Drop)]
 pub(crate) struct OpenScript {
     pub(crate) name: Name,
@@ -58,7 +58,7 @@ impl Model for OpenScript {
 /// The place of the body, after those of the header's lines.
 pub(crate) const BODY: u32 = HEADER_WORDS.len() as u32;
 
-/// How many entries a schedule may have.
+/// The largest number of entries in a schedule.
 pub(crate) const MOST_ENTRIES: usize = 1000000;
 
 /// The state after some lines of an input. The place is that of the header's last line, or the body's.
@@ -79,9 +79,9 @@ pub(crate) struct Reading {
     pub(crate) scripts: Vec<NamedScript>,
     pub(crate) unclosed: Option<OpenScript>,
     pub(crate) commands: Vec<Command>,
-    /// When the commands to come are made.
+    /// The time of the next commands.
     pub(crate) time: u32,
-    /// When those so far are made, if turns come in the order of time.
+    /// The times of the commands so far, in a timed input.
     pub(crate) times: Vec<u32>,
     pub(crate) schedule: Vec<u8>,
 }
@@ -100,7 +100,7 @@ impl Model for Reading {
 }
 
 impl Reading {
-    /// The state after the first line, which says the format.
+    /// The state after the first line, which gives the format.
     pub(crate) fn new(alloc: Global, format: Format) -> Self
         ensures { result ≡ opening_reading (is_timed format) (unit_of format) }
     {
@@ -126,14 +126,14 @@ impl Reading {
         }
     }
 
-    /// Whether the header doesn't say yet how long the input runs, though it must.
+    /// Whether the duration, which a timed input must give, is still missing.
     pub(crate) fn lacks_duration(&self) -> bool
         ensures { result ≡ lacks_duration_read self.now }
     {
         self.format.is_timed() && self.duration.is_none()
     }
 
-    /// One more command, which ends the header.
+    /// Adds a command, which ends the header.
     pub(crate) fn add_command(&mut self, command: Command) -> Result<(), LineFault>
         ensures { Gives self.new result (after_header (add_command_read self.old command)) }
     {
@@ -148,7 +148,7 @@ impl Reading {
         Ok(())
     }
 
-    /// The same, of an input whose turns come in the order of time.
+    /// Adds a command of a timed input.
     fn add_timed_command(&mut self, command: Command) -> Result<(), LineFault>
         requires timed { IsTrue self.old.is_timed }
         requires room { length self.old.commands < 100000 }
@@ -161,7 +161,7 @@ impl Reading {
         Ok(())
     }
 
-    /// These further runs in the schedule, which end the header.
+    /// Adds these runs to the schedule, which ends the header.
     pub(crate) fn add_runs(&mut self, alloc: Global, runs: &[ActorRun]) -> Result<(), LineFault>
         requires { All (λ run. run.actor ≤ self.old.processors) runs.now }
         ensures { Gives self.new result (after_header (add_runs_read self.old runs.now)) }
@@ -175,7 +175,7 @@ impl Reading {
         Ok(())
     }
 
-    /// The number of the script with this name, or 0 if no script so far has it.
+    /// The number of the script with this name, or 0 if there is none so far.
     pub(crate) fn script_number(&self, name: &[u8]) -> u32
         ensures { result ≡ unwrap_or (number_named (script_names self.now) name.now) 0 }
     {
@@ -185,7 +185,7 @@ impl Reading {
         }
     }
 
-    /// The limits that were read.
+    /// The limits in the header.
     fn limits(&self) -> Limits
         ensures { sizes_of result ≡ limits_of self.now }
     {
@@ -203,8 +203,7 @@ impl Reading {
         Limits::new(sizes).unwrap()
     }
 
-    /// The program, if no script is open, and the header says how long the input runs if it must. The last line has
-    /// this number.
+    /// The program, if no script is open and a timed input gave its duration. This is the last line's number.
     pub(crate) fn into_program(self, alloc: Global, last: u32) -> Result<Program, ParseFault>
         ensures program { (count : ℕ) → last ≡ max 1 count
             → IfOk result (λ program. whole_program count (Some self) ≡ Ok program) }
@@ -268,7 +267,7 @@ impl Reading {
     }
 }
 
-/// The place of the first script with this name.
+/// The index of the first script with this name.
 fn place_named(scripts: &[NamedScript], name: &[u8]) -> Option<usize>
     ensures place { result ≡ position (λ s. bytes_eq name.now s.name) scripts.now }
     ensures within { IfSome result (λ place. place < length scripts.now) }
@@ -276,8 +275,7 @@ fn place_named(scripts: &[NamedScript], name: &[u8]) -> Option<usize>
     scripts.iter().position(|s| name == s.name.as_bytes())
 }
 
-/// The seeds that were given; if they are left out, processor p has seed p, or a mixed one if turns come in the order
-/// of time.
+/// The seeds in the input; without them processor p has seed p, or its mixed seed in a timed input.
 fn seeds_or_own(
     alloc: Global,
     given: Option<Vec<u32>>,
@@ -298,7 +296,7 @@ fn seeds_or_own(
     }
 }
 
-/// For each processor a seed of its own, so that they don't draw in lock step.
+/// A distinct mixed seed for each processor, so that they don't draw in lock step.
 fn mixed_seeds(alloc: Global, processors: u32) -> Result<Vec<u32>, AllocError>
     requires { IsBetween 1 64 processors }
     ensures seeds { IfOk result (λ s. AreSeeds processors s.items) }
@@ -313,7 +311,7 @@ fn mixed_seeds(alloc: Global, processors: u32) -> Result<Vec<u32>, AllocError>
     Ok(seeds)
 }
 
-/// For each processor its number as its seed.
+/// For each processor its own number as its seed.
 fn own_seeds(alloc: Global, processors: u32) -> Result<Vec<u32>, AllocError>
     requires { IsBetween 1 64 processors }
     ensures seeds { IfOk result (λ s. AreSeeds processors s.items) }
@@ -326,7 +324,7 @@ fn own_seeds(alloc: Global, processors: u32) -> Result<Vec<u32>, AllocError>
     Ok(seeds)
 }
 
-/// The scripts alone.
+/// The scripts without their names.
 fn without_names(alloc: Global, named: Vec<NamedScript>) -> Result<Vec<Script>, AllocError>
     ensures { IfOk result (λ scripts. scripts.items ≡ map (λ s. s.lines) named.items) }
 {

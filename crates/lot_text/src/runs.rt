@@ -11,7 +11,7 @@ use lot_simulation::{InputRefusal, ranges};
 use std::alloc::{AllocError, Global};
 use std::marker::Model;
 
-/// An actor, and how many turns in a row it has.
+/// An actor, and its number of turns in a row.
 #[derive(Clone, Copy)]
 pub(crate) struct ActorRun {
     actor: u8,
@@ -28,7 +28,7 @@ impl Model for ActorRun {
     ghost inverse = { λ r. record { actor = r.actor; count = r.count } };
 }
 
-/// Each pair of tokens as a run, from left to right; a last token alone isn't read.
+/// Each pair of tokens as a run, from left to right; a last token without a partner is ignored.
 pub(crate) fn read_runs(
     alloc: Global,
     processors: u32,
@@ -46,7 +46,7 @@ pub(crate) fn read_runs(
     Ok(runs)
 }
 
-/// An actor, and how many turns in a row it has.
+/// An actor, and its number of turns in a row, from their tokens.
 fn run_of(processors: u32, actor: &[u8], count: &[u8]) -> Result<ActorRun, InputRefusal>
     requires { processors ≤ 64 }
     ensures actor { IfOk result (λ run. run.actor ≤ processors) }

@@ -182,7 +182,7 @@ fn end_script(
     Ok(())
 }
 
-/// The script goes on with this line, unless it has as many as one may have.
+/// Adds this line to the script, unless it has as many lines as are allowed.
 fn add_line(reading: &mut Reading, mut script: OpenScript, line: Line) -> Result<(), LineFault>
     requires room { length reading.old.scripts < 256 }
     requires number { IsLine line }

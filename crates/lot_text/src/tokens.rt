@@ -7,7 +7,7 @@ ghost use Rattle.lot_simulation.specs.Lines.{tokens_of, is_comment, is_printable
 use lot_simulation::InputRefusal;
 use std::marker::Model;
 
-/// The tokens of a line that are left.
+/// The remaining tokens of a line.
 #[derive(Drop)]
 pub(crate) struct Tokens<'a> {
     rest: &'a [u8],
@@ -45,7 +45,7 @@ impl<'a> Tokens<'a> {
         Some(&word[..len])
     }
 
-    /// The next token alone, as tokens of which it is the only one; none at the end.
+    /// The next token as the only one of a list; an empty list at the end.
     pub(crate) fn next_alone(&mut self) -> Tokens<'a>
         ensures alone { result ≡ take 1 self.old }
         ensures rest { self.new ≡ drop 1 self.old }
@@ -56,7 +56,7 @@ impl<'a> Tokens<'a> {
         }
     }
 
-    /// The next token. There has to be one.
+    /// The next token, which must exist.
     pub(crate) fn expected(&mut self) -> Result<&'a [u8], InputRefusal>
         ensures { MatchResult result (λ token. self.old ≡ token.now ∷ self.new)
             (λ e. (e ≡ InputRefusal.BadLine) × (self.old ≡ [])) }
@@ -64,7 +64,7 @@ impl<'a> Tokens<'a> {
         self.next_token().ok_or(InputRefusal::BadLine)
     }
 
-    /// The last token. There has to be one and no other.
+    /// The last token: there must be one and no other.
     pub(crate) fn only(mut self) -> Result<&'a [u8], InputRefusal>
         ensures { MatchResult result (λ token. self.entry ≡ token.now ∷ [])
             (λ e. (e ≡ InputRefusal.BadLine) × (length self.entry ≢ 1)) }
@@ -74,7 +74,7 @@ impl<'a> Tokens<'a> {
         Ok(token)
     }
 
-    /// The end. There has to be no token.
+    /// The end: there must be no token left.
     pub(crate) fn none(mut self) -> Result<(), InputRefusal>
         ensures { MatchResult result (λ _. self.entry ≡ []) (λ e. (e ≡ InputRefusal.BadLine)
             × (length self.entry ≢ 0)) }
@@ -94,7 +94,7 @@ impl<'a> Tokens<'a> {
         Some((first, second))
     }
 
-    /// Whether the tokens are pairs, with none left over.
+    /// Whether the tokens are pairs, without a rest.
     pub(crate) fn are_pairs(&self) -> bool
         ensures { IsTrue result ↔ (length self.now % 2 ≡ 0) }
     {
@@ -123,7 +123,7 @@ impl<'a> Tokens<'a> {
     }
 }
 
-/// How many spaces the bytes begin with.
+/// The number of spaces at the front of the bytes.
 fn spaces_in_front(bytes: &[u8]) -> usize
     ensures spaces { result ≡ prefix_len (λ b. b == 32) bytes.now }
     ensures within { result ≤ length bytes.now }
@@ -131,7 +131,7 @@ fn spaces_in_front(bytes: &[u8]) -> usize
     bytes.iter().take_while(|b| **b == b' ').count()
 }
 
-/// How many bytes stand before the first of this value, or how many there are if none has it.
+/// The number of bytes before the first with this value, or of all bytes if none has it.
 pub(crate) fn len_before(byte: u8, bytes: &[u8]) -> usize
     ensures others { result ≡ prefix_len (λ b. not (b == byte)) bytes.now }
     ensures within { result ≤ length bytes.now }
@@ -146,7 +146,7 @@ pub(crate) fn begins_comment(token: &[u8]) -> bool
     token.first() == Some(&b'#')
 }
 
-/// Whether each byte of the line is a space or prints.
+/// Whether each byte of the line is printable ASCII or a space.
 pub(crate) fn is_printable(line: &[u8]) -> bool
     ensures { result ≡ is_printable_line line.now }
 {

@@ -3,7 +3,7 @@ mod same;
 mod slices;
 
 use crate::fault_of;
-use lot_machine::{Command, Kind, Limits, Name, Sizes};
+use lot_machine::{Command, CurrencyRef, Kind, Limits, Name, Sizes, TargetRef, ThreadRef};
 use lot_script::Script;
 use lot_simulation::{InputFault, InputRefusal, Line, MutexTrap, PortTrap, ScriptTrap};
 use lot_text::{ParseFault, Program, parse};
@@ -28,7 +28,7 @@ enum Asked<'a> {
     List(Kind),
 }
 
-/// What an input says.
+/// The content of an input.
 struct Said<'a> {
     sizes: Sizes,
     seeds: &'a [u32],
@@ -47,7 +47,7 @@ fn name(rt: &impl Abort, text: &str) -> Name {
 fn command(rt: &impl Abort, asked: Asked<'_>) -> Command {
     match asked {
         Asked::MakeTicket(amount, text) => {
-            let currency = name(rt, text);
+            let currency = CurrencyRef::Named(name(rt, text));
             Command::MakeTicket { amount, currency }
         }
         Asked::RemoveTicket(ticket) => Command::RemoveTicket { ticket },
@@ -55,10 +55,10 @@ fn command(rt: &impl Abort, asked: Asked<'_>) -> Command {
             name: name(rt, text),
         },
         Asked::RemoveCurrency(text) => Command::RemoveCurrency {
-            currency: name(rt, text),
+            currency: CurrencyRef::Named(name(rt, text)),
         },
         Asked::Fund(ticket, text) => {
-            let target = name(rt, text);
+            let target = TargetRef::Named(name(rt, text));
             Command::Fund { ticket, target }
         }
         Asked::Unfund(ticket) => Command::Unfund { ticket },
@@ -68,11 +68,11 @@ fn command(rt: &impl Abort, asked: Asked<'_>) -> Command {
             Command::MakeThread { name, script }
         }
         Asked::RemoveThread(text) => Command::RemoveThread {
-            thread: name(rt, text),
+            thread: ThreadRef::Named(name(rt, text)),
         },
         Asked::MakeFunded(amount, issuer, text, script) => Command::MakeFunded {
             amount,
-            currency: name(rt, issuer),
+            currency: CurrencyRef::Named(name(rt, issuer)),
             name: name(rt, text),
             script,
         },
@@ -274,7 +274,7 @@ fn reads_the_whole_grammar(rt: HostRuntime) {
     check_said(&rt, rt.alloc(), WHOLE_GRAMMAR, &WHOLE_GRAMMAR_SAYS);
 }
 
-/// What only inputs have whose turns come in the order of time. One name has 16 bytes, the longest, and isn't good.
+/// The parts that only timed inputs have. One name has 16 bytes, the longest, and isn't good.
 const TIMED: &str =
     "lottery 3\nprocessors 2\nturns 5\nfor 4294967295\nport p\nscript s\nloop 2 serve p yield\nend endscript\n\
     mkthr a s\nat 10\nat 20\nlstkt\nlscur\nat 20\nlsthr\nsettkt 3 0\nsettkt 0 18446744073709551615\n\
@@ -618,7 +618,7 @@ fn refuses_runs(rt: HostRuntime) {
     check_table(&rt, rt.alloc(), "lottery 2\n", &REFUSED_RUNS);
 }
 
-/// Header lines of an input whose turns come in the order of time.
+/// Header lines of a timed input.
 const REFUSED_DURATIONS: [Refusals<'_>; 3] = [
     Refusals {
         line: 2,
@@ -774,7 +774,7 @@ fn long_phrases(rt: &impl Abort, alloc: Global, count: u32) -> String {
     text
 }
 
-/// Compares the line and the refusal of a long input, if it is refused, and shows how many bytes it has.
+/// Compares the line and the refusal of a long input, if it is refused, and shows its number of bytes.
 fn check_long(rt: &impl Abort, alloc: Global, text: &str, wanted: Option<(u32, InputRefusal)>) {
     check_same_at(rt, &text.len(), &refused(rt, alloc, text), &wanted);
 }

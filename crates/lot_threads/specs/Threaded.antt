@@ -1,4 +1,4 @@
--- What the clauses of `Threads` see.
+-- The threads as the contracts of `Threads` see them.
 use Rattle.std.specs.Prelude.{◌≡◌, Bool, ⊤, ◌⊎◌, ℕ, Option, Some, List, [], All, Contains, length, map, option_and_then}
 use Rattle.lot_machine.specs.declared.funding.Node.{Node}
 use Rattle.lot_machine.specs.declared.funding.Lend.{Lend}
@@ -29,9 +29,9 @@ use Rattle.lot_draw.specs.Queued.{Queued, AreWeights, CompetesIn}
 use Rattle.lot_threads.specs.Timely.{IsTimely}
 use Rattle.lot_threads.specs.Runners.{AreRunners}
 
--- The currencies that are there, tickets, and who owns each mutex; how many tickets, user currencies and threads there
--- may be; how much one of base is worth, how many ticks a quantum has, and how many processors there are; each
--- thread's name and script, and its record; the stale nodes; and what was counted.
+-- The existing currencies, the tickets, and the owner of each mutex; the limits on tickets, user currencies and
+-- threads, the unit, the quantum and the number of processors; each thread's name and script, and its record; the
+-- stale nodes; and the counts.
 pub record Threaded : Type 0 where
   pub currencies : List Bool
   pub tickets : List (Option Ticket)
@@ -47,44 +47,44 @@ pub record Threaded : Type 0 where
   pub stale : List Node
   pub meter : Meter
 
--- what each thread with these records lends
+-- the lends of threads with these records
 abbrev pub lends_in : List Record → List Lend
 lends_in records = map (λ r. lend_of r.status) records
 
--- tickets, lends and owners: the lends follow from the records
+-- the funding of these threads: tickets, owners, and the lends that follow from the records
 abbrev pub funding_in : Threaded → Funding
 funding_in v = record { currencies = v.currencies; tickets = v.tickets; lends = lends_in v.records; owners = v.owners }
 
--- the same, with the limits
+-- the funding of these threads, with its limits
 abbrev pub limited_in : Threaded → LimitedFunding
 limited_in v = record { funding = funding_in v; ticket_limit = v.ticket_limit; currency_limit = v.currency_limit; thread_limit = v.thread_limit }
 
--- with these records, and these nodes stale
+-- the threads with these records and these stale nodes
 abbrev pub with_records : Threaded → List Record → List Node → Threaded
 with_records v records stale = record v { records = records; stale = stale }
 
--- nothing is stale, and each edge into what was stale was read once more
+-- the threads after settling: nothing is stale, and each edge into a stale node is counted once more
 abbrev pub settled_in : Threaded → Threaded
 settled_in v = record v { stale = []; meter = record v.meter { ticket_reads = counted_up v.meter.ticket_reads (edges_into_all (funding_in v) v.stale) } }
 
--- the thread is there
+-- the thread exists
 abbrev pub IsThreadOf : Threaded → ℕ → Type 0
 IsThreadOf v t = IsBetween 1 (length v.records) t
 
--- the thread competes or runs
+-- the thread is live: it competes or runs
 abbrev pub IsLiveIn : Threaded → ℕ → Type 0
 IsLiveIn v t = IsLive (live_in v.records) t
 
--- the node is stale: its value is to be computed again before it is used
+-- the node is stale: its value is recomputed before it is used
 abbrev pub IsStaleIn : Threaded → Node → Type 0
 IsStaleIn v node = Contains v.stale node
 
--- the thread may have this status: if it runs, the processor is there, and no other thread runs on it
+-- the thread may have this status: if it runs, the processor exists and no other thread runs there
 abbrev pub CanRun : Threaded → ℕ → Status → Type 0
 CanRun v t (Running p used) = IsBetween 1 v.processors p × ((u more : ℕ) → status_of v.records u ≡ Some (Running p more) → u ≡ t)
 CanRun v t other = ⊤
 
--- The thread may have this record: it is there, the record's ticks are within the quantum, and the thread may lend and
+-- The thread may have this record: it exists, the record's ticks are within the quantum, and the thread may lend and
 -- run as the record says.
 pub record CanChange (v : Threaded) (t : ℕ) (next : Record) : Type 0 where
   pub there : IsThreadOf v t
@@ -92,41 +92,44 @@ pub record CanChange (v : Threaded) (t : ℕ) (next : Record) : Type 0 where
   pub lend : CanLend (funding_in v) t (lend_of next.status)
   pub run : CanRun v t next.status
 
--- what a thread is worth, in units of base (4.4)
+-- a thread's value, in base units (4.4)
 abbrev pub worth_in : Threaded → ℕ → ℕ
 worth_in v t = thread_value v.unit (funding_in v) (live_in v.records) t
 
--- what a thread weighs in a draw (3.4, 4.5)
+-- a thread's weight in a draw (3.4, 4.5)
 abbrev pub weight_in : Threaded → ℕ → ℕ
 weight_in v t = weight (worth_in v t) (option_and_then (λ r. r.compensation) (at_number v.records t)) v.quantum
 
--- who wins a draw with this number: the lottery over the weights of the Ready threads, by rising number (4.2)
+-- the winner of a draw with this number: the lottery over the weights of the Ready threads, in ascending order (4.2)
 abbrev pub drawn_in : Threaded → ℕ → Option Winner
 drawn_in v d = winner_among (ready_threads v.records) (winner (map (weight_in v) (ready_threads v.records)) d)
 
--- A change makes stale only what a path of edges, there before or after it, reaches from a node that it touched.
+-- A change makes stale only nodes to which a path of edges, existing before or after it, leads from a node that it
+-- touches.
 abbrev pub MakesStaleIn : Threaded → Threaded → Type 0
 MakesStaleIn old new =
     (x : Node) → IsStaleIn new x → IsStaleIn old x ⊎ ((node : Node) × IsTouched (funding_in old) (funding_in new) (live_in old.records) (live_in new.records) node × PathLeads (funding_in old) (funding_in new) node x)
 
--- the change leaves the threads as they are: what a thread lends, and whether it is live, follows from its record
+-- the change leaves the threads as they are: it sets neither a lend nor whether a thread is live, as these follow
+-- from records
 abbrev pub LeavesThreads : Change → Type 0
 LeavesThreads (PutThread t lend live) = ⊥
 LeavesThreads other = ⊤
 
--- all after such a change, with these nodes stale
+-- the threads after such a change, with these stale nodes
 abbrev pub applied_in : Threaded → Change → List Node → Threaded
 applied_in v c stale = record v { currencies = currencies_after v.currencies c; tickets = tickets_after v.tickets c; owners = owners_after v.owners c; stale = stale }
 
--- What was stale stays so, what gets stale is reached from what the change touched, nothing gets stale if it moves nothing, and
--- both owners of a mutex that moves are stale.
+-- Stale nodes stay stale, new ones are reached from touched nodes, none if the change moves nothing; both owners of a
+-- mutex that moves are stale.
 pub record StaleByIn (change : Change) (old new : Threaded) : Type 0 where
   pub kept : (node : Node) → IsStaleIn old node → IsStaleIn new node
   pub reached : MakesStaleIn old new
   pub same : MovesNothing change → new.stale ≡ old.stale
   pub owners : HoldsOfOwners change (IsStaleIn new)
 
--- The graph and the queue are those of the records: what is lent, who is live, who competes, and who runs where.
+-- The graph and the queue match the records: the lends, the live threads, the competitors, and the thread on each
+-- processor.
 pub record AreOf (v : Valued) (q : Queued) (threads : List (Option Thread)) (records : List Record) (runners : List (Option ℕ)) : Type 0 where
   pub names : length threads ≡ length records
   pub lends : v.now.funding.lends ≡ lends_in records

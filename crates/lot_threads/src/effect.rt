@@ -2,7 +2,7 @@
 
 use lot_machine::{After, Outcome};
 
-/// A trap's outcome, and how the thread that made it leaves its processor, or stays on it.
+/// A trap's outcome, and the disposition of the thread that made it.
 #[derive(Clone, Copy, Debug)]
 pub struct Effect {
     pub outcome: Outcome,

@@ -1,4 +1,4 @@
-//! The funding graph's view of a thread: whether it is live, and what it lends.
+//! Keeps the funding graph up to date with each thread: whether it is live, and its lend.
 ghost use Rattle.std.specs.Prelude.{◌≡◌, ◌↔◌, ◌≤◌, Some, IsTrue};
 ghost use Rattle.lot_machine.specs.declared.funding.Node.TheVariants.{Thread as ThreadNode};
 ghost use Rattle.lot_machine.specs.Numbered.{at_number, set_number};
@@ -14,7 +14,7 @@ use lot_draw::Competitor;
 use lot_machine::{Lend, Node, Record, Status};
 use lot_value::{Change, ValuedGraph};
 
-/// What a thread lends to: a served one to its server, a waiting one to its mutex, any other to nobody (4.6, 6.1).
+/// The receiver of a thread's lend: a served thread's server, a waiting thread's mutex, or nobody (4.6, 6.1).
 pub(crate) fn lend_of(status: Status) -> Lend
     ensures { result ≡ states.lend_of status }
 {
@@ -25,15 +25,15 @@ pub(crate) fn lend_of(status: Status) -> Lend
     }
 }
 
-/// Whether a thread competes or runs.
+/// Whether a thread with this status is live: it competes or runs.
 pub(crate) fn is_live(status: Status) -> bool
     ensures { result ≡ states.is_live_status status }
 {
     matches!(status, Status::Ready | Status::Running { .. })
 }
 
-/// Updates the graph to another status of a thread: whether the thread is live, and what it lends. If both stay, it
-/// does nothing.
+/// Updates the graph to a thread's new status: whether the thread is live, and its lend. If neither changes, it does
+/// nothing.
 #[inline(always)]
 pub(crate) fn follow_status(graph: &mut ValuedGraph, thread: u32, before: Status, now: Status)
     requires thread { IsThread graph.old.now.funding thread }
@@ -51,7 +51,7 @@ pub(crate) fn follow_status(graph: &mut ValuedGraph, thread: u32, before: Status
     }
 }
 
-/// How a thread with this record competes: with its compensation if it is Ready, otherwise not at all (4.2, 4.5).
+/// The thread's part in a draw: with its compensation if it is Ready, otherwise none (4.2, 4.5).
 pub(crate) fn competitor_of(of: Record) -> Option<Competitor>
     ensures { result ≡ competing.competitor_of of }
 {
@@ -63,7 +63,7 @@ pub(crate) fn competitor_of(of: Record) -> Option<Competitor>
     None
 }
 
-/// Whether a compensation is of one tick or more, and the ticks used by a thread that runs are below the quantum.
+/// Whether any compensation is at least one tick, and a running thread has used less than the quantum.
 pub(crate) fn is_timely(of: Record, quantum: u32) -> bool
     ensures { IsTrue result ↔ IsTimely quantum of }
 {
@@ -79,7 +79,7 @@ fn is_below(status: Status, quantum: u32) -> bool
     }
 }
 
-/// Whether the thread is there.
+/// Whether the thread exists.
 pub(crate) fn is_thread(graph: &ValuedGraph, thread: u32) -> bool
     ensures there { IsTrue result ↔ IsThread graph.now.now.funding thread }
     ensures within { IsTrue result → thread ≤ graph.now.now.thread_limit }
@@ -93,7 +93,7 @@ fn is_mutex(graph: &ValuedGraph, mutex: u32) -> bool
     mutex > 0 && mutex <= graph.graph().mutexes()
 }
 
-/// Whether the borrower, if any, is there and doesn't reach the thread. It changes nothing.
+/// Whether the borrower, if any, exists and doesn't reach the thread. It changes nothing.
 pub(crate) fn can_lend(graph: &mut ValuedGraph, thread: u32, lend: Lend) -> bool
     requires { IsNodeOf graph.old.now (ThreadNode thread) }
     ensures can { IsTrue result ↔ CanLend graph.old.now.funding thread lend }

@@ -1,8 +1,8 @@
-//! The threads of a kernel, with all that follows from their records: who is live and what is lent in the funding
-//! graph, who competes in draws, and who runs on which processor.
+//! The threads of a kernel, and everything that follows from their records: the live threads and lends in the funding
+//! graph, the competitors in draws, and the thread on each processor.
 //!
 //! `Threads` keeps all of these together, so that a thread's record changes by one call, `Threads::change`. Only
-//! `Threads::new` takes memory.
+//! `Threads::new` allocates memory.
 #![tactic(auto)]
 
 mod effect;

@@ -1,4 +1,4 @@
-//! How a thread begins to run and stops, and how it gets a number.
+//! Starting and stopping threads, and delivering numbers to them.
 ghost use Rattle.std.specs.Prelude.{◌≡◌, ◌<◌, None, Some, IfSome, option_and_then};
 ghost use Rattle.lot_machine.specs.declared.funding.Node.{Node as ANode};
 ghost use Rattle.lot_machine.specs.declared.record.Status.TheVariants as status;
@@ -17,8 +17,7 @@ use crate::Threads;
 use lot_machine::{Processor, Record, Status, ThreadNumber};
 
 impl Threads {
-    /// A draw's winner begins to run on a processor on which nobody runs, and gets the number delivered to it, if any
-    /// (3.4, 4.2).
+    /// Starts a draw's winner on an idle processor, and returns the number delivered to it, if any (3.4, 4.2).
     pub fn start(&mut self, thread: ThreadNumber, processor: Processor) -> Option<u32>
         requires thread { IsThreadOf self.old thread.number }
         requires processor { IsBetween 1 self.old.processors processor.number }
@@ -47,7 +46,7 @@ impl Threads {
         before.delivered
     }
 
-    /// A thread leaves its processor after these further ticks: it is Ready with this compensation (3.4, 4.2).
+    /// Takes a thread off its processor after these further ticks: it is Ready with this compensation (3.4, 4.2).
     pub fn stop(&mut self, thread: ThreadNumber, ticks: u32, compensation: Option<u32>)
         requires thread { IsThreadOf self.old thread.number }
         requires some { IfSome compensation (λ used. 0 < used) }
@@ -71,7 +70,7 @@ impl Threads {
         self.change(thread, next);
     }
 
-    /// Gives a thread another status, and leaves the rest of its record as it was.
+    /// Sets a thread's status, and leaves the rest of its record.
     pub fn set_status(&mut self, thread: ThreadNumber, status: Status)
         requires thread { IsThreadOf self.old thread.number }
         requires below { IsBelowQuantum self.old.quantum status }

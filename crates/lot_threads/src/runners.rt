@@ -1,4 +1,4 @@
-//! Who runs on each processor.
+//! The thread on each processor.
 ghost use Rattle.std.specs.Prelude.{◌≡◌, ℕ, length};
 ghost use Rattle.lot_machine.specs.Bounds.{IsBetween};
 ghost use Rattle.lot_machine.specs.declared.record.Status.TheVariants.{Running};
@@ -14,7 +14,7 @@ pub struct Runner {
     pub used: u32,
 }
 
-/// Moves a thread from the processor on which it ran, if it ran, to the one on which it runs now, if it does.
+/// Moves a thread from the processor on which it ran, if any, to the one on which it runs now, if any.
 pub(crate) fn move_runner(runners: &mut Vec<Option<u32>>, thread: u32, before: Status, now: Status)
     requires before { (p used : ℕ) → before ≡ Running p used → IsBetween 1 (length runners.old.items) p }
     requires now { (p used : ℕ) → now ≡ Running p used → IsBetween 1 (length runners.old.items) p }
@@ -29,7 +29,7 @@ pub(crate) fn move_runner(runners: &mut Vec<Option<u32>>, thread: u32, before: S
     }
 }
 
-/// The thread at a processor, if one is there.
+/// The thread on a processor, if there is one.
 pub(crate) fn runner_on(runners: &[Option<u32>], processor: u32) -> Option<u32>
     ensures { result ≡ runner_at runners.now processor }
 {

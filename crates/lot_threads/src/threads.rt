@@ -1,4 +1,4 @@
-//! The threads, and all that follows from what each is doing.
+//! The threads, and everything that follows from their records.
 ghost use Rattle.std.specs.Prelude.{◌≡◌, ◌+◌, ◌<◌, ◌≤◌, ◌++◌, ◌∷◌, ◌≢◌, true, false, [], Some, None, IfOk, IfSome};
 ghost use Rattle.std.specs.Prelude.{◌*◌, ◌↔◌, IsTrue, MatchOption, length, replicate};
 ghost use Rattle.std.specs.Prelude.{vec_capacity};
@@ -40,7 +40,7 @@ use std::alloc::{AllocError, Global};
 use std::marker::Model;
 use std::mem::size_of;
 
-// What a thread's name and record take, and a processor for who runs on it.
+// The memory for a thread's name and record, and for a processor's running thread.
 const THREAD_BYTES: u64 = size_of::<Option<Thread>>() as u64 + size_of::<Record>() as u64;
 
 const RUNNER_BYTES: u64 = size_of::<Option<u32>>() as u64;
@@ -54,12 +54,11 @@ const NEWBORN: Record = Record {
     ticks: 0,
 };
 
-/// The threads by number, with the funding graph in which they are, the queue in which they compete, and who runs on
-/// each processor.
+/// The threads by number, with their funding graph, the queue of competitors, and the thread on each processor.
 pub struct Threads {
     graph: ValuedGraph,
     queue: RunQueue,
-    /// A gap where a dead thread was removed.
+    /// `None` for a removed thread.
     threads: Vec<Option<Thread>>,
     records: Vec<Record>,
     /// By processor, processor 1 first.
@@ -67,7 +66,7 @@ pub struct Threads {
 }
 
 impl Drop for Threads {
-    // A call: what lets go of a `Threads` is proved without a look at all of its parts.
+    // An explicit drop: code that drops a `Threads` is then proved without unfolding its parts.
     fn drop(self) {
         let Self {
             graph: _,
@@ -109,7 +108,7 @@ impl Model for Threads {
 }
 
 impl Threads {
-    /// No thread yet, base alone, and free mutexes. Nothing was counted.
+    /// No thread yet, base alone, and free mutexes. Nothing has been counted.
     pub fn new(alloc: Global, limits: &Limits) -> Result<Threads, AllocError>
         ensures opening { IfOk result (λ made. made ≡ record {
           currencies = true ∷ [];
@@ -143,7 +142,7 @@ impl Threads {
         })
     }
 
-    /// How many bytes `new` asks of the allocator in all.
+    /// The total of bytes that `new` requests from the allocator.
     pub fn bytes(limits: &Limits) -> u64
         ensures { result ≡ 56 * limits.now.tickets + 82 * limits.now.currencies + 245 * limits.now.threads
             + 97 * limits.now.mutexes + 8 * limits.now.processors + 130 }
@@ -173,7 +172,7 @@ impl Threads {
         ThreadNumber { number }
     }
 
-    /// Removes a thread's name and script, and leaves its record as it is.
+    /// Removes a thread's name and script, and leaves its record.
     pub fn remove_thread(&mut self, thread: ThreadNumber)
         requires thread { IsThreadOf self.old thread.number }
         ensures { self.new ≡ record self.old { threads = set_number self.old.threads thread.number None } }
@@ -181,7 +180,8 @@ impl Threads {
         self.threads[index_of(thread.number)] = None;
     }
 
-    /// Makes one change of tickets, currencies or owners, and makes stale what it has to. Computes no value.
+    /// Makes one change of tickets, currencies or owners, and makes stale the nodes that depend on it. Computes no
+    /// value.
     #[inline(always)]
     pub fn apply(&mut self, change: Change)
         requires allowed { CanApply (limited_in self.old) (live_in self.old.records) change }
@@ -192,8 +192,8 @@ impl Threads {
         self.graph.apply(change);
     }
 
-    /// Gives a thread another record, and updates all that follows from it: whether the thread is live and what it
-    /// lends, whether it competes and with what, and where it runs. Computes no value.
+    /// Sets a thread's record and updates everything that follows from it: whether the thread is live, its lend, its
+    /// part in draws, and its processor. Computes no value.
     #[inline(always)]
     pub fn change(&mut self, thread: ThreadNumber, next: Record)
         requires { CanChange self.old thread.number next }
@@ -223,7 +223,7 @@ impl Threads {
         can_lend(&mut self.graph, thread.number, lend_of(next.status))
     }
 
-    /// Whether a thread may have this record, except for what it lends.
+    /// Whether a thread may have this record, leaving its lend aside.
     fn can_stand(&self, thread: u32, next: Record) -> bool
         ensures can { IsTrue result ↔ (IsThreadOf self.now thread × IsTimely self.now.quantum next
             × CanRun self.now thread next.status) }
@@ -250,7 +250,7 @@ impl Threads {
         }
     }
 
-    /// Whether the ticket would make a cycle if it funded the target (4.4).
+    /// Whether the ticket would make a cycle by funding the target (4.4).
     pub fn would_cycle(&mut self, ticket: TicketNumber, target: Target) -> bool
         requires unfunded { target_of (funding_in self.old) ticket.number ≡ Some Unfunded }
         requires target { IsTarget (funding_in self.old) target }
@@ -260,8 +260,8 @@ impl Threads {
         self.graph.would_cycle(ticket.number, target)
     }
 
-    /// Holds a draw with the number `d` among the Ready threads (2, 4.2): `None` if their weights sum to 0. Settles
-    /// what is stale, and visits the tree of weights once.
+    /// Holds a draw with the number `d` among the Ready threads (2, 4.2). Returns `None` if their weights sum to 0.
+    /// Settles stale nodes, and visits the tree of weights once.
     pub fn draw(&mut self, d: u128) -> Option<Winner>
         ensures winner { result ≡ drawn_in self.old d }
         ensures settled { self.new ≡ record self.old { stale = []; meter = self.new.meter } }
@@ -275,7 +275,7 @@ impl Threads {
         self.queue.draw(&mut self.graph, d)
     }
 
-    /// Computes the values of all stale nodes again. Counts each edge into a node that was stale once.
+    /// Recomputes the values of all stale nodes. Counts each edge into a stale node once.
     pub fn settle(&mut self)
         ensures settled { self.new ≡ settled_in self.old }
         ensures once { HasNoneTwice self.old.stale }
@@ -283,7 +283,8 @@ impl Threads {
         self.queue.settle(&mut self.graph);
     }
 
-    /// The counts: the tickets, lends and owners read for values, and the places of the tree of weights visited.
+    /// The meter: the tickets, lends and owners read to compute values, and the visited places of the tree of
+    /// weights.
     pub fn meter(&self) -> Meter
         ensures { result ≡ self.now.meter }
     {
@@ -293,14 +294,14 @@ impl Threads {
         }
     }
 
-    /// Tickets, lends and owners, to read.
+    /// The tickets, lends and owners, read-only.
     pub fn graph(&self) -> &Graph
         ensures { result.now ≡ limited_in self.now }
     {
         self.graph.graph()
     }
 
-    /// Whether a ticket is active (4.4): whether what it funds is backed.
+    /// Whether a ticket is active (4.4): its target is backed.
     pub fn is_active(&self, ticket: TicketNumber) -> bool
         ensures { IsTrue result ↔ IsActive (funding_in self.now) (live_in self.now.records) ticket.number }
     {
@@ -315,7 +316,7 @@ impl Threads {
         self.graph.active_amount(currency.number)
     }
 
-    /// What a node is worth (4.4), if it isn't stale.
+    /// A node's value (4.4), if it isn't stale.
     pub fn value_of(&self, node: Node) -> u64
         requires node { IsNodeOf (limited_in self.now) node }
         ensures worth { ¬ IsStaleIn self.now node → HasEquation (funding_in self.now) node
@@ -324,7 +325,7 @@ impl Threads {
         self.graph.value_of(node)
     }
 
-    /// What a thread is worth (4.4, 4.6, 6.1), in units of base, if it isn't stale.
+    /// A thread's value (4.4, 4.6, 6.1), in base units, if it isn't stale.
     pub fn worth_of(&self, thread: ThreadNumber) -> u64
         requires thread { IsThreadOf self.now thread.number }
         requires fresh { ¬ IsStaleIn self.now (ThreadNode thread.number) }
@@ -333,8 +334,8 @@ impl Threads {
         self.graph.value_of(Node::Thread(thread.number))
     }
 
-    /// What a ticket is worth (4.4), in units of base, if the currency that issued it isn't stale. If the ticket funds
-    /// something, that is one reading, which is counted; otherwise it is worth nothing.
+    /// A ticket's value (4.4), in base units, if its issuer isn't stale. For a ticket that funds something it counts
+    /// one read; any other is worth nothing.
     pub fn ticket_value(&mut self, ticket: TicketNumber) -> u64
         requires fresh { (t : ATicket) → ticket_at (funding_in self.old) ticket.number ≡ Some t
             → ¬ IsStaleIn self.old (CurrencyNode t.issuer) }
@@ -351,7 +352,7 @@ impl Threads {
         self.graph.ticket_value(ticket.number)
     }
 
-    /// Whether a node is stale: its value is computed again before it is used.
+    /// Whether a node is stale: its value is recomputed before it is used.
     pub fn is_stale(&self, node: Node) -> bool
         requires node { IsNodeOf (limited_in self.now) node }
         ensures { IsTrue result ↔ IsStaleIn self.now node }
@@ -359,7 +360,7 @@ impl Threads {
         self.graph.is_stale(node)
     }
 
-    /// Whether edges lead from a node to another.
+    /// Whether a path of edges, perhaps empty, leads from one node to another.
     pub fn reaches(&mut self, from: Node, to: Node) -> bool
         requires from { IsNodeOf (limited_in self.old) from }
         requires to { IsNodeOf (limited_in self.old) to }
@@ -369,7 +370,7 @@ impl Threads {
         self.graph.reaches(from, to)
     }
 
-    /// Each thread's name and script, thread 1 first; `None` where the thread was removed.
+    /// Each thread's name and script, thread 1 first; `None` for a removed thread.
     pub fn threads(&self) -> &[Option<Thread>]
         ensures { result.now ≡ self.now.threads }
     {
@@ -383,7 +384,7 @@ impl Threads {
         &self.records
     }
 
-    /// A thread's record, `None` if and only if there is no such thread.
+    /// A thread's record, or `None` if and only if there is no such thread.
     pub fn record(&self, thread: ThreadNumber) -> Option<Record>
         ensures record { result ≡ at_number self.now.records thread.number }
         ensures timely { IfSome result (IsTimely self.now.quantum) }
@@ -394,7 +395,7 @@ impl Threads {
         self.records.get(index_of(thread.number)).copied()
     }
 
-    /// Whether a thread competes or runs.
+    /// Whether a thread is live: it competes or runs.
     pub fn is_live(&self, thread: ThreadNumber) -> bool
         ensures { IsTrue result ↔ IsLiveIn self.now thread.number }
     {
@@ -404,7 +405,8 @@ impl Threads {
         }
     }
 
-    /// Who runs on the processor, `None` if and only if nobody does. The ticks used are below the quantum.
+    /// The thread that runs on the processor, or `None` if and only if it is idle. The ticks used are below the
+    /// quantum.
     pub fn runner(&self, processor: Processor) -> Option<Runner>
         ensures thread { MatchOption result (thread_on self.now.records processor.number ≡ None)
             (λ r. thread_on self.now.records processor.number ≡ Some r.thread.number) }
@@ -426,7 +428,7 @@ impl Threads {
     }
 }
 
-/// No threads, no records, and a free processor each: with room for as many threads as there may be.
+/// The tables at the start: no threads, no records, and idle processors, with room for the largest number of threads.
 fn opening_tables(
     alloc: Global,
     threads: usize,

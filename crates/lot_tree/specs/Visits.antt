@@ -1,11 +1,11 @@
--- How a count of reads grows.
+-- Counts of reads.
 use Rattle.std.specs.Prelude.{ℕ, ◌≡◌, ◌+◌, ◌-◌, ◌^◌, ◌<◌, ◌≤◌, min}
 
--- a count after this many more, which stops at the greatest `u64`
+-- a count after this many more, saturating at the largest `u64`
 abbrev pub counted_up : ℕ → ℕ → ℕ
 counted_up visits reads = min (visits + reads) (2 ^ 64 - 1)
 
--- one read or more is counted, and no more than there are digits in any way to write n in binary
+-- the count rises by at least one read, and by at most the digits of n in any binary numeral
 pub record CountsReads (n old new : ℕ) : Type 0 where
   pub reads : ℕ
   pub some : 1 ≤ reads

@@ -1,5 +1,5 @@
-//! A tree of partial sums: weights at places, their total at once, and the place that a number
-//! draws, which is the first whose running sum is greater than the number.
+//! A tree of partial sums: weights at places, their total in constant time, and the place for a drawn number, which
+//! is the first whose running sum is greater than the number.
 //!
 //! Cut the places into blocks of 1, 2, 4, .. places. Of the whole blocks of one size, every second
 //! one, from the first on, keeps the sum of its weights, at its last place. No two blocks share
@@ -19,7 +19,7 @@ use std::alloc::{AllocError, Global};
 use std::marker::Model;
 use std::mem::size_of;
 
-// What a weight takes.
+// The memory of one weight.
 const WEIGHT_BYTES: u64 = size_of::<u128>() as u64;
 
 /// Weights at the places from 0 on, each with the partial sums that `find` reads.
@@ -30,7 +30,7 @@ pub struct SumTree {
     total: u128,
 }
 
-// Clauses see the weights.
+// Contracts see the weights.
 impl Model for SumTree {
     ghost Value = { List ℕ };
 
@@ -40,7 +40,7 @@ impl Model for SumTree {
 }
 
 impl SumTree {
-    /// Weights of 0 at the places from 0 to `n - 1`, or an error if memory runs out.
+    /// Weights of 0 at the places from 0 to `n - 1`, or an error if out of memory.
     pub fn new(alloc: Global, n: usize) -> Result<SumTree, AllocError>
         ensures { IfOk result (λ tree. tree ≡ replicate n 0) }
     {
@@ -53,7 +53,7 @@ impl SumTree {
         })
     }
 
-    /// How many bytes `new` asks of the allocator in all: 32 for each place.
+    /// The total of bytes that `new` requests from the allocator: 32 for each place.
     pub fn bytes(n: usize) -> u64
         requires few { n < 2 ^ 40 }
         ensures { result ≡ 32 * n }
@@ -76,8 +76,8 @@ impl SumTree {
         self.weights[i]
     }
 
-    /// Puts the weight `w` at the place `i`, which is less than the number of places. The sum of
-    /// the weights has to stay below 2^112.
+    /// Sets the weight at the place `i`, which is less than the number of places, to `w`. The sum of the weights must
+    /// stay below 2^112.
     pub fn set(&mut self, i: usize, w: u128)
         requires within { i < length self.old }
         requires limited { sum (slice_set self.old i w) < 2 ^ 112 }
@@ -100,10 +100,9 @@ impl SumTree {
         self.total
     }
 
-    /// The first place whose running sum, its own weight with all before it, is greater than `d`,
-    /// which is less than the total. Adds to `visits` one for each partial sum that it reads: one
-    /// or more, and at most as many as the number of places has binary digits. The count stops at
-    /// the greatest `u64`.
+    /// The first place whose running sum, its own weight and all weights before it, is greater than `d`, which is
+    /// less than the total. Adds to `visits` one for each partial sum that it reads: at least one, and at most as
+    /// many as the number of places has binary digits. The count saturates at the largest `u64`.
     pub fn find(&self, d: u128, visits: &mut u64) -> usize
         requires { d < sum self.now }
         ensures within { result < length self.now }
@@ -117,10 +116,10 @@ impl SumTree {
         let mut reads = 0;
         for level in (0..self.sums.height()).rev() {
             let size = 1usize << level;
-            // A left half that is cut short has all the places that are left.
+            // A left half cut short by the end has all the remaining places.
             if size <= n - base {
                 let left = self.sums.read(base + size - 1, &mut reads);
-                // Which half has the place can't be foreseen, so nothing branches on it.
+                // The half can't be predicted, so the code has no branch on it.
                 let is_past = left <= rest;
                 rest -= if is_past { left } else { 0 };
                 base += usize::from(is_past) << level;

@@ -1,4 +1,4 @@
-//! The partial sums of a tree, which can be read only by a call that counts the reading.
+//! The partial sums of a tree, readable only by a call that counts the read.
 ghost use Rattle.std.specs.Prelude.{◌≡◌, ℕ, ◌+◌, ◌*◌, ◌^◌, ◌<◌, ◌≤◌, length, min, sum, slice_index, slice_set, IfOk};
 ghost use Rattle.std.specs.Prelude.{replicate};
 ghost use Rattle.lot_tree.specs.Sums.{AreKept, ArePartialSumsAt};
@@ -8,12 +8,12 @@ use std::alloc::{AllocError, Global};
 use std::marker::Model;
 use std::mem::size_of;
 
-// What a partial sum takes.
+// The memory of one partial sum.
 const SUM_BYTES: u64 = size_of::<u128>() as u64;
 
 /// The partial sums of weights. Only blocks of fewer than 2^height places keep theirs, and the first 2^height places
-/// have all the weight. So a tree with room for many places is as low as the places in use allow. `read` is the only
-/// way to a partial sum from outside this module.
+/// have all the weight. So a tree with room for many places is only as high as the used places require. Outside this
+/// module, `read` is the only way to a partial sum.
 #[derive(Debug, Drop)]
 pub(crate) struct PartialSums {
     sums: Vec<u128>,
@@ -29,7 +29,7 @@ impl Model for PartialSums {
 }
 
 impl PartialSums {
-    /// Partial sums of 0 for `n` places, or an error if memory runs out.
+    /// Partial sums of 0 for `n` places, or an error if out of memory.
     pub(crate) fn new(alloc: Global, n: usize) -> Result<PartialSums, AllocError>
         ensures { IfOk result (λ made. made ≡ record { sums = replicate n 0; height = min n 1 }) }
     {
@@ -40,7 +40,7 @@ impl PartialSums {
         })
     }
 
-    /// How many bytes `new` asks of the allocator.
+    /// The number of bytes that `new` requests from the allocator.
     pub(crate) fn bytes(n: usize) -> u64
         requires few { n < 2 ^ 40 }
         ensures { result ≡ 16 * n }
@@ -55,15 +55,15 @@ impl PartialSums {
         self.sums.len()
     }
 
-    /// How many levels of blocks keep their sums.
+    /// The number of levels of blocks that keep their sums.
     pub(crate) fn height(&self) -> u32
         ensures { result ≡ self.now.height }
     {
         self.height
     }
 
-    /// The partial sum at `place`, which is less than the number of places. Adds one to `visits`, which stops at the
-    /// greatest `u64`.
+    /// The partial sum at `place`, which is less than the number of places. Adds one to `visits`, which saturates at
+    /// the largest `u64`.
     pub(crate) fn read(&self, place: usize, visits: &mut u64) -> u128
         requires { place < length self.now.sums }
         ensures value { result ≡ slice_index self.now.sums place }
@@ -73,7 +73,7 @@ impl PartialSums {
         self.sums[place]
     }
 
-    /// Takes the partial sums of `weights`, whose sum is `total`, to those of the weights with `w` at the place `i`.
+    /// Updates the partial sums of `weights`, whose sum is `total`, for the weight `w` at the place `i`.
     pub(crate) fn follow(&mut self, weights: &[u128], i: usize, w: u128, total: u128)
         requires within { i < length weights.now }
         requires limited { sum (slice_set weights.now i w) < 2 ^ 112 }
@@ -89,7 +89,7 @@ impl PartialSums {
     }
 }
 
-/// How many binary digits `n` has: 0 for 0, and 10 for 1000.
+/// The number of binary digits of `n`: 0 for 0, and 10 for 1000.
 pub(crate) fn binary_digits(n: usize) -> u32
     ensures enough { n < 2 ^ result }
     ensures needed { 2 ^ result ≤ 2 * n + 1 }
@@ -98,7 +98,7 @@ pub(crate) fn binary_digits(n: usize) -> u32
     usize::BITS - n.leading_zeros()
 }
 
-/// Takes the partial sums of `weights` at the levels below `height` to those of the weights with `w` at the place `i`.
+/// Updates the partial sums of `weights` at the levels below `height` for the weight `w` at the place `i`.
 fn set_partial_sums(sums: &mut [u128], weights: &[u128], i: usize, w: u128, height: u32)
     requires within { i < length weights.now }
     requires same_length { length sums.old ≡ length weights.now }
@@ -116,7 +116,7 @@ fn set_partial_sums(sums: &mut [u128], weights: &[u128], i: usize, w: u128, heig
         // The levels below the lowest binary digit 0 of `last` are done, or have `i` in an odd block, which keeps no
         // partial sum.
         let level = last.trailing_ones();
-        // The blocks of the levels from the height on keep no partial sum.
+        // The blocks at the height and above keep no partial sum.
         if height <= level {
             return;
         }

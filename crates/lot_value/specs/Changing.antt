@@ -1,4 +1,4 @@
--- What a change makes of a valued graph, and when it may be made.
+-- The effect of a change on a valued graph, and the condition for making it.
 use Rattle.std.specs.Prelude.{◌≡◌, ◌≢◌, ◌<◌, ◌≤◌, ◌∷◌, ◌++◌, ℕ, ⊤, Bool, true, false, Option, Some, None, List, [], length, slice_set}
 use Rattle.lot_machine.specs.declared.ticket.Ticket.{Ticket}
 use Rattle.lot_machine.specs.declared.ticket.Target.{Target}
@@ -31,18 +31,18 @@ tickets_after tickets (SetAmount n amount) = with_amount tickets n amount
 tickets_after tickets (DropTicket n) = set_number tickets n None
 tickets_after tickets other = tickets
 
--- what threads lend after a change
+-- the threads' lends after a change
 abbrev pub lends_after : List Lend → Change → List Lend
 lends_after lends (PutThread t lend live) = set_number lends t lend
 lends_after lends other = lends
 
--- who owns each mutex after a change
+-- the owner of each mutex after a change
 abbrev pub owners_after : List (Option ℕ) → Change → List (Option ℕ)
 owners_after owners (PutOwner m owner) = set_number owners m owner
 owners_after owners (MoveOwner m owner next) = set_number owners m (Some next)
 owners_after owners other = owners
 
--- who is live after a change
+-- the live threads after a change
 abbrev pub live_after : List Bool → Change → List Bool
 live_after lives (PutThread t lend live) = set_number lives t live
 live_after lives other = lives
@@ -51,11 +51,11 @@ live_after lives other = lives
 abbrev pub graph_after : LimitedFunding → Change → LimitedFunding
 graph_after w c = record w { funding = record { currencies = currencies_after w.funding.currencies c; tickets = tickets_after w.funding.tickets c; lends = lends_after w.funding.lends c; owners = owners_after w.funding.owners c } }
 
--- all after a change, with these nodes stale
+-- the valued graph after a change, with these stale nodes
 abbrev pub applied : Valued → Change → List Node → Valued
 applied v c stale = record { now = graph_after v.now c; live = live_after v.live c; known = record v.known { stale = stale } }
 
--- the change moves no edge, and nobody's life
+-- the change moves no edge, and makes no thread live or not
 abbrev pub MovesNothing : Change → Type 0
 MovesNothing (NewTicket t) = ⊤
 MovesNothing (DropTicket n) = ⊤
@@ -63,36 +63,37 @@ MovesNothing NewCurrency = ⊤
 MovesNothing (DropCurrency c) = ⊤
 MovesNothing other = ⊥
 
--- if a mutex moves from one owner to another, this holds of both
+-- if the change passes a mutex from one owner to another, this holds for both
 abbrev pub HoldsOfOwners : Change → (Node → Type 0) → Type 0
 HoldsOfOwners (MoveOwner m owner next) Is = Is (Thread owner) × Is (Thread next)
 HoldsOfOwners other Is = ⊤
 
--- What was stale stays so, what gets stale is reached from what the change touched, nothing gets stale if it moves nothing, and
--- both owners of a mutex that moves are stale.
+-- Stale nodes stay stale, new ones are reached from touched nodes, none if the change moves nothing; both owners of a
+-- mutex that moves are stale.
 pub record StaleBy (change : Change) (old new : Valued) : Type 0 where
   pub kept : (node : Node) → IsStale old.known node → IsStale new.known node
   pub reached : MakesStale old new
   pub same : MovesNothing change → new.known ≡ old.known
   pub owners : HoldsOfOwners change (IsStale new.known)
 
--- the thread may lend this: the borrower is there, and doesn't reach the thread
+-- the thread may have this lend: the borrower exists and doesn't reach the thread
 abbrev pub CanLend : Funding → ℕ → Lend → Type 0
 CanLend f t Nobody = ⊤
 CanLend f t (ToThread s) = IsBorrower f (ToThread s) × (¬ LendReaches f (ToThread s) t)
 CanLend f t (ToMutex m) = IsBorrower f (ToMutex m) × (¬ LendReaches f (ToMutex m) t)
 
--- a ticket may fund another target than before: something in place of nothing, or nothing in place of something
+-- a ticket with the first target may get the second: one without a target gets one that makes no cycle, or one loses
+-- its target
 abbrev pub CanTarget : Funding → ℕ → Target → Target → Type 0
 CanTarget f n before target.Unfunded = before ≢ target.Unfunded
 CanTarget f n before to = (before ≡ target.Unfunded) × IsTarget f to × (¬ IsCycle f n to)
 
--- a thread may own a mutex: both are there, and the thread doesn't reach the mutex
+-- a thread may own a mutex: both exist, and the thread doesn't reach the mutex
 abbrev pub CanOwn : Funding → ℕ → ℕ → Type 0
 CanOwn f m t = IsMutex f m × IsThread f t × (¬ Reaches f (Thread t) (Mutex m))
 
--- The change may be made: the ticket, currency, mutex or thread is there, and no cycle comes about. A mutex that moves does so
--- from a live thread to another.
+-- The change is allowed: its ticket, currency, mutex or thread exists, and it makes no cycle. A mutex moves only from
+-- a live thread to another.
 abbrev pub CanApply : LimitedFunding → List Bool → Change → Type 0
 CanApply w live (NewTicket t) = IsCurrency w.funding t.issuer × (0 < t.amount) × (t.target ≡ target.Unfunded) × (length w.funding.tickets < w.ticket_limit)
 CanApply w live (PutTicket n t) = (before : Ticket) × (ticket_at w.funding n ≡ Some before) × (t ≡ retargeted t.target before) × CanTarget w.funding n before.target t.target

@@ -1,4 +1,4 @@
--- Values that are kept, in the order to read.
+-- Cached values, in reading order.
 pub mod Counts
 pub mod Caches
 pub mod Marking

@@ -1,4 +1,4 @@
--- What several touches come to; no public clause cites this file.
+-- The effect of several touches; no public clause cites this file.
 use Rattle.std.specs.Prelude.{◌≡◌, ◌≢◌, ◌⊎◌, ℕ, Bool, List, Contains}
 use Rattle.lot_machine.specs.declared.funding.Node.{Node}
 use Rattle.lot_machine.specs.declared.funding.Node.TheVariants.{Currency}
@@ -9,7 +9,8 @@ use Rattle.lot_active.specs.Activity.{Activity}
 use Rattle.lot_active.specs.Changes.{switched_nodes, adjusted_nodes}
 use Rattle.lot_value.specs.Caches.{Known, IsStale, IsRightBut}
 
--- Only such nodes were touched: what is right or stale stays so, and what gets stale is reached from one of them.
+-- Only nodes with this property were touched: right values and stale nodes remain so, and new stale nodes are reached
+-- from a touched one.
 pub record Touched (w : LimitedFunding) (old new : Known) (IsSuch : Node → Type 0) : Type 0 where
   pub right : (live : List Bool) (pending : List Node) → IsRightBut w live old pending → IsRightBut w live new pending
   pub kept : (x : Node) → IsStale old x → IsStale new x
@@ -24,8 +25,8 @@ IsUser node = (c : ℕ) × (node ≡ Currency c) × (c ≢ 0)
 abbrev pub IsFundedBy : LimitedFunding → List Node → Node → Type 0
 IsFundedBy w nodes to = (from : Node) × Contains nodes from × IsUser from × IsEdge w.funding from to
 
--- The node has an equation and a call switched it, or it is funded by a ticket of a user currency that the call
--- switched or adjusted.
+-- A call switched the node, and it has an equation; or a ticket of a user currency that the call switched or adjusted
+-- funds it.
 abbrev pub IsListed : LimitedFunding → Activity → Node → Type 0
 IsListed w v node =
     (Contains (switched_nodes w v) node × HasEquation w.funding node) ⊎ (IsFundedBy w (switched_nodes w v) node ⊎ IsFundedBy w (adjusted_nodes w v) node)

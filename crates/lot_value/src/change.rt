@@ -1,28 +1,28 @@
-//! One change of what is kept together.
+//! Changes of a valued graph.
 
 use lot_machine::{Lend, Ticket};
 
-/// One change of the tickets, of the currencies, of who owns a mutex, or of a thread: what `ValuedGraph::apply` makes.
+/// One change of the tickets, the currencies, a mutex's owner, or a thread, for `ValuedGraph::apply`.
 #[derive(Clone, Copy, Debug, PartialEq, Eq)]
 pub enum Change {
     /// One more ticket, which funds nothing. Its number is one more than the last.
     NewTicket(Ticket),
-    /// Another ticket in the place of one, of the same amount and issuer: it funds something in place of nothing, or
-    /// nothing in place of something.
+    /// Retargets a ticket, which keeps its amount and issuer: one without a target gets one, or one with a target
+    /// loses it.
     PutTicket(u32, Ticket),
-    /// Another amount of a ticket, whether it funds something or not (3.2).
+    /// Sets a ticket's amount, whether it funds something or not (3.2).
     SetAmount(u32, u32),
-    /// No ticket in the place of one that funds nothing. Its number is never given again.
+    /// Removes a ticket that funds nothing. Its number isn't used again.
     DropTicket(u32),
     /// One more currency. Its number is one more than the last.
     NewCurrency,
-    /// No currency in the place of one that has neither issued nor backing tickets. Its number is never given again.
+    /// Removes a currency that has neither issued nor backing tickets. Its number isn't used again.
     DropCurrency(u32),
-    /// An owner of a free mutex, or none, so that what waiting threads lend to it goes no further (6.1).
+    /// Gives a free mutex an owner, or frees it, so that the lends of waiting threads go no further (6.1).
     PutOwner(u32, Option<u32>),
-    /// Another live thread as the owner of a mutex that a live thread owns (6.1). Both are backed before it and after
-    /// it, so that nothing is put to sleep or woken, and both are stale then.
+    /// Passes a mutex from a live owner to another live thread (6.1). Both are backed before and after, so no node
+    /// changes between active and inactive, and both are stale afterwards.
     MoveOwner { mutex: u32, owner: u32, next: u32 },
-    /// What a thread lends, and whether it is live.
+    /// Sets a thread's lend, and whether the thread is live.
     PutThread { thread: u32, lend: Lend, live: bool },
 }

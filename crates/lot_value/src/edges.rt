@@ -1,4 +1,4 @@
-//! How what is active and what is stale follow one edge of the graph.
+//! Updates of activity and staleness for one edge of the graph.
 ghost use Rattle.std.specs.Prelude.{◌≡◌};
 ghost use Rattle.lot_machine.specs.declared.funding.Node.{Node as ANode};
 ghost use Rattle.lot_machine.specs.declared.funding.Edge.{Edge as AnEdge};
@@ -15,7 +15,7 @@ use lot_active::{Active, EdgeEnds, ends_of_edge};
 use lot_graph::Graph;
 use lot_machine::Edge;
 
-/// Takes up an edge that was put into the graph.
+/// Takes account of an edge added to the graph.
 #[inline(always)]
 pub(crate) fn attach(graph: &Graph, active: &mut Active, values: &mut Values, edge: Edge)
     requires before { (before : LimitedFunding) × (ends : Ends) × AddsEdge before graph.now edge ends
@@ -34,7 +34,7 @@ pub(crate) fn attach(graph: &Graph, active: &mut Active, values: &mut Values, ed
     values.touch(graph, ends.to);
 }
 
-/// Gives up an edge that was taken out of the graph, from the ends that it had.
+/// Takes account of an edge removed from the graph, given its former ends.
 #[inline(always)]
 pub(crate) fn detach(graph: &Graph, active: &mut Active, values: &mut Values, ends: EdgeEnds)
     requires sound { IsSound graph.now.funding }

@@ -1,11 +1,11 @@
-//! What currencies, threads and mutexes are worth (4.4), kept for each of them, and computed again only if it is stale.
+//! The values of currencies, threads and mutexes (4.4), cached, and recomputed only when stale.
 //!
-//! `Values::touch` makes a node and all that lies downstream of it stale. `Values::settle` computes the values of the
-//! stale nodes again, in an order along the edges, so that each edge into a stale node is read once, and counts these
-//! readings.
+//! `Values::touch` makes a node and all nodes downstream of it stale. `Values::settle` recomputes the values of the
+//! stale nodes in an order along the edges, so that it reads each edge into a stale node once, and counts these
+//! reads.
 //!
-//! A `ValuedGraph` holds a graph, what is active in it and its values together. `ValuedGraph::apply` makes one `Change`
-//! of them, and makes stale what the change asks for. No call but `new` takes memory.
+//! A `ValuedGraph` holds a graph, its activity and its values together. `ValuedGraph::apply` makes one `Change`, and
+//! makes stale the nodes that depend on it. Only `new` allocates memory.
 #![tactic(auto)]
 
 mod change;

@@ -1,4 +1,4 @@
-//! How a node gets stale, with all that lies downstream of it.
+//! Marking a node, and all nodes downstream of it, as stale.
 ghost use Rattle.std.specs.Prelude.{◌≡◌, ◌<◌, Contains};
 ghost use Rattle.lot_lists.specs.NodeLists.{nodes_of};
 ghost use Rattle.lot_machine.specs.declared.funding.Node.TheVariants.{Currency as CurrencyNode};
@@ -12,10 +12,10 @@ use lot_graph::Graph;
 use lot_lists::Lists;
 use lot_machine::Node;
 
-// The only list of the stale nodes.
+// The only list: of the stale nodes.
 pub(crate) const STALE: usize = 0;
 
-/// Lists a node, and all that it reaches over nodes that aren't listed, at the back.
+/// Lists a node at the back, and with it all nodes that it reaches through unlisted nodes.
 pub(crate) fn mark(graph: &Graph, stale: &mut Lists, node: Node)
     requires list { IsStaleList stale.old (places.node_count (layout_of graph.now)) }
     requires node { IsNodeOf graph.now node }
@@ -30,7 +30,7 @@ pub(crate) fn mark(graph: &Graph, stale: &mut Lists, node: Node)
     }
     stale.push_back(STALE, place);
     let mut next = Some(place);
-    // As many iterations as there are nodes: each follows the next one that was listed.
+    // As many iterations as there are nodes: each follows the next listed one.
     for _ in 0..layout.node_count() {
         let Some(from) = next else {
             return;
@@ -40,7 +40,7 @@ pub(crate) fn mark(graph: &Graph, stale: &mut Lists, node: Node)
     }
 }
 
-/// Lists the nodes that edges lead to from a node, if they aren't listed.
+/// Lists the targets of a node's edges, unless they are listed.
 fn add_targets(graph: &Graph, stale: &mut Lists, from: Node)
     requires list { IsStaleList stale.old (places.node_count (layout_of graph.now)) }
     requires node { IsNodeOf graph.now from }
@@ -53,7 +53,7 @@ fn add_targets(graph: &Graph, stale: &mut Lists, from: Node)
     }
 }
 
-/// Lists the nodes that a currency's tickets fund, if they aren't listed. Reads each ticket once.
+/// Lists the nodes that a currency's tickets fund, unless they are listed. Reads each ticket once.
 fn add_funded(graph: &Graph, stale: &mut Lists, currency: u32)
     requires list { IsStaleList stale.old (places.node_count (layout_of graph.now)) }
     requires node { IsNodeOf graph.now (CurrencyNode currency) }
@@ -72,7 +72,7 @@ fn add_funded(graph: &Graph, stale: &mut Lists, currency: u32)
     }
 }
 
-/// Lists the nodes that edges lead to from a node, if they aren't listed: of a thread or a mutex one at most.
+/// Lists the target of a thread's or a mutex's edge, if it has one, unless it is listed.
 fn add_borrowers(graph: &Graph, stale: &mut Lists, from: Node)
     requires list { IsStaleList stale.old (places.node_count (layout_of graph.now)) }
     requires node { IsNodeOf graph.now from }
@@ -88,7 +88,7 @@ fn add_borrowers(graph: &Graph, stale: &mut Lists, from: Node)
     }
 }
 
-/// Lists a node at the back, if it isn't listed.
+/// Lists a node at the back, unless it is listed.
 fn add(stale: &mut Lists, place: usize)
     requires list { IsStaleList stale.old stale.old.nodes }
     requires place { place < stale.old.nodes }

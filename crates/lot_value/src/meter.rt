@@ -1,7 +1,7 @@
-//! Counts of what was read.
+//! Counts of reads.
 
-/// How many tickets, lends and owners were read for values, and how many places of trees of sums were visited. Each
-/// count stops at the greatest `u64`.
+/// The number of tickets, lends and owners read for values, and of visited places of trees of sums. Each count
+/// saturates at the largest `u64`.
 #[derive(Clone, Copy, Debug, Default, PartialEq, Eq)]
 pub struct Meter {
     pub ticket_reads: u64,

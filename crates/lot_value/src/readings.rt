@@ -1,4 +1,4 @@
-//! How edges are read for values: in no other way, and each reading is counted.
+//! Reads of edges for values. There is no other way to read one, and each read is counted.
 ghost use Rattle.std.specs.Prelude.{◌≡◌, ◌^◌, ◌*◌, ◌/◌, ◌<◌, ℕ, Bool, List};
 ghost use Rattle.lot_machine.specs.declared.funding.Node.{Node as ANode};
 ghost use Rattle.lot_machine.specs.declared.funding.Edge.TheVariants.{OfTicket as OfTicketEdge};
@@ -15,7 +15,7 @@ use lot_active::Active;
 use lot_graph::Graph;
 use lot_machine::{Edge, Node};
 
-/// What shares are read from: the graph, what is active in it, and the values that are kept.
+/// The sources of shares: the graph, its activity, and the cached values.
 #[derive(Clone, Copy)]
 pub(crate) struct Sources<'a> {
     pub(crate) graph: &'a Graph,
@@ -24,7 +24,7 @@ pub(crate) struct Sources<'a> {
     pub(crate) unit: u32,
 }
 
-/// What the edges into a node pass on together, each of them read once.
+/// The sum that the edges into a node pass on, each of them read once.
 #[inline(always)]
 pub(crate) fn read_value(sources: Sources, node: Node, reads: &mut ReadCount) -> u64
     requires node { IsNodeOf sources.graph.now node }
@@ -64,7 +64,7 @@ pub(crate) fn read_share(sources: Sources, edge: Edge, reads: &mut ReadCount) ->
     }
 }
 
-/// The share of a ticket that funds something.
+/// The share of a ticket that has a target.
 #[inline(always)]
 fn ticket_share(sources: Sources, number: u32) -> u64
     requires edge { (to : ANode) × LeadsInto sources.graph.now.funding to (OfTicketEdge number) }
@@ -89,7 +89,7 @@ fn ticket_share(sources: Sources, number: u32) -> u64
     share_of(value, ticket.amount, active)
 }
 
-/// The share of a value that an amount has, of all active amounts, rounded down once (4.4). An amount that is all of
+/// The share of a value for an amount out of all active amounts, rounded down once (4.4). An amount that is all of
 /// them needs no division, and nearly all products fit 64 bits, which divide faster.
 #[inline(always)]
 fn share_of(value: u64, amount: u32, active: u64) -> u64

@@ -1,4 +1,4 @@
-//! Another amount of a ticket.
+//! Changing a ticket's amount.
 ghost use Rattle.std.specs.Prelude.{◌≡◌, ◌≢◌, ◌<◌, Some};
 ghost use Rattle.lot_machine.specs.declared.ticket.Target.TheVariants.{Unfunded};
 ghost use Rattle.lot_machine.specs.Funding.{ticket_at, with_amount};
@@ -11,7 +11,7 @@ ghost use Rattle.lot_value.specs.Valued.{FollowsGraph};
 use crate::valued_graph::ValuedGraph;
 use lot_machine::{Target, Ticket};
 
-/// Gives a ticket this amount. If it has this amount already, nothing changes, and nothing gets stale.
+/// Sets a ticket's amount. If it has this amount already, nothing changes, and nothing becomes stale.
 #[inline(always)]
 pub(crate) fn set_amount(graph: &mut ValuedGraph, ticket: u32, amount: u32)
     requires allowed { CanApply graph.old.now graph.old.live (SetAmount ticket amount) }
@@ -30,9 +30,9 @@ pub(crate) fn set_amount(graph: &mut ValuedGraph, ticket: u32, amount: u32)
     }
 }
 
-/// Gives a ticket that funds something another amount. It is taken back and funds the same target again, so that its
-/// new amount is what counts as active. What it funds gets stale; and if it is active, so does what the other tickets
-/// of its issuer fund, unless the issuer is base. The issuer gets stale only if it stops being active in between.
+/// Sets the amount of a ticket that funds something, by unfunding it and funding the same target again, so that the
+/// new amount counts as active. Its target becomes stale. If the ticket is active and its issuer isn't base, the
+/// targets of the issuer's other tickets do too. The issuer becomes stale only if it stops being active in between.
 fn fund_again(graph: &mut ValuedGraph, ticket: u32, before: Ticket, amount: u32)
     requires sound { IsSound graph.old.now.funding }
     requires ticket { ticket_at graph.old.now.funding ticket ≡ Some before }

@@ -1,4 +1,4 @@
-//! What a thread lends, and whether it is live.
+//! Changing a thread's lend, and whether it is live.
 ghost use Rattle.std.specs.Prelude.{◌≡◌, ◌↔◌, Some, IsTrue};
 ghost use Rattle.lot_machine.specs.declared.funding.Lend.TheVariants.{Nobody};
 ghost use Rattle.lot_machine.specs.Numbered.{at_number, set_number};
@@ -11,8 +11,8 @@ ghost use Rattle.lot_value.specs.Valued.{FollowsGraph};
 use crate::valued_graph::ValuedGraph;
 use lot_machine::Lend;
 
-/// Makes a thread live or not, and makes it lend this. A thread that is live before or after is so all the time, so
-/// that a server doesn't sleep while a client's funding moves to it.
+/// Makes a thread live or not, and sets its lend. A thread that is live before or after stays live in between, so
+/// that a server doesn't become inactive while a client's funding moves to it.
 #[inline(always)]
 pub(crate) fn put_thread(graph: &mut ValuedGraph, thread: u32, lend: Lend, live: bool)
     requires allowed { CanApply graph.old.now graph.old.live (PutThread thread lend live) }
@@ -28,7 +28,7 @@ pub(crate) fn put_thread(graph: &mut ValuedGraph, thread: u32, lend: Lend, live:
     }
 }
 
-/// Makes a thread lend this.
+/// Sets a thread's lend.
 #[inline(always)]
 fn relend(graph: &mut ValuedGraph, thread: u32, lend: Lend)
     requires thread { IsThread graph.old.now.funding thread }
@@ -45,7 +45,7 @@ fn relend(graph: &mut ValuedGraph, thread: u32, lend: Lend)
     }
 }
 
-/// Makes a thread lend to nobody.
+/// Stops a thread's lending.
 #[inline(always)]
 fn unlend(graph: &mut ValuedGraph, thread: u32)
     requires thread { IsThread graph.old.now.funding thread }
@@ -57,7 +57,7 @@ fn unlend(graph: &mut ValuedGraph, thread: u32)
     }
 }
 
-/// Whether the thread lends this.
+/// Whether this is the thread's lend.
 fn lends(graph: &ValuedGraph, thread: u32, lend: Lend) -> bool
     ensures { IsTrue result ↔ (at_number graph.now.now.funding.lends thread ≡ Some lend) }
 {

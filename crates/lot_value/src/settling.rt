@@ -1,14 +1,14 @@
-//! Which stale node is settled next. What is here sees neither values nor counts, so it reads no edge for a value:
-//! whether a node is stale isn't a value.
+//! The order in which stale nodes are settled. This module sees neither values nor counts, so it reads no edge for a
+//! value: staleness isn't a value.
 //!
-//! Most often it is the node at the front of the list. If that one has a stale source, it is turned over, and then all
-//! that is stale upstream of it comes first, and it too, from the back of the list.
+//! Most often the next node is the one at the front of the list. If that one has a stale source, it is turned over to
+//! the back, and then it and all stale nodes upstream of it are settled first, from the back of the list.
 //!
-//! While all stale nodes are settled one after the other, and none gets stale between, the edges into each of them are
-//! walked here three times at most: once as it is looked at at the front, once as its stale sources are raised, and
-//! once as it has none left. For those that are raised above a node lie upstream of it, so that they never raise it
-//! again, and they are all answered before it. With the reading of its value that makes four times, and two for a node
-//! whose sources come before it in the list.
+//! While all stale nodes are settled one after the other, and none becomes stale in between, this module walks the
+//! edges into each of them at most three times: once to look at the node at the front, once to raise its stale
+//! sources, and once when it has none left. The sources raised above a node are upstream of it, so they never raise
+//! it again, and all of them are returned before it. With the read for its value that makes four walks, and two for a
+//! node whose sources come before it in the list.
 ghost use Rattle.std.specs.Prelude.{◌≡◌, ℕ, [], Contains, Some, IfSome, IfNone};
 ghost use Rattle.std.specs.Bool.{OnTrue, OnFalse};
 ghost use Rattle.lot_lists.specs.NodeLists.{nodes_of};
@@ -24,8 +24,8 @@ use lot_graph::Graph;
 use lot_lists::Lists;
 use lot_machine::{Edge, Node};
 
-/// Whether a source of a node is stale. It looks at each edge into the node once, also after it has found one: a node
-/// has few edges most often, and a loop with one way out takes fewer instructions.
+/// Whether a source of a node is stale. It looks at each edge into the node once, even after it has found one: most
+/// nodes have few edges, and a loop with one exit takes fewer instructions.
 #[inline(always)]
 pub(crate) fn has_stale_source(graph: &Graph, stale: &Lists, node: Node) -> bool
     requires list { IsStaleList stale.now (places.node_count (layout_of graph.now)) }
@@ -49,7 +49,7 @@ pub(crate) fn has_stale_source(graph: &Graph, stale: &Lists, node: Node) -> bool
     found
 }
 
-/// Where an edge leads from, if it is there. It doesn't look at where the edge leads to.
+/// The source of an edge, if the edge exists. It doesn't look at the edge's target.
 #[inline(always)]
 fn source_of_edge(graph: &Graph, edge: Edge) -> Option<Node>
     ensures source { (from to : ANode) → ends_of graph.now.funding edge ≡ Some (from, to) → result ≡ Some from }
@@ -61,9 +61,9 @@ fn source_of_edge(graph: &Graph, edge: Edge) -> Option<Node>
     }
 }
 
-/// Turns the node at the front over, unless one was turned over before that isn't done yet, and answers the place of
-/// what comes first of it and what is stale upstream of it: of a stale node that has no stale source. `None` if none
-/// is stale. `turned` is the place of the node that was turned over, until it was answered.
+/// Turns the node at the front over to the back, unless an earlier one isn't settled yet. Then returns the place of
+/// the first to settle among that node and the stale nodes upstream of it: a stale node without a stale source.
+/// `None` if no node is stale. `turned` is the place of the node turned over, until it is returned.
 pub(crate) fn raise_fresh(
     graph: &Graph,
     stale: &mut Lists,
@@ -81,8 +81,8 @@ pub(crate) fn raise_fresh(
     fresh
 }
 
-/// Moves the node at the front of the list to the back, if there is one, and answers its place. If one was turned over
-/// before, answers that one.
+/// Moves the node at the front of the list, if any, to the back, and returns its place. If a node was turned over
+/// before, returns that one's place.
 fn turn_over(stale: &mut Lists, turned: Option<usize>) -> Option<usize>
     requires list { IsStaleList stale.old stale.old.nodes }
     ensures list { IsStaleList stale.new stale.old.nodes }
@@ -96,8 +96,8 @@ fn turn_over(stale: &mut Lists, turned: Option<usize>) -> Option<usize>
     Some(place)
 }
 
-/// Moves stale nodes to the back until the one there has no stale source, and answers its place; `None` if none is
-/// stale.
+/// Moves stale nodes to the back until the one there has no stale source, and returns its place, or `None` if no node
+/// is stale.
 fn fresh_back(graph: &Graph, stale: &mut Lists) -> Option<usize>
     requires list { IsStaleList stale.old (places.node_count (layout_of graph.now)) }
     ensures list { IsStaleList stale.new (places.node_count (layout_of graph.now)) }
@@ -114,7 +114,7 @@ fn fresh_back(graph: &Graph, stale: &mut Lists) -> Option<usize>
     None
 }
 
-/// Moves the stale sources of a node to the back of the list. Answers whether there are any.
+/// Moves the stale sources of a node to the back of the list. Returns whether there are any.
 #[inline(always)]
 fn raise_sources(graph: &Graph, stale: &mut Lists, node: Node) -> bool
     requires list { IsStaleList stale.old (places.node_count (layout_of graph.now)) }

@@ -1,4 +1,4 @@
-//! Which nodes are touched after a change.
+//! The nodes to touch after a change.
 ghost use Rattle.std.specs.Prelude.{◌≡◌, ◌≢◌, ◌⊎◌, ◌↔◌, ℕ, Bool, List, Contains, IsTrue};
 ghost use Rattle.lot_machine.specs.declared.funding.Node.{Node as ANode};
 ghost use Rattle.lot_machine.specs.declared.funding.Node.TheVariants.{Currency as CurrencyNode};
@@ -34,7 +34,7 @@ pub(crate) fn touch_switched(graph: &Graph, active: &Active, values: &mut Values
     }
 }
 
-/// Touches what tickets of the user currencies among these nodes fund.
+/// Touches the targets of the tickets that user currencies among these nodes issue.
 #[inline(always)]
 pub(crate) fn touch_funded(graph: &Graph, nodes: ChangedNodes, values: &mut Values)
     requires layout { values.old.layout ≡ layout_of graph.now }
@@ -50,7 +50,7 @@ pub(crate) fn touch_funded(graph: &Graph, nodes: ChangedNodes, values: &mut Valu
     }
 }
 
-/// Touches the nodes that edges lead to from a node.
+/// Touches the targets of a node's edges.
 fn touch_targets(graph: &Graph, node: Node, values: &mut Values)
     requires layout { values.old.layout ≡ layout_of graph.now }
     requires node { IsNodeOf graph.now node }
@@ -66,7 +66,7 @@ fn touch_targets(graph: &Graph, node: Node, values: &mut Values)
     }
 }
 
-/// Whether a node is worth what the edges into it pass on: not base, and if it is a thread, one that is there.
+/// Whether a node has an equation: any except base, and a thread only if it exists.
 fn has_equation(graph: &Graph, node: Node) -> bool
     ensures { IsTrue result ↔ HasEquation graph.now.funding node }
 {
@@ -87,8 +87,8 @@ fn is_user_currency(node: Node) -> bool
     }
 }
 
-/// Touches all that the last call of `active` asks for: the nodes that it switched, and what tickets of the user
-/// currencies fund whose active amount it changed.
+/// Touches all nodes that the last call of `active` requires: those that it switched, and the targets of tickets of
+/// user currencies whose active amount it changed.
 #[inline(always)]
 pub(crate) fn touch_listed(graph: &Graph, active: &Active, values: &mut Values)
     requires layout { values.old.layout ≡ layout_of graph.now }

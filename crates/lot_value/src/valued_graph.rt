@@ -1,4 +1,4 @@
-//! A funding graph with what is active in it and what everything is worth, kept together.
+//! A funding graph, kept together with its activity and its values.
 ghost use Rattle.std.specs.Prelude.{◌≡◌, ◌+◌, ◌*◌, ◌<◌, ◌≤◌, ◌↔◌, ◌++◌, ◌∷◌, ◌≢◌, false, [], Some, None};
 ghost use Rattle.std.specs.Prelude.{IfOk, IfSome, IfNone, IsTrue, length};
 ghost use Rattle.lot_machine.specs.declared.funding.Node.{Node as ANode};
@@ -37,9 +37,9 @@ use lot_machine::{Edge, Lend, Limits, Node, Target, Ticket};
 use std::alloc::{AllocError, Global};
 use std::marker::Model;
 
-/// Tickets and what they fund, what threads lend and who owns mutexes; which threads are live, and so which tickets are
-/// active; and what each currency, thread and mutex is worth (4.4), if it isn't stale. Each change of the first two
-/// makes stale what it has to, and reads nothing for a value.
+/// The tickets with their targets, the lends and the owners of mutexes; the live threads, and so the active tickets;
+/// and the value of each currency, thread and mutex (4.4), if it isn't stale. Each change of the first two makes
+/// stale the nodes that depend on it, and reads nothing for a value.
 pub struct ValuedGraph {
     graph: Graph,
     active: Active,
@@ -47,7 +47,7 @@ pub struct ValuedGraph {
 }
 
 impl Drop for ValuedGraph {
-    // A call: what lets go of a `ValuedGraph` is proved without a look at all of its parts.
+    // An explicit drop: code that drops a `ValuedGraph` is then proved without unfolding its parts.
     fn drop(self) {
         let Self {
             graph: _,
@@ -68,7 +68,7 @@ impl Model for ValuedGraph {
 }
 
 impl ValuedGraph {
-    /// Base alone, free mutexes, nobody live, nothing stale, and nothing read.
+    /// Base alone, free mutexes, no live thread, nothing stale, and nothing read.
     pub fn new(alloc: Global, limits: &Limits) -> Result<Self, AllocError>
         ensures now { IfOk result (λ made. made.now
             ≡ record {
@@ -92,7 +92,7 @@ impl ValuedGraph {
         })
     }
 
-    /// How many bytes `new` asks of the allocator in all.
+    /// The total of bytes that `new` requests from the allocator.
     pub fn bytes(limits: &Limits) -> u64
         ensures { result ≡ 56 * limits.now.tickets + 82 * limits.now.currencies + 97 * limits.now.threads
             + 97 * limits.now.mutexes + 122 }
@@ -101,7 +101,7 @@ impl ValuedGraph {
         Graph::bytes(limits) + Active::bytes(layout) + Values::bytes(layout)
     }
 
-    /// Makes one change, and makes stale what it has to. It computes no value.
+    /// Makes one change, and makes stale the nodes that depend on it. It computes no value.
     #[inline(always)]
     pub fn apply(&mut self, change: Change)
         requires allowed { CanApply self.old.now self.old.live change }
@@ -142,7 +142,7 @@ impl ValuedGraph {
         }
     }
 
-    /// Makes a ticket that funds nothing fund a user currency or a thread.
+    /// Gives a ticket that funds nothing a target: a user currency or a thread.
     #[inline(always)]
     pub(crate) fn give(&mut self, ticket: u32, target: Target)
         requires unfunded { target_of self.old.now.funding ticket ≡ Some Unfunded }
@@ -156,7 +156,7 @@ impl ValuedGraph {
         attach(&self.graph, &mut self.active, &mut self.values, edge);
     }
 
-    /// Takes a ticket from what it funds. That is still there.
+    /// Takes a ticket's target away; the target continues to exist.
     pub(crate) fn unfund(&mut self, ticket: u32)
         requires funding { IsFunding self.old.now.funding ticket }
         ensures follows { FollowsGraph self.old self.new
@@ -171,7 +171,7 @@ impl ValuedGraph {
         detach(&self.graph, &mut self.active, &mut self.values, ends);
     }
 
-    /// Gives a ticket that funds nothing another amount.
+    /// Sets the amount of a ticket that funds nothing.
     #[inline(always)]
     pub(crate) fn reissue(&mut self, ticket: u32, amount: u32)
         requires unfunded { target_of self.old.now.funding ticket ≡ Some Unfunded }
@@ -221,7 +221,7 @@ impl ValuedGraph {
         }
     }
 
-    /// Makes a mutex free, if it isn't. What waiting threads lend to it goes no further then (6.1).
+    /// Makes a mutex free, if it isn't. The lends of waiting threads then go no further (6.1).
     fn give_up_mutex(&mut self, mutex: u32)
         requires mutex { IsMutex self.old.now.funding mutex }
         ensures follows { FollowsGraph self.old self.new
@@ -234,8 +234,8 @@ impl ValuedGraph {
         detach(&self.graph, &mut self.active, &mut self.values, ends);
     }
 
-    /// Makes a thread the owner of a free mutex that it doesn't reach. What waiting threads lend to the mutex goes on
-    /// to it (6.1).
+    /// Makes a thread the owner of a free mutex that it doesn't reach. The lends of waiting threads then go on to it
+    /// (6.1).
     fn take_mutex(&mut self, mutex: u32, owner: u32)
         requires mutex { IsMutex self.old.now.funding mutex }
         requires free { owner_of self.old.now.funding mutex ≡ None }
@@ -249,7 +249,7 @@ impl ValuedGraph {
         attach(&self.graph, &mut self.active, &mut self.values, edge);
     }
 
-    /// Makes another live thread, which doesn't reach it, the owner of a mutex that a live thread owns (6.1).
+    /// Passes a mutex from its live owner to another live thread that doesn't reach it (6.1).
     fn move_owner(&mut self, mutex: u32, owner: u32, next: u32)
         requires mutex { IsMutex self.old.now.funding mutex }
         requires owner { owner_of self.old.now.funding mutex ≡ Some owner }
@@ -288,7 +288,7 @@ impl ValuedGraph {
         touch_listed(&self.graph, &self.active, &mut self.values);
     }
 
-    /// Makes a thread lend to another thread, or to a mutex, that doesn't reach it.
+    /// Makes a thread lend to another thread or a mutex that doesn't reach it.
     pub(crate) fn lend(&mut self, thread: u32, lend: Lend)
         requires nobody { at_number self.old.now.funding.lends thread ≡ Some Nobody }
         requires borrower { IsBorrower self.old.now.funding lend }
@@ -301,7 +301,7 @@ impl ValuedGraph {
         attach(&self.graph, &mut self.active, &mut self.values, edge);
     }
 
-    /// Makes a thread that lends lend to nobody.
+    /// Stops the lending of a thread.
     pub(crate) fn unlend(&mut self, thread: u32)
         requires lender { IsLender self.old.now.funding thread }
         ensures follows { FollowsGraph self.old self.new
@@ -314,7 +314,7 @@ impl ValuedGraph {
         detach(&self.graph, &mut self.active, &mut self.values, ends);
     }
 
-    /// Whether the ticket would make a cycle if it funded the target (4.4).
+    /// Whether the ticket would make a cycle by funding the target (4.4).
     pub fn would_cycle(&mut self, ticket: u32, target: Target) -> bool
         requires unfunded { target_of self.old.now.funding ticket ≡ Some Unfunded }
         requires target { IsTarget self.old.now.funding target }
@@ -324,14 +324,14 @@ impl ValuedGraph {
         self.graph.would_cycle(ticket, target)
     }
 
-    /// The graph, to read.
+    /// The graph, read-only.
     pub fn graph(&self) -> &Graph
         ensures { result.now ≡ self.now.now }
     {
         &self.graph
     }
 
-    /// Whether a ticket is active (4.4): whether what it funds is backed.
+    /// Whether a ticket is active (4.4): its target is backed.
     pub fn is_active(&self, ticket: u32) -> bool
         ensures { IsTrue result ↔ IsActive self.now.now.funding self.now.live ticket }
     {
@@ -349,7 +349,7 @@ impl ValuedGraph {
         self.active.active_amount(currency)
     }
 
-    /// Whether edges lead from a node to another.
+    /// Whether a path of edges, perhaps empty, leads from one node to another.
     pub fn reaches(&mut self, from: Node, to: Node) -> bool
         requires from { IsNodeOf self.old.now from }
         requires to { IsNodeOf self.old.now to }
@@ -367,7 +367,7 @@ impl ValuedGraph {
         self.values.is_stale(node)
     }
 
-    /// What a node is worth (4.4), if it isn't stale.
+    /// A node's value (4.4), if it isn't stale.
     pub fn value_of(&self, node: Node) -> u64
         requires node { IsNodeOf self.now.now node }
         ensures worth { ¬ IsStale self.now.known node → HasEquation self.now.now.funding node
@@ -376,8 +376,8 @@ impl ValuedGraph {
         self.values.value_of(node)
     }
 
-    /// What a ticket is worth (4.4), in units of base, if the currency that issued it isn't stale. If the ticket funds
-    /// something, that is one reading, which is counted; else it is worth nothing.
+    /// A ticket's value (4.4), in base units, if its issuer isn't stale. For a ticket that funds something it counts
+    /// one read; any other is worth nothing.
     pub fn ticket_value(&mut self, ticket: u32) -> u64
         requires fresh { (t : ATicket) → ticket_at self.old.now.funding ticket ≡ Some t
             → ¬ IsStale self.old.known (CurrencyNode t.issuer) }
@@ -394,14 +394,14 @@ impl ValuedGraph {
         self.values.ticket_value(&self.graph, &self.active, ticket)
     }
 
-    /// How many edges were read for values. The count stops at the greatest `u64`.
+    /// The number of edges read for values. The count saturates at the largest `u64`.
     pub fn reads(&self) -> u64
         ensures { result ≡ self.now.known.reads }
     {
         self.values.reads()
     }
 
-    /// Computes the values of all stale nodes again. Counts each edge into a node that was stale once.
+    /// Recomputes the values of all stale nodes. Counts each edge into a stale node once.
     pub fn settle(&mut self)
         ensures now { self.new.now ≡ self.old.now }
         ensures live { self.new.live ≡ self.old.live }
@@ -414,8 +414,8 @@ impl ValuedGraph {
         self.values.settle(&self.graph, &self.active);
     }
 
-    /// Computes the value of one stale node again and answers the node; `None` if none is stale. Counts each edge into
-    /// it.
+    /// Recomputes the value of one stale node and returns the node, or `None` if no node is stale. Counts each edge
+    /// into it.
     #[inline(always)]
     pub fn settle_next(&mut self) -> Option<Node>
         ensures now { self.new.now ≡ self.old.now }

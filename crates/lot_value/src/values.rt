@@ -1,4 +1,4 @@
-//! Values that are kept, and those that are stale.
+//! Cached values, and the stale ones among them.
 ghost use Rattle.std.specs.Prelude.{◌≡◌, ◌<◌, ◌⊎◌, ◌↔◌, ℕ, Bool, List, [], ◌∷◌, Contains, Some, IfOk, IfSome, IfNone};
 ghost use Rattle.std.specs.Prelude.{◌+◌, ◌*◌, IsTrue, replicate};
 ghost use Rattle.lot_machine.specs.declared.funding.Node.{Node as ANode};
@@ -28,11 +28,11 @@ use std::alloc::{AllocError, Global};
 use std::marker::Model;
 use std::mem::size_of;
 
-// What a node's value takes.
+// The memory of one node's value.
 const VALUE_BYTES: u64 = size_of::<u64>() as u64;
 
-/// How many edges were read for values. `Values::new` makes one, and no other module can; it can't be copied. So a
-/// reading is counted for the values that it is made for.
+/// The number of edges read for values. Only `Values::new` can make one, and it can't be copied, so a read is counted
+/// for the values for which it is made.
 #[derive(Drop)]
 pub(crate) struct ReadCount {
     reads: u64,
@@ -45,7 +45,7 @@ impl Model for ReadCount {
 }
 
 impl ReadCount {
-    /// Counts one reading of an edge.
+    /// Counts one read of an edge.
     pub(crate) fn count(&mut self)
         ensures { self.new ≡ counted_up self.old 1 }
     {
@@ -53,8 +53,8 @@ impl ReadCount {
     }
 }
 
-/// What each currency, thread and mutex is worth, in units of base, as far as it is known: a value for each, and which
-/// values are stale; and how many edges were read for them.
+/// The cached value of each currency, thread and mutex, in base units; the stale nodes; and the number of edges read
+/// for values.
 #[derive(Drop)]
 pub struct Values {
     values: Vec<u64>,
@@ -89,7 +89,7 @@ impl Model for Values {
 }
 
 impl Values {
-    /// All nodes that a graph may have, worth nothing, none of them stale, and nothing read.
+    /// All nodes of a graph within its limits, with value 0, none of them stale, and nothing read.
     pub fn new(alloc: Global, graph: &Graph, unit: u32) -> Result<Self, AllocError>
         ensures { IfOk result (λ made. made
             ≡ record {
@@ -112,7 +112,7 @@ impl Values {
         })
     }
 
-    /// How many bytes `new` asks of the allocator in all, for a graph with this layout.
+    /// The total of bytes that `new` requests from the allocator, for a graph with this layout.
     pub fn bytes(layout: Layout) -> u64
         ensures { result ≡ 24 * places.node_count layout + 8 }
     {
@@ -120,7 +120,7 @@ impl Values {
         VALUE_BYTES * nodes as u64 + Lists::bytes(1, nodes)
     }
 
-    /// How many edges were read for values. The count stops at the greatest `u64`.
+    /// The number of edges read for values. The count saturates at the largest `u64`.
     pub fn reads(&self) -> u64
         ensures { result ≡ self.now.reads }
     {
@@ -135,7 +135,7 @@ impl Values {
         self.stale.list_of(self.layout.list_of(node)).is_some()
     }
 
-    /// The value that is kept of a node: what the node is worth (4.4), if it isn't stale.
+    /// A node's cached value: its value (4.4), if it isn't stale.
     pub fn value_of(&self, node: Node) -> u64
         requires node { IsNodeWithin self.now.layout node }
         ensures value { result ≡ value_in self.now node }
@@ -146,8 +146,8 @@ impl Values {
         self.values[self.layout.list_of(node)]
     }
 
-    /// What a ticket is worth (4.4), in units of base, if the currency that issued it isn't stale. If the ticket funds
-    /// something, that is one reading, which is counted; else it is worth nothing.
+    /// A ticket's value (4.4), in base units, if its issuer isn't stale. For a ticket that funds something it counts
+    /// one read; any other is worth nothing.
     pub fn ticket_value(&mut self, graph: &Graph, active: &Active, ticket: u32) -> u64
         requires right { (live : List Bool) × IsKeptFor active.now graph.now live
             × IsSmall self.old.unit graph.now live × IsRight graph.now live self.old }
@@ -174,10 +174,10 @@ impl Values {
         read_share(sources, Edge::OfTicket(ticket), &mut self.reads)
     }
 
-    /// Makes a node and all that it reaches stale. It reads each edge from a node that gets stale once, and nothing for
-    /// a value.
+    /// Makes a node, and all nodes that it reaches, stale. It reads each edge from a node that becomes stale once,
+    /// and nothing for a value.
     ///
-    /// After a change of the graph, or of who is live, the caller touches each node whose equation has changed.
+    /// After a change of the graph or of the live threads, the caller touches each node whose equation has changed.
     pub fn touch(&mut self, graph: &Graph, node: Node)
         requires layout { self.old.layout ≡ layout_of graph.now }
         requires node { IsNodeOf graph.now node }
@@ -194,8 +194,8 @@ impl Values {
         mark(graph, &mut self.stale, node);
     }
 
-    /// Computes the values of all stale nodes again, in an order along the edges. Counts each edge into a node that was
-    /// stale once.
+    /// Recomputes the values of all stale nodes, in an order along the edges. Counts each edge into a stale node
+    /// once.
     pub fn settle(&mut self, graph: &Graph, active: &Active)
         requires right { (live : List Bool) × IsKeptFor active.now graph.now live
             × IsSmall self.old.unit graph.now live × IsRight graph.now live self.old }
@@ -206,12 +206,12 @@ impl Values {
         ensures once { IsOnce self.old }
         ensures counted { self.new.reads ≡ counted_up self.old.reads (edges_into_all graph.now.funding self.old.stale) }
     {
-        // What every cache keeps is known here: no node is listed twice.
+        // Brings the invariant of every cache into the proof: no node is listed twice.
         let _ = &self.stale;
         while self.settle_next(graph, active).is_some() {}
     }
 
-    /// Computes again the value of one stale node whose sources aren't stale, and answers that node; `None` if none is
+    /// Recomputes the value of one stale node without stale sources, and returns that node, or `None` if no node is
     /// stale. Counts each edge into the node.
     #[inline(always)]
     pub fn settle_next(&mut self, graph: &Graph, active: &Active) -> Option<Node>
@@ -238,8 +238,8 @@ impl Values {
         self.settle_raised(graph, active)
     }
 
-    /// The same from the back of the list, for when the node at the front has a stale source, or one that was turned
-    /// over isn't settled yet. That is seldom so.
+    /// Settles the next node from the back of the list, for the rare case that the node at the front has a stale
+    /// source, or that one turned over isn't settled yet.
     fn settle_raised(&mut self, graph: &Graph, active: &Active) -> Option<Node>
         requires right { (live : List Bool) × IsKeptFor active.now graph.now live
             × IsSmall self.old.unit graph.now live × IsRight graph.now live self.old }
@@ -257,7 +257,7 @@ impl Values {
         Some(node)
     }
 
-    /// Computes again the value of a stale node none of whose sources is stale. Counts each edge into the node.
+    /// Recomputes the value of a stale node without stale sources. Counts each edge into the node.
     #[inline(always)]
     fn settle_node(&mut self, graph: &Graph, active: &Active, place: usize, node: Node)
         requires right { (live : List Bool) × IsKeptFor active.now graph.now live

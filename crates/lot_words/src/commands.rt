@@ -1,15 +1,14 @@
-//! On which line a command of an input stands.
+//! The lines of an input's commands.
 
 use crate::input::{OpenScript, words_of};
 use crate::keywords::row_spelled;
 use crate::phrases::after_line;
 use lot_simulation::{BODY_WORDS, BodyWord, Form};
 
-/// The line of the command at this place of an input that isn't refused, if there is one. The first place is 0, and
-/// the first line 1.
+/// The line, from 1, of the command with this index, from 0, in an input that isn't refused, if there is one.
 ///
-/// It reads the input up to there, and takes no memory: so nothing has to be noted of an input before one of its
-/// commands has to be named.
+/// It reads the input up to there, and allocates nothing: so nothing about an input needs to be stored before one of
+/// its commands has to be named.
 pub fn line_of_command(input: &[u8], place: usize) -> Option<u32> {
     let mut script = None;
     let mut number = 0u32;

@@ -1,5 +1,5 @@
-//! What is wrong with the refused line, as the reader finds it: first its bytes, then its first word, then how many
-//! words it has, then each of them, and then the limit that it exceeds.
+//! The problem with the refused line, in the order in which the reader finds it: first its bytes, then its first
+//! word, then its number of words, then each of them, and then the limit that it exceeds.
 
 use crate::forms::{Shape, argument_at, form_outside, has_room_for};
 use crate::header::HeaderLines;
@@ -17,7 +17,7 @@ use lot_simulation::{
 };
 use std::alloc::Global;
 
-/// What is wrong with a line that was refused in this way.
+/// The problem with a line that was refused for this reason.
 pub(crate) fn problem_of<'a>(
     alloc: Global,
     refused: &Refused<'a>,
@@ -38,8 +38,7 @@ pub(crate) fn problem_of<'a>(
     }
 }
 
-/// Whether the line is the first of an input whose turns come in the order of time. If that line is refused, it is the
-/// last one too.
+/// Whether the line is the first of a timed input. If that line is refused, it is also the last one.
 fn is_timed_start(line: &[u8]) -> bool {
     let mut words = words_of(line);
     let is_start = words.next().unwrap_or("").as_bytes() == FIRST_WORD;
@@ -49,7 +48,7 @@ fn is_timed_start(line: &[u8]) -> bool {
     }
 }
 
-/// What is wrong with a line that the header makes wrong. It begins with this word.
+/// The problem that the header causes for a line beginning with this word.
 fn header_problem<'a>(refused: &Refused<'a>, word: &'a str) -> HeaderProblem<'a> {
     let is_late = match header_word(word) {
         Some(header) => header.place() <= refused.place,
@@ -62,7 +61,7 @@ fn header_problem<'a>(refused: &Refused<'a>, word: &'a str) -> HeaderProblem<'a>
     HeaderProblem::LateHeader { word, lines }
 }
 
-/// Too many bytes, or the first that is no printable character of ASCII.
+/// The problem with the line's bytes: too many, or the first that isn't printable ASCII.
 fn byte_problem(line: &[u8]) -> Option<ByteProblem> {
     if 4096 < line.len() {
         return Some(ByteProblem::LongLine(line.len()));
@@ -78,7 +77,7 @@ fn byte_problem(line: &[u8]) -> Option<ByteProblem> {
     }
 }
 
-/// What is wrong with the line's bytes or words, if anything is. It begins with this word.
+/// The problem with the bytes or words of a line beginning with this word, if there is one.
 fn line_problem<'a>(alloc: Global, refused: &Refused<'a>, word: &'a str) -> Option<Problem<'a>> {
     if let Some(problem) = byte_problem(refused.line) {
         return Some(Problem::Byte(problem));
@@ -89,8 +88,8 @@ fn line_problem<'a>(alloc: Global, refused: &Refused<'a>, word: &'a str) -> Opti
     }
 }
 
-/// The same of a line inside a script, which has one word, or several in an input whose turns come in the order of
-/// time.
+/// The problem with the words of a line inside a script, if there is one. It has one word, or several in a timed
+/// input.
 fn script_problem<'a>(
     alloc: Global,
     refused: &Refused<'a>,
@@ -114,7 +113,7 @@ fn script_problem<'a>(
     loop_problem(script, keyword)
 }
 
-/// What is wrong with the end of a loop or of the script, if the word is one.
+/// The problem with the end of a loop or of the script, if the word is one.
 pub(crate) fn loop_problem(script: OpenScript, word: ScriptWord) -> Option<Problem<'static>> {
     match word {
         ScriptWord::End if script.loops == 0 => Some(Problem::Form(FormProblem::NoLoop)),
@@ -123,7 +122,7 @@ pub(crate) fn loop_problem(script: OpenScript, word: ScriptWord) -> Option<Probl
     }
 }
 
-/// What to say of a word inside a script that is none of a script's.
+/// The problem with a word inside a script that isn't a word of scripts.
 pub(crate) fn no_script_word<'a>(
     alloc: Global,
     refused: &Refused<'a>,
@@ -142,7 +141,7 @@ pub(crate) fn no_script_word<'a>(
     }
 }
 
-/// What is wrong with a line outside scripts.
+/// The problem with a line outside scripts.
 fn body_problem<'a>(alloc: Global, refused: &Refused<'a>, word: &'a str) -> Option<Problem<'a>> {
     if let Some(problem) = format_problem(refused.format, word) {
         return Some(Problem::Keyword(problem));
@@ -157,7 +156,7 @@ fn body_problem<'a>(alloc: Global, refused: &Refused<'a>, word: &'a str) -> Opti
     Some(Problem::Keyword(KeywordProblem::NoBodyLine { word, nearest }))
 }
 
-/// What is wrong with a line outside scripts that begins with this word, in an input of this format.
+/// The problem with a line outside scripts that begins with this word, in an input of this format.
 fn format_problem(format: Option<Format>, word: &str) -> Option<KeywordProblem<'_>> {
     let is_timed = format == Some(Format::V3);
     match body_word(word) {
@@ -175,7 +174,7 @@ fn format_problem(format: Option<Format>, word: &str) -> Option<KeywordProblem<'
     }
 }
 
-/// What is wrong with a line that begins with this word and is to be of this form.
+/// The problem with a line that begins with this word and must have this form.
 fn form_problem<'a>(
     alloc: Global,
     refused: &Refused<'a>,
@@ -202,7 +201,7 @@ fn form_problem<'a>(
     None
 }
 
-/// What to say of a line that is to be like this and has this many words after the first.
+/// The problem with a line that must have this shape and has this many words after the first.
 fn count_problem<'a>(refused: &Refused<'a>, shape: Shape<'a>, count: usize) -> FormProblem<'a> {
     if words_of(refused.line).any(|word| word.starts_with('#')) {
         return FormProblem::TrailingComment(shape);
@@ -213,7 +212,7 @@ fn count_problem<'a>(refused: &Refused<'a>, shape: Shape<'a>, count: usize) -> F
     }
 }
 
-/// The limit that a line exceeds, if it begins with this word and nothing else is wrong with it.
+/// The limit that a line beginning with this word exceeds, if it has no other problem.
 fn too_many<'a>(refused: &Refused<'a>, word: &str, refusal: InputRefusal) -> Problem<'a> {
     if refusal != InputRefusal::TooLong {
         return Problem::Other(refusal);

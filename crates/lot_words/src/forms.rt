@@ -1,10 +1,10 @@
-//! How lines are written.
+//! The forms of lines.
 
 use crate::keywords::{header_word, row_spelled};
 use lot_simulation::{Argument, BODY_WORDS, Form, HEADER_WORDS, HeaderWord};
 use std::fmt;
 
-/// A whole line: its first word, and what stands for the others.
+/// A whole line: its first word, and placeholders for the others.
 #[derive(Clone, Copy, Debug)]
 pub(crate) struct Shape<'a> {
     pub(crate) word: &'a str,
@@ -29,7 +29,7 @@ impl fmt::Display for Shape<'_> {
     }
 }
 
-/// What the word at this place after the first is to be. The first place is 0.
+/// The argument at this index after the first word, from 0.
 pub(crate) fn argument_at(form: Form, place: usize) -> Option<Argument> {
     let arguments = form.arguments();
     match arguments.len() {

@@ -1,4 +1,4 @@
-//! The refused line, and what the lines before it say.
+//! The refused line, and the content of the lines before it.
 
 use crate::keywords::{body_word, header_word};
 use crate::phrases::after_line;
@@ -6,16 +6,16 @@ use lot_simulation::{BodyWord, Format, HeaderWord, ScriptWord};
 use std::str;
 use std::str::SplitAsciiWhitespace;
 
-/// A script that is open.
+/// An open script.
 #[derive(Clone, Copy)]
 pub(crate) struct OpenScript {
     /// The line that opens it.
     pub(crate) line: u32,
-    /// How many of its loops are open.
+    /// The number of its open loops.
     pub(crate) loops: u32,
 }
 
-/// The refused line, and what the lines before it say.
+/// The refused line, and the content of the lines before it.
 #[derive(Clone, Copy)]
 pub(crate) struct Refused<'a> {
     /// The lines before it.
@@ -24,20 +24,20 @@ pub(crate) struct Refused<'a> {
     pub(crate) line: &'a [u8],
     /// Whether one of the lines before it isn't ignored.
     pub(crate) has_start: bool,
-    /// What the first of these says.
+    /// The format given by the first of these lines.
     pub(crate) format: Option<Format>,
-    /// Where the last line of the header comes in it, from 0 on.
+    /// The place in the header of its last line, from 0.
     pub(crate) place: u32,
-    /// Whether the header says how long the input runs.
+    /// Whether the header gives the duration.
     pub(crate) has_duration: bool,
-    /// The time that was said last.
+    /// The last time given.
     pub(crate) now: u32,
     pub(crate) processors: u32,
     pub(crate) script: Option<OpenScript>,
 }
 
 impl<'a> Refused<'a> {
-    /// The line with this number, of which the first is 1. All before it have been accepted.
+    /// The line with this number, from 1. All lines before it have been accepted.
     pub(crate) fn of(input: &'a [u8], number: u32) -> Refused<'a> {
         let mut refused = Refused {
             before: input,
@@ -65,7 +65,7 @@ impl<'a> Refused<'a> {
         refused
     }
 
-    /// Whether turns come in the order of time in this input.
+    /// Whether the input is timed.
     pub(crate) fn is_timed(&self) -> bool {
         match self.format {
             Some(format) => format.is_timed(),
@@ -73,7 +73,7 @@ impl<'a> Refused<'a> {
         }
     }
 
-    /// Takes up what the line with this number says.
+    /// Records the content of the line with this number.
     fn pass(&mut self, number: u32, line: &[u8]) {
         let mut words = words_of(line);
         let Some(word) = words.next() else {
@@ -89,7 +89,7 @@ impl<'a> Refused<'a> {
         self.has_start = true;
     }
 
-    /// The same of a line outside scripts that begins with these two words.
+    /// Records the content of a line outside scripts that begins with these two words.
     fn pass_outside(&mut self, number: u32, word: &str, next: &str) {
         match header_word(word) {
             Some(header) => self.pass_header(header, next),
@@ -97,7 +97,7 @@ impl<'a> Refused<'a> {
         }
     }
 
-    /// The same of a line of the header.
+    /// Records the content of a line of the header.
     fn pass_header(&mut self, word: HeaderWord, next: &str) {
         self.place = word.place();
         match word {
@@ -108,7 +108,7 @@ impl<'a> Refused<'a> {
         }
     }
 
-    /// The same of a line of the body.
+    /// Records the content of a line of the body.
     fn pass_body(&mut self, number: u32, word: &str, next: &str) {
         self.place = u32::MAX;
         match body_word(word) {
@@ -120,7 +120,7 @@ impl<'a> Refused<'a> {
 }
 
 impl OpenScript {
-    /// A script that the line with this number opens.
+    /// The script that the line with this number opens.
     pub(crate) fn opened(number: u32) -> OpenScript {
         OpenScript {
             line: number,
@@ -128,7 +128,7 @@ impl OpenScript {
         }
     }
 
-    /// What is open after this word of it.
+    /// The script after this word of it, if it is still open.
     pub(crate) fn after(self, word: ScriptWord) -> Option<OpenScript> {
         let OpenScript { line, loops } = self;
         match word {

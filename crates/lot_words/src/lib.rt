@@ -1,9 +1,9 @@
-//! What went wrong, in words for whoever wrote the input: why it was refused, with the line, the word in question and
-//! what was expected there; or what a run of it leaves to tell.
+//! Diagnostics for the author of an input: why it was refused, with the line, the word in question and the
+//! expectation; or the warnings of a run.
 //!
-//! An input is refused by one line for programs, which has the line's number and a refusal. These words stand beside
-//! it, on standard error. The proofs show only that they are safe and end; the tests of `lot_system_tests` check the
-//! text.
+//! A refused input produces one line for programs, which has the line's number and a refusal. These diagnostics
+//! accompany it, on standard error. The proofs show only that they are safe and terminate; the tests of
+//! `lot_system_tests` check the text.
 #![tactic(auto)]
 
 mod commands;
@@ -28,8 +28,8 @@ use std::io;
 use std::io::Write;
 pub use warnings::write_warnings;
 
-/// Writes why this input is refused with this fault, as one line. It fails if the writer does. If there is no memory,
-/// it leaves out what may have been meant.
+/// Writes the reason why this input is refused with this fault, as one line. It fails if the writer does. If out of
+/// memory, it leaves out the suggestion of a nearby word.
 pub fn write_words<W: Write>(
     alloc: Global,
     writer: &mut W,

@@ -1,4 +1,4 @@
-//! What an input declares by name.
+//! The names that an input declares.
 
 use crate::input::words_of;
 use crate::keywords::body_word;
@@ -6,7 +6,7 @@ use crate::nearest::text_of;
 use lot_simulation::{BODY_WORDS, BodyWord};
 use std::fmt;
 
-/// What has a name of its own, by the word that begins the line of one.
+/// A kind of named declaration, given by the first word of its lines.
 #[derive(Clone, Copy, Debug)]
 pub(crate) struct Declared(pub(crate) BodyWord);
 

@@ -1,4 +1,4 @@
-//! What may have been meant.
+//! Suggestions for misspelt words.
 
 use crate::keywords::Keyword;
 use crate::names::name_declared;
@@ -7,14 +7,14 @@ use std::alloc::Global;
 use std::{fmt, str};
 use strsim::levenshtein;
 
-/// How many letters may be wrong, missing or too many.
+/// The largest number of wrong, missing or extra letters.
 const MOST_EDITS: usize = 2;
 
-/// The text that a misspelt one is nearest to, if one is near.
+/// The text nearest to a misspelt one, if one is near.
 #[derive(Clone, Copy, Debug)]
 pub(crate) struct Nearest<'a> {
     text: Option<&'a str>,
-    /// How many edits away it is.
+    /// Its edit distance.
     edits: usize,
 }
 
@@ -25,7 +25,7 @@ impl<'a> Nearest<'a> {
         edits: MOST_EDITS + 1,
     };
 
-    /// This text, if it is nearer to the misspelt one. Without memory it isn't looked at.
+    /// The nearer of both texts to the misspelt one. If out of memory, it ignores the new one.
     fn or(self, alloc: Global, misspelt: &str, text: &'a str) -> Nearest<'a> {
         match levenshtein(alloc, misspelt, text) {
             Ok(edits) if edits < self.edits && edits < text.len() => Nearest {
@@ -46,8 +46,8 @@ impl fmt::Display for Nearest<'_> {
     }
 }
 
-/// The word of this table that is nearest to this one. Words that only an input has whose turns come in the order of
-/// time are looked at last, and only in such an input.
+/// The word of this table that is nearest to this one. It looks at words of timed inputs last, and only for such an
+/// input.
 pub(crate) fn nearest_word<W: Keyword>(
     alloc: Global,
     table: &[WordRow<W>],
@@ -73,7 +73,7 @@ pub(crate) fn text_of(spelling: &'static [u8]) -> &'static str {
     str::from_utf8(spelling).unwrap_or("")
 }
 
-/// The name that one of these lines declares with this word, and that is nearest to this one.
+/// The name nearest to this one that one of these lines declares with this word.
 pub(crate) fn nearest_name<'a>(
     alloc: Global,
     lines: &'a [u8],

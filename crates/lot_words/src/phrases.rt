@@ -1,4 +1,4 @@
-//! The words of a line inside a script, of which there may be several, each with what belongs to it.
+//! The words of a line inside a script, one or several, each with its argument.
 
 use crate::explain::{loop_problem, no_script_word};
 use crate::forms::{Shape, argument_at};
@@ -8,7 +8,7 @@ use crate::problem::{FormProblem, Problem};
 use crate::word::word_problem;
 use std::alloc::Global;
 
-/// What is open after a line inside this script, which isn't refused.
+/// The script after a line inside it that isn't refused, if it is still open.
 pub(crate) fn after_line(script: OpenScript, line: &[u8]) -> Option<OpenScript> {
     let mut open = script;
     let mut is_argument = false;
@@ -26,15 +26,15 @@ pub(crate) fn after_line(script: OpenScript, line: &[u8]) -> Option<OpenScript> 
     Some(open)
 }
 
-/// What the words before the next one of a line leave.
+/// The state before the next word of a line.
 #[derive(Clone, Copy)]
 struct Before<'a> {
     script: Option<OpenScript>,
-    /// The last word with what is to follow, if another one belongs to it.
+    /// The shape of the last word, if its argument is still missing.
     unfinished: Option<Shape<'a>>,
 }
 
-/// What is wrong with a refused line inside this script, if anything is.
+/// The problem with a refused line inside this script, if there is one.
 pub(crate) fn phrases_problem<'a>(
     alloc: Global,
     refused: &Refused<'a>,
@@ -57,7 +57,7 @@ pub(crate) fn phrases_problem<'a>(
 }
 
 impl<'a> Before<'a> {
-    /// Takes up the next word, and returns what is wrong with it, if anything is.
+    /// Takes the next word, and returns the problem with it, if there is one.
     fn pass(&mut self, alloc: Global, refused: &Refused<'a>, word: &'a str) -> Option<Problem<'a>> {
         if let Some(shape) = self.unfinished.take() {
             let argument = argument_at(shape.form, 0)?;

@@ -1,4 +1,4 @@
-//! What is wrong with a line.
+//! Problems of lines.
 
 use crate::forms::Shape;
 use crate::header::HeaderLines;
@@ -7,8 +7,8 @@ use crate::nearest::Nearest;
 use lot_simulation::InputRefusal;
 use thiserror::Error;
 
-/// What is wrong with a line, and what was expected. Each kind of problem is an enum of its own: proving that a large
-/// enum's text is safe takes more than twice as long if it has twice the cases.
+/// The problem with a line, and the expectation. Each kind of problem is an enum of its own: proving the text of a
+/// large enum safe takes more than twice as long with twice the cases.
 #[derive(Clone, Copy, Debug, Error)]
 pub(crate) enum Problem<'a> {
     #[error("{0}")]
@@ -31,7 +31,7 @@ pub(crate) enum Problem<'a> {
     Other(InputRefusal),
 }
 
-/// What is wrong with the bytes of a line.
+/// The problem with the bytes of a line.
 #[derive(Clone, Copy, Debug, Error)]
 pub(crate) enum ByteProblem {
     #[error("{0} bytes, at most 4096")]
@@ -44,7 +44,7 @@ pub(crate) enum ByteProblem {
     BadByte { byte: u8, column: usize },
 }
 
-/// What the header makes wrong with a line.
+/// The problem that the header causes for a line.
 #[derive(Clone, Copy, Debug, Error)]
 pub(crate) enum HeaderProblem<'a> {
     #[error("an input begins with 'lottery 1', 'lottery 2' or 'lottery 3'")]
@@ -56,7 +56,7 @@ pub(crate) enum HeaderProblem<'a> {
     NoDuration,
 }
 
-/// What is wrong with the word that begins a line.
+/// The problem with the word that begins a line.
 #[derive(Clone, Copy, Debug, Error)]
 pub(crate) enum KeywordProblem<'a> {
     #[error("'{word}' is no body line{nearest}")]
@@ -77,7 +77,7 @@ pub(crate) enum KeywordProblem<'a> {
     OnlyTimed(&'a str),
 }
 
-/// What is wrong with the words of a line together.
+/// The problem with the words of a line together.
 #[derive(Clone, Copy, Debug, Error)]
 pub(crate) enum FormProblem<'a> {
     #[error("a comment has a line of its own; '{0}' has no room for one")]
@@ -96,7 +96,7 @@ pub(crate) enum FormProblem<'a> {
     OpenLoop,
 }
 
-/// What is wrong with a word that is to be a number.
+/// The problem with a word that must be a number.
 #[derive(Clone, Copy, Debug, Error)]
 pub(crate) enum NumberProblem<'a> {
     #[error("'{0}' is no number: digits, without a 0 before others, at most 18446744073709551615")]
@@ -114,7 +114,7 @@ pub(crate) enum NumberProblem<'a> {
     },
 }
 
-/// What is wrong with a word that is to be a name.
+/// The problem with a word that must be a name.
 #[derive(Clone, Copy, Debug, Error)]
 pub(crate) enum NameProblem<'a> {
     #[error("'{word}' has {count} bytes, and a name at most 16")]

@@ -1,4 +1,4 @@
-//! What a run leaves to tell, in words.
+//! The warnings of a run, in words.
 
 use crate::line_of_command;
 use lot_machine::{Refusal, Status};
@@ -6,9 +6,9 @@ use lot_play::{FirstFew, RefusedCommand, StuckThread, Warnings};
 use std::io::Write;
 use std::{fmt, io, str};
 
-/// Writes what a run leaves to tell, a line for each: commands that were refused or never made, and threads that no
-/// turn to come can move on. The input was played, and is read again only for the lines of commands that are told. It
-/// fails if the writer does.
+/// Writes the warnings of a run, a line for each: commands refused or never made, and threads that can never make
+/// progress again. The input was accepted; it is read again only for the lines of the commands named. It fails if the
+/// writer does.
 pub fn write_warnings<W: Write>(
     writer: &mut W,
     warnings: &Warnings,
@@ -30,7 +30,7 @@ pub fn write_warnings<W: Write>(
     write_others(writer, &warnings.waiting, "threads that wait for good")
 }
 
-/// Writes which commands were refused, and why.
+/// Writes the refused commands, and the reasons.
 fn write_refused<W: Write>(
     writer: &mut W,
     refused: &FirstFew<RefusedCommand>,
@@ -44,7 +44,7 @@ fn write_refused<W: Write>(
     write_others(writer, refused, "commands that were refused")
 }
 
-/// Writes how many commands were never made, if any.
+/// Writes the number of commands never made, if there are any.
 fn write_unmade<W: Write>(writer: &mut W, warnings: &Warnings, input: &[u8]) -> io::Result<()> {
     if warnings.unmade == 0 {
         return Ok(());
@@ -63,7 +63,7 @@ fn write_unmade<W: Write>(writer: &mut W, warnings: &Warnings, input: &[u8]) -> 
     }
 }
 
-/// Writes how many more there are than were told, if any.
+/// Writes the number of those not listed, if there are any.
 fn write_others<W: Write, T: Drop>(
     writer: &mut W,
     few: &FirstFew<T>,
@@ -75,7 +75,7 @@ fn write_others<W: Write, T: Drop>(
     }
 }
 
-/// The front of a line of words that names a line of the input, if it's known.
+/// The start of a diagnostic, which names a line of the input if it is known.
 #[derive(Clone, Copy)]
 struct Line(Option<u32>);
 
@@ -129,7 +129,7 @@ fn text_of(thread: &StuckThread) -> &str {
     str::from_utf8(thread.name.as_bytes()).unwrap_or("")
 }
 
-/// Why a command is refused.
+/// The reason why a command is refused.
 fn reason(refusal: Refusal) -> &'static str {
     match refusal {
         Refusal::BadName => {

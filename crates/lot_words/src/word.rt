@@ -1,4 +1,4 @@
-//! What is wrong with one word of a line.
+//! The problem with one word of a line.
 
 use crate::input::Refused;
 use crate::names::{Declared, is_declared};
@@ -8,7 +8,7 @@ use lot_machine::is_good_name;
 use lot_simulation::{Argument, BodyWord, Range};
 use std::alloc::Global;
 
-/// What is wrong with a word of the refused line that is to be this.
+/// The problem with a word of the refused line that must be this argument.
 pub(crate) fn word_problem<'a>(
     alloc: Global,
     refused: &Refused<'a>,
@@ -30,7 +30,7 @@ pub(crate) fn word_problem<'a>(
     }
 }
 
-/// The number that the word is: digits, without a 0 before others, of at most 64 bits.
+/// The word as a number: digits, without a leading 0, of at most 64 bits.
 fn number_of(word: &str) -> Option<u64> {
     let is_plain = word.bytes().all(|byte| byte.is_ascii_digit());
     if !is_plain || (word.len() > 1 && word.starts_with('0')) {

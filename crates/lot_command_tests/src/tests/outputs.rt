@@ -9,10 +9,10 @@ use std::process::Abort;
 use std::sync::Wait;
 use std::thread::Threads;
 
-/// How a call fails: with an error of this kind, or by taking no byte.
+/// The ways in which a call fails: with an error of this kind, or by accepting no byte.
 const WAYS: [Option<ErrorKind>; 3] = [Some(ErrorKind::Other), Some(ErrorKind::Interrupted), None];
 
-/// What the program is asked for, its input, and then its exit status, what it writes, and in how many calls before the
+/// A request to the program, its input, and then its exit status, its output, and the number of writes before the
 /// flush.
 #[derive(Clone, Copy, Debug)]
 struct Asked<'a> {
@@ -66,8 +66,8 @@ fn failing(alloc: Global, fails_at: u32, kind: Option<ErrorKind>) -> FailingCall
     }
 }
 
-/// Asks for this with an output whose call of this number fails, and returns whether the program has failed: then it
-/// made no further call, and what was written is a beginning of the text.
+/// Makes this request with an output whose call of this number fails, and returns whether the program failed: then it
+/// made no further call, and the output is a beginning of the text.
 fn output_fails<H: Abort + Threads + Wait + Sync>(
     rt: &H,
     alloc: Global,
@@ -121,7 +121,7 @@ fn failing_outputs(rt: HostRuntime) {
     }
 }
 
-// What is longer than the buffer.
+// Output longer than the buffer.
 #[test]
 fn failing_long_output(rt: HostRuntime) {
     let mut text = String::new(rt.alloc());

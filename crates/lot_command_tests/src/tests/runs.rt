@@ -140,7 +140,7 @@ fundx 3 base c spin
     ),
 ];
 
-/// Runs the program, and plays its schedule. Compares whether the run has this word, and the report of what was played.
+/// Runs the program, and plays its schedule. Compares whether the run has this word, and the reports of both.
 fn check_played_back<H: Abort + Threads + Wait + Sync>(
     rt: &H,
     alloc: Global,

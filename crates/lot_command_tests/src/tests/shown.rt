@@ -15,7 +15,7 @@ mkthr b spin
 schedule 0 0 0 0 1 1 1 1
 ";
 
-/// The same, with its turns in the order of time.
+/// The input as a timed one.
 const TIMED: &str = "lottery 3
 quantum 2
 for 4

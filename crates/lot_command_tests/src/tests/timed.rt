@@ -1,4 +1,4 @@
-//! Turns in the order of time.
+//! Timed inputs.
 
 use super::check_play;
 
@@ -258,7 +258,7 @@ total turns 24 quanta 8 ticks 18 refused 0 left 0
 ",
 );
 
-/// Values with what is behind the point.
+/// Values with digits after the point.
 const THIRDS: (&str, &str) = (
     "lottery 3
 for 1

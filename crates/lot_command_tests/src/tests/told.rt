@@ -9,7 +9,7 @@ use std::process::Abort;
 use std::sync::Wait;
 use std::thread::Threads;
 
-/// Has the input played or run, and compares the exit status and the diagnostics.
+/// Plays or runs the input, and compares the exit status and the diagnostics.
 fn check_told<H: Abort + Threads + Wait + Sync>(
     rt: &H,
     alloc: Global,

@@ -146,9 +146,9 @@ enum Step {
     Run(u32),
     /// A thread competes, with a compensation or without.
     Compete(u32, Option<u32>),
-    /// A drawn number, and who wins.
+    /// A drawn number, and the winner.
     Wins(u128, Won),
-    /// The same, with how many edges the draw reads, and how many places it visits at most.
+    /// A drawn number, the winner, the edges that the draw reads, and the most places that it visits.
     Reads(u128, Won, u64, u64),
     /// A drawn number that nobody wins, which reads and visits nothing.
     Idles(u128),
@@ -161,13 +161,13 @@ fn is_won(winner: Option<Winner>, (thread, number, total): Won) -> bool {
     }
 }
 
-/// Draws, and checks who wins.
+/// Draws, and checks the winner.
 fn check_winner(rt: &impl Abort, room: &mut Room, d: u128, won: Won) {
     let (winner, _, _) = room.draw(d);
     assert!(rt; is_won(winner, won), "at {d}");
 }
 
-/// Draws, and checks who wins and the counts.
+/// Draws, and checks the winner and the counts.
 fn check_counts(rt: &impl Abort, room: &mut Room, d: u128, won: Won, reads: u64, most: u64) {
     let (winner, read, visits) = room.draw(d);
     assert!(rt; is_won(winner, won), "at {d}");
@@ -255,7 +255,7 @@ const STALE: [Step; 4] = [
     Step::Reads(33, (2, 33, 99), 0, 4),
 ];
 
-// Each edge into what was stale is read once: one into the currency, and one into each thread.
+// Each edge into a stale node is read once: one into the currency, and one into each thread.
 #[test]
 fn reads_what_is_stale(rt: HostRuntime) -> Result<(), Fail> {
     play_thirds(&rt, rt.alloc(), &STALE)

@@ -23,7 +23,7 @@ fn add_thread(rt: &impl Abort, graph: &mut Graph) {
     graph.add_thread();
 }
 
-/// One more currency.
+/// Makes one more currency.
 fn make_currency(rt: &impl Abort, graph: &mut Graph) -> u32 {
     graph
         .make_currency()
@@ -58,7 +58,7 @@ fn destroy(rt: &impl Abort, graph: &mut Graph, ticket: u32) {
     graph.destroy(ticket);
 }
 
-/// Gives a ticket that funds nothing another amount.
+/// Sets the amount of a ticket that funds nothing.
 fn set_amount(rt: &impl Abort, graph: &mut Graph, ticket: u32, amount: u32) {
     assert!(rt; 0 < amount);
     assert!(rt; graph.is_unfunded(ticket));
@@ -89,7 +89,7 @@ fn lend(rt: &impl Abort, graph: &mut Graph, thread: u32, server: u32) -> bool {
     true
 }
 
-/// The same with a mutex.
+/// Makes a thread wait for a mutex, or returns false if it would make a cycle.
 fn wait(rt: &impl Abort, graph: &mut Graph, thread: u32, mutex: u32) -> bool {
     assert!(rt; 0 < mutex && mutex <= graph.mutexes());
     assert!(rt; 0 < thread && thread <= graph.threads());
@@ -129,7 +129,7 @@ fn link(rt: &impl Abort, graph: &mut Graph, from: u32, to: u32) {
     assert!(rt; fund(rt, graph, ticket, Target::Currency(to)));
 }
 
-/// One more currency, which the one before funds.
+/// Makes one more currency, which the one before funds.
 fn extend(rt: &impl Abort, graph: &mut Graph, last: u32) -> u32 {
     let next = make_currency(rt, graph);
     link(rt, graph, last, next);
@@ -189,7 +189,7 @@ fn amount_of(graph: &Graph, edge: Edge) -> u32
     }
 }
 
-/// What backs a currency: the amounts of its backing tickets, added up over the walk.
+/// The backing of a currency: the sum of the amounts of its backing tickets, over the walk.
 fn backing_of(graph: &Graph, currency: u32) -> u64
     requires currency { IsNodeOf graph.now (CurrencyNode currency) }
     ensures { result ≡ sum_by (λ t. t.amount) (backing_currency graph.now.funding currency) }
@@ -201,13 +201,13 @@ fn backing_of(graph: &Graph, currency: u32) -> u64
     sum
 }
 
-/// The same of an existing currency.
+/// The backing of an existing currency.
 fn backing(rt: &impl Abort, graph: &Graph, currency: u32) -> u64 {
     assert!(rt; graph.is_currency(currency));
     backing_of(graph, currency)
 }
 
-/// How many tickets a currency issues.
+/// The number of tickets that a currency issues.
 fn issued_by(rt: &impl Abort, graph: &Graph, currency: u32) -> usize {
     assert!(rt; graph.is_currency(currency));
     graph.tickets_of(currency).count()
@@ -232,13 +232,13 @@ fn funded_with(rt: &impl Abort, graph: &Graph, thread: u32) -> u64 {
     sum
 }
 
-/// How many edges lead into a thread.
+/// The number of edges into a thread.
 fn edges_into(rt: &impl Abort, graph: &Graph, thread: u32) -> usize {
     assert!(rt; 0 < thread && thread <= graph.threads());
     graph.edges_into(Node::Thread(thread)).count()
 }
 
-/// How many edges lead out of a node.
+/// The number of edges out of a node.
 fn edges_out_of(rt: &impl Abort, graph: &Graph, node: Node) -> usize {
     assert!(rt;
         match node {
@@ -295,12 +295,12 @@ enum Step {
     Unfund(u32),
     /// A thread lends to another, or doesn't, since it would make a cycle.
     Lend(u32, u32, bool),
-    /// The same with a mutex.
+    /// A thread waits for a mutex, or doesn't, since it would make a cycle.
     Wait(u32, u32, bool),
     Unlend(u32),
     /// A mutex, and the thread that it is given to.
     Give(u32, u32),
-    /// A thread, and how many tickets of base of the largest amount fund it.
+    /// A thread, and the number of base tickets of the largest amount that fund it.
     Fill(u32, u32),
     /// A chain of this many currencies, and its last one.
     Chain(u32, u32),
@@ -311,7 +311,7 @@ enum Step {
     Shows(Fact),
 }
 
-/// What a graph must show.
+/// A fact that a graph must show.
 #[derive(Clone, Copy)]
 enum Fact {
     IsCurrency(u32, bool),
@@ -321,9 +321,9 @@ enum Fact {
     /// A ticket, the currency that issues it, its amount and its target.
     IsTicket(u32, u32, u32, Target),
     NoTicket(u32),
-    /// How many tickets were made, including the destroyed ones.
+    /// The number of tickets ever made, including destroyed ones.
     Made(u32),
-    /// A currency, and how many tickets it issues.
+    /// A currency, and the number of tickets that it issues.
     Issued(u32, usize),
     /// A currency, and the amounts that back it.
     Backing(u32, u64),
@@ -332,7 +332,7 @@ enum Fact {
     /// A mutex and its owner.
     OwnedBy(u32, u32),
     LendsTo(u32, u32),
-    /// A thread, and how many edges lead into it.
+    /// A thread, and the number of edges into it.
     EdgesInto(u32, usize),
     EdgesOutOf(Node, usize),
 }

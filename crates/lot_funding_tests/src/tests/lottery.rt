@@ -5,7 +5,7 @@ use lot_machine::Drawn;
 
 #[test]
 fn list_lottery(rt: HostRuntime) {
-    // The list lottery with 10, 2, 5, 1 and 2 tickets: who holds which number.
+    // The list lottery with 10, 2, 5, 1 and 2 tickets: the holder of each number.
     let holders = [
         (9, 0, 9),
         (10, 1, 10),

@@ -8,7 +8,7 @@ pub(crate) fn check_same<T: PartialEq + Debug>(rt: &impl Abort, found: &T, wante
     assert_eq!(rt; *found, *wanted);
 }
 
-/// The same at a place, row or step, which is shown too.
+/// Compares two values at an index, row or step, which it shows too.
 pub(crate) fn check_same_at<T: PartialEq + Debug>(
     rt: &impl Abort,
     at: &impl Display,

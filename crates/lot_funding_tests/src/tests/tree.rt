@@ -25,7 +25,7 @@ fn tree_of(rt: &impl Abort, alloc: Global, weights: &[u128]) -> Result<SumTree, 
     Ok(tree)
 }
 
-/// The place that `d` draws, and how many partial sums that reads.
+/// The place that `d` draws, and the number of partial sums that this reads.
 fn draw(rt: &impl Abort, tree: &SumTree, d: u128) -> (usize, u64) {
     assert!(rt; d < tree.total());
     let mut visits = 0;

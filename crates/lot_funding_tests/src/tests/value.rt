@@ -93,7 +93,7 @@ fn unfund(rt: &impl Abort, graph: &mut ValuedGraph, ticket: u32) {
     graph.apply(Change::PutTicket(ticket, unfunded));
 }
 
-/// Gives a ticket another amount.
+/// Sets a ticket's amount.
 fn set_amount(rt: &impl Abort, graph: &mut ValuedGraph, ticket: u32, amount: u32) {
     let _before = graph.graph().ticket(ticket).expect(rt, "a ticket");
     assert!(rt; 0 < amount);
@@ -190,7 +190,7 @@ fn make(rt: &impl Abort, graph: &mut ValuedGraph, change: Step) {
     }
 }
 
-/// How many edges a settling reads.
+/// The number of edges that a settling reads.
 fn settle(graph: &mut ValuedGraph) -> u64 {
     let before = graph.reads();
     graph.settle();
@@ -261,7 +261,7 @@ fn is_ticket_worth(graph: &mut ValuedGraph, number: u32, value: u64) -> bool {
     graph.ticket_value(number) == value && graph.reads().saturating_sub(before) == 1
 }
 
-/// Some changes, how many edges the next settling reads, and what nodes are worth after it.
+/// Some changes, the edges that the next settling reads, and the values of nodes after it.
 #[derive(Clone, Copy)]
 struct Row<'a> {
     changes: &'a [Step],
@@ -501,8 +501,8 @@ fn lent_and_inherited(rt: HostRuntime) -> Result<(), Fail> {
     Ok(())
 }
 
-/// A thread gets stale before a currency that funds it, and there is a ticket of base before that currency's. Each of
-/// the three edges into the thread is read once, and so are the two into the currency.
+/// A thread becomes stale before a currency that funds it, and a ticket of base precedes that currency's. Each of the
+/// three edges into the thread is read once, and so are the two into the currency.
 #[test]
 fn stale_before_its_source(rt: HostRuntime) -> Result<(), Fail> {
     let rows = [

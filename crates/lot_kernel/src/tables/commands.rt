@@ -17,18 +17,17 @@ ghost use Rattle.lot_value.specs.Changing.{CanTarget};
 ghost use Rattle.lot_machine.specs.Order.{IsInOrder};
 ghost use Rattle.lot_machine.specs.State.{funding_of};
 ghost use Rattle.lot_kernel.specs.Counted.{KeepsStale};
-ghost use Rattle.lot_kernel.specs.Snapshots.{IsTargetThere, MakesStale};
+ghost use Rattle.lot_kernel.specs.Snapshots.{MakesStale};
 
-use crate::names::{currency_place, thread_place};
 use crate::tables::Tables;
 use lot_machine::{
-    Command, Name, Node, Refusal, Reply, Status, Target, Thread, ThreadNumber, Ticket,
-    TicketNumber, is_good_name,
+    Command, CurrencyRef, Name, Node, Refusal, Reply, Status, Target, TargetRef, Thread,
+    ThreadNumber, ThreadRef, Ticket, TicketNumber, is_good_name,
 };
 use lot_value::Change;
 
 impl Tables {
-    /// One command, whose reply is stored where the caller keeps it.
+    /// Makes one command and stores its reply in `reply`.
     pub(super) fn command(&mut self, command: &Command, reply: &mut Reply)
         requires { IsInOrder self.old.state }
         ensures reply { reply.new ≡ (command_step self.old.state command.now).reply }
@@ -59,7 +58,7 @@ impl Tables {
         }
     }
 
-    fn make_ticket(&mut self, amount: u64, currency: &Name) -> Reply
+    fn make_ticket(&mut self, amount: u64, currency: &CurrencyRef) -> Reply
         ensures reply { result ≡ (command_step self.old.state (MakeTicket amount currency.now)).reply }
         ensures state { self.new.state ≡ (command_step self.old.state (MakeTicket amount currency.now)).state }
         ensures stale { self.new.stale ≡ self.old.stale }
@@ -68,16 +67,16 @@ impl Tables {
         if is_bad_amount(amount) {
             return Reply::Refused(Refusal::BadAmount);
         }
-        let Some(issuer) = currency_place(&self.currencies, currency) else {
+        let Some(issuer) = self.currency_meant(currency) else {
             return Reply::Refused(Refusal::NoCurrency);
         };
-        match self.issue(issuer as u32, amount as u32) {
+        match self.issue(issuer, amount as u32) {
             Some(ticket) => Reply::Ticket(ticket),
             None => Reply::Refused(Refusal::Full),
         }
     }
 
-    /// One more ticket, which funds nothing, and its number, or `None` if as many were made as there may be.
+    /// Makes one more ticket, which funds nothing, and returns its number, or `None` if the limit is reached.
     fn issue(&mut self, issuer: u32, amount: u32) -> Option<u32>
         requires issuer { slice_get (map is_some self.old.state.currencies) issuer ≡ Some true }
         requires amount { 0 < amount }
@@ -141,23 +140,23 @@ impl Tables {
         Reply::Currency(number)
     }
 
-    fn remove_currency(&mut self, currency: &Name) -> Reply
+    fn remove_currency(&mut self, currency: &CurrencyRef) -> Reply
         ensures reply { result ≡ (command_step self.old.state (RemoveCurrency currency.now)).reply }
         ensures state { self.new.state ≡ (command_step self.old.state (RemoveCurrency currency.now)).state }
         ensures stale { self.new.stale ≡ self.old.stale }
         ensures meter { self.new.meter ≡ self.old.meter }
     {
-        let Some(place) = currency_place(&self.currencies, currency) else {
+        let Some(number) = self.currency_meant(currency) else {
             return Reply::Refused(Refusal::NoCurrency);
         };
-        if place == 0 {
+        if number == 0 {
             return Reply::Refused(Refusal::BaseFixed);
         }
-        if !self.threads.graph().is_unused(place as u32) {
+        if !self.threads.graph().is_unused(number) {
             return Reply::Refused(Refusal::InUse);
         }
-        self.threads.apply(Change::DropCurrency(place as u32));
-        self.currencies[place] = None;
+        self.threads.apply(Change::DropCurrency(number));
+        self.currencies[number as usize] = None;
         Reply::Done
     }
 
@@ -183,18 +182,17 @@ impl Tables {
         Reply::Thread(self.add_thread(name, script).number)
     }
 
-    fn remove_thread(&mut self, name: &Name) -> Reply
+    fn remove_thread(&mut self, thread: &ThreadRef) -> Reply
         requires { IsInOrder self.old.state }
-        ensures reply { result ≡ (command_step self.old.state (RemoveThread name.now)).reply }
-        ensures state { self.new.state ≡ (command_step self.old.state (RemoveThread name.now)).state }
+        ensures reply { result ≡ (command_step self.old.state (RemoveThread thread.now)).reply }
+        ensures state { self.new.state ≡ (command_step self.old.state (RemoveThread thread.now)).state }
         ensures stale { MakesStale self.old self.new }
         ensures kept { KeepsStale self.old self.new }
         ensures meter { self.new.meter ≡ self.old.meter }
     {
-        let Some(place) = thread_place(self.threads.threads(), name) else {
+        let Some(number) = self.thread_meant(thread) else {
             return Reply::Refused(Refusal::NoThread);
         };
-        let number = place as u32 + 1;
         if !self.is_dead(number) {
             return Reply::Refused(Refusal::Alive);
         }
@@ -205,7 +203,7 @@ impl Tables {
         Reply::Done
     }
 
-    /// One more thread, and its number: it is Ready and serves nobody.
+    /// Makes one more thread, which is Ready and serves nobody, and returns its number.
     fn add_thread(&mut self, name: &Name, script: u32) -> ThreadNumber
         requires { length self.old.state.threads < self.old.state.limits.threads }
         ensures number { result.number ≡ length self.old.state.threads + 1 }
@@ -221,7 +219,13 @@ impl Tables {
         })
     }
 
-    fn make_funded(&mut self, amount: u64, currency: &Name, name: &Name, script: u32) -> Reply
+    fn make_funded(
+        &mut self,
+        amount: u64,
+        currency: &CurrencyRef,
+        name: &Name,
+        script: u32,
+    ) -> Reply
         ensures reply { result ≡ (command_step self.old.state (MakeFunded amount currency.now name.now script)).reply }
         ensures state { self.new.state
             ≡ (command_step self.old.state (MakeFunded amount currency.now name.now script)).state }
@@ -232,7 +236,7 @@ impl Tables {
         if is_bad_amount(amount) {
             return Reply::Refused(Refusal::BadAmount);
         }
-        let Some(issuer) = currency_place(&self.currencies, currency) else {
+        let Some(issuer) = self.currency_meant(currency) else {
             return Reply::Refused(Refusal::NoCurrency);
         };
         if !is_good_name(name.as_bytes()) {
@@ -247,20 +251,20 @@ impl Tables {
         if self.threads.threads().len() >= self.limits.threads as usize {
             return Reply::Refused(Refusal::Full);
         }
-        let Some(ticket) = self.issue(issuer as u32, amount as u32) else {
+        let Some(ticket) = self.issue(issuer, amount as u32) else {
             return Reply::Refused(Refusal::Full);
         };
         let thread = self.add_thread(name, script).number;
         let issued = Ticket {
             amount: amount as u32,
-            issuer: issuer as u32,
+            issuer,
             target: Target::Unfunded,
         };
         self.put_target(ticket, issued, Target::Thread(thread));
         Reply::Funded { ticket, thread }
     }
 
-    /// Makes a ticket fund a target in place of nothing, or nothing in place of what it funds.
+    /// Gives a ticket that funds nothing a target, or one with a target none.
     #[inline(always)]
     fn put_target(&mut self, ticket: u32, found: Ticket, target: Target)
         requires found { ticket_at (funding_of self.old.state) ticket ≡ Some found }
@@ -275,7 +279,7 @@ impl Tables {
             .apply(Change::PutTicket(ticket, Ticket { target, ..found }));
     }
 
-    fn fund(&mut self, ticket: u64, target: &Name) -> Reply
+    fn fund(&mut self, ticket: u64, target: &TargetRef) -> Reply
         requires { IsInOrder self.old.state }
         ensures reply { result ≡ (command_step self.old.state (Fund ticket target.now)).reply }
         ensures state { self.new.state ≡ (command_step self.old.state (Fund ticket target.now)).state }
@@ -286,7 +290,7 @@ impl Tables {
         let Some(found) = self.ticket_at(ticket) else {
             return Reply::Refused(Refusal::NoTicket);
         };
-        let Some(to) = self.target_named(target) else {
+        let Some(to) = self.target_meant(target) else {
             return Reply::Refused(Refusal::NoTarget);
         };
         if to == Target::Currency(0) {
@@ -301,7 +305,7 @@ impl Tables {
         self.fund_target(ticket as u32, found, to)
     }
 
-    /// Makes a ticket that funds nothing fund a target, unless that would make a cycle.
+    /// Gives a ticket that funds nothing a target, unless that would make a cycle.
     fn fund_target(&mut self, ticket: u32, found: Ticket, to: Target) -> Reply
         requires order { IsInOrder self.old.state }
         requires found { ticket_at (funding_of self.old.state) ticket ≡ Some found }
@@ -322,7 +326,7 @@ impl Tables {
         Reply::Done
     }
 
-    /// Whether the ticket would make a cycle if it funded the target (4.4).
+    /// Whether the ticket would make a cycle by funding the target (4.4).
     fn would_cycle(&mut self, ticket: u32, to: Target) -> bool
         requires order { IsInOrder self.old.state }
         requires unfunded { target_of (funding_of self.old.state) ticket ≡ Some Unfunded }
@@ -372,7 +376,7 @@ impl Tables {
         Reply::Done
     }
 
-    /// The ticket with this number, if it is there.
+    /// The ticket with this number, if it exists.
     fn ticket_at(&self, number: u64) -> Option<Ticket>
         ensures found { result ≡ ticket_in self.now.state.tickets number }
         ensures small { IfSome result (λ t. number < 2 ^ 32) }
@@ -381,18 +385,6 @@ impl Tables {
             return None;
         }
         self.threads.graph().ticket(number as u32)
-    }
-
-    /// The currency or thread with this name.
-    fn target_named(&self, name: &Name) -> Option<Target>
-        ensures named { result ≡ names.target_named self.now.state name.now }
-        ensures there { IfSome result (IsTargetThere self.now.state) }
-    {
-        if let Some(place) = currency_place(&self.currencies, name) {
-            return Some(Target::Currency(place as u32));
-        }
-        let place = thread_place(self.threads.threads(), name)?;
-        Some(Target::Thread(place as u32 + 1))
     }
 
     fn is_dead_thread(&self, target: Target) -> bool
@@ -414,7 +406,7 @@ impl Tables {
     }
 }
 
-/// Whether no ticket may have this amount: it is 1 to 4294967295.
+/// Whether the amount isn't one of 1 to 4294967295.
 fn is_bad_amount(amount: u64) -> bool
     ensures { result ≡ names.is_bad_amount amount }
 {

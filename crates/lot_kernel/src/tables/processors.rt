@@ -1,4 +1,4 @@
-//! What happens on a processor: draws and traps.
+//! Events of a processor: draws and traps.
 ghost use Rattle.std.specs.Prelude.{◌≡◌, ◌<◌, ◌≤◌, ℕ, Some, None, IfSome, MatchOption, length, option_map};
 ghost use Rattle.lot_machine.specs.declared.event.Event.TheVariants as event;
 ghost use Rattle.lot_machine.specs.declared.after.After.TheVariants.{Leaves};
@@ -21,7 +21,8 @@ use lot_machine::{Action, After, Processor, Refusal, Reply, ThreadNumber, index_
 use lot_threads::Runner;
 
 impl Tables {
-    /// Who runs on the processor, `None` if and only if nobody does. The ticks used are below the quantum.
+    /// The thread that runs on the processor, or `None` if and only if it is idle. The ticks used are below the
+    /// quantum.
     pub(crate) fn runner(&self, processor: Processor) -> Option<Runner>
         ensures thread { MatchOption result (thread_on self.now.state.records processor.number ≡ None)
             (λ r. thread_on self.now.state.records processor.number ≡ Some r.thread.number) }
@@ -33,7 +34,7 @@ impl Tables {
         self.threads.runner(processor)
     }
 
-    /// The number of the script that the thread was made with, `None` if and only if there is no such thread.
+    /// The number of the thread's script, fixed when it was made, or `None` if and only if there is no such thread.
     pub(crate) fn script_of(&self, thread: ThreadNumber) -> Option<u32>
         ensures { result ≡ option_map (λ t. t.script) (thread_at self.now.state.threads thread.number) }
     {
@@ -46,7 +47,7 @@ impl Tables {
         }
     }
 
-    /// A draw by a processor.
+    /// Makes a draw by a processor.
     pub(super) fn draw(&mut self, processor: Processor, d: u128, reply: &mut Reply)
         ensures reply { reply.new ≡ (step self.old.state (event.Draw processor.number d)).reply }
         ensures state { self.new.state ≡ (step self.old.state (event.Draw processor.number d)).state }
@@ -77,7 +78,7 @@ impl Tables {
         };
     }
 
-    /// A trap on a processor, with the ticks that were run before it.
+    /// Makes a trap on a processor, after these ticks of work.
     pub(super) fn trap(
         &mut self,
         processor: Processor,
@@ -115,7 +116,7 @@ impl Tables {
         );
     }
 
-    /// A trap that costs no more than what is left of its thread's quantum.
+    /// Makes a trap that costs no more than the rest of its thread's quantum.
     fn make_trap(&mut self, trap: Trap, action: &Action, reply: &mut Reply)
         requires order { IsInOrder self.old.state }
         requires processor { IsBetween 1 self.old.state.limits.processors trap.processor.number }
@@ -137,7 +138,7 @@ impl Tables {
         };
     }
 
-    /// The thread that made a trap stays on its processor, or leaves it with a status that isn't Running.
+    /// Lets the thread that made a trap stay on its processor, or leave it with a status other than Running.
     fn finish(&mut self, trap: Trap, after: After)
         requires ticks { (0 < trap.ticks) × (trap.ticks ≤ trap.used) }
         requires processor { IsBetween 1 self.old.state.limits.processors trap.processor.number }

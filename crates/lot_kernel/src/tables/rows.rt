@@ -19,7 +19,8 @@ use lot_machine::{
 };
 
 impl Tables {
-    /// The row of the ticket with this number, `None` if and only if it isn't there. Settles, and reads the ticket.
+    /// The row of the ticket with this number, or `None` if and only if it doesn't exist. Settles, and reads the
+    /// ticket.
     pub(crate) fn ticket_row(&mut self, ticket: TicketNumber) -> Option<TicketRow>
         requires { IsInOrder self.old.state }
         ensures row { result ≡ rows.ticket_row self.old.state ticket.number }
@@ -30,7 +31,7 @@ impl Tables {
         ensures unchanged { IfNone result (self.new ≡ self.old) }
     {
         let found = self.threads.graph().ticket(ticket.number)?;
-        // A currency that issues is there. Were it not, the definitions would show an empty name.
+        // A currency that issues a ticket exists. For one that doesn't, the definitions give an empty name.
         let issuer = self
             .currency_name(CurrencyNumber {
                 number: found.issuer,
@@ -47,7 +48,7 @@ impl Tables {
         })
     }
 
-    /// The row of the currency with this number, `None` if and only if it isn't there. Settles.
+    /// The row of the currency with this number, or `None` if and only if it doesn't exist. Settles.
     pub(crate) fn currency_row(&mut self, currency: CurrencyNumber) -> Option<CurrencyRow>
         requires { IsInOrder self.old.state }
         ensures row { result ≡ rows.currency_row self.old.state currency.number }
@@ -68,7 +69,7 @@ impl Tables {
         })
     }
 
-    /// What a currency is worth, if nothing is stale; base is worth its active amount.
+    /// The value of a currency if nothing is stale; base is worth its active amount.
     fn currency_value(&self, currency: CurrencyNumber) -> u64
         requires there { currency.number < length self.now.state.currencies }
         requires settled { self.now.stale ≡ [] }
@@ -81,7 +82,7 @@ impl Tables {
         self.threads.value_of(Node::Currency(currency.number))
     }
 
-    /// The row of the thread with this number, `None` if and only if there is none. Settles.
+    /// The row of the thread with this number, or `None` if and only if it doesn't exist. Settles.
     pub(crate) fn thread_row(&mut self, thread: ThreadNumber) -> Option<ThreadRow>
         ensures row { result ≡ rows.thread_row self.old.state thread.number }
         ensures state { self.new.state ≡ self.old.state }
@@ -103,7 +104,7 @@ impl Tables {
         })
     }
 
-    /// The name of the currency, if it is there.
+    /// The name of the currency, if it exists.
     fn currency_name(&self, currency: CurrencyNumber) -> Option<Name>
         ensures { result ≡ rows.currency_name self.now.state currency.number }
     {
@@ -113,7 +114,7 @@ impl Tables {
         }
     }
 
-    /// The name of what a ticket funds.
+    /// The name of a ticket's target.
     fn target_name(&self, target: Target) -> Option<Name>
         ensures { result ≡ rows.target_name self.now.state target }
     {

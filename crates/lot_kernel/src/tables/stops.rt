@@ -1,4 +1,4 @@
-//! How a processor is left without a trap, and how sleepers are woken (3.4, 4.2, 4.4).
+//! Events that end a thread's run without a trap, and wakes of sleepers (3.4, 4.2, 4.4).
 ghost use Rattle.std.specs.Prelude.{◌≡◌, ◌<◌, ◌≤◌, IfSome, length};
 ghost use Rattle.lot_machine.specs.declared.event.Event.TheVariants as event;
 ghost use Rattle.lot_machine.specs.Numbered.{option_any};
@@ -11,7 +11,7 @@ use crate::tables::Tables;
 use lot_machine::{Processor, Refusal, Reply, Status, ThreadNumber};
 
 impl Tables {
-    /// The quantum ends on a processor.
+    /// Ends the quantum on a processor.
     pub(super) fn expire(&mut self, processor: Processor, reply: &mut Reply)
         ensures reply { reply.new ≡ (step self.old.state (event.Expire processor.number)).reply }
         ensures state { self.new.state ≡ (step self.old.state (event.Expire processor.number)).state }
@@ -31,7 +31,7 @@ impl Tables {
         self.stop(runner.thread, ticks, None, reply);
     }
 
-    /// A processor is taken from its thread after these further ticks, which its quantum still has.
+    /// Preempts a processor's thread after these further ticks, which fit its quantum.
     pub(super) fn preempt(&mut self, processor: Processor, ticks: u32, reply: &mut Reply)
         ensures reply { reply.new ≡ (step self.old.state (event.Preempt processor.number ticks)).reply }
         ensures state { self.new.state ≡ (step self.old.state (event.Preempt processor.number ticks)).state }
@@ -54,7 +54,7 @@ impl Tables {
         self.stop(runner.thread, ticks, None, reply);
     }
 
-    /// The quantum ended on a processor, so many ticks late: what the thread has used is its compensation.
+    /// Ends the quantum on a processor this many ticks late: the ticks used become the thread's compensation.
     pub(super) fn overrun(&mut self, processor: Processor, late: u32, reply: &mut Reply)
         ensures reply { reply.new ≡ (step self.old.state (event.Overrun processor.number late)).reply }
         ensures state { self.new.state ≡ (step self.old.state (event.Overrun processor.number late)).state }
@@ -77,7 +77,7 @@ impl Tables {
         self.stop(runner.thread, used - runner.used, Some(used), reply);
     }
 
-    /// A thread that runs is Ready with this compensation after these further ticks.
+    /// Makes a running thread Ready with this compensation, after these further ticks.
     fn stop(
         &mut self,
         thread: ThreadNumber,
@@ -100,7 +100,7 @@ impl Tables {
         };
     }
 
-    /// A thread that sleeps is Ready.
+    /// Makes a sleeping thread Ready.
     pub(super) fn wake(&mut self, thread: ThreadNumber, reply: &mut Reply)
         ensures reply { reply.new ≡ (step self.old.state (event.Wake thread.number)).reply }
         ensures state { self.new.state ≡ (step self.old.state (event.Wake thread.number)).state }

@@ -1,4 +1,5 @@
-//! What traps do: yields, calls, receipts, replies, servings, locks, unlocks, sleeps and exits (3.4, 4.5, 4.6, 6.1).
+//! The effects of traps: yields, calls, receives, replies, serves, locks, unlocks, sleeps and exits (3.4, 4.5, 4.6,
+//! 6.1).
 ghost use Rattle.std.specs.Prelude.{◌≡◌, ◌≢◌};
 ghost use Rattle.lot_machine.specs.declared.action.Action.TheVariants as action;
 ghost use Rattle.lot_machine.specs.declared.after.After.TheVariants.{GoesOn};
@@ -18,7 +19,7 @@ use lot_machine::{
 use lot_threads::Effect;
 
 impl Tables {
-    /// What a trap of a thread that runs does, and its effect. A refused trap does nothing.
+    /// Does the work of a running thread's trap and returns its effect. A refused trap does nothing.
     pub(super) fn act(&mut self, thread: ThreadNumber, action: &Action) -> Effect
         requires order { IsInOrder self.old.state }
         requires runs { IsRunning self.old.state.records thread.number }
@@ -146,7 +147,7 @@ impl Tables {
         lot_mutex::lock(&mut self.threads, &mut self.queues, thread, mutex)
     }
 
-    /// Why a thread can't lock a mutex, if it can't. It changes nothing.
+    /// The reason why a thread can't lock a mutex, if there is one. It changes nothing.
     fn lock_refusal(&mut self, thread: ThreadNumber, mutex: MutexNumber) -> Option<TrapRefusal>
         requires order { IsInOrder self.old.state }
         requires runs { IsRunning self.old.state.records thread.number }
@@ -166,7 +167,7 @@ impl Tables {
         None
     }
 
-    /// Whether the lends of a thread lead on to another. It changes nothing.
+    /// Whether a chain of one lend or more leads from the lender to the thread. It changes nothing.
     fn lends_on_to(&mut self, lender: ThreadNumber, thread: ThreadNumber) -> bool
         requires order { IsInOrder self.old.state }
         requires runs { IsRunning self.old.state.records thread.number }
@@ -208,7 +209,7 @@ impl Tables {
     }
 }
 
-/// A trap that is refused does nothing, and its thread goes on.
+/// The effect of a refused trap: nothing happens, and its thread goes on.
 fn refused(refusal: TrapRefusal) -> Effect
     ensures outcome { result.outcome ≡ Refused refusal }
     ensures after { result.after ≡ GoesOn }

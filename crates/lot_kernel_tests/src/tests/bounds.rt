@@ -27,7 +27,7 @@ const MOST: Sizes = Sizes {
     unit: 256,
 };
 
-/// In each, one size is one past its bound. A unit is 1 or 256.
+/// Sizes with one of them one past its bound. A unit is 1 or 256.
 const PAST_A_BOUND: [Sizes; 17] = [
     Sizes {
         tickets: 0,
@@ -118,7 +118,7 @@ fn names_of_sixteen_bytes(rt: HostRuntime) {
     play(&rt, rt.alloc(), &LONG_NAMES)
 }
 
-/// With all threads made, `fundx` makes neither a thread nor a ticket.
+/// When the limit on threads is reached, `fundx` makes neither a thread nor a ticket.
 const NO_MORE_THREADS: [Step<'_>; 5] = [
     Step::Gives(Line::Mkthr("u", 1), Reply::Refused(Refusal::Full)),
     Step::Gives(

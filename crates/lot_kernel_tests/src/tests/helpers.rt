@@ -1,4 +1,4 @@
-//! What the rows of threads, mutexes and ports share.
+//! Helpers for the rows of threads, mutexes and ports.
 ghost use Rattle.std.specs.Prelude.{◌≡◌, Some, IsTrue, length};
 ghost use Rattle.lot_machine.specs.declared.ticket.Target.TheVariants.{Unfunded};
 ghost use Rattle.lot_machine.specs.Funding.{target_of};
@@ -36,7 +36,7 @@ pub(crate) fn stands(threads: &Threads, number: u32, status: Status) -> bool {
     }
 }
 
-/// Whether the thread is there, and the queues are for as many threads as there are.
+/// Whether the thread exists, and the queues and the threads are equally many.
 pub(crate) fn is_known(threads: &Threads, queues: &Queues, thread: ThreadNumber) -> bool
     ensures there { IsTrue result → IsThere queues.now.clients thread.number }
     ensures same { IsTrue result → length threads.now.records ≡ length queues.now.clients }
@@ -64,7 +64,7 @@ pub(crate) fn check_step(rt: &impl Abort, number: usize, is_so: bool) {
     assert!(rt; is_so, "step {number}");
 }
 
-/// One more thread, which this much base funds.
+/// Adds a thread funded with this much base.
 pub(crate) fn add_thread(rt: &impl Abort, threads: &mut Threads, queues: &mut Queues, amount: u32) {
     let made = threads.records().len();
     assert!(rt; made < threads.graph().layout().threads as usize);

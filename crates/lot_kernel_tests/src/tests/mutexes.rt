@@ -1,4 +1,4 @@
-//! Locks and unlocks among a few threads, with what is lent by them.
+//! Locks and unlocks among a few threads, with their lends.
 ghost use Rattle.std.specs.Prelude.{IsTrue};
 ghost use Rattle.lot_machine.specs.declared.record.Status.TheVariants as status;
 ghost use Rattle.lot_machine.specs.Mutexes.{mutex_at};
@@ -13,13 +13,13 @@ use lot_threads::{Effect, Threads};
 use std::alloc::Global;
 use std::process::Abort;
 
-/// A step of a row: a trap and its outcome, or a question and its expected answer.
+/// A step of a row: a trap and its outcome, or a query and its expected result.
 #[derive(Clone, Copy)]
 enum Step {
     /// A new thread, which this much base funds.
     AddThread(u32),
     Lock(u32, u32, Outcome),
-    /// An unlock by a thread of a mutex, with the number of its lottery, and how many edges it reads.
+    /// An unlock by a thread of a mutex, with the number of its lottery, and the edges that it reads.
     Unlock(u32, u32, u128, Outcome, u64),
     /// The result of a draw.
     Wins(u128, Won),
@@ -67,7 +67,7 @@ fn are_queued(
     are_waiting(threads, waiters, mutex)
 }
 
-/// An unlock, and how many edges it reads.
+/// An unlock, and the edges that it reads.
 fn make_unlock(
     rt: &impl Abort,
     scene: &mut Scene,
@@ -220,7 +220,7 @@ const UNSETTLED: [Step; 5] = [
     ),
 ];
 
-// An unlock reads what is stale before its lottery: two tickets, the lend and the owner.
+// An unlock reads the edges into stale nodes before its lottery: two tickets, the lend and the owner.
 #[test]
 fn an_unlock_settles(rt: HostRuntime) {
     play(&rt, rt.alloc(), small_limits(), &UNSETTLED)

@@ -1,4 +1,4 @@
-//! Calls, receipts and replies among a few threads, with what is lent by them.
+//! Calls, receives and replies among a few threads, with their lends.
 use super::helpers::{Won, add_thread, check_step, finish, is_known, is_won, may_wait, stands};
 use lot_machine::{Limits, Outcome, PortNumber, Sizes, Status, ThreadNumber};
 use lot_ports::{call, receive, reply, serve};
@@ -7,7 +7,7 @@ use lot_threads::{Effect, Threads};
 use std::alloc::Global;
 use std::process::Abort;
 
-/// A step of a row: a trap and its outcome, or a question and its expected answer.
+/// A step of a row: a trap and its outcome, or a query and its expected result.
 #[derive(Clone, Copy)]
 enum Step {
     /// A new thread, which this much base funds.
@@ -22,7 +22,7 @@ enum Step {
     /// The result of a draw.
     Wins(u128, Won),
     Stands(u32, Status),
-    /// What is delivered to a thread when it next runs.
+    /// The number delivered to a thread when it next runs.
     Gets(u32, Option<u32>),
 }
 

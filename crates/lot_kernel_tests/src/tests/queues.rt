@@ -31,7 +31,7 @@ fn has_thread(queues: &Queues, thread: u32) -> bool
     0 < thread && thread <= queues.threads()
 }
 
-/// Queues with all the threads for which there is room.
+/// Queues with as many threads as they have room for.
 fn full(rt: &impl Abort, alloc: Global) -> Queues {
     let mut queues = Queues::new(alloc, PORTS, MUTEXES, THREADS).expect(rt, "memory");
     for _ in 0..THREADS {
@@ -74,7 +74,7 @@ fn push(rt: &impl Abort, queues: &mut Queues, queue: Queue, thread: u32) {
     }
 }
 
-/// Takes the first thread out of a queue, if there is one.
+/// Takes the first thread out of a queue, if it has one.
 fn take(rt: &impl Abort, queues: &mut Queues, queue: Queue) -> Option<u32> {
     match queue {
         Queue::Calls(port) => {
@@ -98,7 +98,7 @@ fn take(rt: &impl Abort, queues: &mut Queues, queue: Queue) -> Option<u32> {
     }
 }
 
-/// Checks who waits for a mutex.
+/// Checks the waiters of a mutex.
 fn check_waiters(rt: &impl Abort, alloc: Global, queues: &Queues, mutex: u32, expected: &[u32]) {
     let mut out = Vec::with_capacity(alloc, THREADS as usize).expect(rt, "memory");
     assert!(rt; queues.room() as usize <= out.capacity());

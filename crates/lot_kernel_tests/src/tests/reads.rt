@@ -1,4 +1,4 @@
-//! What draws, unlocks and rows read.
+//! The reads of draws, unlocks and rows.
 use super::*;
 use lot_kernel::Meter;
 
@@ -9,19 +9,19 @@ enum Count<'a> {
     Does(Line<'a>),
     /// A command that is refused with this, and reads nothing.
     Refuses(Line<'a>, Refusal),
-    /// A draw by processor 1 that this thread wins, the number, the total, and how many edges it reads.
+    /// A draw by processor 1 that this thread wins, the number, the total, and the edges that it reads.
     Draws(u128, Winner, u64),
     /// The end of the quantum on processor 1, which reads nothing.
     Expires,
-    /// A trap on processor 1, its outcome, and how many edges it reads.
+    /// A trap on processor 1, its outcome, and the edges that it reads.
     Traps(Action, Outcome, u64),
-    /// The row of a thread, and how many edges it reads.
+    /// The row of a thread, and the edges that it reads.
     ThreadRow(u32, u64),
-    /// The row of a ticket, and how many edges it reads.
+    /// The row of a ticket, and the edges that it reads.
     TicketRow(u32, u64),
 }
 
-/// What was read since the counts were these.
+/// The reads since the counts were these.
 fn read_since(kernel: &Kernel, before: Meter) -> u64 {
     kernel
         .meter()
@@ -29,7 +29,7 @@ fn read_since(kernel: &Kernel, before: Meter) -> u64 {
         .saturating_sub(before.ticket_reads)
 }
 
-/// How many edges a step is to read.
+/// The number of edges that a step must read.
 fn reads_of(step: Count<'_>) -> u64 {
     match step {
         Count::Draws(_, _, reads) | Count::Traps(_, _, reads) => reads,
@@ -147,7 +147,7 @@ const RESET: &[Count<'static>] = &[
     Count::Draws(0, (1, 0, 240), 0),
 ];
 
-// A listing settles what is stale once; a draw after it reads nothing. A ticket's row also reads the ticket.
+// A listing settles stale nodes once; a draw after it reads nothing. A ticket's row also reads the ticket.
 const LISTED: &[Count<'static>] = &[
     Count::Does(Line::Fundx(10, "base", "a", 1)),
     Count::Does(Line::Fundx(5, "base", "b", 1)),
@@ -213,7 +213,7 @@ fn a_draw_among_a_thousand(rt: HostRuntime) {
     }
 }
 
-// An idle draw reads what is stale, and visits nothing.
+// An idle draw reads the edges into stale nodes, and visits nothing.
 #[test]
 fn an_idle_draw(rt: HostRuntime) {
     let mut kernel = largest(&rt, rt.alloc(), 1);

@@ -16,7 +16,7 @@ use lot_value::Change;
 use std::alloc::Global;
 use std::process::Abort;
 
-/// A step of a row: a change, or a question and its expected answer.
+/// A step of a row: a change, or a query and its expected result.
 #[derive(Clone, Copy)]
 enum Step {
     AddThread,
@@ -33,17 +33,17 @@ enum Step {
     GiveUp(u32),
     /// A mutex moves from one thread to another.
     Move(u32, u32, u32),
-    /// A drawn number, and who wins.
+    /// A drawn number, and the winner.
     Wins(u128, Won),
-    /// The same, with how many edges the draw reads.
+    /// A drawn number, the winner, and the edges that the draw reads.
     Reads(u128, Won, u64),
     /// A drawn number that nobody wins.
     Idles(u128),
-    /// Who runs on a processor, and the ticks used there.
+    /// The thread on a processor, and the ticks used there.
     Runs(u32, Option<(u32, u32)>),
-    /// What a node is worth after settling.
+    /// The value of a node after settling.
     Worth(Node, u64),
-    /// How much of a currency is active.
+    /// The active amount of a currency.
     Active(u32, u64),
 }
 
@@ -142,14 +142,14 @@ fn move_mutex(rt: &impl Abort, threads: &mut Threads, mutex: u32, owner: u32, ne
     threads.apply(Change::MoveOwner { mutex, owner, next });
 }
 
-/// A draw, and how many edges it read.
+/// A draw, and the edges that it read.
 fn draw(threads: &mut Threads, d: u128) -> (Option<Winner>, u64) {
     let before = threads.meter().ticket_reads;
     let winner = threads.draw(d);
     (winner, threads.meter().ticket_reads.saturating_sub(before))
 }
 
-/// What the thread or mutex is worth after settling.
+/// The value of the thread or mutex after settling.
 fn worth(rt: &impl Abort, threads: &mut Threads, node: Node) -> u64 {
     threads.settle();
     assert!(rt; is_node(threads.graph(), node));
@@ -190,7 +190,7 @@ fn wins(threads: &mut Threads, d: u128, won: Won, reads: u64) -> bool {
     is_won(winner, won) && read == reads
 }
 
-/// Who runs on the processor with this number, and the ticks used there.
+/// The thread on the processor with this number, and the ticks used there.
 fn runner(threads: &Threads, number: u32) -> Option<(u32, u32)> {
     match threads.runner(Processor { number }) {
         Some(found) => Some((found.thread.number, found.used)),
@@ -198,7 +198,7 @@ fn runner(threads: &Threads, number: u32) -> Option<(u32, u32)> {
     }
 }
 
-/// Asks, and returns whether the answer is as the row says.
+/// Makes the query, and returns whether the result is as expected.
 fn holds(rt: &impl Abort, threads: &mut Threads, step: Step) -> bool {
     match step {
         Step::Refuses(thread, status) => refuses(rt, threads, thread, status),
@@ -359,7 +359,7 @@ const LARGEST: [Step; 6] = [
     Step::Idles(0),
 ];
 
-/// On the last processor that there may be, before the last tick.
+/// On the processor with the largest number, before the last tick.
 const LAST: Status = Status::Running {
     processor: 64,
     used: 999,

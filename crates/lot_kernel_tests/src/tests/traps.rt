@@ -16,7 +16,7 @@ fn play_funded(rt: &impl Abort, alloc: Global, threads: &[(u64, &str)], steps: &
     take_all(rt, &mut kernel, steps)
 }
 
-/// Gives the events to a kernel with thread `a`, which has this much base, and compares the answers.
+/// Makes the events in a kernel with thread `a`, which has this much base, and compares the replies.
 fn run_funded(
     rt: &impl Abort,
     alloc: Global,
@@ -69,7 +69,7 @@ fn check_compensated(rt: &impl Abort, kernel: &mut Kernel, amount: u64, ticks: u
 
 #[test]
 fn compensation(rt: HostRuntime) {
-    // What one thread has, the ticks of work before it yields, and the total of the next draw.
+    // The base that a thread has, the ticks of work before it yields, and the total of the next draw.
     for row in [(400, 19, 2000), (7, 2, 233), (400, 98, 404), (400, 99, 400)] {
         check_compensation(&rt, rt.alloc(), row);
     }
@@ -502,7 +502,7 @@ const REFUSED_TRAPS: [Step<'_>; 4] = [
     )),
 ];
 
-/// Traps at unknown ports and mutexes: there are two of each, numbered from 1.
+/// Traps at unknown ports and mutexes: there are two of each kind, numbered from 1.
 const UNKNOWN_OBJECTS: [(Action, TrapRefusal); 7] = [
     (Action::Receive(0), TrapRefusal::NoPort),
     (Action::Receive(3), TrapRefusal::NoPort),

@@ -1,4 +1,4 @@
-//! Conservation, computed (4.4).
+//! Worked rows for conservation (4.4).
 ghost use Rattle.std.specs.Prelude.{◌≡◌, [], ◌∷◌, map};
 ghost use Rattle.lot_machine.specs.Worked.{after, after_in, finer};
 ghost use Rattle.lot_machine.specs.WorkedRuns.{currency_graph, thirds, halves};
@@ -15,8 +15,8 @@ pub fn whole_shares()
         ∷ 4 ∷ 5 ∷ []) ≡ 0 ∷ 0 ∷ 0 ∷ 0 ∷ 0 ∷ [] }
 {}
 
-/// A hundred in three shares loses 1, and 1 in two shares loses 1, all that may be lost. Finer units lose less of the
-/// value.
+/// 100 in three shares loses 1, and 1 in two shares loses 1, the most possible. With a larger unit less of the value
+/// is lost.
 pub fn broken_shares()
     ensures base { base_value (after thirds) ≡ 100 }
     ensures live { live_value (after thirds) ≡ 99 }
@@ -29,8 +29,8 @@ pub fn broken_shares()
     ensures finer_live { live_value (after_in finer thirds) ≡ 25599 }
 {}
 
-/// If a currency's only active ticket had the amount 0, all of the currency would be lost, and not just by rounding.
-/// No command makes such a ticket.
+/// A currency whose only active ticket had the amount 0 would lose its whole value, not just by rounding. No command
+/// makes such a ticket.
 pub fn nothing_to_share()
     ensures base { base_value nothing_to_share ≡ 5 }
     ensures live { live_value nothing_to_share ≡ 0 }

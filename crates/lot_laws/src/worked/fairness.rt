@@ -1,12 +1,12 @@
-//! Fairness, computed for small lotteries (2.2).
+//! Worked rows for fairness in small lotteries (2.2).
 ghost use Rattle.std.specs.Prelude.{◌≡◌, [], ◌∷◌, Some, None, codes, map, length};
 ghost use Rattle.lot_machine.specs.Worked.{after, fundx, base};
 ghost use Rattle.lot_laws.specs.Fairness.{place_wins, thread_wins, win_count, all_draws, wins_in_all};
 ghost use Rattle.lot_laws.specs.Fairness.{draws_with_wins, first_win, draws_first_won_after, squared_distances};
 ghost use Rattle.lot_laws.specs.Fairness.{choose};
 
-/// Two lotteries over the weights 2 and 1, a total of 3: nine draws, and in these eighteen lotteries the first place
-/// wins twelve.
+/// Two lotteries over the weights 2 and 1, a total of 3: in all nine draws, eighteen lotteries, the first index wins
+/// twelve times.
 pub fn two_lotteries()
     ensures all { all_draws 3 2 ≡ (0 ∷ 0 ∷ []) ∷ (0 ∷ 1 ∷ []) ∷ (0 ∷ 2 ∷ []) ∷ (1 ∷ 0 ∷ []) ∷ (1 ∷ 1 ∷ [])
         ∷ (1 ∷ 2 ∷ []) ∷ (2 ∷ 0 ∷ []) ∷ (2 ∷ 1 ∷ []) ∷ (2 ∷ 2 ∷ []) ∷ [] }
@@ -21,7 +21,7 @@ pub fn two_lotteries()
     ensures variance { squared_distances (place_wins (2 ∷ 1 ∷ []) 0) 3 2 2 ≡ 36 }
 {}
 
-/// Three lotteries over the weights 1, 0 and 1: the place that weighs nothing wins none.
+/// Three lotteries over the weights 1, 0 and 1: the index with weight 0 never wins.
 pub fn three_lotteries()
     ensures many { length (all_draws 2 3) ≡ 8 }
     ensures binomial { map (draws_with_wins (place_wins (1 ∷ 0 ∷ 1 ∷ []) 0) 2 3) (0 ∷ 1 ∷ 2 ∷ 3 ∷ [])

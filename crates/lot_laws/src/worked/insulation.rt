@@ -1,4 +1,5 @@
-//! Insulation, computed: what one currency's inflation changes, and what it doesn't (3.2, 3.3).
+//! Worked rows for insulation: the values that one currency's inflation changes, and those that it doesn't (3.2,
+//! 3.3).
 ghost use Rattle.std.specs.Prelude.{◌≡◌, [], ◌∷◌, ◌++◌, codes};
 ghost use Rattle.lot_machine.specs.declared.action.Action.TheVariants.{Exit};
 ghost use Rattle.lot_machine.specs.declared.event.Event.TheVariants.{Draw, Trap};
@@ -10,8 +11,8 @@ ghost use Rattle.lot_laws.specs.Runs.{two_currencies, three_threads, first_threa
 ghost use Rattle.lot_laws.specs.Runs.{first_replaced, shared_thread, idle_currency};
 ghost use Rattle.lot_laws.specs.Insulation.{Affects, ChangesInside, amount_in, worth_in};
 
-/// A new thread in one of alice's currencies takes from her other threads, and nothing from bob's. So does a ticket of
-/// hers that gets a larger amount, whether it funds a thread or a currency.
+/// A new thread in one of alice's currencies takes from her other threads, and nothing from bob's. So does a larger
+/// amount of a ticket of hers, whether it funds a thread or a currency.
 pub fn inflation()
     ensures before { values (after currency_graph) ≡ 400 ∷ 600 ∷ 2000 ∷ [] }
     ensures after { values (after (currency_graph ++ fundx 100 (codes "task1") (codes "thread1") ∷ []))
@@ -23,8 +24,8 @@ pub fn inflation()
         ∷ [])) ≡ 355 ∷ 532 ∷ 2000 ∷ 111 ∷ [] }
 {}
 
-/// A new thread in one of two currencies takes from that one's thread, and doesn't affect the other's. All that
-/// changes is inside the currency.
+/// A new thread in one of two currencies takes from that currency's thread, and doesn't affect the other's. The whole
+/// change is inside the currency.
 pub fn other_currency()
     ensures unaffected { ¬ Affects (after two_currencies) (after (two_currencies
         ++ fundx 1 (codes "g") (codes "c") ∷ [])) (Thread 2) }
@@ -34,9 +35,9 @@ pub fn other_currency()
     ensures after { values (after (two_currencies ++ fundx 1 (codes "g") (codes "c") ∷ [])) ≡ 50 ∷ 100 ∷ 50 ∷ [] }
 {}
 
-/// The ticket of one of the first currency's two threads gets three times its amount, so this thread takes from the
-/// other one, which isn't touched and yet affected. It takes nothing from the second currency's thread, and all that
-/// changes is inside the first currency.
+/// One of the first currency's two threads gets three times the amount, and so takes from the other, which isn't
+/// touched and yet affected. It takes nothing from the second currency's thread, and the whole change is inside the
+/// first currency.
 pub fn larger_amount()
     ensures unaffected { ¬ Affects (after three_threads) (after (three_threads ++ settkt 3 3 ∷ [])) (Thread 2) }
     ensures inside { ChangesInside (after three_threads) (after (three_threads ++ settkt 3 3 ∷ [])) 1 first_threads }
@@ -47,8 +48,7 @@ pub fn larger_amount()
 {}
 
 /// Two tickets of a currency exchange their amounts: its active amount stays, and the threads exchange their values.
-/// So where a currency's active amount stays, a ticket that gets another amount is worth what this amount was worth
-/// before.
+/// So with a constant active amount, a ticket with a new amount is worth what this amount was worth before.
 pub fn exchanged_amounts()
     ensures amount { amount_in (after two_to_one) 1 ≡ 3 }
     ensures amount_stays { amount_in (after (two_to_one ++ settkt 2 1 ∷ settkt 3 2 ∷ [])) 1 ≡ 3 }
@@ -57,7 +57,7 @@ pub fn exchanged_amounts()
 {}
 
 /// A thread of the first currency exits, and a new one takes its place: the currency's active amount stays, and so do
-/// the value of its other thread and of the other currency's.
+/// the values of its other thread and of the other currency's.
 pub fn replaced_thread()
     ensures amount { amount_in (after first_of_three_runs) 1 ≡ 2 }
     ensures amount_stays { amount_in (after (first_of_three_runs ++ first_replaced)) 1 ≡ 2 }
@@ -66,7 +66,7 @@ pub fn replaced_thread()
 {}
 
 /// Two threads share a currency, and one exits. That touches neither the other thread nor an edge to it, but affects
-/// it through the currency: the other is worth more then. So it is not enough that a node isn't touched.
+/// it through the currency: the other is worth more afterwards. So it isn't enough that a node isn't touched.
 pub fn untouched_but_affected()
     ensures untouched { ¬ Touches (after (two_to_one ++ Draw 1 0 ∷ [])) (after (two_to_one ++ Draw 1 0
         ∷ Trap 1 0 Exit ∷ [])) (Thread 2) }
@@ -76,9 +76,9 @@ pub fn untouched_but_affected()
     ensures after { values (after (two_to_one ++ Draw 1 0 ∷ Trap 1 0 Exit ∷ [])) ≡ 0 ∷ 200 ∷ [] }
 {}
 
-/// A currency's own value and active amount stay, but its thread was funded from another currency too, and exits: a
-/// thread of that other currency is worth more then. So it is not enough that the currency stays: only it, base and
-/// what is inside may lead inside.
+/// A currency's own value and active amount stay, but its thread, which another currency funds too, exits: a thread
+/// of that other currency is worth more afterwards. So it isn't enough that the currency stays: only it, base and
+/// nodes inside may lead inside.
 pub fn funded_from_outside()
     ensures amount { amount_in (after shared_thread) 1 ≡ 2 }
     ensures amount_stays { amount_in (after (shared_thread ++ first_replaced)) 1 ≡ 2 }
@@ -88,9 +88,9 @@ pub fn funded_from_outside()
     ensures after { values (after (shared_thread ++ first_replaced)) ≡ 0 ∷ 50 ∷ 100 ∷ 50 ∷ [] }
 {}
 
-/// If a currency has no active ticket, the first one in it activates the tickets that fund it, and these take from
-/// those of the same issuer. So inflation is local only in a currency with active tickets. Until then it doesn't matter
-/// what amounts they have.
+/// In a currency without active tickets, the first one activates the currency's backing tickets, which take from
+/// those of the same issuer. So inflation is local only in a currency with active tickets. Until then the amounts
+/// don't matter.
 pub fn first_active_ticket()
     ensures none { amount_in (after idle_currency) 2 ≡ 0 }
     ensures before { values (after idle_currency) ≡ 100 ∷ [] }

@@ -1,4 +1,4 @@
-//! Transfers, computed (3.1, 4.6, 6.1).
+//! Worked rows for transfers (3.1, 4.6, 6.1).
 ghost use Rattle.std.specs.Prelude.{◌≡◌, [], ◌∷◌, ◌++◌};
 ghost use Rattle.lot_machine.specs.declared.action.Action.TheVariants.{Call, Receive, Reply as ReplyTo, Serve, Lock};
 ghost use Rattle.lot_machine.specs.declared.event.Event.TheVariants.{Trap};
@@ -9,7 +9,7 @@ ghost use Rattle.lot_laws.specs.Runs.{owner_receives};
 ghost use Rattle.lot_laws.specs.Transfers.{TakesCall, QueuesCall, TakesQueuedCall, RepliesTo, RepliesThenWaits};
 ghost use Rattle.lot_laws.specs.Transfers.{RepliesThenReceives, WaitsFor, OwnsNothing};
 
-/// A server with no ticket of its own gets what its client is worth.
+/// A server with no ticket of its own gets its client's value.
 pub fn call_taken()
     ensures takes { TakesCall (after waiting_server) (Trap 1 0 (Call 1 9)) 2 1 }
     ensures owns { OwnsNothing (after waiting_server) 1 }
@@ -18,16 +18,16 @@ pub fn call_taken()
     ensures together { live_value (after (waiting_server ++ Trap 1 0 (Call 1 9) ∷ [])) ≡ 400 }
 {}
 
-/// If the server has a ticket of its own in the client's currency, that is active again once it serves, and the
-/// client's tickets are worth less. So the law asks that the server has nothing.
+/// If the server has a ticket of its own in the client's currency, this ticket is active again once it serves, and
+/// the client's tickets are worth less. So the law requires that the server has nothing.
 pub fn server_with_a_ticket()
     ensures takes { TakesCall (after server_with_a_ticket) (Trap 1 0 (Call 1 9)) 2 1 }
     ensures before { values (after server_with_a_ticket) ≡ 0 ∷ 100 ∷ [] }
     ensures after { values (after (server_with_a_ticket ++ Trap 1 0 (Call 1 9) ∷ [])) ≡ 100 ∷ 50 ∷ [] }
 {}
 
-/// A call is queued, taken and replied to: the caller is worth nothing in the queue, then its server what it is, and
-/// then the server nothing again.
+/// A call is queued, taken and replied to: the caller is worth nothing while it is queued, then its server has its
+/// value, and then the server is worth nothing again.
 pub fn call_queued()
     ensures queues { QueuesCall (after busy_server) (Trap 2 0 (Call 1 9)) 2 }
     ensures takes { TakesQueuedCall (after (busy_server ++ Trap 2 0 (Call 1 9) ∷ [])) (Trap 1 0 (Receive 1)) 2 1 }
@@ -40,8 +40,8 @@ pub fn call_queued()
         ∷ Trap 1 0 (ReplyTo 5) ∷ [])) ≡ 0 ∷ 400 ∷ [] }
 {}
 
-/// A server replies and receives in one trap: with no call in the queue it is worth nothing then, and with one what
-/// the next caller is.
+/// A server replies and receives in one trap: without a queued call it is worth nothing afterwards, and with one it
+/// has the next caller's value.
 pub fn servings()
     ensures waits { RepliesThenWaits (after (busy_server ++ Trap 2 0 (Call 1 9) ∷ Trap 1 0 (Receive 1)
         ∷ [])) (Trap 1 0 (Serve 1 5)) 2 1 }
@@ -52,7 +52,7 @@ pub fn servings()
     ensures after { values (after (two_callers ++ Trap 1 0 (Serve 1 5) ∷ [])) ≡ 100 ∷ 400 ∷ 100 ∷ [] }
 {}
 
-/// A thread waits for a mutex: its owner gets what it is worth.
+/// A thread waits for a mutex: its owner gets the thread's value.
 pub fn mutex_wait()
     ensures waits { WaitsFor (after owner_runs) (Trap 2 0 (Lock 1)) 2 1 }
     ensures before { values (after owner_runs) ≡ 50 ∷ 100 ∷ [] }
@@ -60,8 +60,8 @@ pub fn mutex_wait()
     ensures together { live_value (after (owner_runs ++ Trap 2 0 (Lock 1) ∷ [])) ≡ 150 }
 {}
 
-/// If the owner waits for a call, no live thread gets what a waiter is worth: it is worth nothing then. So the law
-/// asks that the owner is backed.
+/// If the owner waits for a call, no live thread gets a waiter's value: the waiter is worth nothing. So the law
+/// requires that the owner is backed.
 pub fn owner_not_backed()
     ensures waits { WaitsFor (after owner_receives) (Trap 2 0 (Lock 1)) 2 1 }
     ensures before { values (after owner_receives) ≡ 0 ∷ 100 ∷ [] }

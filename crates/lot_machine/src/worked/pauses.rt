@@ -1,4 +1,4 @@
-//! Sleepers, preemptions and late quanta, computed.
+//! Worked rows for sleepers, preemptions and late quanta.
 ghost use Rattle.std.specs.Prelude.{◌≡◌, [], ◌∷◌, ◌++◌, codes, false, None};
 ghost use Rattle.lot_machine.specs.declared.action.Action.TheVariants.{Lock, Sleep, Exit};
 ghost use Rattle.lot_machine.specs.declared.event.Event.TheVariants.{Draw, Expire, Trap, Preempt, Overrun, Wake};
@@ -8,7 +8,7 @@ ghost use Rattle.lot_machine.specs.declared.reply.Reply.TheVariants as reply;
 ghost use Rattle.lot_machine.specs.declared.reply.Outcome.TheVariants as outcome;
 ghost use Rattle.lot_machine.specs.declared.refusal.Refusal.TheVariants as refusal;
 
-/// A thread that sleeps competes in no draw, and its tickets are inactive. It is woken with the compensation of a
+/// A sleeping thread competes in no draw, and its tickets are inactive. When woken, it has the compensation of a
 /// thread that blocks (4.4, 4.5).
 pub fn sleeping()
     ensures turns { answers (fundx 400 base (codes "a") ∷ fundx 100 base (codes "b") ∷ [])
@@ -23,7 +23,7 @@ pub fn sleeping()
         ∷ reply.Trapped 1 1 outcome.Exited false ∷ reply.Refused refusal.NotAsleep ∷ [] }
 {}
 
-/// A thread whose processor is taken from it is charged what it has run, and isn't compensated (4.2, 4.5).
+/// A preempted thread is charged the ticks that it ran, and gets no compensation (4.2, 4.5).
 pub fn preemption()
     ensures charged { answers (fundx 400 base (codes "a") ∷ Draw 1 0 ∷ []) (Preempt 1 30 ∷ Draw 1 0 ∷ [])
         ≡ reply.Expired 1 30 ∷ reply.Winner 1 0 400 None ∷ [] }

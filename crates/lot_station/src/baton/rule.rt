@@ -1,10 +1,10 @@
-//! The rule of the queue, and the outcome of each step.
+//! The invariant of the queue, and the outcome of each step.
 
 use crate::baton::view::View;
 use crossbeam_queue::protocol::{Join, Lesson, Outcome, Protocol, Split};
 use lot_engine::System;
 
-/// The system is in the queue, or in the hands of one pass.
+/// The invariant: the system is in the queue, or one pass holds it.
 pub struct OneBaton;
 
 impl Protocol<System, View> for OneBaton {
@@ -26,7 +26,7 @@ impl Outcome<System, View> for Opens {
     ghost then = { λ v x w. w ≡ resting (all_actors x ∷ []) };
 }
 
-/// A pop that finds the system.
+/// A pop that returns the system.
 pub struct Takes;
 
 impl Outcome<System, View> for Takes {
@@ -40,7 +40,7 @@ impl Lesson<System, View> for Takes {
     ghost fact = { λ v items. Unit {0} };
 }
 
-/// A push of the system that the pass had in its hands.
+/// A push of the system that the pass holds.
 pub struct Gives;
 
 impl Outcome<System, View> for Gives {
@@ -56,7 +56,7 @@ impl Lesson<System, View> for Gives {
     ghost fact = { λ v items. items ≡ [] };
 }
 
-/// The first actor goes to a new seat.
+/// A split that gives the first actor to a new seat.
 pub struct Deals;
 
 impl Split<View> for Deals {
@@ -67,7 +67,7 @@ impl Split<View> for Deals {
     ghost right = { first_actor };
 }
 
-/// A note of what was seen.
+/// A split that records the history seen.
 pub struct Notes;
 
 impl Split<View> for Notes {
@@ -78,7 +78,7 @@ impl Split<View> for Notes {
     ghost right = { note_of };
 }
 
-/// Two passes in one.
+/// A join of two passes.
 pub struct Both;
 
 impl Join<View> for Both {

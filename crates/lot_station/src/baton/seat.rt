@@ -10,16 +10,16 @@ use std::marker::Model;
 /// A seat's pass of the queue.
 pub(super) type Token = Pass<System, View>;
 
-/// The right of one actor to make turns, with the history that it has seen, and a place for the fault that stopped its
-/// worker.
+/// The right of one actor to make turns, with the history that it has seen, and storage for the fault that stopped
+/// its worker.
 ///
-/// A station gives one for each actor, and they can't be copied. The history that a seat has seen exists in proofs
-/// alone: contracts refer to it, and each call of the station extends it or leaves it unchanged.
+/// A station deals one for each actor, and they can't be copied. The history that a seat has seen is ghost state:
+/// contracts refer to it, and each call of the station extends it or leaves it unchanged.
 #[derive(Drop)]
 pub struct BatonSeat {
     pub(super) pass: Token,
     pub(super) actor: u32,
-    /// Of its actor's turns in the history that it has seen.
+    /// The counters of its actor's turns in the history that it has seen.
     pub(super) counts: Counts,
     pub(super) stopped: Option<TurnFault>,
 }
@@ -43,14 +43,14 @@ impl Model for BatonSeat {
 }
 
 impl BatonSeat {
-    /// Whose turns it makes: the console's, 0, or a processor's.
+    /// Its actor: 0 for the console, otherwise the processor.
     pub fn actor(&self) -> u32
         ensures { result ≡ self.now.actor }
     {
         self.actor
     }
 
-    /// How many turns it has made.
+    /// The number of turns that it has made.
     pub fn turns(&self) -> u64
         ensures { result ≡ (seat_counts self.now).turns }
     {
@@ -64,21 +64,21 @@ impl BatonSeat {
         self.counts.quanta
     }
 
-    /// Its ticks: those of the expiries and traps among its turns.
+    /// Its ticks: the ticks of the expiries and traps among its turns.
     pub fn ticks(&self) -> u64
         ensures { result ≡ (seat_counts self.now).ticks }
     {
         self.counts.ticks
     }
 
-    /// Keeps the fault that stopped the seat's worker, in place of one that it may have kept.
+    /// Stores the fault that stopped the seat's worker, in place of any earlier one.
     pub fn stop(&mut self, fault: TurnFault)
         ensures { self.new ≡ record self.old { stopped = Some fault } }
     {
         self.stopped = Some(fault);
     }
 
-    /// Takes out the fault that was kept, if one was.
+    /// Takes out the stored fault, if there is one.
     pub fn take_fault(&mut self) -> Option<TurnFault>
         ensures fault { result ≡ self.old.stopped }
         ensures seat { self.new ≡ record self.old { stopped = None } }

@@ -23,7 +23,7 @@ use std::thread;
 
 type Queue = RuledArrayQueue<System, View, OneBaton>;
 
-/// The place of one system, which its seats take turns with from any threads.
+/// The station of one system, which its seats share, from any threads.
 #[derive(Drop)]
 pub struct BatonStation {
     queue: Queue,
@@ -42,7 +42,7 @@ impl Model for BatonStation {
     ghost invariant = { λ s. ruled_capacity s.queue ≡ 1 };
 }
 
-/// A station wasn't closed, since the seats aren't all of its own, each once and in order. It hands back both.
+/// The error of closing a station with seats that aren't all of its own, each once and in order. It returns both.
 #[derive(Drop)]
 pub struct SeatMissing {
     pub station: BatonStation,
@@ -50,7 +50,7 @@ pub struct SeatMissing {
 }
 
 impl BatonStation {
-    /// Puts the system into a queue, and gives a seat for each actor, in order. Drops the system if out of memory.
+    /// Puts the system into a queue, and deals a seat for each actor, in order. Drops the system if out of memory.
     pub fn open(alloc: Global, system: System) -> Result<(BatonStation, Vec<BatonSeat>), AllocError>
         ensures processors { IfOk result (λ r. r.0.processors ≡ system.setting.program.limits.processors) }
         ensures seats { IfOk result (λ r. length r.1.items ≡ system.setting.program.limits.processors + 1) }
@@ -80,8 +80,8 @@ impl BatonStation {
 
     /// Makes a turn of the seat's actor, as `System::turn` does. It may wait for other seats.
     ///
-    /// The seat has then seen a legal history that begins with what it had seen. On `Ok` that history ends with this
-    /// turn; on a fault, which is as of `System::turn`, it has no further turn of the actor.
+    /// Afterwards the seat has seen a legal history that extends the one it had seen. On `Ok` that history ends with
+    /// this turn; on a fault, which is that of `System::turn`, it has no further turn of the actor.
     pub fn turn<R: Wait>(
         &self,
         rt: &R,
@@ -115,8 +115,8 @@ impl BatonStation {
         work
     }
 
-    /// What `a` has seen then begins what `b` has seen, and both begin with all that either had seen before. It may
-    /// wait for other seats.
+    /// Afterwards the history seen by `a` is a prefix of the one seen by `b`, and both extend the histories that
+    /// either had seen before. It may wait for other seats.
     pub fn meet<R: Wait>(&self, rt: &R, a: &mut BatonSeat, b: &mut BatonSeat)
         requires { (a.old.station ≡ self.now.id) × (b.old.station ≡ self.now.id) }
         ensures same { IsSameSeat a.old a.new × IsSameSeat b.old b.new }
@@ -128,7 +128,7 @@ impl BatonStation {
         self.tell(rt, a, b);
     }
 
-    /// Now `to` has seen all that `from` has seen.
+    /// Afterwards `to` has seen all that `from` has seen.
     fn tell<R: Wait>(&self, rt: &R, from: &mut BatonSeat, to: &mut BatonSeat)
         requires { (from.old.station ≡ self.now.id) × (to.old.station ≡ self.now.id) }
         ensures from { from.new ≡ from.old }
@@ -142,10 +142,11 @@ impl BatonStation {
         give(rt, &self.queue, &mut to.pass, system);
     }
 
-    /// Takes the seats in, and gives the system back. It may wait for other seats.
+    /// Takes the seats, and returns the system. It may wait for other seats.
     ///
-    /// The seats have to be those that `open` gave with the station: if each of them is there once, in order, the
-    /// system has all that each has seen, and each actor's turns are those that its seat has made.
+    /// The seats must be those that `open` dealt with the station. If each of them is there once, in order, the
+    /// system's history extends all that each has seen, and each actor's turns in it are those that its seat has
+    /// made.
     pub fn close<R: Wait>(self, rt: &R, seats: Vec<BatonSeat>) -> Result<System, SeatMissing>
         requires { All (IsSeatOf self) seats.items }
         ensures order { IfOk result (λ x. HasEachSeat self.processors seats.items) }
@@ -183,7 +184,7 @@ fn counts_of_actors(alloc: Global, system: &System) -> Result<Vec<Counts>, Alloc
     Ok(counts)
 }
 
-/// Whether each actor from 0 to the last has its seat once, in order.
+/// Whether there is one seat for each actor from 0 to the last, in order.
 fn in_order(processors: u32, seats: &[BatonSeat]) -> bool
     ensures { IsTrue result ↔ HasEachSeat processors seats.now }
 {
@@ -198,7 +199,7 @@ fn in_order(processors: u32, seats: &[BatonSeat]) -> bool
     true
 }
 
-/// One pass for all seats.
+/// The passes of all seats, joined to one.
 fn joined(queue: &Queue, mut seats: Vec<BatonSeat>) -> Token
     requires seats { All (λ s. s.station ≡ queue.now.table.shared.table_id) seats.items }
     requires some { 0 < length seats.items }
@@ -213,7 +214,7 @@ fn joined(queue: &Queue, mut seats: Vec<BatonSeat>) -> Token
     pass
 }
 
-/// Pops until the system comes.
+/// Pops until it gets the system.
 fn take<R: Wait>(rt: &R, queue: &Queue, pass: &mut Token) -> System
     requires pass { IsPassOf queue.now pass.old }
     requires opened { (view pass.old).fresh ≡ false }
@@ -230,7 +231,7 @@ fn take<R: Wait>(rt: &R, queue: &Queue, pass: &mut Token) -> System
     unreachable!()
 }
 
-/// Pushes the system that was in hand, with at most one more turn.
+/// Pushes the system that it holds, with at most one more turn.
 fn give<R: Wait>(rt: &R, queue: &Queue, pass: &mut Token, system: System)
     requires pass { IsPassOf queue.now pass.old × (ruled_capacity queue.now ≡ 1) }
     requires held { (c : Claim) × (was : Seen) × (view pass.old ≡ holding was c) × Next c was system }

@@ -1,16 +1,16 @@
-//! What a pass of the queue knows. No value of these types is made.
+//! The knowledge of a pass of the queue, as ghost values: these types have no values at run time.
 
 use lot_engine::System;
 use std::collections::LinkedList;
 
-/// The actors from `from` to below `to` are the pass's own, and this is the system as it saw it.
+/// The pass owns the actors from `from` to below `to`, and saw the system like this.
 pub struct Claim {
     pub from: u64,
     pub to: u64,
     pub seen: System,
 }
 
-/// Whether nothing was pushed yet, the system that the pass has in its hands, and what it claims.
+/// Whether nothing has been pushed yet, the system that the pass holds, if any, and its claims.
 pub struct View {
     pub fresh: bool,
     pub held: Option<System>,

@@ -90,7 +90,7 @@ fn met<R: Wait>(
     [first, second, reply_of(rt, station, program, one)]
 }
 
-/// What a station that is closed with two seats hands back; `None` if it was closed.
+/// The error of closing a station with two seats, or `None` if it was closed.
 fn closed_without_one<R: Wait>(
     rt: &R,
     alloc: Global,
@@ -109,8 +109,7 @@ fn closed_without_one<R: Wait>(
     }
 }
 
-/// What a station hands back if it is closed with the seats that it handed back, and then this one; `None` if it was
-/// closed.
+/// The error of closing a station with the seats that it returned, and then this one, or `None` if it was closed.
 fn closed_out_of_order<R: Wait>(
     rt: &R,
     mut back: SeatMissing,

@@ -32,8 +32,8 @@ fn first_processor(history: &[u8]) -> Option<u8> {
     history.iter().copied().find(|actor| *actor != 0)
 }
 
-/// What was seen of a run: whether a held worker gave up, whether it was the first processor to have a turn, and how
-/// many turns there were.
+/// The observations of a run: whether a held worker gave up, whether it was the first processor to have a turn, and
+/// the number of turns.
 #[derive(Debug, PartialEq, Eq, Drop)]
 struct Seen {
     gave_up: bool,
@@ -84,7 +84,7 @@ fn workers_run_at_once(rt: HostRuntime) {
     }
 }
 
-// The same of three.
+// Three workers run at once too.
 #[test]
 fn three_workers_run_at_once(rt: HostRuntime) {
     for held in [1, 2, 3] {
@@ -107,8 +107,8 @@ fn run_seats<G: Gate + Sync, R: Threads + Wait + Sync>(
     run_all_baton(rt, station, program, gate, seats.as_mut_slice())
 }
 
-/// Has the turns of the program made by the seats of a baton station with this much room, and gives the system back,
-/// with whether a full history stopped the workers.
+/// Makes the turns of the program through the seats of a baton station with this much room, and returns the system,
+/// and whether a full history stopped the workers.
 pub(super) fn baton_run<G: Gate + Sync, R: Threads + Wait + Sync>(
     rt: &R,
     alloc: Global,
@@ -142,7 +142,7 @@ fn held_in_baton_run<R: Threads + Wait + Sync>(
     Some((is_full, seen_of(&gate, &system)))
 }
 
-// The same over a baton station.
+// Workers over a baton station run at once too.
 #[test]
 fn baton_workers_run_at_once(rt: HostRuntime) {
     for held in [1, 2] {

@@ -67,7 +67,7 @@ fn free_run_of_many<R: Threads + Wait + Sync>(rt: &R, alloc: Global) -> Option<(
     ))
 }
 
-/// The same over a baton station.
+/// Whether a worker gave up, and whether the history has all turns, over a baton station.
 fn baton_run_of_many<R: Threads + Wait + Sync>(rt: &R, alloc: Global) -> Option<(bool, bool)> {
     let program = program_of(alloc, MANY_PROCESSORS)?;
     let gate = Meeting::new();

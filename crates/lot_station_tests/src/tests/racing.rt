@@ -37,7 +37,7 @@ fn next_answer<T: TurnLedger, Q: Ledger, K: Ledger>(
     station.turn(rt, seat, slice).ok()
 }
 
-/// Makes the player's turns, each with the slice of its work, until one isn't made or memory runs out.
+/// Makes the player's turns, each with the slice of its work, until one fails or memory runs out.
 fn play_turns<T: TurnLedger, Q: Ledger, K: Ledger>(
     rt: &impl Wait,
     station: &Station<T, Q, K>,

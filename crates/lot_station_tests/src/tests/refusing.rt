@@ -11,7 +11,7 @@ use std::sync::Wait;
 use std::sync::ledger::{Blank, Ledger};
 use std::test::*;
 
-/// How many seats were handed back, and the station with its seats.
+/// The number of seats returned, and the station with its seats.
 type HandedBack<T, Q, K> = (usize, Station<T, Q, K>, Vec<Seat<T, Q, K>>);
 
 /// A turn without a slice of the seat at this place.
@@ -76,8 +76,8 @@ fn after_draw<T: TurnLedger, Q: Ledger, K: Ledger>(
     station.close(seats).ok()
 }
 
-/// Closes a station without its last seat, then with its seats the other way round, and then rightly, with a turn of
-/// the console before and a draw after. Returns how many seats were handed back each time, and the system.
+/// Closes a station without its last seat, then with its seats in reverse order, and then correctly, with a turn of
+/// the console before and a draw after. Returns the number of seats returned each time, and the system.
 fn close_often<T: TurnLedger, Q: Ledger, K: Ledger>(
     rt: &impl Wait,
     station: Station<T, Q, K>,
@@ -93,7 +93,7 @@ fn close_often<T: TurnLedger, Q: Ledger, K: Ledger>(
     Some((few, all, system))
 }
 
-/// The same of a station of the system.
+/// Opens a station of the system, and closes it by `close_often`.
 fn misplace<T: TurnLedger, Q: Ledger, K: Ledger>(
     rt: &impl Wait,
     alloc: Global,
@@ -114,7 +114,7 @@ fn misplace<T: TurnLedger, Q: Ledger, K: Ledger>(
     Ok(close_often(rt, station, seats))
 }
 
-/// The same, in a station that has ledgers of its own.
+/// Opens a station with ledgers of its own, and closes it by `close_often`.
 fn misplaced(
     rt: &impl Wait,
     alloc: Global,
@@ -131,7 +131,7 @@ fn misplaced(
     )
 }
 
-/// How many seats were handed back each time, and whether the history has both turns.
+/// The number of seats returned each time, and whether the history has both turns.
 fn hands_back(rt: &impl Wait, alloc: Global) -> Option<(usize, usize, bool)> {
     let (_, system) = opened(alloc, TWO_PROCESSORS, 6)?;
     let (few, all, closed) = misplaced(rt, alloc, system).ok()??;

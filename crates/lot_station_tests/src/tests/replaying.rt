@@ -8,8 +8,8 @@ use std::alloc::Global;
 /// A system after its turns, and the results of each actor's.
 pub(super) type Played = (System, Vec<Vec<Answer>>);
 
-/// What was seen of turns in threads: how many there were, whether one thread that makes them again gets each actor
-/// the same results, and whether both systems end alike.
+/// The observations of turns in threads: their number, whether one thread that makes them again gets the same results
+/// for each actor, and whether both systems end alike.
 pub(super) type Compared = (usize, bool, bool);
 
 /// No results yet, of this many actors.
@@ -30,7 +30,7 @@ fn answer_again(program: &Program, system: &mut System, number: u32) -> Option<A
     system.turn(number, slice).ok()
 }
 
-/// Adds the result to those of the actor with this number, if there are any; `None` if out of memory.
+/// Adds the result to those of the actor with this number, if it has any; `None` if out of memory.
 fn keep(answers: &mut [Vec<Answer>], number: usize, answer: Answer) -> Option<()> {
     match answers.get_mut(number) {
         Some(own) => own.push(answer).ok(),
@@ -38,7 +38,7 @@ fn keep(answers: &mut [Vec<Answer>], number: usize, answer: Answer) -> Option<()
     }
 }
 
-/// Makes the turns of a history, and keeps the results; `None` if one isn't made or memory runs out.
+/// Makes the turns of a history, and keeps the results; `None` if one fails or if out of memory.
 fn replay(
     program: &Program,
     system: &mut System,

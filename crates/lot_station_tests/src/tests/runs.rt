@@ -9,12 +9,12 @@ use std::sync::Wait;
 use std::test::*;
 use std::thread::Threads;
 
-/// How often the actor stands in the history.
+/// The number of the actor's turns in the history.
 fn times(history: &[u8], actor: u8) -> usize {
     history.iter().filter(|other| **other == actor).count()
 }
 
-/// How often each actor has a turn in a free run of the program.
+/// The number of each actor's turns in a free run of the program.
 fn turns_of<R: Threads + Wait + Sync>(
     rt: &R,
     alloc: Global,

@@ -12,7 +12,7 @@ use std::sync::ledger::Ledger;
 /// A seat's turns, quanta and ticks.
 pub(crate) type Shares = (u64, u64, u64);
 
-/// What the seat has.
+/// The seat's shares.
 pub(crate) fn shares_of<T: TurnLedger, Q: Ledger, K: Ledger>(seat: &Seat<T, Q, K>) -> Shares
     ensures { (result.0 ≡ seat.now.turns) × (result.1 ≡ seat.now.quanta) × (result.2 ≡ seat.now.ticks) }
 {
@@ -34,7 +34,7 @@ pub(crate) fn make_turn<R: Wait>(
     station.turn(rt, seat, slice)
 }
 
-/// The same of the seat of a baton station.
+/// The counters of the seat of a baton station.
 pub(crate) fn baton_shares_of(seat: &BatonSeat) -> Shares
     ensures { (result.0 ≡ (seat_counts seat.now).turns) × (result.1 ≡ (seat_counts seat.now).quanta)
         × (result.2 ≡ (seat_counts seat.now).ticks) }

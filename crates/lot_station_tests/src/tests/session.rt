@@ -16,8 +16,8 @@ use std::sync::Wait;
 use std::sync::ledger::{Blank, Ledger};
 use std::test::*;
 
-/// What was seen of a session: each seat's shares at its beginning and at its end, and each turn's reply, or `None` if
-/// it had a fault.
+/// The observations of a session: each seat's shares at its beginning and at its end, and each turn's reply, or
+/// `None` for a fault.
 #[derive(Debug, PartialEq, Eq, Drop)]
 struct Session {
     begun: Vec<Shares>,
@@ -25,7 +25,7 @@ struct Session {
     ended: Vec<Shares>,
 }
 
-/// What each seat has.
+/// Each seat's shares.
 fn all_shares<T: TurnLedger, Q: Ledger, K: Ledger>(
     alloc: Global,
     seats: &[Seat<T, Q, K>],
@@ -135,7 +135,7 @@ fn write_then_read(rt: HostRuntime) {
     check_same(&rt, &plays_the_row(&rt, rt.alloc()), &Some((true, true)));
 }
 
-/// The same in two stations, one after the other; what was seen of the second.
+/// A session in each of two stations, one after the other; the observations of the second.
 fn plays_in_two(rt: &impl Wait, alloc: Global) -> Option<Session> {
     let (program, system) = opened(alloc, TWO_PROCESSORS, 6)?;
     let (_, closed) = session_of(rt, alloc, &program, system, &[0, 1, 2, 1]).ok()?;

@@ -25,8 +25,8 @@ endscript
 fundx 1 base a s
 ";
 
-/// What the test saw: the reply to the slice, where it ended, the work that its second use was refused with, the
-/// seat's shares before and after that, and whether the right slice then found the history full.
+/// The observations of the test: the reply to the slice, where it ended, the work with which its second use was
+/// refused, the seat's shares before and after that, and whether the right slice then found the history full.
 #[derive(Drop)]
 struct Twice {
     locked: Reply,
@@ -37,7 +37,7 @@ struct Twice {
     full: bool,
 }
 
-/// The same work again.
+/// A copy of the work.
 fn copied(work: &Work) -> Work {
     Work {
         thread: work.thread,
@@ -112,7 +112,7 @@ fn use_twice<T: TurnLedger, Q: Ledger, K: Ledger>(
     })
 }
 
-/// A command, and then the same.
+/// A command, and then one slice twice.
 fn make_twice<T: TurnLedger, Q: Ledger, K: Ledger>(
     rt: &impl Wait,
     program: &Program,
@@ -123,7 +123,7 @@ fn make_twice<T: TurnLedger, Q: Ledger, K: Ledger>(
     use_twice(rt, program, station, seats.get_mut(1)?)
 }
 
-/// The same in a station of the system, and the system that `close` gave.
+/// One slice twice in a station of the system, and the system that `close` returned.
 fn play<T: TurnLedger, Q: Ledger, K: Ledger>(
     rt: &impl Wait,
     alloc: Global,
@@ -149,7 +149,7 @@ fn play<T: TurnLedger, Q: Ledger, K: Ledger>(
     }
 }
 
-/// The same in a station that has ledgers of its own.
+/// One slice twice in a station with ledgers of its own.
 fn played(
     rt: &impl Wait,
     alloc: Global,
@@ -186,7 +186,7 @@ fn is_refused(twice: &Twice) -> (bool, bool) {
     (locked, stale)
 }
 
-/// The same of a new system with room for three turns, and whether its history is the three turns that were made.
+/// One slice twice in a new system with room for three turns, and whether its history is the three turns made.
 fn refuses_twice(rt: &impl Wait, alloc: Global) -> Option<((bool, bool), bool)> {
     let (program, system) = opened(alloc, LOCKER, 3)?;
     let (twice, closed) = played(rt, alloc, &program, system).ok()??;

@@ -4,7 +4,7 @@ use lot_processors::Gate;
 use std::sync::atomic::{AtomicBool, AtomicU64, Ordering};
 use std::thread;
 
-/// How often a worker that is held back looks whether it may go on.
+/// The number of times that a held worker checks whether it may go on.
 pub(super) const TRIES: u32 = 10_000_000;
 
 /// Holds a processor's worker back until the other processors' have come by as often as is wanted, or it has looked
@@ -13,7 +13,7 @@ pub(super) const TRIES: u32 = 10_000_000;
 pub(super) struct Turnstile {
     pub(super) held: u32,
     wanted: u64,
-    /// How often others came by.
+    /// The number of times that others came by.
     others: AtomicU64,
     gave_up: AtomicBool,
 }

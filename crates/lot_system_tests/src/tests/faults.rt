@@ -7,7 +7,7 @@ use std::fmt::Display;
 use std::process::Abort;
 use std::test::Fail;
 
-/// Compares what is printed.
+/// Compares the output.
 fn check_text(
     rt: &impl Abort,
     alloc: Global,

@@ -3,7 +3,7 @@
 use super::same::check_same;
 use super::{SPINNER, make_turns, program_of};
 use lot_kernel::Kernel;
-use lot_machine::{Command, Event, Limits, Name, Reply, Sizes};
+use lot_machine::{Command, CurrencyRef, Event, Limits, Name, Reply, Sizes};
 use lot_system::{PlayFault, System, write_end};
 use lot_text::Watched;
 use std::alloc::Global;
@@ -106,8 +106,8 @@ fn check_end(
     Ok(())
 }
 
-/// The number of the first call whose failure doesn't come, since there are fewer, or since it is a flush, which
-/// can't take nothing.
+/// The number of the first call whose failure never occurs, since there are fewer calls, or since it is a flush,
+/// which accepts no bytes.
 fn first_unmade_call(
     rt: &impl Abort,
     alloc: Global,
@@ -171,7 +171,7 @@ total turns 0 quanta 0 ticks 0
     )
 }
 
-// Numbers are given for good: what was removed keeps its own.
+// Numbers are never reused: a removed one stays used.
 #[test]
 fn numbers_given(rt: HostRuntime) -> Result<(), Fail> {
     let limits = Limits::new(Sizes {
@@ -188,7 +188,7 @@ fn numbers_given(rt: HostRuntime) -> Result<(), Fail> {
         &(kernel.ticket_count(), kernel.currency_count()),
         &(0, 1),
     );
-    let base = Name::new("base").ok_or("a name")?;
+    let base = CurrencyRef::Named(Name::new("base").ok_or("a name")?);
     let name = Name::new("a").ok_or("a name")?;
     let made = kernel.event(&Event::Command(Command::MakeTicket {
         amount: 5,

@@ -31,7 +31,7 @@ mkthr b spin
 schedule 0 0 1 1 1 1
 ";
 
-/// The same, with its turns in the order of time.
+/// The input as a timed one.
 const TIMED: &str = "lottery 3
 quantum 2
 for 4
@@ -87,7 +87,7 @@ fn show<W: Write>(
     }
 }
 
-/// Shows the input, and returns the outcome and how many bytes were written.
+/// Shows the input, and returns the outcome and the number of bytes written.
 fn counted(alloc: Global, shown: Shown, input: &str) -> (Result<Played, IoFault>, usize) {
     let mut writer = Watched::new(Counting { taken: 0 });
     let ended = show(alloc, shown, input, &mut writer);

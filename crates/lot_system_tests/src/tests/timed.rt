@@ -1,4 +1,4 @@
-//! Turns in the order of time, one after another.
+//! Timed turns, one after another.
 ghost use Rattle.std.specs.Prelude.{◌≡◌};
 
 use super::program_of;
@@ -20,10 +20,10 @@ at 2
 fundx 1 base a s
 ";
 
-/// When a turn was made and by which actor, and its thread and how many ticks that ran.
+/// The time of a turn, its actor, its thread, and the ticks that the thread ran.
 type Row = (u32, u32, u32, u32);
 
-/// What the next turn was, if there is one.
+/// The next turn, if there is one.
 fn next_of(program: &Program, playback: &mut Playback) -> Option<Row>
     requires { playback.old.seen.setting.program ≡ program.now }
     ensures { playback.new.seen.setting.program ≡ program.now }

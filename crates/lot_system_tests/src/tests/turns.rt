@@ -10,7 +10,7 @@ use std::alloc::Global;
 use std::process::Abort;
 use std::test::Fail;
 
-/// What is given for a turn.
+/// The slice passed for a turn.
 #[derive(Clone, Copy, Debug)]
 enum Given {
     Nothing,
@@ -24,7 +24,7 @@ enum Given {
 #[derive(Clone, Copy, Debug, PartialEq, Eq)]
 enum Came {
     Made(Reply),
-    /// With the thread and the budget of the work.
+    /// The thread and the budget of the work.
     Stale(Option<(u32, u32)>),
     Ended,
     Full,
@@ -262,7 +262,7 @@ fn generator_stays(rt: HostRuntime) -> Result<(), Fail> {
     )
 }
 
-/// Of this many draws by the first processor, how many have no winner.
+/// The number of draws without a winner, of this many by the first processor.
 fn idle_draws(system: &mut System, draws: u32) -> u32 {
     let mut idle = 0u32;
     for _ in 0..draws {

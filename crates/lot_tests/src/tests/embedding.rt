@@ -1,5 +1,6 @@
 //! The kernel that README shows, embedded.
 use lot_kernel::{Command, Event, Kernel, Limits, Name, Reply, Sizes};
+use lot_machine::CurrencyRef;
 use std::alloc::Global;
 use std::process::Abort;
 
@@ -20,7 +21,7 @@ fn first_winner(rt: &impl Abort, alloc: Global) -> Reply {
     for (name, amount) in [("first", 10), ("second", 5)] {
         let command = Command::MakeFunded {
             amount,
-            currency: Name::new("base").expect(rt, "a name"),
+            currency: CurrencyRef::Named(Name::new("base").expect(rt, "a name")),
             name: Name::new(name).expect(rt, "a name"),
             script: 1,
         };

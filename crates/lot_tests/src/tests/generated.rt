@@ -8,13 +8,14 @@ use lot_kernel::{
     Action, Command, CurrencyNumber, Event, Kernel, Kind, Limits, Meter, Name, Sizes, ThreadNumber,
     TicketNumber,
 };
+use lot_machine::{CurrencyRef, TargetRef, ThreadRef};
 use std::alloc::Global;
 use std::process::Abort;
 
-/// How many events there are between two comparisons.
+/// The number of events between two comparisons.
 const PART: u32 = 1000;
 
-/// How many comparisons there are.
+/// The number of comparisons.
 const PARTS: u32 = 100;
 
 /// The generator of the events: it always begins with the same seed.
@@ -45,12 +46,30 @@ fn thread_name(rt: &impl Abort, alloc: Global, numbers: &mut ParkMiller) -> Name
     numbered(rt, alloc, 't', numbers.next() % 4096)
 }
 
-/// The name of a currency or a thread.
-fn target_name(rt: &impl Abort, alloc: Global, numbers: &mut ParkMiller) -> Name {
+/// A currency by its name or its number, or base.
+fn currency_ref(rt: &impl Abort, alloc: Global, numbers: &mut ParkMiller) -> CurrencyRef {
     if numbers.next() % 2 == 0 {
-        return currency_name(rt, alloc, numbers);
+        return CurrencyRef::Named(currency_name(rt, alloc, numbers));
     }
-    thread_name(rt, alloc, numbers)
+    CurrencyRef::Numbered(numbers.next() % 128)
+}
+
+/// A thread by its name or its number.
+fn thread_ref(rt: &impl Abort, alloc: Global, numbers: &mut ParkMiller) -> ThreadRef {
+    if numbers.next() % 2 == 0 {
+        return ThreadRef::Named(thread_name(rt, alloc, numbers));
+    }
+    ThreadRef::Numbered(numbers.next() % 4098)
+}
+
+/// A currency or a thread by its name or its number.
+fn target_ref(rt: &impl Abort, alloc: Global, numbers: &mut ParkMiller) -> TargetRef {
+    match numbers.next() % 4 {
+        0 => TargetRef::Named(currency_name(rt, alloc, numbers)),
+        1 => TargetRef::Named(thread_name(rt, alloc, numbers)),
+        2 => TargetRef::Currency(numbers.next() % 128),
+        _ => TargetRef::Thread(numbers.next() % 4098),
+    }
 }
 
 /// Another amount for a ticket, now and then the largest, or one that no ticket has.
@@ -67,21 +86,21 @@ fn next_setting(numbers: &mut ParkMiller, ticket: u64) -> Command {
 fn next_command(rt: &impl Abort, alloc: Global, numbers: &mut ParkMiller) -> Command {
     let amount = u64::from(numbers.next() % 1000) + 1;
     let ticket = u64::from(numbers.next() % 8000);
-    match numbers.next() % 11 {
+    match numbers.next() % 12 {
         0 => Command::MakeTicket {
             amount,
-            currency: currency_name(rt, alloc, numbers),
+            currency: currency_ref(rt, alloc, numbers),
         },
         1 => Command::RemoveTicket { ticket },
         2 => Command::MakeCurrency {
             name: currency_name(rt, alloc, numbers),
         },
         3 => Command::RemoveCurrency {
-            currency: currency_name(rt, alloc, numbers),
+            currency: currency_ref(rt, alloc, numbers),
         },
         4 | 5 => Command::Fund {
             ticket,
-            target: target_name(rt, alloc, numbers),
+            target: target_ref(rt, alloc, numbers),
         },
         6 => Command::Unfund { ticket },
         7 => Command::MakeThread {
@@ -90,11 +109,14 @@ fn next_command(rt: &impl Abort, alloc: Global, numbers: &mut ParkMiller) -> Com
         },
         8 => Command::MakeFunded {
             amount,
-            currency: currency_name(rt, alloc, numbers),
+            currency: currency_ref(rt, alloc, numbers),
             name: thread_name(rt, alloc, numbers),
             script: 1,
         },
         9 => next_setting(numbers, ticket),
+        10 => Command::RemoveThread {
+            thread: thread_ref(rt, alloc, numbers),
+        },
         _ => Command::List(Kind::Threads),
     }
 }
@@ -123,7 +145,7 @@ fn next_event(rt: &impl Abort, alloc: Global, numbers: &mut ParkMiller) -> Event
     }
 }
 
-/// Gives a kernel so many events, and returns how much draws and unlocks have read. Another event reads nothing.
+/// Makes this many events in a kernel, and returns the reads of draws and unlocks. Other events read nothing.
 fn give(
     rt: &impl Abort,
     alloc: Global,
@@ -167,8 +189,8 @@ fn check_rows(rt: &impl Abort, kernel: &mut Kernel, fresh: &mut Kernel) {
     }
 }
 
-/// Gives a new kernel all events of so many parts at once, and compares its rows. What its draws and unlocks have
-/// read is what it counted.
+/// Makes all events of this many parts in a new kernel at once, and compares its rows. The reads of its draws and
+/// unlocks are its counts.
 fn check_part(rt: &impl Abort, alloc: Global, kernel: &mut Kernel, parts: u32) {
     let mut fresh = new_kernel(rt, alloc);
     let mut numbers = generator(rt);

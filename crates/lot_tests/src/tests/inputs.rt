@@ -47,7 +47,7 @@ fn fill(rt: &impl Abort, bytes: &mut Vec<u8>, length: usize) {
     add(rt, bytes, &line[..missing % 4097]);
 }
 
-/// How many lines there are before the last byte.
+/// The number of lines before the last byte.
 fn lines_before_the_end(bytes: &[u8]) -> usize {
     bytes.iter().filter(|byte| **byte == b'\n').count()
 }
@@ -90,7 +90,7 @@ fn numbered(rt: &impl Abort, alloc: Global, front: &str, back: &str, count: u32)
     text
 }
 
-/// How many ports, mutexes, scripts and commands a program has.
+/// The numbers of a program's ports, mutexes, scripts and commands.
 fn counts(program: &Program) -> (u32, u32, usize, usize) {
     let limits = program.limits();
     (

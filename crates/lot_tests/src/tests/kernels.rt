@@ -4,7 +4,9 @@ use super::reads::is_worth_nothing;
 use super::same::check_same;
 use lot_kernel::{CurrencyNumber, Kernel};
 use lot_kernel_tests::{trapped, won};
-use lot_machine::{Action, Command, Event, Limits, Name, Outcome, Reply, Sizes};
+use lot_machine::{
+    Action, Command, CurrencyRef, Event, Limits, Name, Outcome, Reply, Sizes, TargetRef,
+};
 use std::alloc::Global;
 use std::process::Abort;
 
@@ -46,13 +48,13 @@ fn make_currency(rt: &impl Abort, kernel: &mut Kernel, text: &str) -> Reply {
 
 /// Makes a ticket of this amount, issued in this currency.
 fn make_ticket(rt: &impl Abort, kernel: &mut Kernel, amount: u64, issuer: &str) -> Reply {
-    let currency = name(rt, issuer);
+    let currency = CurrencyRef::Named(name(rt, issuer));
     reply_to(kernel, Command::MakeTicket { amount, currency })
 }
 
-/// Has the ticket fund a currency or a thread.
+/// Makes the ticket fund a currency or a thread.
 fn fund(rt: &impl Abort, kernel: &mut Kernel, ticket: u64, text: &str) -> Reply {
-    let target = name(rt, text);
+    let target = TargetRef::Named(name(rt, text));
     reply_to(kernel, Command::Fund { ticket, target })
 }
 
@@ -66,7 +68,7 @@ fn make_funded(
 ) -> Reply {
     let command = Command::MakeFunded {
         amount,
-        currency: name(rt, issuer),
+        currency: CurrencyRef::Named(name(rt, issuer)),
         name: name(rt, text),
         script: 1,
     };
@@ -78,7 +80,7 @@ fn check(rt: &impl Abort, reply: Reply, wanted: Reply) {
     check_same(rt, &reply, &wanted);
 }
 
-/// Gives an event, and compares the reply.
+/// Makes an event, and compares the reply.
 fn check_event(rt: &impl Abort, kernel: &mut Kernel, event: Event, reply: Reply) {
     check(rt, kernel.event(&event), reply);
 }
@@ -147,7 +149,7 @@ fn make_chain(rt: &impl Abort, kernel: &mut Kernel, alloc: Global) {
     make_link(rt, kernel, (4097, 7), "base", "c1");
 }
 
-/// Compares all currencies of the chain with what is worth nothing.
+/// Compares the rows of all currencies of the chain with those of worthless ones.
 fn check_worth_nothing(rt: &impl Abort, kernel: &mut Kernel) {
     for number in 0..=4096 {
         assert!(rt;
@@ -157,7 +159,7 @@ fn check_worth_nothing(rt: &impl Abort, kernel: &mut Kernel) {
     }
 }
 
-/// Gives a ticket another amount.
+/// Sets a ticket's amount.
 fn set_ticket(rt: &impl Abort, kernel: &mut Kernel, ticket: u64, amount: u64) {
     let done = reply_to(kernel, Command::SetTicket { ticket, amount });
     check(rt, done, Reply::Done);
@@ -187,7 +189,7 @@ fn check_exit(rt: &impl Abort, kernel: &mut Kernel) {
     check_event(rt, kernel, Event::Draw(1, 6), Reply::Idle);
 }
 
-// What base funds reaches the thread through all the currencies, and nothing is worth anything when it has ended.
+// Base's funding reaches the thread through all the currencies, and everything is worthless once it has ended.
 #[test]
 fn a_chain_of_all_currencies(rt: HostRuntime) {
     let mut kernel = new_kernel(&rt, rt.alloc());

@@ -1,5 +1,5 @@
-//! What reads values, and what is worth nothing. They stand among the tests, since the crate would prove them a second
-//! time as a library.
+//! Events that read values, and worthless currencies. They are among the tests, since the crate would prove them a
+//! second time as a library.
 ghost use Rattle.std.specs.Prelude.{◌≡◌, ◌↔◌, IsTrue, Some};
 ghost use Rattle.lot_machine.specs.declared.row.CurrencyRow.{CurrencyRow as CurrencyRecord};
 ghost use Rattle.lot_simulation.specs.World as world;
@@ -16,7 +16,7 @@ pub(crate) fn may_read(event: &Event) -> bool
     )
 }
 
-/// Whether there is a currency, and it is worth nothing and has nothing active.
+/// Whether there is a currency, with value 0 and active amount 0.
 pub(crate) fn is_worth_nothing(row: Option<CurrencyRow>) -> bool
     ensures { IsTrue result ↔ ((shown : CurrencyRecord) × (row ≡ Some shown) × (shown.active_amount ≡ 0)
         × (shown.value ≡ 0)) }

@@ -45,7 +45,7 @@ fn kernels_and_graphs(rt: HostRuntime) {
     }
 }
 
-/// Whether the first of these lists is empty, if there is one.
+/// Whether the first of these lists, if there is one, is empty.
 fn check_lists(rt: &impl Abort, alloc: Global, lists: usize, nodes: usize) {
     let made = Lists::new(alloc, lists, nodes).expect(rt, "memory");
     if 0 < lists {
@@ -124,7 +124,7 @@ fn checked_system(rt: &impl Abort, alloc: Global, program: &Program, room: u32) 
     system
 }
 
-/// How many seats a baton station of the system has, and whether it is closed.
+/// The number of seats of a baton station of the system, and whether it is closed.
 fn baton_seats<R: Wait>(
     rt: &R,
     alloc: Global,
@@ -158,7 +158,7 @@ fn copies_and_systems(rt: HostRuntime) {
     }
 }
 
-/// Opens a station of the system, and closes it again. Returns how many seats it had.
+/// Opens a station of the system, and closes it again. Returns the number of its seats.
 fn seats_of<T: TurnLedger, Q: Ledger, K: Ledger>(
     alloc: Global,
     system: System,
@@ -179,7 +179,7 @@ fn seats_of<T: TurnLedger, Q: Ledger, K: Ledger>(
     Ok(station.close(seats).ok().map(|_system| count))
 }
 
-/// The same, in a station that has ledgers of its own.
+/// Opens and closes a station that has ledgers of its own. Returns the number of its seats.
 fn seats_in(alloc: Global, program: &Program, room: u32) -> Result<Option<usize>, AllocError> {
     let system = System::open(alloc, program, room)?;
     let parts = u64::from(system.processors()) + 1;

@@ -1,5 +1,4 @@
-//! What is printed for replies, listings, totals, histories and refused inputs. What is expected is written out by
-//! hand.
+//! The texts of replies, listings, totals, histories and refused inputs. The expected ones are written by hand.
 ghost use Rattle.std.specs.Prelude.{◌≡◌, ◌<◌, ◌^◌, false};
 
 use super::same::check_same_at;
@@ -346,7 +345,7 @@ fn prints_trap_refusals(rt: HostRuntime) {
     }
 }
 
-/// A refused line, why it is refused, and what is printed.
+/// A refused line, the refusal, and the printed text.
 struct PrintedFault<'a> {
     line: u32,
     refusal: InputRefusal,
@@ -480,7 +479,7 @@ fn limits(rt: &impl Abort, unit: u32) -> Limits {
     limits.expect(rt, "limits")
 }
 
-/// What a ticket funds and whether it is active, and its line where base is worth this unit.
+/// A ticket's target, whether it is active, and its line with this unit.
 struct PrintedTicket<'a> {
     target: Option<&'a str>,
     is_active: bool,
@@ -818,7 +817,7 @@ const RECEIVED: Outcome = Outcome::RepliedThenReceived {
     number: 41,
 };
 
-/// The same, after which it waits.
+/// A server's reply to thread 5, after which it waits.
 const WAITS: Outcome = Outcome::RepliedThenWaits(5);
 
 // 2561 / 256 is 10.00390625, 384 / 256 is 1.5, and 64 / 256 is 0.25.
@@ -848,7 +847,7 @@ fn prints_what_is_behind_the_point(rt: HostRuntime) {
     }
 }
 
-/// The greatest waits that there may be.
+/// The largest possible waits.
 const LONG: Waits = Waits {
     count: u32::MAX,
     total: u64::MAX,

@@ -1,5 +1,5 @@
-//! How a run may end, and what it has written by then. It stands among the tests, since the crate would prove it a
-//! second time as a library.
+//! The possible ends of a run, and its output by then. It is among the tests, since the crate would prove it a second
+//! time as a library.
 ghost use Rattle.std.specs.Prelude.{◌≡◌, ◌<◌, ◌↔◌, ◌⊎◌, Err, IsTrue, Ok};
 ghost use Rattle.lot_io.specs.declared.fault.IoFault.TheVariants as faults;
 ghost use Rattle.lot_play.specs.declared.inputs.Played.TheVariants as came;

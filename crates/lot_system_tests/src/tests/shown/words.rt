@@ -1,11 +1,11 @@
-//! Inputs that are refused, and what is said of each.
+//! Refused inputs, and the diagnostic for each.
 use crate::tests::same::{check_same, check_same_at};
 use lot_text::{ParseFault, parse};
 use lot_words::{line_of_command, write_words};
 use std::alloc::Global;
 use std::process::Abort;
 
-/// Reads the input, which is refused, and compares what is said of it.
+/// Reads the input, which is refused, and compares the diagnostic.
 fn check<H: Abort>(rt: &H, alloc: Global, input: &[u8], expected: &str) {
     let Err(ParseFault::Input(fault)) = parse(alloc, input) else {
         panic!(rt; "it isn't refused: {expected}");
@@ -382,7 +382,7 @@ fn several_words(rt: HostRuntime) {
     }
 }
 
-/// The same as `check`, of an input that ends with this line of a script, or with these lines.
+/// Checks, like `check`, an input that ends with this line of a script, or with these lines.
 fn check_script<H: Abort>(rt: &H, alloc: Global, line: &str, expected: &str) {
     let input = format!(in alloc; "lottery 3\nfor 5\nmutex m\nscript s\n{line}");
     let input = input.expect(rt, "memory");

@@ -1,3 +1,4 @@
+use Rattle.std.specs.Prelude.{is_some, map, slice_get, true}
 use Rattle.std.proofs.Common.{Contains, List, Some, ap, arith, length, refl, rules, subst, sym, ℕ, ◌+◌, ◌∙◌, ◌≡◌}
 use Rattle.std.proofs.lemmas.List.{length-append}
 use Rattle.lot_kernel.specs.Snapshots.{Snapshot}
@@ -5,7 +6,6 @@ use Rattle.lot_machine.specs.declared.reply.Reply.TheVariants.{Funded}
 use Rattle.lot_machine.specs.State.{State, funding_of}
 use Rattle.lot_machine.specs.declared.ticket.Target.TheVariants.{Thread, Unfunded}
 use Rattle.lot_kernel.proofs.Commanding.{funded-new, good-amount, last-number, makes-funded, target-funded, thread-no-cycle}
-use Rattle.lot_machine.proofs.CommandsKept.{named-there}
 use Rattle.std.specs.Option.{option_flatten}
 use Rattle.lot_machine.specs.Funding.{ticket_at, with_new_ticket, with_target}
 use Rattle.lot_kernel.specs.contracts.tables.Tables.{the_view}
@@ -25,8 +25,8 @@ made-state s issued added funded amount issuer script n t name first second thir
 
 pub issue-requires-clause-issuer : goal.issue-requires-clause-issuer
 issue-requires-clause-issuer c =
-    let i = c.self.inside in
-    rw (← c.self.view_is) (named-there c.args.currency.now i.currencies.items c.in-Some.issuer (search rules))
+    let there : slice_get (map is_some c.args.self.now.state.currencies) c.in-Some.issuer ≡ Some true = search rules in
+    there
 
 pub put_target-requires-clause-found : goal.put_target-requires-clause-found
 put_target-requires-clause-found c =

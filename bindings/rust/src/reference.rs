@@ -1,0 +1,102 @@
+//! References of a command to a currency, a thread or a target.
+
+use crate::numbers::EventKind;
+use crate::{ffi, Name};
+
+/// A currency, by its name or by its number. A lookup by number takes constant time; a lookup by name searches.
+///
+/// ```
+/// use lot::{CurrencyRef, Name};
+///
+/// assert_eq!(CurrencyRef::from(3), CurrencyRef::Numbered(3));
+/// assert_eq!(CurrencyRef::from(Name::BASE), CurrencyRef::Named(Name::BASE));
+/// ```
+#[derive(Clone, Copy, Debug, PartialEq, Eq, Hash)]
+pub enum CurrencyRef {
+    /// The currency with this name.
+    Named(Name),
+    /// The currency with this number; base has 0.
+    Numbered(u32),
+}
+
+/// A thread, by its name or by its number. A lookup by number takes constant time; a lookup by name searches.
+#[derive(Clone, Copy, Debug, PartialEq, Eq, Hash)]
+pub enum ThreadRef {
+    /// The thread with this name.
+    Named(Name),
+    /// The thread with this number, from 1.
+    Numbered(u32),
+}
+
+/// The target that a ticket gets, by its name or by its number. A lookup by number takes constant time; a lookup by
+/// name searches.
+#[derive(Clone, Copy, Debug, PartialEq, Eq, Hash)]
+pub enum TargetRef {
+    /// The currency or thread with this name. No two have one name.
+    Named(Name),
+    /// The currency with this number; base has 0.
+    Currency(u32),
+    /// The thread with this number, from 1.
+    Thread(u32),
+}
+
+impl CurrencyRef {
+    /// An event with this currency: of kind `named` with its name, or of kind `numbered` with its number.
+    pub(crate) fn event(self, named: EventKind, numbered: EventKind) -> ffi::Event {
+        match self {
+            CurrencyRef::Named(name) => ffi::Event { currency: name.plain(), ..named.event() },
+            CurrencyRef::Numbered(object) => ffi::Event { object, ..numbered.event() },
+        }
+    }
+}
+
+impl ThreadRef {
+    /// The event that removes this thread.
+    pub(crate) fn removal(self) -> ffi::Event {
+        match self {
+            ThreadRef::Named(name) => ffi::Event { name: name.plain(), ..EventKind::RemoveThread.event() },
+            ThreadRef::Numbered(object) => ffi::Event { object, ..EventKind::RemoveThreadNumbered.event() },
+        }
+    }
+}
+
+impl TargetRef {
+    /// The event that makes the ticket fund this target.
+    pub(crate) fn funding(self, ticket: u64) -> ffi::Event {
+        match self {
+            TargetRef::Named(name) => ffi::Event { ticket, name: name.plain(), ..EventKind::Fund.event() },
+            TargetRef::Currency(object) => ffi::Event { object, ticket, ..EventKind::FundCurrency.event() },
+            TargetRef::Thread(object) => ffi::Event { object, ticket, ..EventKind::FundThread.event() },
+        }
+    }
+}
+
+impl From<Name> for CurrencyRef {
+    fn from(name: Name) -> CurrencyRef {
+        CurrencyRef::Named(name)
+    }
+}
+
+impl From<u32> for CurrencyRef {
+    fn from(number: u32) -> CurrencyRef {
+        CurrencyRef::Numbered(number)
+    }
+}
+
+impl From<Name> for ThreadRef {
+    fn from(name: Name) -> ThreadRef {
+        ThreadRef::Named(name)
+    }
+}
+
+impl From<u32> for ThreadRef {
+    fn from(number: u32) -> ThreadRef {
+        ThreadRef::Numbered(number)
+    }
+}
+
+impl From<Name> for TargetRef {
+    fn from(name: Name) -> TargetRef {
+        TargetRef::Named(name)
+    }
+}
