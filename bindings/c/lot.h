@@ -241,7 +241,7 @@ uint32_t lot_kernel_new(const lot_sizes *sizes, lot_kernel *kernel);
 // LOT_KERNEL_BLOCKS blocks, and frees none of them before lot_kernel_free. So `*bytes + 16 * LOT_KERNEL_BLOCKS` bytes
 // are enough for a heap of your own that aligns each block to 16 bytes. LOT_BAD_LIMITS.
 uint32_t lot_kernel_bytes(const lot_sizes *sizes, uint64_t *bytes);
-#define LOT_KERNEL_BLOCKS 40
+#define LOT_KERNEL_BLOCKS 46
 
 // Frees the kernel, and sets the handle to LOT_KERNEL_NONE. Freeing a handle without a kernel is LOT_DONE too.
 uint32_t lot_kernel_free(lot_kernel *kernel);

@@ -80,7 +80,7 @@ impl Kernel {
         Ok(Kernel { handle: UnsafeCell::new(handle) })
     }
 
-    /// The total of bytes that [`Kernel::new`] requests from the system for these sizes, in at most 40 blocks.
+    /// The total of bytes that [`Kernel::new`] requests from the system for these sizes, in at most 46 blocks.
     ///
     /// ```
     /// use lot::{Error, Kernel, Sizes};

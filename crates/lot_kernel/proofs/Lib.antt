@@ -1,3 +1,4 @@
+pub mod Indexed
 pub mod Holding
 pub mod Untouched
 pub mod Leaving

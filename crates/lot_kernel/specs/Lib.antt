@@ -2,3 +2,4 @@ pub mod Snapshots
 pub mod Counted
 pub mod Trapped
 pub mod Memory
+pub mod Names

@@ -4,4 +4,4 @@ use Rattle.lot_machine.specs.declared.sizes.Sizes.{Sizes}
 
 -- the bytes that a kernel with these sizes requests: a fixed number for each ticket, currency, thread and so on
 abbrev pub bytes_of : Sizes → ℕ
-bytes_of s = 56 * s.tickets + 114 * s.currencies + 293 * s.threads + 16 * s.ports + 113 * s.mutexes + 8 * s.processors + 162
+bytes_of s = 56 * s.tickets + 138 * s.currencies + 317 * s.threads + 16 * s.ports + 113 * s.mutexes + 8 * s.processors + 186

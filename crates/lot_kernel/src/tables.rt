@@ -1,11 +1,12 @@
 //! The kernel's tables, which hold the machine's state.
-ghost use Rattle.std.specs.Prelude.{◌≡◌, ◌≤◌, IfOk, length, vec_len, vec_capacity};
+ghost use Rattle.std.specs.Prelude.{◌≡◌, ◌<◌, ◌≤◌, ◌∷◌, [], IfOk, Some, codes, length, vec_len, vec_capacity};
 ghost use Rattle.lot_machine.specs.Mutexes.{mutex_at};
 ghost use Rattle.lot_machine.specs.Order.{IsInOrder};
 ghost use Rattle.lot_machine.specs.State.{sizes_of};
 ghost use Rattle.lot_machine.specs.Step.{step};
 ghost use Rattle.lot_kernel.specs.Counted.{Counts};
 ghost use Rattle.lot_kernel.specs.Memory.{bytes_of};
+ghost use Rattle.lot_kernel.specs.Names.{IsIndexOf};
 ghost use Rattle.lot_kernel.specs.Snapshots.{MakesStale, starting};
 
 mod commands;
@@ -15,6 +16,7 @@ mod rows;
 mod stops;
 mod traps;
 
+use crate::names::NameIndex;
 use lot_machine::{Event, Limits, MutexNumber, Name, Processor, Reply, ThreadNumber};
 use lot_mutex::Lottery;
 use lot_queues::Queues;
@@ -27,8 +29,8 @@ use std::mem::size_of;
 // The memory of one currency's name.
 const NAME_BYTES: u64 = size_of::<Option<Name>>() as u64;
 
-/// The names of currencies, the threads with their values and the meter, and the queues. Contracts see the state that
-/// they hold.
+/// The names of currencies, the threads with their values and the meter, the queues, and an index of the names.
+/// Contracts see the state that they hold.
 ///
 /// Each event also requires that the state is in order, which the kernel preserves.
 #[derive(Drop)]
@@ -38,6 +40,8 @@ pub(crate) struct Tables {
     currencies: Vec<Option<Name>>,
     threads: Threads,
     queues: Queues,
+    currency_index: NameIndex,
+    thread_index: NameIndex,
     /// Scratch memory for the lottery of a mutex.
     lottery: Lottery,
 }
@@ -45,6 +49,7 @@ pub(crate) struct Tables {
 impl Model for Tables {
     ghost use Rattle.std.specs.Prelude.{◌≡◌, ◌+◌, ◌≤◌, length, vec_len, vec_capacity};
     ghost use Rattle.lot_machine.specs.State.{sizes_of};
+    ghost use Rattle.lot_kernel.specs.Names.{IsIndexOf, names_of};
     ghost use Rattle.lot_kernel.specs.Snapshots.{Snapshot, held, threads_of};
 
     ghost Value = { Snapshot };
@@ -63,6 +68,10 @@ impl Model for Tables {
       clients : length k.queues.clients ≡ length k.threads.records;
       currencies : vec_len k.currencies ≤ k.limits.currencies + 1;
       currency_room : k.limits.currencies + 1 ≤ vec_capacity k.currencies;
+      currency_index : IsIndexOf k.currency_index k.currencies.items;
+      currency_places : k.currency_index.nodes ≡ k.limits.currencies + 1;
+      thread_index : IsIndexOf k.thread_index (names_of k.threads.threads);
+      thread_places : k.thread_index.nodes ≡ k.limits.threads;
       queue_room : k.queues.room ≡ k.limits.threads;
       lottery_room : k.lottery.room ≡ k.limits.threads;
     } };
@@ -74,13 +83,14 @@ impl Tables {
     pub(crate) fn new(alloc: Global, limits: Limits) -> Result<Tables, AllocError>
         ensures { IfOk result (λ k. k ≡ starting (sizes_of limits)) }
     {
-        let mut currencies = Vec::with_capacity(alloc, limits.currencies as usize + 1)?;
-        currencies.push_reserved(Name::new("base"));
+        let (currencies, currency_index) = opening_currencies(alloc, limits.currencies + 1)?;
         Ok(Tables {
             limits,
             currencies,
             threads: Threads::new(alloc, &limits)?,
             queues: Queues::new(alloc, limits.ports, limits.mutexes, limits.threads)?,
+            currency_index,
+            thread_index: NameIndex::new(alloc, limits.threads)?,
             lottery: Lottery::new(alloc, limits.threads)?,
         })
     }
@@ -92,6 +102,8 @@ impl Tables {
         NAME_BYTES * (limits.currencies as u64 + 1)
             + Threads::bytes(limits)
             + Queues::bytes(limits.ports, limits.mutexes, limits.threads)
+            + NameIndex::bytes(limits.currencies + 1)
+            + NameIndex::bytes(limits.threads)
             + Lottery::bytes(limits.threads)
     }
 
@@ -158,4 +170,26 @@ impl Tables {
             Event::Wake { thread } => self.wake(ThreadNumber { number: *thread }, reply),
         }
     }
+}
+
+/// The names of the currencies at the start, base alone, with room for this many, and their index.
+fn opening_currencies(
+    alloc: Global,
+    room: u32,
+) -> Result<(Vec<Option<Name>>, NameIndex), AllocError>
+    requires { 0 < room }
+    ensures names { IfOk result (λ made. made.0.items ≡ Some (codes "base") ∷ []) }
+    ensures few { IfOk result (λ made. vec_len made.0 ≤ room) }
+    ensures room { IfOk result (λ made. room ≤ vec_capacity made.0) }
+    ensures index { IfOk result (λ made. IsIndexOf made.1 made.0.items) }
+    ensures places { IfOk result (λ made. made.1.nodes ≡ room) }
+{
+    let mut names = Vec::with_capacity(alloc, room as usize)?;
+    let mut index = NameIndex::new(alloc, room)?;
+    let Some(base) = Name::new("base") else {
+        unreachable!()
+    };
+    index.add(0, &base);
+    names.push_reserved(Some(base));
+    Ok((names, index))
 }

@@ -2,6 +2,7 @@ mod amounts;
 mod bounds;
 mod helpers;
 mod mutexes;
+mod names;
 mod pauses;
 mod ports;
 mod queues;

@@ -22,7 +22,7 @@ ghost use Rattle.lot_kernel.specs.Snapshots.{MakesStale};
 use crate::tables::Tables;
 use lot_machine::{
     Command, CurrencyRef, Name, Node, Refusal, Reply, Status, Target, TargetRef, Thread,
-    ThreadNumber, ThreadRef, Ticket, TicketNumber, is_good_name,
+    ThreadNumber, ThreadRef, Ticket, TicketNumber, index_of, is_good_name,
 };
 use lot_value::Change;
 
@@ -136,6 +136,7 @@ impl Tables {
             return Reply::Refused(Refusal::Full);
         }
         self.threads.apply(Change::NewCurrency);
+        self.currency_index.add(number as usize, name);
         self.currencies.push_reserved(Some(name.copied()));
         Reply::Currency(number)
     }
@@ -156,6 +157,7 @@ impl Tables {
             return Reply::Refused(Refusal::InUse);
         }
         self.threads.apply(Change::DropCurrency(number));
+        self.currency_index.remove(number as usize);
         self.currencies[number as usize] = None;
         Reply::Done
     }
@@ -199,6 +201,7 @@ impl Tables {
         if self.threads.graph().has_edge_into(Node::Thread(number)) {
             return Reply::Refused(Refusal::InUse);
         }
+        self.thread_index.remove(index_of(number));
         self.threads.remove_thread(ThreadNumber { number });
         Reply::Done
     }
@@ -212,6 +215,8 @@ impl Tables {
         ensures kept { KeepsStale self.old self.new }
         ensures meter { self.new.meter ≡ self.old.meter }
     {
+        let place = self.threads.threads().len();
+        self.thread_index.add(place, name);
         self.queues.add_thread();
         self.threads.add_thread(Thread {
             name: name.copied(),

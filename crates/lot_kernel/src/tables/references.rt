@@ -59,7 +59,7 @@ impl Tables {
         ensures named { result ≡ names.currency_named self.now.state name.now }
         ensures there { IfSome result (λ c. slice_get (map is_some self.now.state.currencies) c ≡ Some true) }
     {
-        match currency_place(&self.currencies, name) {
+        match currency_place(&self.currency_index, &self.currencies, name) {
             Some(place) => Some(place as u32),
             None => None,
         }
@@ -80,7 +80,7 @@ impl Tables {
         ensures named { result ≡ names.thread_named self.now.state name.now }
         ensures there { IfSome result (IsThere self.now.state.records) }
     {
-        let place = thread_place(self.threads.threads(), name)?;
+        let place = thread_place(&self.thread_index, self.threads.threads(), name)?;
         Some(place as u32 + 1)
     }
 

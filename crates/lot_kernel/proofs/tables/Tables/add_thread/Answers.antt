@@ -1,7 +1,19 @@
-use Rattle.std.proofs.Common.{rules}
+use Rattle.std.proofs.Common.{◌≡◌, ◌∙◌, Option, List, ap, length, option_map, rules, subst, sym}
+use Rattle.std.proofs.lemmas.List.{length-map}
+use Rattle.lot_machine.specs.declared.record.Thread.{Thread}
+use Rattle.lot_lists.specs.NodeLists.{IsFree}
+use Rattle.lot_kernel.specs.Names.{names_of}
+use Rattle.lot_kernel.proofs.Indexed.{next-free}
 use Rattle.lot_kernel.proofs.Holding.{IsHeld, held-threads, makes-held}
 use Rattle.lot_machine.specs.State.{sizes_of}
 use Rattle.lot_kernel.proofs.tables.Tables.add_thread.Goals as goal
+
+pub add-requires-clause-free : goal.add-requires-clause-free
+add-requires-clause-free c =
+    let i = c.self.inside in
+    let number : length (names_of i.threads.threads) ≡ length c.threads-place.result.now =
+    length-map i.threads.threads (option_map (λ (t : Thread). t.name)) ∙ ap (λ (ts : List (Option Thread)). length ts) (sym c.threads-place.ensures) in
+    subst (λ n. IsFree i.thread_index n) number (next-free i.thread_index (names_of i.threads.threads) c.self.invariant.thread_index)
 
 pub returns-clause-stale : goal.returns-clause-stale
 returns-clause-stale c =

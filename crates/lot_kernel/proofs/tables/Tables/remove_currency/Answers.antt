@@ -3,7 +3,10 @@ use Rattle.lot_machine.specs.Funding.{backing_currency, issued_in}
 use Rattle.lot_machine.specs.State.{sizes_of}
 use Rattle.lot_graph.specs.Graphs.{LimitedFunding}
 use Rattle.lot_threads.specs.Threaded.{Threaded}
+use Rattle.std.proofs.lemmas.List.{length-map}
+use Rattle.std.proofs.lemmas.Option.{slice_get_within}
 use Rattle.lot_kernel.proofs.Holding.{held-removed}
+use Rattle.lot_kernel.proofs.Indexed.{currency-listed}
 use Rattle.lot_kernel.proofs.tables.Tables.remove_currency.Goals as goal
 
 pub apply-requires-clause-allowed : goal.apply-requires-clause-allowed
@@ -15,8 +18,21 @@ apply-requires-clause-allowed c =
     let unused = subst (λ (w : LimitedFunding). (issued_in w.funding place ≡ []) × (backing_currency w.funding place ≡ [])) c.graph.ensures (c.is_unused.ensures.0 c.if-not-is_unused.false) in
     ((omega (arith, c.if-number-eq0.false), flags ∙ there), unused.0, unused.1)
 
+pub remove-requires : goal.remove-requires
+remove-requires c =
+    let i = c.self.inside in
+    let there : slice_get (map is_some i.currencies.items) c.in-Some.number ≡ Some true = search rules in
+    currency-listed i.currency_index i.currencies.items c.in-Some.number c.self.invariant.currency_index there
+
+pub index_mut-requires : goal.index_mut-requires
+index_mut-requires c =
+    let i = c.self.inside in
+    let there : slice_get (map is_some i.currencies.items) c.in-Some.number ≡ Some true = search rules in
+    omega (arith, slice_get_within (map is_some i.currencies.items) c.in-Some.number true there, length-map i.currencies.items is_some)
+
 pub invariant_of-self : goal.invariant_of-self
 invariant_of-self c =
     let i = c.self.inside in
     let threads = held-removed (sizes_of i.limits) i.currencies.items i.threads c.apply.new.self i.queues c.self.invariant.threads c.in-Some.number c.apply.ensures.applied in
-    search (rules, threads)
+    let index = c.remove.ensures.removed i.currencies.items c.self.invariant.currency_index in
+    search (rules, threads, index)

@@ -1,0 +1,220 @@
+-- An index after a name is added or removed, and what it finds.
+use Rattle.std.proofs.Common.{◌≡◌, ◌∙◌, ◌⊎◌, inl, inr, ℕ, zero, suc, ◌+◌, ◌-◌, ◌<◌, ◌≤◌, min, Bool, true, false, Option, Some, None, List, [], ◌∷◌, ◌++◌, Contains, length, filter, fold, get_or, is_some, map, position, cond, nat_lt, option_map, slice_get, slice_set, ap, sym, refl, subst, arith}
+use Rattle.std.specs.List.{reduce, position_or_len}
+use Rattle.std.specs.Option.{option_flatten}
+use Rattle.std.proofs.lemmas.Bool.{le-ltb, lt-ltb, cases_lt}
+use Rattle.std.specs.Str.{bytes_eq}
+use Rattle.std.proofs.lemmas.Slice.Eq.{bytes_eq-Decides}
+use Rattle.std.proofs.lemmas.List.Quantifiers.{position-Some}
+use Rattle.std.proofs.lemmas.List.Sums.{position_or_len_is}
+use Rattle.std.proofs.lemmas.Option.{slice_get_past, slice_get_within, slice_get-get_or, get_or_from_slice_get, slice_get-map}
+use Rattle.std.proofs.Math.Nat.{min-le_left, min-le_right}
+use Rattle.lot_machine.specs.declared.record.Thread.{Thread}
+use Rattle.lot_machine.specs.Numbered.{at_number, option_any}
+use Rattle.lot_machine.specs.Commands.{thread_meant}
+use Rattle.lot_machine.specs.State.{State, thread_at}
+use Rattle.lot_machine.specs.declared.reference.ThreadRef.{ThreadRef}
+use Rattle.lot_machine.specs.declared.reference.ThreadRef.TheVariants as thread_ref
+use Rattle.lot_machine.proofs.Changes.{place-set_other}
+use Rattle.lot_machine.proofs.Tickets.{at_number-suc, flatten-some, some-injective}
+use Rattle.lot_machine.proofs.EachOnce.{contains-filter, contains-later, contains-nothing, filter-contains}
+use Rattle.lot_lists.specs.NodeLists.{NodeLists, node_at, nodes_of, IsFree, IsListed, IsConsistent, HasSameSize, with_pushed, with_removed}
+use Rattle.lot_graph.proofs.MirrorLemmas.{mirror-free, mirror-listed, mirror-push, mirror-remove}
+use Rattle.lot_kernel.specs.Names.{IsIndexOf, bucket_of, bucket_at, names_of}
+
+-- ---- tables
+
+push-here : {A : Type 0} (xs : List A) (x : A) → slice_get (xs ++ x ∷ []) (length xs) ≡ Some x
+push-here [] x = refl
+push-here (y ∷ ys) x = push-here ys x
+
+push-other : {A : Type 0} (xs : List A) (x : A) (k : ℕ) → ¬ (k ≡ length xs) → slice_get (xs ++ x ∷ []) k ≡ slice_get xs k
+push-other [] x zero off = absurd (off refl)
+push-other [] x (suc k) off = refl
+push-other (y ∷ ys) x zero off = refl
+push-other (y ∷ ys) x (suc k) off = push-other ys x k (λ same. off (ap suc same))
+
+none-here : {A : Type 0} (xs : List (Option A)) (i : ℕ) → option_flatten (slice_get (slice_set xs i None) i) ≡ None
+none-here [] i = refl
+none-here (y ∷ ys) zero = refl
+none-here (y ∷ ys) (suc i) = none-here ys i
+
+-- ---- names that are added and removed
+
+module _ (v : NodeLists) (names : List (Option (List ℕ))) (index : IsIndexOf v names) where
+  next-none : bucket_at (length v.lists) names (length names) ≡ None
+  next-none = ap (λ (o : Option (Option (List ℕ))). option_map (bucket_of (length v.lists)) (option_flatten o)) (slice_get_past names (length names) (omega arith))
+
+  -- the next place is in no list
+  pub next-free : IsFree v (length names)
+  next-free = mirror-free index (length names) next-none
+
+  module _ (w : NodeLists) (size : HasSameSize v w) (consistent : IsConsistent w) where
+    -- where the same stands, the bucket is the same
+    same-bucket : (table : List (Option (List ℕ))) (place : ℕ) → slice_get table place ≡ slice_get names place → bucket_at (length w.lists) table place ≡ bucket_at (length v.lists) names place
+    same-bucket table place is =
+        ap (λ (o : Option (Option (List ℕ))). option_map (bucket_of (length w.lists)) (option_flatten o)) is
+        ∙ ap (λ n. option_map (bucket_of n) (option_flatten (slice_get names place))) size.1
+
+    pub index-added : (name : List ℕ) → bucket_of (length v.lists) name < length v.lists → w ≡ with_pushed v (bucket_of (length v.lists) name) (length names) → IsIndexOf w (names ++ Some name ∷ [])
+    index-added name low is =
+        mirror-push index (bucket_at (length w.lists) (names ++ Some name ∷ [])) (bucket_of (length v.lists) name) (length names)
+        (λ other off. same-bucket (names ++ Some name ∷ []) other (push-other names (Some name) other off)) w consistent low next-none here is
+      where
+        here : bucket_at (length w.lists) (names ++ Some name ∷ []) (length names) ≡ Some (bucket_of (length v.lists) name)
+        here = ap (λ (o : Option (Option (List ℕ))). option_map (bucket_of (length w.lists)) (option_flatten o)) (push-here names (Some name)) ∙ ap (λ n. Some (bucket_of n name)) size.1
+
+    pub index-removed : (place : ℕ) → IsListed v place → IsFree w place → ((k p : ℕ) → node_at v k p ≡ Some place → w ≡ with_removed v k p) → IsIndexOf w (slice_set names place None)
+    index-removed place listed free is =
+        mirror-remove index (bucket_at (length w.lists) (slice_set names place None)) listed.list place
+        (λ other off. same-bucket (slice_set names place None) other (place-set_other names place None other off)) w consistent
+        (index.each listed.list place listed.contains) (ap (option_map (bucket_of (length w.lists))) (none-here names place)) free is
+
+-- ---- the least
+
+fold-min_low : (a : ℕ) (xs : List ℕ) → (fold min a xs ≤ a) × ((x : ℕ) → Contains xs x → fold min a xs ≤ x)
+fold-min_low a [] = (omega arith, λ x c. absurd (contains-nothing x c))
+fold-min_low a (y ∷ ys) =
+    let (low, all) = fold-min_low (min a y) ys in
+    (omega (arith, low, min-le_left a y), each low all)
+  where
+    each : fold min (min a y) ys ≤ min a y → ((x : ℕ) → Contains ys x → fold min (min a y) ys ≤ x) → (x : ℕ) → Contains (y ∷ ys) x → fold min (min a y) ys ≤ x
+    each low all x (zero, there, is) = omega (arith, low, min-le_right a y, is)
+    each low all x (suc i, there, is) = all x (i, omega (arith, there), is)
+
+fold-min_all : (a : ℕ) (xs : List ℕ) (x : ℕ) → Contains (a ∷ xs) x → fold min a xs ≤ x
+fold-min_all a xs x (zero, there, is) = omega (arith, (fold-min_low a xs).0, is)
+fold-min_all a xs x (suc i, there, is) = (fold-min_low a xs).1 x (i, omega (arith, there), is)
+
+fold-min_in : (a : ℕ) (xs : List ℕ) → Contains (a ∷ xs) (fold min a xs)
+fold-min_in a [] = (zero, omega arith, refl)
+fold-min_in a (y ∷ ys) = by (fold-min_in (min a y) ys)
+  where
+    -- the lesser one is one of the two
+    lesser : (min a y ≡ a) ⊎ (min a y ≡ y)
+    lesser = elim (cases_lt a y) [ inl low ↦ inl (omega (arith, low)) | inr high ↦ inr (omega (arith, high)) ]
+
+    by : Contains (min a y ∷ ys) (fold min (min a y) ys) → Contains (a ∷ y ∷ ys) (fold min (min a y) ys)
+    by (zero, there, is) = first lesser
+      where
+        first : (min a y ≡ a) ⊎ (min a y ≡ y) → Contains (a ∷ y ∷ ys) (fold min (min a y) ys)
+        first (inl left) = (zero, omega arith, sym left ∙ is)
+        first (inr right) = (suc zero, omega arith, sym right ∙ is)
+    by (suc i, there, is) = (suc (suc i), omega (arith, there), is)
+
+-- The places that pass are those of a list that pass: so the least of these is the first that passes.
+module _ {A : Type 0} (test : A → Bool) (table : List A) (default : A) (xs : List ℕ) (all : (place : ℕ) → option_any test (slice_get table place) ≡ true → Contains xs place) where
+  -- a place that passes
+  passed : (place : ℕ) → option_any test (slice_get table place) ≡ true → (place < length table) × (test (get_or table place default) ≡ true)
+  passed place is = by (slice_get table place) refl is
+    where
+      by : (o : Option A) → slice_get table place ≡ o → option_any test o ≡ true → (place < length table) × (test (get_or table place default) ≡ true)
+      by None none so = cc
+      by (Some x) some so = (slice_get_within table place x some, ap test (get_or_from_slice_get table place x default some) ∙ so)
+
+  -- a place that is none of the list's that pass doesn't pass
+  failed : (place : ℕ) → place < length table → ¬ Contains (filter (λ p. option_any test (slice_get table p)) xs) place → test (get_or table place default) ≡ false
+  failed place low none = by (test (get_or table place default)) refl
+    where
+      by : (b : Bool) → test (get_or table place default) ≡ b → test (get_or table place default) ≡ false
+      by false is = is
+      by true is =
+          let so : option_any test (slice_get table place) ≡ true = ap (option_any test) (slice_get-get_or table place default low) ∙ is in
+          absurd (none (filter-contains (λ p. option_any test (slice_get table p)) xs place so (all place so)))
+
+  pub least-first : reduce min (filter (λ place. option_any test (slice_get table place)) xs) ≡ position test table
+  least-first = by (filter (λ place. option_any test (slice_get table place)) xs) refl
+    where
+      at : ℕ → Option ℕ
+      at n = cond (nat_lt n (length table)) (Some n) None
+
+      by : (ys : List ℕ) → filter (λ place. option_any test (slice_get table place)) xs ≡ ys → reduce min ys ≡ position test table
+      by [] is = sym (
+          ap at (position_or_len_is test table (length table) default (omega arith)
+          (λ k low. failed k low (λ c. contains-nothing k (subst (λ (zs : List ℕ). Contains zs k) is c)))
+          (λ low. absurd (omega (arith, low))))
+          ∙ ap (λ b. cond b (Some (length table)) None) (le-ltb (length table) (length table) (omega arith)))
+      by (y ∷ ys) is =
+          let least = fold min y ys in
+          let so = passed least (contains-filter (λ place. option_any test (slice_get table place)) xs least (subst (λ (zs : List ℕ). Contains zs least) (sym is) (fold-min_in y ys))).1 in
+          sym (
+          ap at (position_or_len_is test table least default (omega (arith, so.0))
+          (λ k low. failed k (omega (arith, low, so.0)) (λ c. absurd (omega (arith, low, fold-min_all y ys k (subst (λ (zs : List ℕ). Contains zs k) is c)))))
+          (λ low. so.1))
+          ∙ ap (λ b. cond b (Some least) None) (lt-ltb least (length table) so.0))
+
+-- ---- what is found
+
+module _ (v : NodeLists) (names : List (Option (List ℕ))) (index : IsIndexOf v names) (name : List ℕ) where
+  -- a place with the name is in the list of its bucket
+  pub named-listed : (place : ℕ) → option_any (option_any (bytes_eq name)) (slice_get names place) ≡ true → Contains (nodes_of v (bucket_of (length v.lists) name)) place
+  named-listed place is = by (slice_get names place) refl is
+    where
+      by : (o : Option (Option (List ℕ))) → slice_get names place ≡ o → option_any (option_any (bytes_eq name)) o ≡ true → Contains (nodes_of v (bucket_of (length v.lists) name)) place
+      by None at so = cc
+      by (Some None) at so = cc
+      by (Some (Some other)) at so =
+          let same = (bytes_eq-Decides name other).0 so in
+          index.all (bucket_of (length v.lists) name) place
+          (ap (λ (o : Option (Option (List ℕ))). option_map (bucket_of (length v.lists)) (option_flatten o)) at ∙ ap (λ n. Some (bucket_of (length v.lists) n)) (sym same))
+
+-- the thread has the name that the table of names has at its place
+pub thread-named : (threads : List (Option Thread)) (name : List ℕ) (place : ℕ) → option_any (option_any (λ t. bytes_eq name t.name)) (slice_get threads place) ≡ true → option_any (option_any (bytes_eq name)) (slice_get (names_of threads) place) ≡ true
+thread-named threads name place is = ap (option_any (option_any (bytes_eq name))) (slice_get-map (option_map (λ (t : Thread). t.name)) threads place) ∙ by (slice_get threads place) is
+  where
+    by : (o : Option (Option Thread)) → option_any (option_any (λ t. bytes_eq name t.name)) o ≡ true → option_any (option_any (bytes_eq name)) (option_map (option_map (λ (t : Thread). t.name)) o) ≡ true
+    by None so = so
+    by (Some None) so = so
+    by (Some (Some t)) so = so
+
+-- ---- what has a name is listed
+
+-- a currency that is there
+pub currency-listed : (v : NodeLists) (names : List (Option (List ℕ))) (place : ℕ) → IsIndexOf v names → slice_get (map is_some names) place ≡ Some true → IsListed v place
+currency-listed v names place index there = by (slice_get names place) refl (sym (slice_get-map is_some names place) ∙ there)
+  where
+    by : (o : Option (Option (List ℕ))) → slice_get names place ≡ o → option_map is_some o ≡ Some true → IsListed v place
+    by None at is = cc
+    by (Some None) at is = cc
+    by (Some (Some name)) at is = mirror-listed index (bucket_of (length v.lists) name) place (ap (λ (o : Option (Option (List ℕ))). option_map (bucket_of (length v.lists)) (option_flatten o)) at)
+
+-- a thread that is there has its number
+pub thread-there : (s : State) (thread : ThreadRef) (n : ℕ) → thread_meant s thread ≡ Some n → (place : ℕ) × (t : Thread) × (n ≡ suc place) × (slice_get s.threads place ≡ Some (Some t))
+thread-there s (thread_ref.Named name) n is = by (position named s.threads) refl is
+  where
+    named : Option Thread → Bool
+    named = option_any (λ t. bytes_eq name t.name)
+
+    there : (place : ℕ) (o : Option Thread) → slice_get s.threads place ≡ Some o → option_any (λ t. bytes_eq name t.name) o ≡ true → n ≡ suc place → (place : ℕ) × (t : Thread) × (n ≡ suc place) × (slice_get s.threads place ≡ Some (Some t))
+    there place None at so same = cc
+    there place (Some t) at so same = (place, t, same, at)
+
+    by : (o : Option ℕ) → position (option_any (λ (t : Thread). bytes_eq name t.name)) s.threads ≡ o → option_map (λ place. place + 1) o ≡ Some n → (place : ℕ) × (t : Thread) × (n ≡ suc place) × (slice_get s.threads place ≡ Some (Some t))
+    by None at so = cc
+    by (Some place) at so =
+        let found = position-Some (option_any (λ (t : Thread). bytes_eq name t.name)) s.threads place None at in
+        let number = some-injective (place + 1) n so in
+        there place (get_or s.threads place None) (slice_get-get_or s.threads place None found.0) found.1 (omega (arith, number))
+thread-there s (thread_ref.Numbered m) n is = by (thread_at s.threads m) refl is
+  where
+    at-place : (k : ℕ) (t : Thread) → thread_at s.threads k ≡ Some t → (place : ℕ) × (t : Thread) × (k ≡ suc place) × (slice_get s.threads place ≡ Some (Some t))
+    at-place zero t at = cc
+    at-place (suc place) t at = (place, t, refl, sym (at_number-suc s.threads place) ∙ flatten-some (at_number s.threads (suc place)) t at)
+
+    by : (o : Option Thread) → thread_at s.threads m ≡ o → option_map (λ (t : Thread). m) o ≡ Some n → (place : ℕ) × (t : Thread) × (n ≡ suc place) × (slice_get s.threads place ≡ Some (Some t))
+    by None at so = cc
+    by (Some t) at so =
+        let same : m ≡ n = some-injective m n so in
+        at-place n t (ap (thread_at s.threads) (sym same) ∙ at)
+
+pub thread-listed : (v : NodeLists) (threads : List (Option Thread)) (place : ℕ) (t : Thread) → IsIndexOf v (names_of threads) → slice_get threads place ≡ Some (Some t) → IsListed v place
+thread-listed v threads place t index at =
+    mirror-listed index (bucket_of (length v.lists) t.name) place
+    (ap (λ (o : Option (Option (List ℕ))). option_map (bucket_of (length v.lists)) (option_flatten o)) (slice_get-map (option_map (λ (x : Thread). x.name)) threads place ∙ ap (option_map (option_map (λ (x : Thread). x.name))) at))
+
+-- the place of a thread that is meant
+pub meant-place : (s : State) (thread : ThreadRef) (n k : ℕ) → Some n ≡ thread_meant s thread → k ≡ n - 1 → (t : Thread) × (n ≡ suc k) × (slice_get s.threads k ≡ Some (Some t))
+meant-place s thread n k meant is =
+    let (place, t, number, at) = thread-there s thread n (sym meant) in
+    let same : place ≡ k = omega (arith, number, is) in
+    (t, omega (arith, number, same), ap (slice_get s.threads) (sym same) ∙ at)

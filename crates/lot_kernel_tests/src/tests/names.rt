@@ -1,0 +1,93 @@
+//! Names that are given again, and names that an index keeps together.
+use super::*;
+
+/// Currencies and threads share one set of names: each may have the name of one that was removed, and none that of one
+/// that is there.
+const GIVEN_AGAIN: [Step<'_>; 18] = [
+    Step::Gives(Line::Mkcur("x"), Reply::Currency(1)),
+    Step::Gives(Line::Rmcur("x"), Reply::Done),
+    Step::Gives(Line::Rmcur("x"), Reply::Refused(Refusal::NoCurrency)),
+    Step::Gives(Line::Fundx(10, "base", "x", 1), FIRST_FUNDED),
+    Step::Gives(Line::Mkcur("x"), Reply::Refused(Refusal::NameTaken)),
+    Step::Gives(Line::Mktkt(1, "x"), Reply::Refused(Refusal::NoCurrency)),
+    Step::Wins(1, 7, (1, 7, 10), None),
+    Step::Traps(1, Action::Exit, 1, Outcome::Exited),
+    Step::Gives(Line::Unfund(1), Reply::Done),
+    Step::Gives(Line::Rmthr("x"), Reply::Done),
+    Step::Gives(Line::Mkcur("x"), Reply::Currency(2)),
+    Step::Gives(Line::Mkthr("x", 1), Reply::Refused(Refusal::NameTaken)),
+    Step::Gives(Line::Mktkt(1, "x"), Reply::Ticket(2)),
+    Step::Gives(Line::Rmtkt(2), Reply::Done),
+    Step::Gives(Line::Rmcur("x"), Reply::Done),
+    Step::Gives(Line::Mkthr("x", 1), Reply::Thread(2)),
+    Step::NoCurrency(2),
+    Step::Thread((2, "x", Status::Ready, 0, 0, 0, 0)),
+];
+
+#[test]
+fn names_given_again(rt: HostRuntime) {
+    play(&rt, rt.alloc(), &GIVEN_AGAIN)
+}
+
+/// Names of currencies that have one bucket of eight, of which the second, the first and the last are removed.
+const CURRENCIES_OF_ONE_BUCKET: [Step<'_>; 17] = [
+    Step::Gives(Line::Mkcur("a"), Reply::Currency(1)),
+    Step::Gives(Line::Mkcur("d"), Reply::Currency(2)),
+    Step::Gives(Line::Mkcur("g"), Reply::Currency(3)),
+    Step::Gives(Line::Mkcur("y"), Reply::Currency(4)),
+    Step::Gives(Line::Mkthr("d", 1), Reply::Refused(Refusal::NameTaken)),
+    Step::Gives(Line::Rmcur("d"), Reply::Done),
+    Step::Gives(Line::Mktkt(1, "a"), Reply::Ticket(1)),
+    Step::Gives(Line::Mktkt(1, "d"), Reply::Refused(Refusal::NoCurrency)),
+    Step::Gives(Line::Mktkt(1, "g"), Reply::Ticket(2)),
+    Step::Gives(Line::Rmtkt(1), Reply::Done),
+    Step::Gives(Line::Rmcur("a"), Reply::Done),
+    Step::Gives(Line::Rmcur("y"), Reply::Done),
+    Step::Gives(Line::Mktkt(1, "a"), Reply::Refused(Refusal::NoCurrency)),
+    Step::Gives(Line::Mktkt(1, "g"), Reply::Ticket(3)),
+    Step::Gives(Line::Mktkt(1, "y"), Reply::Refused(Refusal::NoCurrency)),
+    Step::Gives(Line::Mkcur("a"), Reply::Currency(5)),
+    Step::Gives(Line::Mktkt(1, "a"), Reply::Ticket(4)),
+];
+
+/// Names of threads that have one bucket of eight, of which the second is removed and given to a new thread.
+const THREADS_OF_ONE_BUCKET: [Step<'_>; 15] = [
+    Step::Gives(Line::Fundx(1, "base", "a", 1), FIRST_FUNDED),
+    Step::Gives(Line::Mkthr("d", 1), Reply::Thread(2)),
+    Step::Gives(Line::Mkthr("g", 1), Reply::Thread(3)),
+    Step::Gives(Line::Unfund(1), Reply::Done),
+    Step::Gives(Line::Fund(1, "d"), Reply::Done),
+    Step::Wins(1, 0, (2, 0, 1), None),
+    Step::Traps(1, Action::Exit, 2, Outcome::Exited),
+    Step::Gives(Line::Unfund(1), Reply::Done),
+    Step::Gives(Line::Rmthr("d"), Reply::Done),
+    Step::Gives(Line::Fund(1, "d"), Reply::Refused(Refusal::NoTarget)),
+    Step::Gives(Line::Mkthr("g", 1), Reply::Refused(Refusal::NameTaken)),
+    Step::Gives(Line::Mkthr("d", 1), Reply::Thread(4)),
+    Step::Gives(Line::Fund(1, "g"), Reply::Done),
+    Step::Gives(Line::Unfund(1), Reply::Done),
+    Step::Gives(Line::Fund(1, "d"), Reply::Done),
+];
+
+/// Takes the steps in a new kernel with room for eight currencies, base among them, and for eight threads.
+fn play_eight(rt: &impl Abort, alloc: Global, steps: &[Step<'_>]) {
+    let mut kernel = small(rt, alloc, 8, 7, 8);
+    take_all(rt, &mut kernel, steps)
+}
+
+#[test]
+fn names_of_one_bucket(rt: HostRuntime) {
+    play_eight(&rt, rt.alloc(), &CURRENCIES_OF_ONE_BUCKET);
+    play_eight(&rt, rt.alloc(), &THREADS_OF_ONE_BUCKET)
+}
+
+#[test]
+fn one_name_for_each_currency(rt: HostRuntime) {
+    let mut kernel = largest(&rt, rt.alloc(), 1);
+    for number in 1..=4096 {
+        check_answer(&rt, &mut kernel, Line::Mkcur("x"), Reply::Currency(number));
+        check_answer(&rt, &mut kernel, Line::Rmcur("x"), Reply::Done);
+    }
+    let full = Reply::Refused(Refusal::Full);
+    check_answer(&rt, &mut kernel, Line::Mkcur("x"), full)
+}
