@@ -33,6 +33,7 @@
 enum {
     WORKERS = 4,
     DRAWS = 10000,      // of each worker
+    READS = 20000,      // of each worker
     SIGNALS = 2000,     // that are handled in each test of them
     MICROSECONDS = 100, // between two signals
     SECONDS = 2,        // after which a test of signals takes what has come
@@ -250,7 +251,6 @@ static void one_kernel(void) {
            changes_of_turn());
 }
 
-// Holds a lottery, which takes memory and gives it back.
 static void hold_lottery(struct player *player) {
     lot_wide weights[20], number = lot_wide_of(player->turns % 20);
     lot_drawn drawn;
@@ -288,6 +288,65 @@ static void own_kernels(void) {
         give_up(&kernels[i]);
     }
     printf("ok: %d threads have a kernel each: %d draws won\n", WORKERS, WORKERS * DRAWS);
+}
+
+// ---- readers
+
+// What the calls for a `const lot_kernel *` store.
+struct seen {
+    lot_runner runners[WORKERS];
+    lot_sizes sizes;
+    lot_meter meter;
+    uint32_t scripts[THREADS], tickets, currencies;
+};
+
+// A processor on which nobody runs is left as it was.
+static void see(const lot_kernel *kernel, struct seen *seen) {
+    memset(seen, 0, sizeof *seen);
+    for (uint32_t i = 0; i < WORKERS; i++) {
+        uint32_t status = lot_kernel_runner(kernel, i + 1, &seen->runners[i]);
+        CHECK(status == LOT_DONE || (status == LOT_NOT_THERE && seen->runners[i].thread == 0));
+    }
+    for (uint32_t i = 0; i < THREADS; i++) {
+        CHECK(lot_kernel_script_of(kernel, i + 1, &seen->scripts[i]) == LOT_DONE);
+    }
+    CHECK(lot_kernel_ticket_count(kernel, &seen->tickets) == LOT_DONE);
+    CHECK(lot_kernel_currency_count(kernel, &seen->currencies) == LOT_DONE);
+    CHECK(lot_kernel_limits(kernel, &seen->sizes) == LOT_DONE);
+    CHECK(lot_kernel_meter(kernel, &seen->meter) == LOT_DONE);
+}
+
+static struct seen before_reading;
+
+static void *read_all(void *argument) {
+    const struct player *player = argument;
+    for (int i = 0; i < READS; i++) {
+        struct seen seen;
+        see(player->kernel, &seen);
+        CHECK(memcmp(&seen, &before_reading, sizeof seen) == 0);
+    }
+    return NULL;
+}
+
+// Threads read one kernel at once, with no lock, while nothing else is done to it. Each sees at each time what it was
+// before they began, and the kernel goes on afterwards as one that nobody has read.
+static void readers(void) {
+    lot_kernel kernel = made();
+    struct player players[WORKERS];
+    noted = 0;
+    for (uint32_t i = 0; i < WORKERS; i++) {
+        players[i] = player_of(&kernel, i + 1);
+        while (players[i].wins < 100 + i) {
+            play_and_note(&players[i]);
+        }
+    }
+    see(&kernel, &before_reading);
+    CHECK(before_reading.runners[0].thread != 0 && before_reading.meter.tree_visits > 0);
+    run_workers(read_all, players);
+    play_and_note(&players[0]);
+    check_order(players, WORKERS);
+    give_up(&kernel);
+    printf("ok: %d threads read a kernel at once, %d times each\n", WORKERS, READS);
 }
 
 // ---- signal handlers
@@ -385,6 +444,7 @@ static void handler_with_same_kernel(void) {
 int main(void) {
     one_kernel();
     own_kernels();
+    readers();
     handler_with_own_kernel();
     handler_with_same_kernel();
     return 0;

@@ -1435,7 +1435,8 @@ static void step_new(void) {
 static void step_winner(void) {
     lot_wide weights[WEIGHTS], number = some_number();
     wide same[WEIGHTS] = {0};
-    size_t count = below(WEIGHTS), held_before = block_count;
+    size_t count = below(WEIGHTS);
+    unsigned long asked_before = asked;
     uint64_t way = below(4);
     for (size_t i = 0; i < count; i++) {
         weights[i] = way == 0 ? lot_wide_of(0) : way == 1 ? lot_wide_of(below(100)) : some_number();
@@ -1447,7 +1448,7 @@ static void step_winner(void) {
     lot_drawn *drawn = PUT_OUTPUT(&output, lot_drawn);
     uint32_t status = lot_winner(count == 0 ? NULL : given_weights, count, PUT(&second_input, number), drawn);
     CHECK(status == (held.is_above ? LOT_TOO_LARGE : held.total == 0 ? LOT_NO_WINNER : LOT_DONE));
-    CHECK(block_count == held_before);
+    CHECK(asked == asked_before);
     check_input(&input);
     check_input(&second_input);
     check_output(&output, status);

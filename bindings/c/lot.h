@@ -31,24 +31,30 @@
 //     lot_generator or uint32_t, to 8 for any other struct and uint64_t. The library requires no more.
 //   - A lot_kernel starts as LOT_KERNEL_NONE, and only lot_kernel_new and lot_kernel_free change it. After copying it,
 //     use only one of the copies.
-//   - No two calls on one kernel overlap, in time or from a signal handler. Different kernels share nothing.
+//   - No two calls on one kernel overlap, in time or from a signal handler, unless both take a `const lot_kernel *`.
+//     Different kernels share nothing.
 //   - Any thread may call, and a kernel may move from one thread to another, if a lock, a thread's start or end or the
 //     like orders the calls.
 //   - malloc aligns its blocks as C requires.
 //
-// SIGNAL HANDLERS. lot_kernel_new, lot_kernel_free and lot_winner call malloc and free, so don't call them from signal
-// handlers, nor in the forked child of a process with threads. The other calls take no memory and no lock, and keep no
-// state between calls, so a handler may make them. It must not use a kernel that the interrupted code may be using:
-// block the signal around the calls on that kernel, or set a flag in the handler and pass the event later.
+// READERS. A call that takes a `const lot_kernel *` writes nothing except through its last pointer: neither the handle
+// nor the kernel's memory. So several threads may make such calls on one kernel at once, while no other call on it
+// runs: order the readers and the other calls by a lock for many readers or one writer, or the like. The rows of
+// listings aren't among these calls, since a row recomputes stale values.
+//
+// SIGNAL HANDLERS. lot_kernel_new and lot_kernel_free call malloc and free, so don't call them from signal handlers,
+// nor in the forked child of a process with threads. The other calls take no memory and no lock, and keep no state
+// between calls, so a handler may make them. It must not use a kernel that the interrupted code may be using, except
+// that both may read it: block the signal around the calls on that kernel, or set a flag in the handler and pass the
+// event later.
 //
 // MEMORY. lot_kernel_new allocates all the memory that a kernel will ever use: 12 kilobytes for 16 threads, 5.4
 // megabytes at the largest sizes. lot_kernel_bytes gives the number of bytes for any sizes. Events, rows and counts
-// allocate nothing. lot_kernel_free frees the memory. lot_winner allocates a copy of the weights, and frees it before
-// it returns. No other call allocates.
+// allocate nothing. lot_kernel_free frees the memory. No other call allocates.
 //
-// STACK. Measured on x86-64 by bindings/c/stack_tests.c: an event takes at most 2.4 kilobytes of stack at any size of
-// the kernel, a row 1.4, lot_kernel_new 10.5, lot_kernel_free 4.4, lot_winner 3.4. The last three include glibc's
-// malloc, and the dynamic linker, which runs at malloc's first call. Without the linker they are 7.9, 4.0 and 0.6.
+// STACK. Measured on x86-64 by bindings/c/stack_tests.c: an event takes at most 1.4 kilobytes of stack at any size of
+// the kernel, a row 0.3, lot_winner 0.2, lot_kernel_new 10.7, lot_kernel_free 4.5. The last two include glibc's malloc,
+// and the dynamic linker, which runs at malloc's first call. Without the linker they are 7.9 and 3.9.
 //
 // SYMBOLS. The archive's member lot_c.o calls memcpy and memset, __udivti3 and __umodti3 (divisions of 128 bits, in the
 // compiler's own library), and the three functions at the end of this header. Its member heap.o defines these three,
@@ -730,7 +736,8 @@ typedef struct lot_thread_row {
 } lot_thread_row;
 
 // Store the row of the ticket, currency or thread with this number. LOT_NO_KERNEL, LOT_NOT_THERE. They recompute stale
-// values, and count that, so the kernel isn't const; later replies don't depend on it.
+// values, and count that, so the kernel isn't const and no other call on it may overlap; later replies don't depend on
+// it.
 uint32_t lot_kernel_ticket_row(lot_kernel *kernel, uint32_t ticket, lot_ticket_row *row);
 uint32_t lot_kernel_currency_row(lot_kernel *kernel, uint32_t currency, lot_currency_row *row);
 uint32_t lot_kernel_thread_row(lot_kernel *kernel, uint32_t thread, lot_thread_row *row);
@@ -741,19 +748,19 @@ typedef struct lot_runner {
 } lot_runner;
 
 // Stores the thread that runs on the processor. LOT_NO_KERNEL, LOT_NOT_THERE: none does.
-uint32_t lot_kernel_runner(lot_kernel *kernel, uint32_t processor, lot_runner *runner);
+uint32_t lot_kernel_runner(const lot_kernel *kernel, uint32_t processor, lot_runner *runner);
 
 // Stores the thread's script, which was fixed when it was made. LOT_NO_KERNEL, LOT_NOT_THERE.
-uint32_t lot_kernel_script_of(lot_kernel *kernel, uint32_t thread, uint32_t *script);
+uint32_t lot_kernel_script_of(const lot_kernel *kernel, uint32_t thread, uint32_t *script);
 
 // Store the number of tickets or currencies ever made, including removed ones. Ticket numbers go from 1 to this count,
 // currency numbers from 0 to one below it. Thread numbers go from 1 to that of the last LOT_REPLY_THREAD or
 // LOT_REPLY_FUNDED, which is at most `threads` of lot_sizes. Any of them without a row was removed. LOT_NO_KERNEL.
-uint32_t lot_kernel_ticket_count(lot_kernel *kernel, uint32_t *count);
-uint32_t lot_kernel_currency_count(lot_kernel *kernel, uint32_t *count);
+uint32_t lot_kernel_ticket_count(const lot_kernel *kernel, uint32_t *count);
+uint32_t lot_kernel_currency_count(const lot_kernel *kernel, uint32_t *count);
 
 // Stores the sizes with which the kernel was made. LOT_NO_KERNEL.
-uint32_t lot_kernel_limits(lot_kernel *kernel, lot_sizes *sizes);
+uint32_t lot_kernel_limits(const lot_kernel *kernel, lot_sizes *sizes);
 
 typedef struct lot_meter {
     uint64_t ticket_reads; // the number of tickets, lends and owners read to compute values
@@ -761,7 +768,7 @@ typedef struct lot_meter {
 } lot_meter;
 
 // Stores the kernel's counts of its own work. LOT_NO_KERNEL.
-uint32_t lot_kernel_meter(lot_kernel *kernel, lot_meter *meter);
+uint32_t lot_kernel_meter(const lot_kernel *kernel, lot_meter *meter);
 
 // ---- the lottery by itself
 
@@ -797,8 +804,8 @@ typedef struct lot_drawn {
     uint64_t place;  // the winner's, from 0: the first weight whose running sum is greater than the number
 } lot_drawn;
 
-// Holds a lottery over the weights with this number, any 128 bits, and stores its result. LOT_NO_WINNER, LOT_TOO_LARGE,
-// LOT_NO_MEMORY.
+// Holds a lottery over the weights with this number, any 128 bits, and stores its result. It reads the weights where
+// they are, twice at most, and allocates nothing. LOT_NO_WINNER, LOT_TOO_LARGE.
 uint32_t lot_winner(const lot_wide *weights, size_t count, const lot_wide *number, lot_drawn *drawn);
 
 // ---- the heap, for a host without malloc

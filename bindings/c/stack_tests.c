@@ -140,7 +140,7 @@ int main(void) {
     must_be_at_most("lot_kernel_thread_row, largest", taken_by(read_row), 2 * 1024);
     must_be_at_most("lot_kernel_free, largest", taken_by(free_kernel), 6 * 1024);
     weights[0] = lot_wide_of(1);
-    must_be_at_most("lot_winner", taken_by(hold_lottery), 6 * 1024);
+    must_be_at_most("lot_winner", taken_by(hold_lottery), 1024);
     puts("ok: stack");
     return 0;
 }

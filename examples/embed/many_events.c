@@ -1,12 +1,14 @@
-// A million events of a kernel, as a caller in C makes them: `bindings/check` compares what it prints, and the time
-// that it takes, with callers in Rust and Rattle that make the same events.
+// A million events of a kernel with eight threads, as a caller in C makes them: `bindings/check` compares what it
+// prints, and the time that it takes, with callers in Rust, Python and Rattle that make the same events.
+//
+//     many_events [THREADS [ROUNDS]]
+//
+// A round is two events. THREADS is a multiple of 8. Half of the threads are alice's, who has two thirds of base.
 
 #include "lot.h"
 
 #include <stdio.h>
 #include <stdlib.h>
-
-enum { ROUNDS = 500000 };
 
 static lot_reply answer(lot_kernel *kernel, lot_event event) {
     lot_reply reply;
@@ -23,8 +25,10 @@ static void make_user(lot_kernel *kernel, uint64_t ticket, const char *user, uin
     answer(kernel, lot_fund(ticket, lot_name_of(user)));
 }
 
-static void make_thread(lot_kernel *kernel, uint64_t amount, const char *currency, const char *name) {
-    answer(kernel, lot_make_funded(amount, lot_name_of(currency), lot_name_of(name), 1));
+static void make_thread(lot_kernel *kernel, const char *currency, char first, unsigned i) {
+    char name[16];
+    snprintf(name, sizeof name, "%c%u", first, i);
+    answer(kernel, lot_make_funded(100 * (i % 4 + 1), lot_name_of(currency), lot_name_of(name), 1));
 }
 
 // A draw, and then the winner's expiry, or its yield if its number is even. The winner, 0 if there is none.
@@ -41,29 +45,34 @@ static uint32_t play_round(lot_kernel *kernel, uint64_t number) {
     return reply.thread;
 }
 
-int main(void) {
-    static const char *const firsts[4] = {"a", "b", "c", "d"}, *const seconds[4] = {"e", "f", "g", "h"};
+static unsigned long argument(int argc, char **argv, int i, unsigned long otherwise) {
+    return i < argc ? strtoul(argv[i], NULL, 10) : otherwise;
+}
+
+int main(int argc, char **argv) {
+    unsigned threads = (unsigned)argument(argc, argv, 1, 8);
+    unsigned long rounds = argument(argc, argv, 2, 500000);
     lot_kernel kernel = LOT_KERNEL_NONE;
     lot_generator generator;
-    lot_sizes sizes = {.tickets = 16, .currencies = 2, .threads = 8, .processors = 1, .scripts = 1, .quantum = 100,
-                       .unit = 1};
+    lot_sizes sizes = {.tickets = threads + 2, .currencies = 2, .threads = threads, .processors = 1, .scripts = 1,
+                       .quantum = 100, .unit = 1};
     if (lot_generator_new(1, &generator) != LOT_DONE || lot_kernel_new(&sizes, &kernel) != LOT_DONE) {
         return 1;
     }
-    make_user(&kernel, 1, "alice", 2000);
-    make_user(&kernel, 2, "bob", 1000);
-    for (uint64_t i = 0; i < 4; i++) {
-        make_thread(&kernel, 100 * (i + 1), "alice", firsts[i]);
-        make_thread(&kernel, 100 * (i + 1), "bob", seconds[i]);
+    make_user(&kernel, 1, "alice", 250 * (uint64_t)threads);
+    make_user(&kernel, 2, "bob", 125 * (uint64_t)threads);
+    for (unsigned i = 0; i < threads / 2; i++) {
+        make_thread(&kernel, "alice", 'a', i);
+        make_thread(&kernel, "bob", 'b', i);
     }
     uint64_t sum = 0;
-    for (uint64_t round = 0; round < ROUNDS; round++) {
+    for (unsigned long round = 0; round < rounds; round++) {
         uint64_t number = 0;
         if (lot_generator_number(&generator, &number) != LOT_DONE) {
             return 1;
         }
         sum += play_round(&kernel, number) * (round % 5 + 1);
     }
-    printf("1000000 events, sum %llu\n", (unsigned long long)sum);
+    printf("%lu events, sum %llu\n", 2 * rounds, (unsigned long long)sum);
     return lot_kernel_free(&kernel) == LOT_DONE ? 0 : 1;
 }

@@ -1,8 +1,8 @@
 """The events of many_events.c, as a caller in Python makes them, and the same line printed.
 
-    PYTHONPATH=bindings/python python3 examples/embed/many_events.py [ROUNDS]
+    PYTHONPATH=bindings/python python3 examples/embed/many_events.py [THREADS [ROUNDS]]
 
-A round is two events. Without an argument there are 500000 rounds, as in C.
+A round is two events. THREADS is a multiple of 8. Without arguments there are 8 threads and 500000 rounds, as in C.
 """
 
 import sys
@@ -10,14 +10,15 @@ import sys
 import lot
 
 
-def make_threads(kernel):
-    """Two users with four threads each."""
-    for user, amount in [("alice", 2000), ("bob", 1000)]:
+def make_threads(kernel, threads):
+    """Two users with half of the threads each."""
+    for user, amount in [("alice", 250 * threads), ("bob", 125 * threads)]:
         kernel.make_currency(user)
         kernel.fund(kernel.make_ticket(amount).ticket, user)
-    for amount, first, second in zip((100, 200, 300, 400), "abcd", "efgh"):
-        kernel.make_funded(first, amount, "alice")
-        kernel.make_funded(second, amount, "bob")
+    for i in range(threads // 2):
+        amount = 100 * (i % 4 + 1)
+        kernel.make_funded(f"a{i}", amount, "alice")
+        kernel.make_funded(f"b{i}", amount, "bob")
 
 
 def play_round(kernel, number):
@@ -32,13 +33,13 @@ def play_round(kernel, number):
     return reply.thread
 
 
-def main(rounds):
-    with lot.Kernel(tickets=16, currencies=2, threads=8, ports=0, mutexes=0, processors=1) as kernel:
-        make_threads(kernel)
+def main(threads=8, rounds=500_000):
+    with lot.Kernel(tickets=threads + 2, currencies=2, threads=threads, ports=0, mutexes=0, processors=1) as kernel:
+        make_threads(kernel, threads)
         total = 0
         for count, number in zip(range(rounds), lot.ParkMiller(1)):
             total += play_round(kernel, number) * (count % 5 + 1)
     print(f"{2 * rounds} events, sum {total}")
 
 
-main(int(sys.argv[1]) if len(sys.argv) > 1 else 500_000)
+main(*map(int, sys.argv[1:]))

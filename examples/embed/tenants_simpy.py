@@ -1,8 +1,9 @@
 """Three tenants of one server, as a model in SimPy. The server gives its quanta to their workers by lottery.
 
-Each tenant has a currency, backed by base tickets, and issues 100 of it to each of its workers. A worker thinks for a
-while, then has a job for the server, waits until it is done, and begins again. In the second period bronze has three
-times as many workers: they share what bronze had, and gold and silver keep their shares.
+Each tenant has a currency, backed by base tickets, and issues 100 of it to each of its workers. A worker has a job for
+the server, waits until it is done, thinks for a while, and begins again. Its thread sleeps while it has no job. In
+the second period bronze has three times as many workers: they share what bronze had, and gold and silver keep their
+shares.
 
     PYTHONPATH=bindings/python python3 examples/embed/tenants_simpy.py
 
@@ -11,6 +12,7 @@ Times are in ticks. Seeds are fixed and times are whole numbers, so each run pri
 
 from collections import Counter
 from dataclasses import dataclass
+from typing import Optional
 
 import lot
 import simpy
@@ -24,12 +26,11 @@ WORKERS = 4
 
 @dataclass
 class Worker:
-    """A thread of the kernel, and the ticket that funds it while it has a job."""
+    """A client of the server. The kernel has a thread for it from its first job on."""
 
     tenant: str
     name: str
-    thread: int
-    ticket: int
+    thread: Optional[int] = None
 
 
 @dataclass
@@ -57,18 +58,17 @@ class Server:
             self.kernel.fund(self.kernel.make_ticket(amount).ticket, tenant)
 
     def add_worker(self, tenant):
-        """Makes a worker that sleeps: its ticket doesn't fund it yet."""
         self.workers[tenant] += 1
-        name = f"{tenant}-{self.workers[tenant]}"
-        made = self.kernel.make_funded(name, 100, tenant)
-        self.kernel.unfund(made.ticket)
-        return Worker(tenant, name, made.thread, made.ticket)
+        return Worker(tenant, f"{tenant}-{self.workers[tenant]}")
 
     def submit(self, worker, ticks):
-        """Wakes a worker for a job of so many ticks. The event that is triggered when it is done."""
+        """Makes or wakes a worker's thread for a job of so many ticks. The event that is triggered when it is done."""
         job = Job(worker, ticks, self.env.event())
+        if worker.thread is None:
+            worker.thread = self.kernel.make_funded(worker.name, 100, worker.tenant).thread
+        else:
+            self.kernel.wake(worker.thread)
         self.jobs[worker.thread] = job
-        self.kernel.fund(worker.ticket, worker.name)
         if not self.work_came.triggered:
             self.work_came.succeed()
         return job.done
@@ -84,41 +84,33 @@ class Server:
                 yield from self.serve(self.jobs[reply.thread])
 
     def serve(self, job):
-        """Runs a job for a quantum, or up to its end: then the worker yields, which costs a tick.
+        """Runs a job for a quantum, or up to its end: then the worker goes to sleep, which costs a tick.
 
-        A worker that yields is compensated for the rest of its quantum when it has a job again.
+        A worker that goes to sleep is compensated for the rest of its quantum when it wakes.
         """
-        ran = min(job.left, QUANTUM)
-        if ran == QUANTUM:
+        if job.left >= QUANTUM:
             yield self.env.timeout(QUANTUM)
+            job.left -= QUANTUM
             reply = self.kernel.expire(processor=1)
         else:
-            yield self.env.timeout(ran + 1)
-            reply = self.kernel.yield_(processor=1, ticks=ran)
+            yield self.env.timeout(job.left + 1)
+            reply = self.kernel.sleep(processor=1, ticks=job.left)
+            job.done.succeed()
         self.ticks[job.worker.tenant] += reply.ticks
-        job.left -= ran
-        if job.left == 0:
-            self.finish(job)
-
-    def finish(self, job):
-        """Puts the worker of a job that is done to sleep, and tells it."""
-        self.kernel.unfund(job.worker.ticket)
-        del self.jobs[job.worker.thread]
-        job.done.succeed()
 
 
-def work(env, server, worker, responses):
-    """What a worker does all its life. How long each job took is added to its tenant's responses."""
-    numbers = lot.ParkMiller(1000 + worker.thread)
+def work(env, server, worker, seed, responses):
+    """What a worker does all its life, by a seed's numbers. How long each job took is added to its tenant's responses."""
+    numbers = lot.ParkMiller(seed)
 
     def around(mean):
         return 1 + next(numbers) % (2 * mean - 1)
 
     while True:
-        yield env.timeout(around(THINKING))
         since = env.now
         yield server.submit(worker, around(JOB))
         responses[worker.tenant].append(env.now - since)
+        yield env.timeout(around(THINKING))
 
 
 def show(period, server, responses):
@@ -143,7 +135,8 @@ def main():
 
     def hire(tenant, count):
         for _ in range(count):
-            env.process(work(env, server, server.add_worker(tenant), responses))
+            worker = server.add_worker(tenant)
+            env.process(work(env, server, worker, 1000 + sum(server.workers.values()), responses))
 
     for tenant in BASE_TICKETS:
         hire(tenant, WORKERS)

@@ -83,7 +83,7 @@ def winner(weights: Sequence[int], number: int) -> Optional[Drawn]:
     """Holds a lottery over the weights with this number, any 128 bits. Returns `None` if the weights sum to 0.
 
     The winner is the first whose running sum is greater than the number modulo the total. Raises `LotError` with
-    `Status.TOO_LARGE` if the weights sum to 2 ** 128 or more, and with `Status.NO_MEMORY`.
+    `Status.TOO_LARGE` if the weights sum to 2 ** 128 or more.
 
     >>> winner([10, 2, 5, 1, 2], 35)
     Drawn(place=2, number=15, total=20)

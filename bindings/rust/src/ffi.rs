@@ -6,7 +6,7 @@
 use crate::numbers::CallStatus;
 use crate::{Error, Meter, Runner, Sizes};
 use std::ffi::c_void;
-use std::mem::size_of;
+use std::mem::{align_of, size_of};
 
 #[repr(C)]
 #[derive(Clone, Copy, Default)]
@@ -135,6 +135,10 @@ pub struct Drawn {
 // The sizes in lot.h of the structs of one call.
 const _: () = assert!(size_of::<Event>() == 96 && size_of::<Reply>() == 80);
 
+// A `u128` lies in memory as a `Wide` does, so a slice of them crosses as it is.
+const _: () = assert!(cfg!(target_endian = "little") && size_of::<Wide>() == size_of::<u128>());
+const _: () = assert!(align_of::<Wide>() <= align_of::<u128>());
+
 extern "C" {
     pub fn lot_version() -> u32;
     pub fn lot_name_new(bytes: *const u8, count: usize, name: *mut Name) -> u32;
@@ -145,12 +149,12 @@ extern "C" {
     pub fn lot_kernel_ticket_row(kernel: *mut Handle, ticket: u32, row: *mut TicketRow) -> u32;
     pub fn lot_kernel_currency_row(kernel: *mut Handle, currency: u32, row: *mut CurrencyRow) -> u32;
     pub fn lot_kernel_thread_row(kernel: *mut Handle, thread: u32, row: *mut ThreadRow) -> u32;
-    pub fn lot_kernel_runner(kernel: *mut Handle, processor: u32, runner: *mut Runner) -> u32;
-    pub fn lot_kernel_script_of(kernel: *mut Handle, thread: u32, script: *mut u32) -> u32;
-    pub fn lot_kernel_ticket_count(kernel: *mut Handle, count: *mut u32) -> u32;
-    pub fn lot_kernel_currency_count(kernel: *mut Handle, count: *mut u32) -> u32;
-    pub fn lot_kernel_limits(kernel: *mut Handle, sizes: *mut Sizes) -> u32;
-    pub fn lot_kernel_meter(kernel: *mut Handle, meter: *mut Meter) -> u32;
+    pub fn lot_kernel_runner(kernel: *const Handle, processor: u32, runner: *mut Runner) -> u32;
+    pub fn lot_kernel_script_of(kernel: *const Handle, thread: u32, script: *mut u32) -> u32;
+    pub fn lot_kernel_ticket_count(kernel: *const Handle, count: *mut u32) -> u32;
+    pub fn lot_kernel_currency_count(kernel: *const Handle, count: *mut u32) -> u32;
+    pub fn lot_kernel_limits(kernel: *const Handle, sizes: *mut Sizes) -> u32;
+    pub fn lot_kernel_meter(kernel: *const Handle, meter: *mut Meter) -> u32;
     pub fn lot_generator_new(seed: u32, generator: *mut Generator) -> u32;
     pub fn lot_generator_next(generator: *mut Generator, value: *mut u32) -> u32;
     pub fn lot_generator_number(generator: *mut Generator, number: *mut u64) -> u32;

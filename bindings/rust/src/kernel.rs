@@ -30,7 +30,7 @@ pub struct Meter {
 /// A lottery-scheduled kernel. [`Kernel::new`] allocates all its memory, and dropping it frees that.
 ///
 /// It may move to another thread. Threads that share one need a lock around it, such as a [`Mutex`](std::sync::Mutex),
-/// since even readers change the kernel inside:
+/// since rows recompute stale values inside:
 ///
 /// ```compile_fail,E0277
 /// fn needs_sync<T: Sync>() {}
@@ -42,14 +42,13 @@ pub struct Meter {
 /// needs_sync::<std::sync::Mutex<lot::Kernel>>();
 /// ```
 pub struct Kernel {
-    // Readers have `&self`, but the archive's readers take a mutable pointer: each takes the kernel out of the handle
-    // during the call, and rows recompute stale values. So the handle changes behind a shared reference, which only an
-    // `UnsafeCell` allows.
+    // Rows have `&self`, but the archive's rows take a mutable pointer, since they recompute stale values. So the kernel
+    // changes behind a shared reference, which only an `UnsafeCell` allows.
     handle: UnsafeCell<ffi::Handle>,
 }
 
 // SAFETY: lot.h lets a kernel move from one thread to another, and different kernels share nothing. It isn't `Sync`:
-// two readers at once would both take the kernel out of the handle.
+// no other call may overlap one for a row.
 unsafe impl Send for Kernel {}
 
 const _: () = {

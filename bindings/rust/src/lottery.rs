@@ -49,8 +49,8 @@ fn index_of(place: u64) -> usize {
 }
 
 /// Holds a lottery over the weights with this number, any 128 bits. The winner is the first index whose running sum
-/// is greater than the number modulo the sum of the weights. Returns `None` if the weights sum to 0. It allocates a
-/// copy of the weights, and frees it.
+/// is greater than the number modulo the sum of the weights. Returns `None` if the weights sum to 0. It allocates
+/// nothing.
 ///
 /// ```
 /// let drawn = lot::winner(&[10, 2, 5, 1, 2], 15)?.expect("some weight");
@@ -61,13 +61,12 @@ fn index_of(place: u64) -> usize {
 ///
 /// # Errors
 ///
-/// [`Error::TooLarge`] if the weights sum to 2 ^ 128 or more, [`Error::NoMemory`] if out of memory.
+/// [`Error::TooLarge`] if the weights sum to 2 ^ 128 or more.
 pub fn winner(weights: &[u128], number: u128) -> Result<Option<Drawn>, Error> {
-    let weights: Vec<Wide> = weights.iter().map(|weight| Wide::of(*weight)).collect();
     let mut drawn = ffi::Drawn::default();
-    // SAFETY: the pointer and the count are those of one slice; the number and `drawn` are whole, and the three are
-    // apart.
-    let status = unsafe { ffi::lot_winner(weights.as_ptr(), weights.len(), &Wide::of(number), &mut drawn) };
+    // SAFETY: the pointer and the count are those of one slice, whose numbers lie in memory as `Wide`s do; the number
+    // and `drawn` are whole, and the three are apart.
+    let status = unsafe { ffi::lot_winner(weights.as_ptr().cast(), weights.len(), &Wide::of(number), &mut drawn) };
     if CallStatus::of(status) == CallStatus::NoWinner {
         return Ok(None);
     }

@@ -210,7 +210,7 @@ fn sleepers_tickets() {
 #[test]
 fn sleep_refusals() {
     let mut kernel = Kernel::new(Sizes::SMALL).expect("small");
-    let wake = |kernel: &mut Kernel, thread| kernel.event(&Event::Wake { thread }).refusal().map(|why| why.number());
+    let wake = |kernel: &mut Kernel, thread| kernel.event(&Event::Wake { thread }).refusal().map(lot::Refusal::number);
     fund_thread(&mut kernel, 400, "base", "a");
     assert_eq!(trap(&mut kernel, 0, Action::Sleep), Reply::Refused(EventRefusal::NotRunning));
     draw(&mut kernel, 0);
@@ -360,6 +360,9 @@ fn the_lottery_alone() {
     assert_eq!(winner(&[0, 0], 7), Ok(None));
     assert_eq!(winner(&[], 7), Ok(None));
     assert_eq!(winner(&[u128::MAX, 1], 7), Err(Error::TooLarge));
+    // The first has the numbers below 2 ^ 100, the second the 2 ^ 90 that follow.
+    let drawn = winner(&[1 << 100, 1 << 90], 1 << 100).expect("no failure").expect("some weight");
+    assert_eq!((drawn.place, drawn.number, drawn.total), (1, 1 << 100, (1 << 100) + (1 << 90)));
     assert_eq!(weight(400, NonZeroU32::new(20), 100), 2000);
     assert_eq!(weight(400, None, 100), 400);
     assert_eq!([200, 150].map(|used| weight(400, NonZeroU32::new(used), 100)), [200, 266]);

@@ -32,7 +32,7 @@ use Rattle.std.specs.contracts.impls.GlobalAllocator.TheImpl.{ghosts, dict}
 use Rattle.std.proofs.alloc.Global.TheLaws as heap
 use Rattle.std.proofs.GlobalToken.{dealloc_token-Testable}
 use Rattle.std.specs.Box.Ownership.{box_owns}
-use Rattle.std.specs.Prelude.{None, Some}
+use Rattle.std.specs.Prelude.{None, Some, is_none, false}
 use Rattle.lot_kernel.specs.contracts.kernel.Kernel as kernel
 use Rattle.lot_kernel.proofs.kernel.Kernel.TheLaws as kernel_laws
 use Rattle.lot_c.specs.Handles.{KernelValue}
@@ -50,6 +50,11 @@ FromParts = plain (λ _. FromParts-row)
 
 abbrev pub FromHandle : Slot 0
 FromHandle = plain (λ _. handle.the_row)
+
+-- a handle that has a kernel isn't empty
+pub is-filled : (holds : KernelValue) → is_none holds ≡ false → holds ≡ None → ⊥
+is-filled None filled none = cc
+is-filled (Some k) filled none = cc
 
 abbrev pub held : Ptr → Global → KernelValue → handle.the_row.Denot
 held at alloc holds = record { at = at; alloc = alloc; kernel = holds }

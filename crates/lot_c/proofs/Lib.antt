@@ -2,3 +2,4 @@ pub mod GoesOn
 pub mod Handles
 pub mod Plain
 pub mod Runs
+pub mod Shared

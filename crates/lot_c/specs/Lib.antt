@@ -3,10 +3,12 @@ pub mod Counts
 pub mod Events
 pub mod Handles
 pub mod Kinds
+pub mod Lending
 pub mod Lotteries
 pub mod Names
 pub mod Numbers
 pub mod Plain
+pub mod Readers
 pub mod Replies
 pub mod Rows
 pub mod Wides

@@ -9,12 +9,10 @@ use crate::handle::Handle;
 use crate::reply::PlainReply;
 use crate::status::Status;
 use lot_kernel::Kernel;
-use std::alloc::Global;
 
 /// Makes one event. Invalid fields change nothing.
 #[unsafe(no_mangle)]
 pub extern "C" fn lot_kernel_event(
-    alloc: Global,
     kernel: &mut Handle,
     event: &PlainEvent,
     reply: &mut PlainReply,
@@ -22,12 +20,10 @@ pub extern "C" fn lot_kernel_event(
     ensures { Through kernel.old.kernel kernel.new.kernel ((result ≡ code NoKernel) × (reply.new ≡ reply.old))
         (λ old new. IsAnswered event.now result old new reply.old reply.new) }
 {
-    let Some(mut held) = kernel.take(alloc) else {
-        return Status::NoKernel.code();
-    };
-    let code = answer(&mut held, event, reply);
-    kernel.put(held);
-    code
+    match kernel.get_mut() {
+        None => Status::NoKernel.code(),
+        Some(held) => answer(held, event, reply),
+    }
 }
 
 /// Makes one event, if its fields are valid.
@@ -47,7 +43,6 @@ fn answer(kernel: &mut Kernel, event: &PlainEvent, reply: &mut PlainReply) -> u3
 /// replies.
 #[unsafe(no_mangle)]
 pub extern "C" fn lot_kernel_run(
-    alloc: Global,
     kernel: &mut Handle,
     events: &[PlainEvent],
     replies: &mut [PlainReply],
@@ -63,12 +58,10 @@ pub extern "C" fn lot_kernel_run(
     if events.len() != replies.len() {
         return Status::CountsDiffer.code();
     }
-    let Some(mut held) = kernel.take(alloc) else {
-        return Status::NoKernel.code();
-    };
-    let code = answer_all(&mut held, events, replies, done);
-    kernel.put(held);
-    code
+    match kernel.get_mut() {
+        None => Status::NoKernel.code(),
+        Some(held) => answer_all(held, events, replies, done),
+    }
 }
 
 /// Makes events in order, up to the first with invalid fields, and stores how many it made.

@@ -1,5 +1,6 @@
 //! C's handle of a kernel.
-ghost use Rattle.std.specs.Prelude.{◌≡◌, None, Some, MatchOption};
+ghost use Rattle.std.specs.Prelude.{◌≡◌, None, Some, MatchOption, is_none, false};
+ghost use Rattle.std.specs.Borrow.{sem};
 ghost use Rattle.lot_c.specs.Handles.{KernelValue, handle_owns, kernel_coded};
 
 use crate::parts::Parts;
@@ -33,6 +34,8 @@ impl Drop for Handle {
 }
 
 impl Handle {
+    ghost use Rattle.lot_c.specs.Lending.{LendsKernel, LendsKernelIf};
+
     /// A handle without a kernel.
     fn empty(alloc: Global) -> Handle
         ensures { result.kernel ≡ None }
@@ -63,6 +66,34 @@ impl Handle {
             let at = at as *mut Kernel;
             Some(Parts { at, alloc })
         }
+    }
+
+    /// Its kernel where it is, or `None` if it has none.
+    pub(crate) fn get_mut(&mut self) -> Option<&mut Kernel>
+        ensures* writes_back { sem 𝓛 (LendsKernelIf self.entry result) }
+        ensures value { MatchOption result (self.old.kernel ≡ None) (λ r. self.old.kernel ≡ Some r.now) }
+    {
+        if self.is_empty() {
+            None
+        } else {
+            Some(self.kernel())
+        }
+    }
+
+    /// Whether it has no kernel.
+    pub(crate) fn is_empty(&mut self) -> bool
+        ensures { (result ≡ is_none self.old.kernel) × (self.new ≡ self.old) }
+    {
+        self.at.is_null()
+    }
+
+    /// Its kernel where it is.
+    fn kernel(&mut self) -> &mut Kernel
+        requires { is_none self.old.kernel ≡ false }
+        ensures* writes_back { sem 𝓛 (LendsKernel self.entry result) }
+        ensures value { self.old.kernel ≡ Some result.now }
+    {
+        unsafe { &mut *(self.at as *mut Kernel) }
     }
 
     /// Takes its kernel out, or returns `None` if it has none.

@@ -1,14 +1,15 @@
-//! A kernel through a handle: making it, freeing it, and read-only queries.
-ghost use Rattle.std.specs.Prelude.{◌≡◌, ◌⊎◌, IfOk, IfSome, IfErr, None, Some, length};
+//! A kernel through a handle: making it, freeing it, and queries that read it where it is.
+ghost use Rattle.std.specs.Prelude.{◌≡◌, ◌⊎◌, IfOk, IfSome, IfErr, MatchOption, None, Some, length};
 ghost use Rattle.lot_machine.specs.Bounds.{IsWithinBounds};
 ghost use Rattle.lot_machine.specs.Facts.{IsSound};
 ghost use Rattle.lot_kernel.specs.Snapshots.{starting};
 ghost use Rattle.lot_c.specs.declared.status.Status.TheVariants.{BadLimits, Done, NoKernel, NoMemory};
-ghost use Rattle.lot_c.specs.Calls.{Opens, ShowsRunner, ShowsScript, TellsBytes, Through};
+ghost use Rattle.lot_c.specs.Calls.{Opens, ShowsRunner, ShowsScript, TellsBytes};
 ghost use Rattle.lot_c.specs.Counts.{plain_meter, plain_sizes, sizes_meant};
 ghost use Rattle.lot_c.specs.Numbers.{code};
 
 use crate::handle::Handle;
+use crate::reader::ReadHandle;
 use crate::sizes::{PlainMeter, PlainRunner, PlainSizes};
 use crate::status::Status;
 use lot_kernel::{Kernel, Processor, ThreadNumber};
@@ -25,8 +26,7 @@ pub extern "C" fn lot_kernel_new(alloc: Global, sizes: &PlainSizes, kernel: &mut
     ensures opens { Opens sizes.now result kernel.old.kernel kernel.new.kernel }
     ensures sound { kernel.old.kernel ≡ None → IfSome kernel.new.kernel (λ k. IsSound k.state) }
 {
-    if let Some(held) = kernel.take(alloc) {
-        kernel.put(held);
+    if !kernel.is_empty() {
         return Status::KernelThere.code();
     }
     match make(alloc, sizes) {
@@ -83,93 +83,75 @@ pub extern "C" fn lot_kernel_free(alloc: Global, kernel: &mut Handle) -> u32
 
 /// Stores the sizes that the kernel was made with.
 #[unsafe(no_mangle)]
-pub extern "C" fn lot_kernel_limits(
-    alloc: Global,
-    kernel: &mut Handle,
-    sizes: &mut PlainSizes,
-) -> u32
-    ensures { Through kernel.old.kernel kernel.new.kernel ((result ≡ code NoKernel) × (sizes.new ≡ sizes.old))
-        (λ old new. (new ≡ old) × (result ≡ code Done) × (sizes.new ≡ plain_sizes old.state.limits)) }
+pub extern "C" fn lot_kernel_limits(kernel: &mut ReadHandle, sizes: &mut PlainSizes) -> u32
+    ensures handle { kernel.new ≡ kernel.old }
+    ensures limits { MatchOption kernel.old.kernel ((result ≡ code NoKernel) × (sizes.new ≡ sizes.old))
+        (λ k. (result ≡ code Done) × (sizes.new ≡ plain_sizes k.state.limits)) }
 {
-    let Some(held) = kernel.take(alloc) else {
+    let Some(held) = kernel.reader().get() else {
         return Status::NoKernel.code();
     };
     *sizes = PlainSizes::of(held.limits());
-    kernel.put(held);
     Status::Done.code()
 }
 
 /// Stores the number of tickets, lends and owners read, and of places of the tree of weights visited.
 #[unsafe(no_mangle)]
-pub extern "C" fn lot_kernel_meter(
-    alloc: Global,
-    kernel: &mut Handle,
-    meter: &mut PlainMeter,
-) -> u32
-    ensures { Through kernel.old.kernel kernel.new.kernel ((result ≡ code NoKernel) × (meter.new ≡ meter.old))
-        (λ old new. (new ≡ old) × (result ≡ code Done) × (meter.new ≡ plain_meter old.meter)) }
+pub extern "C" fn lot_kernel_meter(kernel: &mut ReadHandle, meter: &mut PlainMeter) -> u32
+    ensures handle { kernel.new ≡ kernel.old }
+    ensures meter { MatchOption kernel.old.kernel ((result ≡ code NoKernel) × (meter.new ≡ meter.old))
+        (λ k. (result ≡ code Done) × (meter.new ≡ plain_meter k.meter)) }
 {
-    let Some(held) = kernel.take(alloc) else {
+    let Some(held) = kernel.reader().get() else {
         return Status::NoKernel.code();
     };
     *meter = PlainMeter::of(held.meter());
-    kernel.put(held);
     Status::Done.code()
 }
 
 /// Stores the number of tickets ever made, including removed ones.
 #[unsafe(no_mangle)]
-pub extern "C" fn lot_kernel_ticket_count(
-    alloc: Global,
-    kernel: &mut Handle,
-    count: &mut u32,
-) -> u32
-    ensures { Through kernel.old.kernel kernel.new.kernel ((result ≡ code NoKernel) × (count.new ≡ count.old))
-        (λ old new. (new ≡ old) × (result ≡ code Done) × (count.new ≡ length old.state.tickets)) }
+pub extern "C" fn lot_kernel_ticket_count(kernel: &mut ReadHandle, count: &mut u32) -> u32
+    ensures handle { kernel.new ≡ kernel.old }
+    ensures count { MatchOption kernel.old.kernel ((result ≡ code NoKernel) × (count.new ≡ count.old))
+        (λ k. (result ≡ code Done) × (count.new ≡ length k.state.tickets)) }
 {
-    let Some(held) = kernel.take(alloc) else {
+    let Some(held) = kernel.reader().get() else {
         return Status::NoKernel.code();
     };
     *count = held.ticket_count();
-    kernel.put(held);
     Status::Done.code()
 }
 
 /// Stores the number of currencies ever made, including base and removed ones.
 #[unsafe(no_mangle)]
-pub extern "C" fn lot_kernel_currency_count(
-    alloc: Global,
-    kernel: &mut Handle,
-    count: &mut u32,
-) -> u32
-    ensures { Through kernel.old.kernel kernel.new.kernel ((result ≡ code NoKernel) × (count.new ≡ count.old))
-        (λ old new. (new ≡ old) × (result ≡ code Done) × (count.new ≡ length old.state.currencies)) }
+pub extern "C" fn lot_kernel_currency_count(kernel: &mut ReadHandle, count: &mut u32) -> u32
+    ensures handle { kernel.new ≡ kernel.old }
+    ensures count { MatchOption kernel.old.kernel ((result ≡ code NoKernel) × (count.new ≡ count.old))
+        (λ k. (result ≡ code Done) × (count.new ≡ length k.state.currencies)) }
 {
-    let Some(held) = kernel.take(alloc) else {
+    let Some(held) = kernel.reader().get() else {
         return Status::NoKernel.code();
     };
     *count = held.currency_count();
-    kernel.put(held);
     Status::Done.code()
 }
 
 /// Stores the thread that runs on the processor.
 #[unsafe(no_mangle)]
 pub extern "C" fn lot_kernel_runner(
-    alloc: Global,
-    kernel: &mut Handle,
+    kernel: &mut ReadHandle,
     processor: u32,
     runner: &mut PlainRunner,
 ) -> u32
-    ensures { Through kernel.old.kernel kernel.new.kernel ((result ≡ code NoKernel) × (runner.new ≡ runner.old))
-        (λ old new. (new ≡ old) × ShowsRunner processor result old runner.old runner.new) }
+    ensures handle { kernel.new ≡ kernel.old }
+    ensures runner { MatchOption kernel.old.kernel ((result ≡ code NoKernel) × (runner.new ≡ runner.old))
+        (λ k. ShowsRunner processor result k runner.old runner.new) }
 {
-    let Some(held) = kernel.take(alloc) else {
-        return Status::NoKernel.code();
-    };
-    let code = show_runner(&held, processor, runner);
-    kernel.put(held);
-    code
+    match kernel.reader().get() {
+        None => Status::NoKernel.code(),
+        Some(held) => show_runner(held, processor, runner),
+    }
 }
 
 /// Stores the thread that runs on the processor, if there is one.
@@ -188,20 +170,18 @@ fn show_runner(kernel: &Kernel, processor: u32, runner: &mut PlainRunner) -> u32
 /// Stores the number of the thread's script, fixed when it was made.
 #[unsafe(no_mangle)]
 pub extern "C" fn lot_kernel_script_of(
-    alloc: Global,
-    kernel: &mut Handle,
+    kernel: &mut ReadHandle,
     thread: u32,
     script: &mut u32,
 ) -> u32
-    ensures { Through kernel.old.kernel kernel.new.kernel ((result ≡ code NoKernel) × (script.new ≡ script.old))
-        (λ old new. (new ≡ old) × ShowsScript thread result old script.old script.new) }
+    ensures handle { kernel.new ≡ kernel.old }
+    ensures script { MatchOption kernel.old.kernel ((result ≡ code NoKernel) × (script.new ≡ script.old))
+        (λ k. ShowsScript thread result k script.old script.new) }
 {
-    let Some(held) = kernel.take(alloc) else {
-        return Status::NoKernel.code();
-    };
-    let code = show_script(&held, thread, script);
-    kernel.put(held);
-    code
+    match kernel.reader().get() {
+        None => Status::NoKernel.code(),
+        Some(held) => show_script(held, thread, script),
+    }
 }
 
 /// Stores the number of the thread's script, if there is such a thread.

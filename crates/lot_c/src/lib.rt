@@ -13,6 +13,7 @@ mod listing;
 mod lottery;
 mod name;
 mod parts;
+mod reader;
 mod reply;
 mod rows;
 mod sizes;

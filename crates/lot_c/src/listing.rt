@@ -8,12 +8,10 @@ use crate::handle::Handle;
 use crate::rows::{PlainCurrencyRow, PlainThreadRow, PlainTicketRow};
 use crate::status::Status;
 use lot_kernel::{CurrencyNumber, Kernel, ThreadNumber, TicketNumber};
-use std::alloc::Global;
 
 /// Stores the row of the ticket with this number.
 #[unsafe(no_mangle)]
 pub extern "C" fn lot_kernel_ticket_row(
-    alloc: Global,
     kernel: &mut Handle,
     ticket: u32,
     row: &mut PlainTicketRow,
@@ -21,12 +19,10 @@ pub extern "C" fn lot_kernel_ticket_row(
     ensures { Through kernel.old.kernel kernel.new.kernel ((result ≡ code NoKernel) × (row.new ≡ row.old))
         (λ old new. ShowsTicket ticket result old new row.old row.new) }
 {
-    let Some(mut held) = kernel.take(alloc) else {
-        return Status::NoKernel.code();
-    };
-    let code = show_ticket(&mut held, ticket, row);
-    kernel.put(held);
-    code
+    match kernel.get_mut() {
+        None => Status::NoKernel.code(),
+        Some(held) => show_ticket(held, ticket, row),
+    }
 }
 
 /// Stores the row of the ticket with this number, if it exists.
@@ -45,7 +41,6 @@ fn show_ticket(kernel: &mut Kernel, ticket: u32, row: &mut PlainTicketRow) -> u3
 /// Stores the row of the currency with this number.
 #[unsafe(no_mangle)]
 pub extern "C" fn lot_kernel_currency_row(
-    alloc: Global,
     kernel: &mut Handle,
     currency: u32,
     row: &mut PlainCurrencyRow,
@@ -53,12 +48,10 @@ pub extern "C" fn lot_kernel_currency_row(
     ensures { Through kernel.old.kernel kernel.new.kernel ((result ≡ code NoKernel) × (row.new ≡ row.old))
         (λ old new. ShowsCurrency currency result old new row.old row.new) }
 {
-    let Some(mut held) = kernel.take(alloc) else {
-        return Status::NoKernel.code();
-    };
-    let code = show_currency(&mut held, currency, row);
-    kernel.put(held);
-    code
+    match kernel.get_mut() {
+        None => Status::NoKernel.code(),
+        Some(held) => show_currency(held, currency, row),
+    }
 }
 
 /// Stores the row of the currency with this number, if it exists.
@@ -77,7 +70,6 @@ fn show_currency(kernel: &mut Kernel, currency: u32, row: &mut PlainCurrencyRow)
 /// Stores the row of the thread with this number.
 #[unsafe(no_mangle)]
 pub extern "C" fn lot_kernel_thread_row(
-    alloc: Global,
     kernel: &mut Handle,
     thread: u32,
     row: &mut PlainThreadRow,
@@ -85,12 +77,10 @@ pub extern "C" fn lot_kernel_thread_row(
     ensures { Through kernel.old.kernel kernel.new.kernel ((result ≡ code NoKernel) × (row.new ≡ row.old))
         (λ old new. ShowsThread thread result old new row.old row.new) }
 {
-    let Some(mut held) = kernel.take(alloc) else {
-        return Status::NoKernel.code();
-    };
-    let code = show_thread(&mut held, thread, row);
-    kernel.put(held);
-    code
+    match kernel.get_mut() {
+        None => Status::NoKernel.code(),
+        Some(held) => show_thread(held, thread, row),
+    }
 }
 
 /// Stores the row of the thread with this number, if it exists.

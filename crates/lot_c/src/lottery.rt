@@ -1,11 +1,12 @@
 //! The lottery by itself: weights, winners, and the generator of drawn numbers.
-ghost use Rattle.std.specs.Prelude.{◌≡◌, ◌⊎◌, ◌<◌, ◌≤◌, ◌^◌, IfErr, IfOk, IfSome, Some, length, map, sum};
+ghost use Rattle.std.specs.Prelude.{◌≡◌, ◌⊎◌, ◌<◌, ◌≤◌, ◌^◌, IfErr, IfOk, IfSome, MatchOption, Some};
+ghost use Rattle.std.specs.Prelude.{length, map, sum};
 ghost use Rattle.lot_machine.specs.Bounds.{IsBetween};
 ghost use Rattle.lot_machine.specs.Lottery as lottery;
 ghost use Rattle.lot_machine.specs.Lottery.{next_seed, drawn_number, seed_after_number, wide_number};
-ghost use Rattle.lot_machine.specs.Lottery.{seed_after_wide_number};
+ghost use Rattle.lot_machine.specs.Lottery.{running_sums, seed_after_wide_number};
 ghost use Rattle.lot_machine.specs.declared.drawn.Drawn.{Drawn as ADrawn};
-ghost use Rattle.lot_c.specs.declared.status.Status.TheVariants.{BadSeed, Done, NoMemory, NoWinner, TooLarge};
+ghost use Rattle.lot_c.specs.declared.status.Status.TheVariants.{BadSeed, Done, NoWinner, TooLarge};
 ghost use Rattle.lot_c.specs.Lotteries.{compensation_meant, plain_drawn};
 ghost use Rattle.lot_c.specs.Numbers.{code};
 ghost use Rattle.lot_c.specs.Wides.{plain_wide, wide_meant};
@@ -14,7 +15,6 @@ use crate::status::Status;
 use crate::wide::Wide;
 use lot_draw::ParkMiller;
 use lot_machine::Drawn;
-use std::alloc::Global;
 
 /// Stores the weight of a value in a draw. The compensation is in ticks; 0 means none.
 #[unsafe(no_mangle)]
@@ -139,54 +139,71 @@ pub extern "C" fn lot_generator_wide_number(
     Status::Done.code()
 }
 
-/// Holds a lottery with this number over the weights. It allocates a copy of them, and frees it.
+/// Holds a lottery with this number over the weights, which it reads where they are.
 #[unsafe(no_mangle)]
-pub extern "C" fn lot_winner(
-    alloc: Global,
-    weights: &[Wide],
-    number: &Wide,
-    drawn: &mut PlainDrawn,
-) -> u32
+pub extern "C" fn lot_winner(weights: &[Wide], number: &Wide, drawn: &mut PlainDrawn) -> u32
     ensures won { (d : ADrawn) → sum (map wide_meant weights.now) < 2 ^ 128
         → lottery.winner (map wide_meant weights.now) (wide_meant number.now) ≡ Some d
-        → ((result ≡ code Done) × (drawn.new ≡ plain_drawn d)) ⊎ ((result ≡ code NoMemory) × (drawn.new ≡ drawn.old)) }
+        → (result ≡ code Done) × (drawn.new ≡ plain_drawn d) }
     ensures within { result ≡ code Done → drawn.new.place < length weights.now }
-    ensures nobody { sum (map wide_meant weights.now) ≡ 0
-        → ((result ≡ code NoWinner) ⊎ (result ≡ code NoMemory)) × (drawn.new ≡ drawn.old) }
-    ensures large { 2 ^ 128 ≤ sum (map wide_meant weights.now)
-        → ((result ≡ code TooLarge) ⊎ (result ≡ code NoMemory)) × (drawn.new ≡ drawn.old) }
+    ensures nobody { sum (map wide_meant weights.now) ≡ 0 → (result ≡ code NoWinner) × (drawn.new ≡ drawn.old) }
+    ensures large { 2 ^ 128 ≤ sum (map wide_meant weights.now) → (result ≡ code TooLarge) × (drawn.new ≡ drawn.old) }
 {
-    let weights = match gather(alloc, weights) {
-        Err(why) => return why.code(),
-        Ok(weights) => weights,
-    };
-    match lot_draw::winner(&weights, number.number()) {
-        None => Status::NoWinner.code(),
-        Some(found) => {
+    match winner(weights, number.number()) {
+        Err(why) => why.code(),
+        Ok(found) => {
             *drawn = PlainDrawn::of(found);
             Status::Done.code()
         }
     }
 }
 
-/// A copy of the weights, or the reason why there is no lottery over them.
-fn gather(alloc: Global, weights: &[Wide]) -> Result<Vec<u128>, Status>
-    ensures weights { IfOk result (λ v. v.items ≡ map wide_meant weights.now) }
-    ensures small { IfOk result (λ v. sum v.items < 2 ^ 128) }
-    ensures fault { IfErr result (λ why. (why ≡ NoMemory)
+/// The winner of a lottery with the number `d`, or the reason why there is none.
+fn winner(weights: &[Wide], d: u128) -> Result<Drawn, Status>
+    ensures won { IfOk result (λ w. lottery.winner (map wide_meant weights.now) d ≡ Some w) }
+    ensures within { IfOk result (λ w. w.place < length weights.now) }
+    ensures small { IfOk result (λ _. sum (map wide_meant weights.now) < 2 ^ 128) }
+    ensures fault { IfErr result (λ why. ((why ≡ NoWinner) × (sum (map wide_meant weights.now) ≡ 0))
         ⊎ ((why ≡ TooLarge) × (2 ^ 128 ≤ sum (map wide_meant weights.now)))) }
 {
-    let mut numbers = Vec::new(alloc);
+    let Some(total) = total_of(weights) else {
+        return Err(Status::TooLarge);
+    };
+    if total == 0 {
+        return Err(Status::NoWinner);
+    }
+    let number = d % total;
+    Ok(Drawn {
+        place: first_above(weights, number),
+        number,
+        total,
+    })
+}
+
+/// The sum of the weights, or `None` if it is 2 ^ 128 or more.
+fn total_of(weights: &[Wide]) -> Option<u128>
+    ensures { MatchOption result (2 ^ 128 ≤ sum (map wide_meant weights.now))
+        (λ total. total ≡ sum (map wide_meant weights.now)) }
+{
     let mut total: u128 = 0;
     for weight in weights {
-        let number = weight.number();
-        let Some(larger) = total.checked_add(number) else {
-            return Err(Status::TooLarge);
-        };
-        total = larger;
-        if numbers.push(number).is_err() {
-            return Err(Status::NoMemory);
+        total = total.checked_add(weight.number())?;
+    }
+    Some(total)
+}
+
+/// The first place whose running sum is strictly greater than `number`, or the number of places if there is none.
+fn first_above(weights: &[Wide], number: u128) -> usize
+    requires { sum (map wide_meant weights.now) < 2 ^ 128 }
+    ensures place { result ≡ lottery.first_above number (running_sums 0 (map wide_meant weights.now)) }
+    ensures within { number < sum (map wide_meant weights.now) → result < length weights.now }
+{
+    let mut running: u128 = 0;
+    for (place, weight) in weights.iter().enumerate() {
+        running += weight.number();
+        if running > number {
+            return place;
         }
     }
-    Ok(numbers)
+    weights.len()
 }

@@ -78,6 +78,7 @@ impl Tables {
     }
 
     /// Makes a running thread Ready with this compensation, after these further ticks.
+    #[inline(always)]
     fn stop(
         &mut self,
         thread: ThreadNumber,

@@ -1,0 +1,12 @@
+-- The running sum is that of the weights passed, and at most the number; the place that is sought is not among those.
+use Rattle.std.proofs.Common.{◌≡◌, ◌≤◌, ◌+◌, sum, drop, map}
+use Rattle.lot_machine.specs.Lottery.{first_above, running_sums}
+use Rattle.lot_c.specs.Wides.{wide_meant}
+use Rattle.lot_c.proofs.lottery.first_above.Given as goal
+
+abbrev pub invariant-loop-place : goal.invariant-loop-place
+invariant-loop-place l = record {
+  below : l.running ≤ l.number;
+  passed : l.running + sum (map wide_meant (drop l.place l.weights)) ≡ sum (map wide_meant l.weights);
+  sought : l.place + first_above l.number (running_sums l.running (map wide_meant (drop l.place l.weights))) ≡ first_above l.number (running_sums 0 (map wide_meant l.weights));
+}

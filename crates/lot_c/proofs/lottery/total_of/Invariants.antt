@@ -1,0 +1,10 @@
+use Rattle.std.proofs.Common.{◌≡◌, ◌+◌, drop, map}
+use Rattle.std.specs.Prelude.{sum}
+use Rattle.lot_c.specs.Wides.{wide_meant}
+use Rattle.lot_c.proofs.lottery.total_of.Given as goal
+
+-- the total so far and the weights that are left come to the sum
+abbrev pub invariant-loop-weight : goal.invariant-loop-weight
+invariant-loop-weight l = record {
+  whole : l.total + sum (map wide_meant (drop l.weight-index l.weights)) ≡ sum (map wide_meant l.weights);
+}

@@ -1,0 +1,14 @@
+-- A `&` to a reader is made of a borrow of its share of the token. Assumes `Logic`.
+use denote.Param.Shared.{copy_shared}
+use denote.Struct.Field.{RawPtr-field}
+use denote.Struct.Laws.{RawPtr-copy}
+use denote.Struct.Lending.{of_Lends}
+use Rattle.lot_c.specs.Handles.{handle_shares}
+use Rattle.lot_c.specs.contracts.reader.Reader as reader
+use Rattle.lot_c.proofs.Shared.{Lends-loan, handle-shares_laws}
+use Rattle.lot_c.proofs.reader.Reader.TheLaw.Statement.{statement}
+
+pub shares : statement
+shares =
+    of_Lends reader.struct reader.the_codes reader.the_heap reader.the_lent (λ d p. handle-shares_laws d.at d.kernel) (copy_shared RawPtr-field RawPtr-copy, tt)
+    (λ M 𝓤 𝓛 d p. Lends-loan 𝓛 (handle_shares d.at d.kernel) (handle-shares_laws d.at d.kernel) d.life d.share reader.the_row.lives)
