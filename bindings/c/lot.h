@@ -48,7 +48,7 @@
 // that both may read it: block the signal around the calls on that kernel, or set a flag in the handler and pass the
 // event later.
 //
-// MEMORY. lot_kernel_new allocates all the memory that a kernel will ever use: 12 kilobytes for 16 threads, 5.4
+// MEMORY. lot_kernel_new allocates all the memory that a kernel will ever use: 13 kilobytes for 16 threads, 5.6
 // megabytes at the largest sizes. lot_kernel_bytes gives the number of bytes for any sizes. Events, rows and counts
 // allocate nothing. lot_kernel_free frees the memory. No other call allocates.
 //
@@ -73,8 +73,8 @@
 // BY NAME OR BY NUMBER. A command refers to a currency or a thread by its name or by its number. lot_fund takes the
 // name of either. lot_fund_currency and lot_fund_thread take a number, and so do lot_make_ticket_in,
 // lot_make_funded_in, lot_remove_currency_numbered and lot_remove_thread_numbered. Each has the effect and the
-// refusals of the event by name. A lookup by number takes constant time; a lookup by name searches all currencies and
-// then all threads.
+// refusals of the event by name. A lookup by number reads one place of a table; a lookup by name compares the name
+// with those in its bucket of an index.
 //
 // SLEEP AND WAKE. A thread that runs goes to sleep by a trap, LOT_SLEEP, and no draw picks it until LOT_WAKE names its
 // number. It is ready then, with the compensation of a thread that blocks: if it used 20 of 100 ticks it weighs 5 times

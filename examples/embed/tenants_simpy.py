@@ -100,7 +100,7 @@ class Server:
 
 
 def work(env, server, worker, seed, responses):
-    """What a worker does all its life, by a seed's numbers. How long each job took is added to its tenant's responses."""
+    """A worker, by a seed's numbers: it adds the time that each of its jobs took to its tenant's responses."""
     numbers = lot.ParkMiller(seed)
 
     def around(mean):

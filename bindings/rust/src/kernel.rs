@@ -42,8 +42,8 @@ pub struct Meter {
 /// needs_sync::<std::sync::Mutex<lot::Kernel>>();
 /// ```
 pub struct Kernel {
-    // Rows have `&self`, but the archive's rows take a mutable pointer, since they recompute stale values. So the kernel
-    // changes behind a shared reference, which only an `UnsafeCell` allows.
+    // Rows have `&self`, but the archive's rows take a mutable pointer, since they recompute stale values. So the
+    // kernel changes behind a shared reference, which only an `UnsafeCell` allows.
     handle: UnsafeCell<ffi::Handle>,
 }
 
@@ -57,8 +57,8 @@ const _: () = {
 };
 
 impl Kernel {
-    /// Makes a kernel with base alone. This allocates all the memory that it will ever use: 12 kilobytes for 16
-    /// threads, 5.4 megabytes at the largest sizes. [`Kernel::bytes`] returns the number for any sizes.
+    /// Makes a kernel with base alone. This allocates all the memory that it will ever use: 13 kilobytes for 16
+    /// threads, 5.6 megabytes at the largest sizes. [`Kernel::bytes`] returns the number for any sizes.
     ///
     /// ```
     /// use lot::{Error, Kernel, Sizes};
