@@ -17,6 +17,9 @@
 //     that it funds by has the currency or the target with that number.
 //   - A sleep, a wake, a preemption and an overrun have the reply that these rows lead to, and the thread's row
 //     follows. Each thread weighs what its value makes with the compensation that this file has kept for it.
+//   - Who waits at a port or for a mutex, and whom a thread serves, comes in the order in which this file has it.
+//   - A kill leaves the thread dead and its processor idle. Its clients are ready, and so is the thread that has waited
+//     longest for each of its mutexes. No other row of a thread and no other processor has changed but for values.
 //
 // At the end of a kernel a fresh one gets all events that were done, with 0 in the fields that they don't read, and
 // with the name in place of the number that was given of a currency or a thread. It gives the same replies and shows
@@ -50,6 +53,7 @@ enum {
     WEIGHTS = 40,           // at most, in one lottery
     BLOCKS = 512,           // at most, at a time
     PAINT = 0xc3,
+    LAST_KIND = LOT_KILL_NUMBERED, // of events
     // At most, of a kernel:
     TICKETS = 250,
     CURRENCIES = 20,
@@ -335,61 +339,168 @@ static void view_kernel(lot_kernel *kernel, const lot_sizes *sizes, struct view 
 
 // ---- what rows don't tell
 
-// Who owns a mutex, and who waits for it in which order; which number a thread is given when it next wins a draw, and
-// which it sent with its call; how many ticks it has used since it won, and its compensation, 0 for none.
+// Threads in the order in which they came.
+struct queue {
+    uint32_t threads[THREADS];
+    size_t count;
+};
+
+// Who owns a mutex, and who waits for it; whose calls wait at a port, and who waits there for a call; whom a thread
+// serves; which number a thread is given when it next wins a draw, and which it sent with its call; how many ticks it
+// has used since it won, and its compensation, 0 for none; and its name, of length 0 if it isn't there.
 static struct {
     uint32_t owner[MUTEXES + 1];
-    uint32_t waiters[MUTEXES + 1][THREADS];
-    size_t waiter_count[MUTEXES + 1];
+    struct queue waiters[MUTEXES + 1], callers[PORTS + 1], receivers[PORTS + 1], clients[THREADS + 1];
     uint32_t delivered[THREADS + 1], sent[THREADS + 1];
     bool has_delivered[THREADS + 1];
     uint32_t used[THREADS + 1], compensation[THREADS + 1];
+    lot_name names[THREADS + 1];
 } known;
+
+static void join(struct queue *queue, uint32_t thread) {
+    CHECK(queue->count < THREADS);
+    queue->threads[queue->count++] = thread;
+}
+
+// The queue without the thread, and whether it was there.
+static bool take_out(struct queue *queue, uint32_t thread) {
+    size_t kept = 0;
+    for (size_t i = 0; i < queue->count; i++) {
+        if (queue->threads[i] != thread) {
+            queue->threads[kept++] = queue->threads[i];
+        }
+    }
+    bool was_there = kept != queue->count;
+    queue->count = kept;
+    return was_there;
+}
+
+// The thread that came first leaves the queue.
+static uint32_t take_first(struct queue *queue) {
+    CHECK(queue->count != 0);
+    uint32_t first = queue->threads[0];
+    take_out(queue, first);
+    return first;
+}
 
 static void deliver(uint32_t thread, uint32_t sent) {
     known.has_delivered[thread] = true;
     known.delivered[thread] = sent;
 }
 
-static void remove_waiter(uint32_t mutex, uint32_t thread) {
-    uint32_t *waiters = known.waiters[mutex];
-    size_t kept = 0;
-    for (size_t i = 0; i < known.waiter_count[mutex]; i++) {
-        if (waiters[i] != thread) {
-            waiters[kept++] = waiters[i];
-        }
+// A call is taken from those that wait at the port, by a thread that serves the caller from then on.
+static void learn_receipt(uint32_t server, uint32_t port, const lot_reply *reply) {
+    CHECK(take_first(&known.callers[port]) == reply->other);
+    CHECK(reply->has_sent && reply->sent == known.sent[reply->other]);
+    join(&known.clients[server], reply->other);
+}
+
+// A server replies to the client that it took first.
+static void learn_reply(uint32_t server, uint32_t client, uint32_t sent) {
+    CHECK(take_first(&known.clients[server]) == client);
+    deliver(client, sent);
+}
+
+// A thread waits for a mutex, or at a port where no call waits.
+static void learn_wait(const lot_event *event, uint32_t thread) {
+    if (event->kind == LOT_LOCK) {
+        join(&known.waiters[event->object], thread);
+    } else {
+        CHECK(known.callers[event->object].count == 0);
+        join(&known.receivers[event->object], thread);
     }
-    CHECK(kept + 1 == known.waiter_count[mutex]);
-    known.waiter_count[mutex] = kept;
 }
 
 static void learn_trap(const lot_event *event, const lot_reply *reply) {
     uint32_t thread = reply->thread, object = event->object;
     switch ((lot_outcome)reply->outcome) {
-    case LOT_OUTCOME_SERVED_BY: deliver(reply->other, event->sent); break;
-    case LOT_OUTCOME_QUEUED: known.sent[thread] = event->sent; break;
-    case LOT_OUTCOME_REPLIED: deliver(reply->other, event->sent); break;
-    case LOT_OUTCOME_REPLIED_THEN_WAITS: deliver(reply->replied_to, event->sent); break;
+    case LOT_OUTCOME_SERVED_BY:
+        CHECK(take_first(&known.receivers[object]) == reply->other);
+        join(&known.clients[reply->other], thread);
+        deliver(reply->other, event->sent);
+        break;
+    case LOT_OUTCOME_QUEUED:
+        CHECK(known.receivers[object].count == 0);
+        join(&known.callers[object], thread);
+        known.sent[thread] = event->sent;
+        break;
+    case LOT_OUTCOME_REPLIED: learn_reply(thread, reply->other, event->sent); break;
+    case LOT_OUTCOME_REPLIED_THEN_WAITS:
+        learn_reply(thread, reply->replied_to, event->sent);
+        learn_wait(event, thread);
+        break;
     case LOT_OUTCOME_REPLIED_THEN_RECEIVED:
-        deliver(reply->replied_to, event->sent);
-        CHECK(reply->has_sent && reply->sent == known.sent[reply->other]);
+        learn_reply(thread, reply->replied_to, event->sent);
+        learn_receipt(thread, object, reply);
         break;
-    case LOT_OUTCOME_RECEIVED: CHECK(reply->has_sent && reply->sent == known.sent[reply->other]); break;
-    case LOT_OUTCOME_WAITS:
-        if (event->kind == LOT_LOCK) {
-            known.waiters[object][known.waiter_count[object]++] = thread;
-        }
-        break;
+    case LOT_OUTCOME_RECEIVED: learn_receipt(thread, object, reply); break;
+    case LOT_OUTCOME_WAITS: learn_wait(event, thread); break;
     case LOT_OUTCOME_LOCKED: known.owner[object] = thread; break;
     case LOT_OUTCOME_FREED: known.owner[object] = 0; break;
     case LOT_OUTCOME_PASSED:
         known.owner[object] = reply->other;
-        remove_waiter(object, reply->other);
+        CHECK(take_out(&known.waiters[object], reply->other));
         break;
     case LOT_OUTCOME_YIELDED:
     case LOT_OUTCOME_SLEPT:
     case LOT_OUTCOME_EXITED:
     case LOT_OUTCOME_REFUSED: break;
+    }
+}
+
+static unsigned long inherited, released;
+
+// What a killed thread owned passes to the one that has waited longest. It waits nowhere, and serves nobody.
+static void learn_kill(uint32_t thread) {
+    for (uint32_t mutex = 1; mutex <= MUTEXES; mutex++) {
+        take_out(&known.waiters[mutex], thread);
+        if (known.owner[mutex] == thread) {
+            bool has_waiter = known.waiters[mutex].count != 0;
+            known.owner[mutex] = has_waiter ? take_first(&known.waiters[mutex]) : 0;
+            inherited += has_waiter;
+        }
+    }
+    for (uint32_t port = 1; port <= PORTS; port++) {
+        take_out(&known.callers[port], thread);
+        take_out(&known.receivers[port], thread);
+    }
+    for (uint32_t server = 1; server <= THREADS; server++) {
+        take_out(&known.clients[server], thread);
+    }
+    released += known.clients[thread].count;
+    known.clients[thread].count = 0;
+    known.compensation[thread] = 0;
+}
+
+// Bytes behind a name say nothing.
+static bool is_equal(const lot_name *name, const lot_name *other) {
+    return name->length == other->length && memcmp(name->bytes, other->bytes, other->length) == 0;
+}
+
+// Which thread a removal or a kill was of. A run of events may have made it since rows were last read.
+static uint32_t known_thread(const lot_event *event) {
+    if (event->kind == LOT_REMOVE_THREAD_NUMBERED || event->kind == LOT_KILL_NUMBERED) {
+        return event->object;
+    }
+    uint32_t thread = THREADS;
+    while (thread != 0 && !is_equal(&event->name, &known.names[thread])) {
+        thread--;
+    }
+    CHECK(thread != 0);
+    return thread;
+}
+
+// Threads that are made, removed and killed.
+static void learn_command(const lot_event *event, const lot_reply *reply) {
+    switch (event->kind) {
+    case LOT_MAKE_THREAD:
+    case LOT_MAKE_FUNDED:
+    case LOT_MAKE_FUNDED_IN: known.names[reply->thread] = event->name; break;
+    case LOT_REMOVE_THREAD:
+    case LOT_REMOVE_THREAD_NUMBERED: known.names[known_thread(event)].length = 0; break;
+    case LOT_KILL:
+    case LOT_KILL_NUMBERED: learn_kill(known_thread(event)); break;
+    default: break;
     }
 }
 
@@ -435,6 +546,8 @@ static void learn(const lot_event *event, const lot_reply *reply, uint32_t quant
         known.has_delivered[reply->thread] = false;
     } else if (reply->kind == LOT_REPLY_TRAPPED) {
         learn_trap(event, reply);
+    } else if (reply->kind != LOT_REPLY_REFUSED) {
+        learn_command(event, reply);
     }
 }
 
@@ -485,9 +598,11 @@ static lot_reply refused(uint32_t reason) {
     return (lot_reply){.kind = LOT_REPLY_REFUSED, .reason = reason};
 }
 
-// Each row's weight is what our own lottery makes of its value.
-static void check_weights(const struct view *view, const lot_sizes *sizes) {
+// Each thread has the name with which it was made. Its weight is what our own lottery makes of its value.
+static void check_threads(const struct view *view, const lot_sizes *sizes) {
     for (uint32_t i = 0; i < view->thread_count; i++) {
+        CHECK(view->has_thread[i] == (known.names[i + 1].length != 0));
+        CHECK(!view->has_thread[i] || is_equal(&view->threads[i].name, &known.names[i + 1]));
         wide weight = weight_of(view->threads[i].value, known.compensation[i + 1], sizes->quantum);
         CHECK(!view->has_thread[i] || wide_of(view->threads[i].weight) == weight);
     }
@@ -526,8 +641,8 @@ static lot_reply reply_to_draw(const struct view *view, const lot_sizes *sizes, 
 
 // The lottery over what the waiters of a mutex are worth. If all are worth nothing, the first one gets the mutex.
 static void pass(const struct view *view, const lot_event *event, lot_reply *reply) {
-    const uint32_t *waiters = known.waiters[event->object];
-    size_t count = known.waiter_count[event->object];
+    const uint32_t *waiters = known.waiters[event->object].threads;
+    size_t count = known.waiters[event->object].count;
     wide values[THREADS];
     for (size_t i = 0; i < count; i++) {
         values[i] = view->threads[waiters[i] - 1].value;
@@ -563,7 +678,7 @@ static lot_reply reply_to_unlock(const struct view *view, const lot_sizes *sizes
     } else if (known.owner[event->object] != runner.thread) {
         reply.outcome = LOT_OUTCOME_REFUSED;
         reply.reason = LOT_TRAP_REFUSAL_NOT_OWNER;
-    } else if (known.waiter_count[event->object] == 0) {
+    } else if (known.waiters[event->object].count == 0) {
         reply.outcome = LOT_OUTCOME_FREED;
     } else {
         pass(view, event, &reply);
@@ -571,12 +686,10 @@ static lot_reply reply_to_unlock(const struct view *view, const lot_sizes *sizes
     return reply;
 }
 
-// Which thread has this name, or 0. Bytes behind a name say nothing.
+// Which thread has this name, or 0.
 static uint32_t thread_named(const struct view *view, const lot_name *name) {
     for (uint32_t i = 0; i < view->thread_count; i++) {
-        const lot_name *other = &view->threads[i].name;
-        if (view->has_thread[i] && name->length == other->length &&
-            memcmp(name->bytes, other->bytes, other->length) == 0) {
+        if (view->has_thread[i] && is_equal(name, &view->threads[i].name)) {
             return i + 1;
         }
     }
@@ -607,6 +720,7 @@ static bool is_in_use(const struct view *view, uint32_t thread) {
 }
 
 static unsigned long removals, sleeps, wakes, preemptions, overruns, numbered;
+static unsigned long kills[LOT_STATUS_ASLEEP + 1]; // by the thread's status before
 
 // The reply that a sleep must have in the kernel of this view.
 static lot_reply reply_to_sleep(const struct view *view, const lot_sizes *sizes, const lot_event *event) {
@@ -667,9 +781,9 @@ static bool is_thread(const struct view *view, uint32_t thread) {
     return thread != 0 && thread <= view->thread_count && view->has_thread[thread - 1];
 }
 
-// The thread that a removal means, or 0.
+// The thread that a removal or a kill means, or 0.
 static uint32_t thread_meant(const struct view *view, const lot_event *event) {
-    if (event->kind == LOT_REMOVE_THREAD) {
+    if (event->kind == LOT_REMOVE_THREAD || event->kind == LOT_KILL) {
         return thread_named(view, &event->name);
     }
     return is_thread(view, event->object) ? event->object : 0;
@@ -691,9 +805,29 @@ static lot_reply reply_to_removal(const struct view *view, const lot_event *even
     return (lot_reply){.kind = LOT_REPLY_DONE};
 }
 
+// The reply that a kill must have in the kernel of this view.
+static lot_reply reply_to_kill(const struct view *view, const lot_event *event) {
+    uint32_t thread = thread_meant(view, event);
+    if (thread == 0) {
+        return refused(LOT_REFUSAL_NO_THREAD);
+    }
+    uint32_t status = view->threads[thread - 1].status.kind;
+    if (status == LOT_STATUS_DEAD) {
+        return refused(LOT_REFUSAL_DEAD_THREAD);
+    }
+    kills[status]++;
+    return (lot_reply){.kind = LOT_REPLY_DONE};
+}
+
+// Whether it is a command by number.
+static bool is_by_number(const lot_event *event) {
+    return (event->kind >= LOT_MAKE_TICKET_IN && event->kind <= LOT_MAKE_FUNDED_IN) || event->kind == LOT_KILL_NUMBERED;
+}
+
 // Whether what a command by number refers to is there, in the kernel of this view.
 static bool is_number_there(const struct view *view, const lot_event *event) {
-    bool is_of_thread = event->kind == LOT_FUND_THREAD || event->kind == LOT_REMOVE_THREAD_NUMBERED;
+    bool is_of_thread = event->kind == LOT_FUND_THREAD || event->kind == LOT_REMOVE_THREAD_NUMBERED ||
+                        event->kind == LOT_KILL_NUMBERED;
     return is_of_thread ? is_thread(view, event->object) : is_currency(view, event->object);
 }
 
@@ -719,7 +853,7 @@ static lot_reply reply_to_no_number(const struct view *view, const lot_event *ev
 static lot_event by_name(const struct view *view, const lot_event *event) {
     uint32_t object = event->object;
     uint64_t ticket = event->ticket, amount = event->amount;
-    if (event->kind < LOT_MAKE_TICKET_IN || !is_number_there(view, event)) {
+    if (!is_by_number(event) || !is_number_there(view, event)) {
         return *event;
     }
     numbered++;
@@ -729,6 +863,7 @@ static lot_event by_name(const struct view *view, const lot_event *event) {
     case LOT_FUND_CURRENCY: return lot_fund(ticket, view->currencies[object].name);
     case LOT_FUND_THREAD: return lot_fund(ticket, view->threads[object - 1].name);
     case LOT_REMOVE_THREAD_NUMBERED: return lot_remove_thread(view->threads[object - 1].name);
+    case LOT_KILL_NUMBERED: return lot_kill(view->threads[object - 1].name);
     default: return lot_make_funded(amount, view->currencies[object].name, event->name, event->script);
     }
 }
@@ -791,6 +926,8 @@ static lot_event only_read(const lot_event *event) {
     case LOT_FUND_THREAD: return lot_fund_thread(event->ticket, object);
     case LOT_REMOVE_THREAD_NUMBERED: return lot_remove_thread_numbered(object);
     case LOT_MAKE_FUNDED_IN: return lot_make_funded_in(event->amount, object, event->name, event->script);
+    case LOT_KILL: return lot_kill(event->name);
+    case LOT_KILL_NUMBERED: return lot_kill_numbered(object);
     }
     return *event;
 }
@@ -816,13 +953,13 @@ static bool reads_currency(uint32_t kind) {
 
 static bool reads_name(uint32_t kind) {
     return kind == LOT_MAKE_CURRENCY || kind == LOT_FUND || kind == LOT_MAKE_THREAD || kind == LOT_MAKE_FUNDED ||
-           kind == LOT_REMOVE_THREAD || kind == LOT_MAKE_FUNDED_IN;
+           kind == LOT_REMOVE_THREAD || kind == LOT_MAKE_FUNDED_IN || kind == LOT_KILL;
 }
 
 // Whether an event may have this status. Where two names are wrong, it has that of either.
 static bool deserves(const lot_event *event, uint32_t status) {
     uint32_t kind = event->kind, currency = LOT_DONE, name = LOT_DONE;
-    if (kind == 0 || kind > LOT_MAKE_FUNDED_IN) {
+    if (kind == 0 || kind > LAST_KIND) {
         return status == LOT_BAD_KIND;
     }
     if (reads_currency(kind)) {
@@ -852,7 +989,7 @@ static bool are_sizes(const lot_sizes *sizes) {
 
 static lot_kernel kernel;
 static lot_sizes sizes;
-static struct view now, after;
+static struct view now, after, before_kill;
 
 // A name that probably nothing has.
 static lot_name new_name(void) {
@@ -913,6 +1050,44 @@ static lot_event some_removal(void) {
     return lot_remove_thread(some_name());
 }
 
+// A thread that sleeps, if there is any.
+static uint32_t some_asleep(uint32_t otherwise) {
+    uint32_t first = now.thread_count != 0 ? (uint32_t)below(now.thread_count) : 0;
+    for (uint32_t i = 0; i < now.thread_count; i++) {
+        uint32_t at = (first + i) % now.thread_count;
+        if (now.threads[at].status.kind == LOT_STATUS_ASLEEP) {
+            return at + 1;
+        }
+    }
+    return otherwise;
+}
+
+// A thread for which another waits, if there is any.
+static uint32_t some_awaited(uint32_t otherwise) {
+    for (uint32_t mutex = 1; mutex <= MUTEXES; mutex++) {
+        if (known.waiters[mutex].count != 0 && one_in(2)) {
+            return known.owner[mutex];
+        }
+    }
+    for (uint32_t thread = 1; thread <= THREADS; thread++) {
+        if (known.clients[thread].count != 0 && one_in(2)) {
+            return thread;
+        }
+    }
+    return otherwise;
+}
+
+// A kill, by name or by number, more often of a thread that sleeps or for which another waits. It is rare, since
+// kernels have few threads.
+static lot_event some_kill(void) {
+    uint32_t thread = one_in(16) ? (uint32_t)random_bits() : (uint32_t)below((uint64_t)now.thread_count + 2);
+    thread = one_in(4) ? some_asleep(thread) : one_in(2) ? some_awaited(thread) : thread;
+    if (is_thread(&now, thread) && one_in(2)) {
+        return lot_kill(now.threads[thread - 1].name);
+    }
+    return one_in(16) ? lot_kill(some_name()) : lot_kill_numbered(thread);
+}
+
 // A command by number, most often one that something has.
 static lot_event some_numbered(uint64_t ticket, lot_name name, uint32_t script) {
     uint32_t currency = one_in(16) ? (uint32_t)random_bits() : (uint32_t)below((uint64_t)now.currency_count + 1);
@@ -948,7 +1123,7 @@ static lot_event some_command(void) {
     case 7:
     case 8: return lot_make_ticket(some_amount(), currency);
     case 9: return lot_fund(now.ticket_count, name_of_currency());
-    case 10: return some_removal();
+    case 10: return one_in(3) ? some_kill() : some_removal();
     case 11:
     case 12:
     case 13: return lot_fund(ticket, some_name());
@@ -1002,14 +1177,8 @@ static uint32_t some_late(void) {
 
 // A wake, most often of a thread that sleeps.
 static lot_event some_wake(void) {
-    uint32_t first = now.thread_count != 0 ? (uint32_t)below(now.thread_count) : 0;
-    for (uint32_t i = 0; i < now.thread_count && !one_in(16); i++) {
-        uint32_t at = (first + i) % now.thread_count;
-        if (now.threads[at].status.kind == LOT_STATUS_ASLEEP) {
-            return lot_wake(at + 1);
-        }
-    }
-    return lot_wake(one_in(4) ? (uint32_t)random_bits() : (uint32_t)below(THREADS + 2));
+    uint32_t other = one_in(4) ? (uint32_t)random_bits() : (uint32_t)below(THREADS + 2);
+    return lot_wake(one_in(16) ? other : some_asleep(other));
 }
 
 // A trap that blocks nobody for long, or another end of the thread's time on its processor.
@@ -1069,7 +1238,7 @@ static lot_event some_event(void) {
     uint64_t way = below(8);
     if (way == 0) {
         fill(&event, sizeof event);
-        event.kind = one_in(2) ? event.kind : (uint32_t)below(LOT_MAKE_FUNDED_IN + 2);
+        event.kind = one_in(2) ? event.kind : (uint32_t)below(LAST_KIND + 2);
         return event;
     }
     event = with_rest(some_meaning());
@@ -1113,7 +1282,7 @@ static void look(lot_kernel *handle, bool stays) {
     view_kernel(handle, &sizes, &after);
     CHECK(!stays || memcmp(&now, &after, sizeof now) == 0);
     memcpy(&now, &after, sizeof now);
-    check_weights(&now, &sizes);
+    check_threads(&now, &sizes);
 }
 
 static bool is_trap(uint32_t kind) {
@@ -1128,7 +1297,7 @@ static bool changes_nothing(const lot_reply *reply) {
 // Compares the reply to an event with what the kernel showed before, where these rows and our own lottery say it all.
 static void compare(const lot_event *event, const lot_reply *reply) {
     lot_reply expected = *reply;
-    if (event->kind >= LOT_MAKE_TICKET_IN && !is_number_there(&now, event)) {
+    if (is_by_number(event) && !is_number_there(&now, event)) {
         expected = reply_to_no_number(&now, event);
     }
     switch ((lot_event_kind)event->kind) {
@@ -1136,6 +1305,8 @@ static void compare(const lot_event *event, const lot_reply *reply) {
     case LOT_UNLOCK: expected = reply_to_unlock(&now, &sizes, event); break;
     case LOT_REMOVE_THREAD:
     case LOT_REMOVE_THREAD_NUMBERED: expected = reply_to_removal(&now, event); break;
+    case LOT_KILL:
+    case LOT_KILL_NUMBERED: expected = reply_to_kill(&now, event); break;
     case LOT_SLEEP: expected = reply_to_sleep(&now, &sizes, event); break;
     case LOT_PREEMPT:
     case LOT_OVERRUN: expected = reply_to_stop(&now, &sizes, event); break;
@@ -1188,6 +1359,32 @@ static void check_number_follows(const lot_event *event, const lot_reply *reply)
     }
 }
 
+// Whether the kill ended what a thread waited for: it was a client, or it owns the mutex for which it waited.
+static bool is_released(const struct view *before, uint32_t thread, uint32_t killed) {
+    lot_thread_status status = before->threads[thread - 1].status;
+    return (status.kind == LOT_STATUS_SERVED && status.other == killed) ||
+           (status.kind == LOT_STATUS_WAITING && known.owner[status.other] == thread);
+}
+
+// The rows after a kill.
+static void check_kill_follows(const struct view *before, uint32_t killed) {
+    for (uint32_t thread = 1; thread <= now.thread_count; thread++) {
+        const lot_thread_row *row = &now.threads[thread - 1], *was = &before->threads[thread - 1];
+        lot_thread_status status = was->status;
+        if (thread == killed || is_released(before, thread, killed)) {
+            status = (lot_thread_status){.kind = thread == killed ? LOT_STATUS_DEAD : LOT_STATUS_READY};
+        }
+        CHECK(memcmp(&row->status, &status, sizeof status) == 0);
+        CHECK(row->ticks == was->ticks && row->quanta == was->quanta);
+    }
+    CHECK(now.threads[killed - 1].value == 0 && now.thread_count == before->thread_count);
+    for (uint32_t i = 0; i < sizes.processors; i++) {
+        lot_runner runner = before->runners[i];
+        CHECK(now.runners[i].thread == (runner.thread == killed ? 0 : runner.thread));
+        CHECK(now.runners[i].used == (runner.thread == killed ? 0 : runner.used));
+    }
+}
+
 // Who runs after a draw and after a trap.
 static void check_runner(const lot_event *event, const lot_reply *reply) {
     if (event->processor == 0 || event->processor > sizes.processors) {
@@ -1219,12 +1416,19 @@ static void step_event(void) {
         compare(&given, reply);
         uint64_t ticks = ticks_before(reply->thread);
         const lot_event again = by_name(&now, &given);
+        bool is_kill = (given.kind == LOT_KILL || given.kind == LOT_KILL_NUMBERED) && reply->kind == LOT_REPLY_DONE;
+        if (is_kill) {
+            memcpy(&before_kill, &now, sizeof now);
+        }
         record(&given, &again, reply);
         look(handle, changes_nothing(reply));
         check_runner(&given, reply);
         check_row_follows(&given, reply, ticks);
         if (reply->kind != LOT_REPLY_REFUSED) {
             check_number_follows(&given, reply);
+        }
+        if (is_kill) {
+            check_kill_follows(&before_kill, thread_meant(&before_kill, &given));
         }
         bool is_removal = given.kind == LOT_REMOVE_THREAD && reply->kind == LOT_REPLY_DONE;
         CHECK(!is_removal || thread_named(&now, &given.name) == 0);
@@ -1639,6 +1843,10 @@ static void check_all_seen(void) {
     }
     CHECK(draws_held != 0 && unlocks_held != 0 && removals != 0 && failed != 0);
     CHECK(sleeps != 0 && wakes != 0 && preemptions != 0 && overruns != 0 && numbered != 0);
+    for (uint32_t status = LOT_STATUS_READY; status <= LOT_STATUS_ASLEEP; status++) {
+        CHECK(kills[status] != 0 || status == LOT_STATUS_DEAD);
+    }
+    CHECK(inherited != 0 && released != 0);
 }
 
 int main(int argc, char **argv) {
@@ -1670,5 +1878,10 @@ int main(int argc, char **argv) {
            draws_held, unlocks_held, removals, replayed);
     printf("ok: fuzz: %lu sleeps, %lu wakes, %lu preemptions, %lu overruns, %lu commands by number\n", sleeps, wakes,
            preemptions, overruns, numbered);
+    unsigned long killed = 0;
+    for (uint32_t status = 0; status <= LOT_STATUS_ASLEEP; status++) {
+        killed += kills[status];
+    }
+    printf("ok: fuzz: %lu kills, which released %lu clients and passed %lu mutexes on\n", killed, released, inherited);
     return 0;
 }

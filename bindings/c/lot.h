@@ -52,7 +52,7 @@
 // megabytes at the largest sizes. lot_kernel_bytes gives the number of bytes for any sizes. Events, rows and counts
 // allocate nothing. lot_kernel_free frees the memory. No other call allocates.
 //
-// STACK. Measured on x86-64 by bindings/c/stack_tests.c: an event takes at most 1.4 kilobytes of stack at any size of
+// STACK. Measured on x86-64 by bindings/c/stack_tests.c: an event takes at most 1.5 kilobytes of stack at any size of
 // the kernel, a row 0.3, lot_winner 0.2, lot_kernel_new 10.7, lot_kernel_free 4.5. The last two include glibc's malloc,
 // and the dynamic linker, which runs at malloc's first call. Without the linker they are 7.9 and 3.9.
 //
@@ -72,9 +72,9 @@
 //
 // BY NAME OR BY NUMBER. A command refers to a currency or a thread by its name or by its number. lot_fund takes the
 // name of either. lot_fund_currency and lot_fund_thread take a number, and so do lot_make_ticket_in,
-// lot_make_funded_in, lot_remove_currency_numbered and lot_remove_thread_numbered. Each has the effect and the
-// refusals of the event by name. A lookup by number reads one place of a table; a lookup by name compares the name
-// with those in its bucket of an index.
+// lot_make_funded_in, lot_remove_currency_numbered, lot_remove_thread_numbered and lot_kill_numbered. Each has the
+// effect and the refusals of the event by name. A lookup by number reads one place of a table; a lookup by name
+// compares the name with those in its bucket of an index.
 //
 // SLEEP AND WAKE. A thread that runs goes to sleep by a trap, LOT_SLEEP, and no draw picks it until LOT_WAKE names its
 // number. It is ready then, with the compensation of a thread that blocks: if it used 20 of 100 ticks it weighs 5 times
@@ -89,6 +89,15 @@
 // until it next wins, rounded down, but at least 1 if its value is. So a thread that keeps its processor for twice the
 // quantum wins half as often. With 0 ticks late the effect is that of LOT_EXPIRE. After all three the thread is ready,
 // and the reply is LOT_REPLY_EXPIRED with the ticks that it is charged.
+//
+// KILL. LOT_KILL ends a thread, whatever its status. If it runs, it leaves its processor, so draw there: the reply
+// doesn't name the processor, and lot_kernel_runner shows which one is idle. The thread is charged nothing for what it
+// ran since its last event. To charge it, pass LOT_PREEMPT first, and then LOT_KILL. A kill also ends what others wait
+// for. The calls of its clients return: each client is ready, with nothing delivered, so has_sent is false when it next
+// wins. Each of its mutexes passes to the thread that has waited longest for it, which is ready and owns it; without a
+// waiter the mutex is free. No lottery is held. Threads whose waits end keep their compensation. LOT_EXIT releases
+// nobody: a thread that exits keeps its mutexes and its clients, and a dead thread can't be killed. To release them,
+// pass LOT_KILL in place of LOT_EXIT.
 //
 // A SERVER WITHOUT TICKETS never reaches its first LOT_RECEIVE: nobody lends to it yet, so it weighs nothing, and no
 // draw picks it. Give it a ticket. Once it waits at its port it needs none, since its clients lend it theirs. From then
@@ -283,13 +292,15 @@ typedef enum lot_event_kind LOT_OF_UINT32 {
     LOT_PREEMPT = 25,       // processor, ticks: the running thread loses its processor after `ticks` ticks of work
     LOT_OVERRUN = 26,       // processor, ticks: the running thread's quantum is over, and ended `ticks` ticks late
     LOT_WAKE = 27,          // object: a sleeping thread, by its number
-    // From here on: commands from above, with the number of the currency or thread in place of its name.
+    // From here to LOT_MAKE_FUNDED_IN: commands from above, with the number of the currency or thread for its name.
     LOT_MAKE_TICKET_IN = 28,           // amount, object: the currency
     LOT_REMOVE_CURRENCY_NUMBERED = 29, // object: the currency
     LOT_FUND_CURRENCY = 30,            // ticket, object: the currency to fund
     LOT_FUND_THREAD = 31,              // ticket, object: the thread to fund
     LOT_REMOVE_THREAD_NUMBERED = 32,   // object: the thread
-    LOT_MAKE_FUNDED_IN = 33            // amount, object: the currency, name, script
+    LOT_MAKE_FUNDED_IN = 33,           // amount, object: the currency, name, script
+    LOT_KILL = 34,                     // name: a thread that isn't dead
+    LOT_KILL_NUMBERED = 35             // object: such a thread, by its number
 } lot_event_kind;
 
 // An event. A struct that is all 0 has no kind.
@@ -402,6 +413,18 @@ static inline lot_event lot_make_funded(uint64_t amount, lot_name currency, lot_
 // Makes a thread and a ticket that funds it, like lot_make_funded, given the number of the currency.
 static inline lot_event lot_make_funded_in(uint64_t amount, uint32_t currency, lot_name name, uint32_t script) {
     return LOT_EVENT(LOT_MAKE_FUNDED_IN, 0, 0, currency, 0, script, {0, 0}, amount, 0, {0, {0}}, name);
+}
+
+// Ends the thread with this name, whatever its status. Its clients are ready, with nothing delivered. Each of its
+// mutexes passes to the thread that has waited longest for it. If it runs, its processor is idle then, and the thread
+// is charged nothing more: to charge what it ran, pass lot_preempt first.
+static inline lot_event lot_kill(lot_name thread) {
+    return LOT_EVENT(LOT_KILL, 0, 0, 0, 0, 0, {0, 0}, 0, 0, {0, {0}}, thread);
+}
+
+// Ends the thread with this number, like lot_kill.
+static inline lot_event lot_kill_numbered(uint32_t thread) {
+    return LOT_EVENT(LOT_KILL_NUMBERED, 0, 0, thread, 0, 0, {0, 0}, 0, 0, {0, {0}}, {0, {0}});
 }
 
 // Requests a listing of the tickets. The reply contains no rows: read them with lot_kernel_ticket_row.
@@ -561,6 +584,7 @@ static inline const char *lot_outcome_text(uint32_t outcome) {
 //     LOT_REMOVE_TICKET      NO_TICKET, FUNDING
 //     LOT_SET_TICKET         BAD_AMOUNT, NO_TICKET
 //     LOT_REMOVE_THREAD      NO_THREAD, ALIVE, IN_USE
+//     LOT_KILL               NO_THREAD, DEAD_THREAD
 //     LOT_MAKE_CURRENCY      NAME_TAKEN, FULL
 //     LOT_REMOVE_CURRENCY    NO_CURRENCY, BASE_FIXED, IN_USE
 //     LOT_FUND               NO_TICKET, NO_TARGET, BASE_FIXED, DEAD_THREAD, FUNDING, CYCLE
@@ -596,7 +620,7 @@ typedef enum lot_refusal LOT_OF_UINT32 {
     LOT_REFUSAL_NOT_FUNDING = 9, // the ticket funds nothing
     LOT_REFUSAL_CYCLE = 10,      // currencies would fund each other in a cycle
     LOT_REFUSAL_BASE_FIXED = 11, // base can't be removed or funded
-    LOT_REFUSAL_DEAD_THREAD = 12,
+    LOT_REFUSAL_DEAD_THREAD = 12,   // the thread to fund or to kill is dead
     LOT_REFUSAL_FULL = 13,          // the limit of lot_sizes is reached
     LOT_REFUSAL_NO_SCRIPT = 14,     // 0 or above the number of scripts
     LOT_REFUSAL_NO_THREAD = 15,     // no thread has the name or the number; a dead one has both until it is removed

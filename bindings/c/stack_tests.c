@@ -128,6 +128,16 @@ static size_t taken_by_chain(void) {
     return most;
 }
 
+// Kills the thread that the draw above left running.
+static size_t taken_by_kill(void) {
+    event = lot_kill_numbered(1);
+    size_t taken = taken_by(do_event);
+    if (reply.kind != LOT_REPLY_DONE) {
+        status = LOT_NOT_THERE;
+    }
+    return taken;
+}
+
 int main(void) {
     sizes = lot_sizes_small();
     must_be_at_most("lot_kernel_new", taken_by(new_kernel), 12 * 1024);
@@ -138,6 +148,7 @@ int main(void) {
     must_be_at_most("lot_kernel_new, largest", taken_by(new_kernel), 12 * 1024);
     must_be_at_most("lot_kernel_event, largest", taken_by_chain(), 3 * 1024);
     must_be_at_most("lot_kernel_thread_row, largest", taken_by(read_row), 2 * 1024);
+    must_be_at_most("lot_kernel_event, a kill", taken_by_kill(), 3 * 1024);
     must_be_at_most("lot_kernel_free, largest", taken_by(free_kernel), 6 * 1024);
     weights[0] = lot_wide_of(1);
     must_be_at_most("lot_winner", taken_by(hold_lottery), 1024);

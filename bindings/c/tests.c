@@ -13,6 +13,9 @@
 
 #define CHECK(holds) check((holds), #holds, __LINE__)
 
+// The last kind of event.
+enum { LAST_KIND = LOT_KILL_NUMBERED };
+
 static void check(bool holds, const char *text, int line) {
     if (!holds) {
         printf("line %d: not so: %s\n", line, text);
@@ -263,6 +266,174 @@ static void removal_in_use(void) {
     puts("ok: removal in use");
 }
 
+// A thread that runs and is killed leaves its processor idle, and is charged nothing more. The other processor's thread
+// runs on.
+static void killed_runner(void) {
+    const lot_name a = lot_name_of("a");
+    lot_kernel kernel = made(&SMALL);
+    lot_runner runner;
+    funded(&kernel, 400, "base", "a");
+    funded(&kernel, 100, "base", "b");
+    CHECK(has_won(drawn(&kernel, 1, 0), 1, 0, 500) && has_won(drawn(&kernel, 2, 99), 2, 99, 100));
+    CHECK(came_to(answer(&kernel, lot_lock(1, 29, 1)), 1, LOT_OUTCOME_LOCKED, 0));
+    CHECK(answer(&kernel, lot_kill(a)).kind == LOT_REPLY_DONE);
+    CHECK(lot_kernel_runner(&kernel, 1, &runner) == LOT_NOT_THERE);
+    CHECK(is_refused(answer(&kernel, lot_expire(1)), LOT_REFUSAL_NOT_RUNNING));
+    lot_thread_row row = row_of(&kernel, 1);
+    CHECK(row.status.kind == LOT_STATUS_DEAD && row.status.processor == 0 && row.status.used == 0);
+    CHECK(row.value == 0 && row.weight.low == 0 && row.quanta == 1 && row.ticks == 30 && is_name(row.name, "a"));
+    CHECK(lot_kernel_runner(&kernel, 2, &runner) == LOT_DONE && runner.thread == 2 && runner.used == 0);
+    CHECK(drawn(&kernel, 1, 0).kind == LOT_REPLY_IDLE);
+    CHECK(has_expired(answer(&kernel, lot_expire(2)), 2, 100) && has_won(drawn(&kernel, 1, 99), 2, 99, 100));
+    // To charge it for the 50 ticks that it ran, it is preempted first.
+    CHECK(has_expired(answer(&kernel, lot_preempt(1, 50)), 2, 50));
+    CHECK(answer(&kernel, lot_kill_numbered(2)).kind == LOT_REPLY_DONE && row_of(&kernel, 2).ticks == 150);
+    // The killed thread owns its mutex no more. So it can be removed once no ticket funds it.
+    CHECK(is_refused(answer(&kernel, lot_remove_thread(a)), LOT_REFUSAL_IN_USE));
+    CHECK(answer(&kernel, lot_unfund(1)).kind == LOT_REPLY_DONE);
+    CHECK(answer(&kernel, lot_remove_thread(a)).kind == LOT_REPLY_DONE && is_gone(&kernel, 1));
+    CHECK(lot_kernel_free(&kernel) == LOT_DONE);
+    puts("ok: killed runner");
+}
+
+// Two clients of a server, which runs on the first processor: the one that it took first called with 2 base, the other
+// with 3.
+static lot_kernel served(void) {
+    lot_kernel kernel = made(&SMALL);
+    funded(&kernel, 1, "base", "server");
+    funded(&kernel, 2, "base", "first");
+    funded(&kernel, 3, "base", "second");
+    CHECK(has_won(drawn(&kernel, 1, 0), 1, 0, 6));
+    CHECK(came_to(answer(&kernel, lot_receive(1, 0, 1)), 1, LOT_OUTCOME_WAITS, 0));
+    CHECK(has_won(drawn(&kernel, 1, 0), 2, 0, 5));
+    CHECK(came_to(answer(&kernel, lot_call(1, 0, 1, 7)), 2, LOT_OUTCOME_SERVED_BY, 1));
+    // The server weighs 3 times 100 / 1.
+    CHECK(has_won(drawn(&kernel, 1, 300), 3, 300, 303));
+    CHECK(came_to(answer(&kernel, lot_call(1, 0, 1, 8)), 3, LOT_OUTCOME_QUEUED, 0));
+    CHECK(has_won(drawn(&kernel, 1, 0), 1, 0, 300));
+    CHECK(came_to(answer(&kernel, lot_receive(1, 0, 1)), 1, LOT_OUTCOME_RECEIVED, 3));
+    CHECK(row_of(&kernel, 2).status.kind == LOT_STATUS_SERVED && row_of(&kernel, 3).status.other == 1);
+    CHECK(is_worth(&kernel, 1, 6));
+    return kernel;
+}
+
+// The clients of a killed server are ready, with nothing delivered and with their compensation (4.6).
+static void killed_server(void) {
+    lot_kernel kernel = served();
+    CHECK(answer(&kernel, lot_kill(lot_name_of("server"))).kind == LOT_REPLY_DONE);
+    for (uint32_t client = 2; client <= 3; client++) {
+        lot_thread_row row = row_of(&kernel, client);
+        CHECK(row.status.kind == LOT_STATUS_READY && row.status.other == 0);
+        CHECK(row.value == client && row.weight.low == client * 100);
+    }
+    lot_reply reply = drawn(&kernel, 1, 199);
+    CHECK(has_won(reply, 2, 199, 500) && !reply.has_sent && reply.sent == 0);
+    reply = drawn(&kernel, 2, 0);
+    CHECK(has_won(reply, 3, 0, 300) && !reply.has_sent && reply.sent == 0);
+    CHECK(answer(&kernel, lot_unfund(1)).kind == LOT_REPLY_DONE);
+    CHECK(answer(&kernel, lot_remove_thread_numbered(1)).kind == LOT_REPLY_DONE);
+    CHECK(lot_kernel_free(&kernel) == LOT_DONE);
+    puts("ok: killed server");
+}
+
+// A killed client gets no reply: its server replies to the client that it took next (4.6).
+static void killed_client(void) {
+    lot_kernel kernel = served();
+    CHECK(answer(&kernel, lot_kill_numbered(2)).kind == LOT_REPLY_DONE && is_worth(&kernel, 1, 4));
+    CHECK(came_to(answer(&kernel, lot_reply_with(1, 0, 9)), 1, LOT_OUTCOME_REPLIED, 3));
+    lot_reply reply = answer(&kernel, lot_reply_with(1, 0, 9));
+    CHECK(came_to(reply, 1, LOT_OUTCOME_REFUSED, 0) && reply.reason == LOT_TRAP_REFUSAL_NOTHING_TO_REPLY);
+    reply = drawn(&kernel, 2, 0);
+    CHECK(has_won(reply, 3, 0, 300) && reply.has_sent && reply.sent == 9);
+    CHECK(lot_kernel_free(&kernel) == LOT_DONE);
+    puts("ok: killed client");
+}
+
+// A killed thread waits at no port: as a receiver it takes no call, and as a caller its call is withdrawn (4.6).
+static void killed_at_a_port(void) {
+    lot_kernel kernel = made(&SMALL);
+    funded(&kernel, 1, "base", "receiver");
+    funded(&kernel, 2, "base", "caller");
+    CHECK(has_won(drawn(&kernel, 1, 0), 1, 0, 3));
+    CHECK(came_to(answer(&kernel, lot_receive(1, 0, 1)), 1, LOT_OUTCOME_WAITS, 0));
+    CHECK(answer(&kernel, lot_kill_numbered(1)).kind == LOT_REPLY_DONE);
+    CHECK(has_won(drawn(&kernel, 1, 0), 2, 0, 2));
+    CHECK(came_to(answer(&kernel, lot_call(1, 0, 1, 7)), 2, LOT_OUTCOME_QUEUED, 0));
+    CHECK(answer(&kernel, lot_kill(lot_name_of("caller"))).kind == LOT_REPLY_DONE);
+    funded(&kernel, 4, "base", "other");
+    CHECK(has_won(drawn(&kernel, 1, 3), 3, 3, 4));
+    CHECK(came_to(answer(&kernel, lot_receive(1, 0, 1)), 3, LOT_OUTCOME_WAITS, 0));
+    CHECK(lot_kernel_free(&kernel) == LOT_DONE);
+    puts("ok: killed at a port");
+}
+
+// The first thread owns a mutex and runs. The second has waited for it longer than the third, and lends less.
+static lot_kernel locked(void) {
+    lot_kernel kernel = made(&SMALL);
+    funded(&kernel, 10, "base", "a");
+    funded(&kernel, 20, "base", "b");
+    funded(&kernel, 30, "base", "c");
+    CHECK(has_won(drawn(&kernel, 1, 0), 1, 0, 60));
+    CHECK(came_to(answer(&kernel, lot_lock(1, 0, 1)), 1, LOT_OUTCOME_LOCKED, 0));
+    CHECK(has_expired(answer(&kernel, lot_expire(1)), 1, 99));
+    CHECK(has_won(drawn(&kernel, 1, 10), 2, 10, 60));
+    CHECK(came_to(answer(&kernel, lot_lock(1, 0, 1)), 2, LOT_OUTCOME_WAITS, 0));
+    CHECK(has_won(drawn(&kernel, 1, 30), 3, 30, 60));
+    CHECK(came_to(answer(&kernel, lot_lock(1, 0, 1)), 3, LOT_OUTCOME_WAITS, 0));
+    CHECK(has_won(drawn(&kernel, 1, 59), 1, 59, 60));
+    return kernel;
+}
+
+// A killed owner's mutex passes to the thread that has waited longest, without a lottery. The others wait on, and lend
+// to it (6.1).
+static void killed_owner(void) {
+    lot_kernel kernel = locked();
+    lot_reply reply = answer(&kernel, lot_kill(lot_name_of("a")));
+    CHECK(reply.kind == LOT_REPLY_DONE && !reply.has_draw && reply.other == 0);
+    lot_thread_row row = row_of(&kernel, 2);
+    CHECK(row.status.kind == LOT_STATUS_READY && row.value == 50 && row.weight.low == 5000);
+    row = row_of(&kernel, 3);
+    CHECK(row.status.kind == LOT_STATUS_WAITING && row.status.other == 1);
+    CHECK(has_won(drawn(&kernel, 1, 4999), 2, 4999, 5000));
+    reply = answer(&kernel, lot_unlock(1, 0, 1, lot_wide_of(0)));
+    CHECK(came_to(reply, 2, LOT_OUTCOME_PASSED, 3) && reply.has_draw && reply.total.low == 30);
+    CHECK(lot_kernel_free(&kernel) == LOT_DONE);
+    puts("ok: killed owner");
+}
+
+// A killed waiter lends no more, and gets no mutex (6.1).
+static void killed_waiter(void) {
+    lot_kernel kernel = locked();
+    CHECK(is_worth(&kernel, 1, 60) && answer(&kernel, lot_kill_numbered(2)).kind == LOT_REPLY_DONE);
+    CHECK(is_worth(&kernel, 1, 40));
+    lot_reply reply = answer(&kernel, lot_unlock(1, 0, 1, lot_wide_of(0)));
+    CHECK(came_to(reply, 1, LOT_OUTCOME_PASSED, 3) && reply.has_draw && reply.total.low == 30);
+    CHECK(lot_kernel_free(&kernel) == LOT_DONE);
+    puts("ok: killed waiter");
+}
+
+// A thread that sleeps can be killed, and isn't woken then. A thread that has ended can't be killed.
+static void killed_sleeper(void) {
+    const lot_name a = lot_name_of("a");
+    lot_kernel kernel = made(&SMALL);
+    CHECK(is_refused(answer(&kernel, lot_kill(a)), LOT_REFUSAL_NO_THREAD));
+    funded(&kernel, 400, "base", "a");
+    CHECK(has_won(drawn(&kernel, 1, 0), 1, 0, 400));
+    CHECK(came_to(answer(&kernel, lot_sleep(1, 0)), 1, LOT_OUTCOME_SLEPT, 0));
+    CHECK(answer(&kernel, lot_kill(a)).kind == LOT_REPLY_DONE);
+    CHECK(is_refused(answer(&kernel, lot_wake(1)), LOT_REFUSAL_NOT_ASLEEP));
+    CHECK(drawn(&kernel, 1, 0).kind == LOT_REPLY_IDLE);
+    CHECK(is_refused(answer(&kernel, lot_kill(a)), LOT_REFUSAL_DEAD_THREAD));
+    CHECK(is_refused(answer(&kernel, lot_kill_numbered(1)), LOT_REFUSAL_DEAD_THREAD));
+    CHECK(is_refused(answer(&kernel, lot_fund(1, a)), LOT_REFUSAL_DEAD_THREAD));
+    CHECK(answer(&kernel, lot_unfund(1)).kind == LOT_REPLY_DONE);
+    CHECK(answer(&kernel, lot_remove_thread(a)).kind == LOT_REPLY_DONE);
+    CHECK(is_refused(answer(&kernel, lot_kill(a)), LOT_REFUSAL_NO_THREAD));
+    CHECK(is_refused(answer(&kernel, lot_kill_numbered(1)), LOT_REFUSAL_NO_THREAD));
+    CHECK(lot_kernel_free(&kernel) == LOT_DONE);
+    puts("ok: killed sleeper");
+}
+
 // A thread that sleeps competes in no draw. It used 20 of 100 ticks, so it is woken with 5 times its weight (4.4, 4.5).
 static void sleeping(void) {
     lot_kernel kernel = made(&SMALL);
@@ -491,6 +662,8 @@ static void refused_commands(lot_kernel *kernel) {
         {lot_remove_thread(nothing), LOT_REFUSAL_NO_THREAD},
         {lot_remove_thread(x), LOT_REFUSAL_NO_THREAD},
         {lot_remove_thread(lot_name_of("t")), LOT_REFUSAL_ALIVE},
+        {lot_kill(nothing), LOT_REFUSAL_NO_THREAD},
+        {lot_kill(x), LOT_REFUSAL_NO_THREAD},
     };
     for (size_t i = 0; i < sizeof rows / sizeof rows[0]; i++) {
         CHECK(is_refused(answer(kernel, rows[i].event), rows[i].reason));
@@ -522,6 +695,9 @@ static void refused_by_number(lot_kernel *kernel) {
         {lot_remove_thread_numbered(0), LOT_REFUSAL_NO_THREAD},
         {lot_remove_thread_numbered(2), LOT_REFUSAL_NO_THREAD},
         {lot_remove_thread_numbered(1), LOT_REFUSAL_ALIVE},
+        {lot_kill_numbered(0), LOT_REFUSAL_NO_THREAD},
+        {lot_kill_numbered(2), LOT_REFUSAL_NO_THREAD},
+        {lot_kill_numbered(UINT32_MAX), LOT_REFUSAL_NO_THREAD},
         {lot_make_funded_in(0, 3, x, 2), LOT_REFUSAL_BAD_AMOUNT},
         {lot_make_funded_in(1, 3, x, 2), LOT_REFUSAL_NO_CURRENCY},
         {lot_make_funded_in(1, 0, x, 2), LOT_REFUSAL_NAME_TAKEN},
@@ -547,6 +723,8 @@ static void refusals(void) {
     CHECK(came_to(answer(&kernel, lot_exit(1, 99)), 1, LOT_OUTCOME_EXITED, 0));
     CHECK(is_refused(answer(&kernel, lot_fund(2, lot_name_of("t"))), LOT_REFUSAL_DEAD_THREAD));
     CHECK(is_refused(answer(&kernel, lot_fund_thread(2, 1)), LOT_REFUSAL_DEAD_THREAD));
+    CHECK(is_refused(answer(&kernel, lot_kill(lot_name_of("t"))), LOT_REFUSAL_DEAD_THREAD));
+    CHECK(is_refused(answer(&kernel, lot_kill_numbered(1)), LOT_REFUSAL_DEAD_THREAD));
     CHECK(is_refused(answer(&kernel, lot_remove_thread_numbered(1)), LOT_REFUSAL_IN_USE));
     CHECK(is_refused(answer(&kernel, lot_remove_thread(lot_name_of("t"))), LOT_REFUSAL_IN_USE));
     static const uint32_t lists[3][2] = {{LOT_LIST_TICKETS, LOT_REPLY_LIST_TICKETS},
@@ -694,6 +872,8 @@ static void made_events(void) {
     CHECK(is_event(lot_remove_thread_numbered(3), (lot_event){.kind = 32, .object = 3}));
     CHECK(is_event(lot_make_funded_in(5, 3, b, 2),
                    (lot_event){.kind = 33, .amount = 5, .object = 3, .name = b, .script = 2}));
+    CHECK(is_event(lot_kill(a), (lot_event){.kind = 34, .name = a}));
+    CHECK(is_event(lot_kill_numbered(3), (lot_event){.kind = 35, .object = 3}));
     const lot_sizes sizes = lot_sizes_small();
     CHECK(memcmp(&sizes, &SMALL, sizeof sizes) == 0);
     lot_kernel kernel = {&kernel};
@@ -906,16 +1086,16 @@ static void limits(void) {
 
 // Each kind that there isn't, and each name that isn't one: a status of its own, no reply, and nothing changed.
 static void kinds_and_names(void) {
-    static const uint32_t kinds[6] = {0, LOT_MAKE_FUNDED_IN + 1, LOT_MAKE_FUNDED_IN + 2, 255, 1u << 31, UINT32_MAX};
+    static const uint32_t kinds[6] = {0, LAST_KIND + 1, LAST_KIND + 2, 255, 1u << 31, UINT32_MAX};
     static const struct {
         const char *text;
         uint32_t length, status;
     } names[9] = {{"", 0, LOT_BAD_NAME},          {"a b", 3, LOT_BAD_NAME},  {"Base", 4, LOT_BAD_NAME},
                   {"9a", 2, LOT_BAD_NAME},        {"a\xff", 2, LOT_BAD_NAME}, {"-a", 2, LOT_BAD_NAME},
                   {"base", 17, LOT_LONG_NAME},    {"base", UINT32_MAX, LOT_LONG_NAME}, {"base", 5, LOT_BAD_NAME}};
-    static const uint32_t naming[9] = {LOT_MAKE_TICKET, LOT_REMOVE_CURRENCY, LOT_MAKE_FUNDED,
-                                       LOT_MAKE_CURRENCY, LOT_FUND, LOT_MAKE_THREAD,
-                                       LOT_MAKE_FUNDED, LOT_REMOVE_THREAD, LOT_MAKE_FUNDED_IN};
+    static const uint32_t naming[10] = {LOT_MAKE_TICKET, LOT_REMOVE_CURRENCY, LOT_MAKE_FUNDED, LOT_MAKE_CURRENCY,
+                                        LOT_FUND, LOT_MAKE_THREAD, LOT_MAKE_FUNDED, LOT_REMOVE_THREAD,
+                                        LOT_MAKE_FUNDED_IN, LOT_KILL};
     lot_kernel kernel = made(&SMALL);
     lot_reply reply;
     memset(&reply, 0x5a, sizeof reply);
@@ -925,7 +1105,7 @@ static void kinds_and_names(void) {
         CHECK(lot_kernel_event(&kernel, &event, &reply) == LOT_BAD_KIND);
         CHECK(memcmp(&reply, &before, sizeof reply) == 0);
     }
-    for (size_t k = 0; k < 9; k++) {
+    for (size_t k = 0; k < 10; k++) {
         for (size_t i = 0; i < 9; i++) {
             lot_event event = lot_make_funded(1, lot_name_of("base"), lot_name_of("fresh"), 1);
             event.kind = naming[k];
@@ -959,7 +1139,7 @@ static void names(void) {
 static void runs(void) {
     lot_kernel kernel = made(&SMALL);
     lot_event events[4] = {lot_make_currency(lot_name_of("x")), lot_make_currency(lot_name_of("y")),
-                           lot_event_of(LOT_MAKE_FUNDED_IN + 1), lot_make_currency(lot_name_of("z"))};
+                           lot_event_of(LAST_KIND + 1), lot_make_currency(lot_name_of("z"))};
     lot_reply replies[4], before;
     memset(replies, 0x5a, sizeof replies);
     before = replies[2];
@@ -997,7 +1177,7 @@ static lot_event random_event(void) {
     if (random_bits() % 2 == 0) {
         return event;
     }
-    event.kind = (uint32_t)(random_bits() % (LOT_MAKE_FUNDED_IN + 2));
+    event.kind = (uint32_t)(random_bits() % (LAST_KIND + 2));
     event.processor = (uint32_t)(random_bits() % 4);
     event.ticks = (uint32_t)(random_bits() % 120);
     event.object = (uint32_t)(random_bits() % 4);
@@ -1009,7 +1189,8 @@ static lot_event random_event(void) {
         event.name = lot_name_of(names[random_bits() % 8]);
     }
     // Ends and sleeps are rare, so that there is somebody to run.
-    if (event.kind == LOT_EXIT && random_bits() % 4096 != 0) {
+    bool is_end = event.kind == LOT_EXIT || event.kind == LOT_KILL || event.kind == LOT_KILL_NUMBERED;
+    if (is_end && random_bits() % 4096 != 0) {
         event.kind = LOT_DRAW;
     } else if (event.kind == LOT_SLEEP && random_bits() % 8 != 0) {
         event.kind = LOT_WAKE;
@@ -1112,6 +1293,13 @@ int main(int argc, char **argv) {
     removal();
     numbered();
     removal_in_use();
+    killed_runner();
+    killed_server();
+    killed_client();
+    killed_at_a_port();
+    killed_owner();
+    killed_waiter();
+    killed_sleeper();
     sleeping();
     sleepers_tickets();
     sleep_refusals();

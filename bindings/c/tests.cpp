@@ -123,6 +123,17 @@ static void draws_and_traps() {
     std::puts("ok: draws and traps");
 }
 
+// A thread that runs is killed, and another one is drawn in its place.
+static void kills() {
+    Kernel kernel = two_threads();
+    CHECK(kernel.event(lot_draw(1, lot_wide_of(9))).thread == 1);
+    CHECK(kernel.event(lot_kill(lot_name_of("first"))).kind == LOT_REPLY_DONE);
+    CHECK(kernel.thread(1).status.kind == LOT_STATUS_DEAD && kernel.thread(1).ticks == 0);
+    CHECK(kernel.event(lot_draw(1, lot_wide_of(9))).thread == 2);
+    CHECK(kernel.event(lot_kill_numbered(1)).reason == LOT_REFUSAL_DEAD_THREAD);
+    std::puts("ok: kills");
+}
+
 static void refused_events() {
     Kernel kernel = two_threads();
     const lot_reply reply = kernel.event(lot_fund(1, lot_name_of("second")));
@@ -156,6 +167,7 @@ static void ownership() {
 
 int main() {
     draws_and_traps();
+    kills();
     refused_events();
     ownership();
     return 0;

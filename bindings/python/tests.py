@@ -183,6 +183,98 @@ class Worked(unittest.TestCase):
             self.assertEqual(kernel.remove_currency(1), done)
             self.assertEqual(kernel.fund_currency(1, 1, check=False), refused_for(Refusal.NO_TARGET))
 
+    def test_killed_runner(self):
+        """A thread that runs and is killed leaves its processor idle, and is charged nothing more."""
+        done = Reply(ReplyKind.DONE)
+        with funded(lot.Kernel(), ("a", 400), ("b", 100)) as kernel:
+            self.assertEqual([kernel.draw(1, 0).thread, kernel.draw(2, 99).thread], [1, 2])
+            self.assertEqual(kernel.lock(1, mutex=1, ticks=29), trapped(1, 30, Outcome.LOCKED))
+            self.assertEqual(kernel.kill("a"), done)
+            self.assertEqual((kernel.runner(1), kernel.runner(2)), (None, lot.Runner(thread=2, used=0)))
+            row = lot.ThreadRow("a", ThreadStatus(ThreadState.DEAD), value=0, weight=0, quanta=1, ticks=30)
+            self.assertEqual(kernel.thread_row(1), row)
+            self.assertEqual(kernel.expire(1, check=False), refused_for(Refusal.NOT_RUNNING))
+            # To charge the other thread for the 50 ticks that it ran, it is preempted first.
+            self.assertEqual(kernel.preempt(2, 50), Reply(ReplyKind.EXPIRED, thread=2, ticks=50))
+            self.assertEqual(kernel.kill(2), done)
+            self.assertEqual(kernel.thread_row(2).ticks, 50)
+            # The killed thread owns its mutex no more.
+            kernel.unfund(1)
+            self.assertEqual(kernel.remove_thread("a"), done)
+
+    def test_killed_server(self):
+        """The clients of a killed server are ready, with nothing delivered and with their compensation."""
+        with funded(lot.Kernel(), ("server", 1), ("first", 2), ("second", 3)) as kernel:
+            kernel.draw(1, 0)
+            self.assertEqual(kernel.receive(1, port=1), trapped(1, 1, Outcome.WAITS))
+            kernel.draw(1, 0)
+            self.assertEqual(kernel.call(1, port=1, sent=7), trapped(2, 1, Outcome.SERVED_BY, other=1))
+            kernel.draw(1, 300)
+            self.assertEqual(kernel.call(1, port=1, sent=8), trapped(3, 1, Outcome.QUEUED))
+            kernel.draw(1, 0)
+            self.assertEqual(kernel.receive(1, port=1), trapped(1, 1, Outcome.RECEIVED, other=3, sent=8))
+            self.assertEqual(kernel.thread_row(3).status, ThreadStatus(ThreadState.SERVED, other=1))
+            self.assertEqual(kernel.kill("server"), Reply(ReplyKind.DONE))
+            states = [kernel.thread_row(thread).status for thread in (1, 2, 3)]
+            self.assertEqual([it.state for it in states], [ThreadState.DEAD, ThreadState.READY, ThreadState.READY])
+            # Each used 1 of 100 ticks before its call.
+            self.assertEqual(kernel.draw(1, 199), Reply(ReplyKind.WINNER, thread=2, number=199, total=500))
+            self.assertEqual(kernel.draw(2, 0), Reply(ReplyKind.WINNER, thread=3, number=0, total=300))
+
+    def test_killed_at_a_port(self):
+        """A killed receiver takes no call, and the call of a killed caller is withdrawn."""
+        with funded(lot.Kernel(), ("receiver", 1), ("caller", 2)) as kernel:
+            kernel.draw(1, 0)
+            kernel.receive(1, port=1)
+            kernel.kill("receiver")
+            self.assertEqual(kernel.draw(1, 0).thread, 2)
+            self.assertEqual(kernel.call(1, port=1, sent=7), trapped(2, 1, Outcome.QUEUED))
+            kernel.kill("caller")
+            funded(kernel, ("other", 4))
+            self.assertEqual(kernel.draw(1, 3), Reply(ReplyKind.WINNER, thread=3, number=3, total=4))
+            self.assertEqual(kernel.receive(1, port=1), trapped(3, 1, Outcome.WAITS))
+
+    def test_killed_owner(self):
+        """A killed owner's mutex passes to the thread that has waited longest, without a lottery."""
+        with funded(lot.Kernel(), ("a", 10), ("b", 20), ("c", 30)) as kernel:
+            kernel.draw(1, 0)
+            kernel.lock(1, mutex=1)
+            kernel.expire(1)
+            # The second thread waits first, and lends its 20 to the owner.
+            for number, thread in [(10, 2), (30, 3)]:
+                drawn = Reply(ReplyKind.WINNER, thread=thread, number=number, total=60)
+                self.assertEqual(kernel.draw(1, number), drawn)
+                self.assertEqual(kernel.lock(1, mutex=1), trapped(thread, 1, Outcome.WAITS))
+            self.assertEqual(kernel.kill("a"), Reply(ReplyKind.DONE))
+            self.assertEqual(kernel.thread_row(2).status, ThreadStatus(ThreadState.READY))
+            self.assertEqual(kernel.thread_row(3).status, ThreadStatus(ThreadState.WAITING, other=1))
+            # It has what the third lends it, and used 1 of 100 ticks.
+            self.assertEqual(kernel.draw(1, 4999), Reply(ReplyKind.WINNER, thread=2, number=4999, total=5000))
+            # A killed waiter gets no mutex.
+            kernel.kill(3)
+            self.assertEqual(kernel.unlock(1, mutex=1, number=0), trapped(2, 1, Outcome.FREED))
+
+    def test_kill_refusals(self):
+        """A thread that sleeps can be killed, and isn't woken then. A thread that has ended can't be killed."""
+        with funded(lot.Kernel(), ("a", 400)) as kernel:
+            kernel.draw(1, 0)
+            self.assertEqual(kernel.sleep(1), trapped(1, 1, Outcome.SLEPT))
+            self.assertEqual(kernel.kill("a"), Reply(ReplyKind.DONE))
+            self.assertEqual(kernel.wake(1, check=False), refused_for(Refusal.NOT_ASLEEP))
+            self.assertEqual(kernel.draw(1, 0), Reply(ReplyKind.IDLE))
+            for thread, refusal in [
+                ("a", Refusal.DEAD_THREAD), (1, Refusal.DEAD_THREAD), ("b", Refusal.NO_THREAD),
+                ("base", Refusal.NO_THREAD), (2, Refusal.NO_THREAD), (0, Refusal.NO_THREAD),
+                (NARROW - 1, Refusal.NO_THREAD),
+            ]:
+                self.assertEqual(kernel.kill(thread, check=False), refused_for(refusal))
+            with self.assertRaises(Refused) as raised:
+                kernel.kill("a")
+            self.assertEqual(raised.exception.event, lot.Event(EventKind.KILL, name="a"))
+            kernel.unfund(1)
+            kernel.remove_thread(1)
+            self.assertEqual(kernel.kill("a", check=False), refused_for(Refusal.NO_THREAD))
+
     def test_sleeping(self):
         """A thread that sleeps is in no draw. It used 20 of 100 ticks, so it is woken with 5 times its weight."""
         with funded(lot.Kernel(), ("a", 400), ("b", 100)) as kernel:
@@ -406,7 +498,7 @@ class Refusals(unittest.TestCase):
                 make.make_ticket(1, 2), make.make_funded("b", 1, NARROW - 1), make.remove_currency(2),
             ],
             Refusal.NO_TARGET: [make.fund_currency(1, 2), make.fund_thread(1, 0), make.fund_thread(1, 2)],
-            Refusal.NO_THREAD: [make.remove_thread(0), make.remove_thread(2)],
+            Refusal.NO_THREAD: [make.remove_thread(0), make.remove_thread(2), make.kill(0), make.kill(2)],
             Refusal.BASE_FIXED: [make.fund_currency(1, 0), make.remove_currency(0)],
             Refusal.IN_USE: [make.remove_currency(1)],
             Refusal.CYCLE: [make.fund_currency(1, 1)],
@@ -469,6 +561,7 @@ class Taken(unittest.TestCase):
         EventKind.REMOVE_CURRENCY_NUMBERED: "remove_currency",
         EventKind.REMOVE_THREAD_NUMBERED: "remove_thread",
         EventKind.MAKE_FUNDED_IN: "make_funded",
+        EventKind.KILL_NUMBERED: "kill",
         EventKind.YIELD: "yield_",
     }
 
@@ -482,7 +575,7 @@ class Taken(unittest.TestCase):
             self.assertEqual((check.name, check.kind, check.default), ("check", inspect.Parameter.KEYWORD_ONLY, None))
             self.assertTrue(method.__doc__ and function.__doc__)
             wanted = ["currency" if it == "currency_number" else it for it in lot.events.READS[kind]]
-            if kind is EventKind.REMOVE_THREAD:
+            if kind in (EventKind.REMOVE_THREAD, EventKind.KILL):
                 wanted = ["thread"]
             self.assertEqual(sorted(field.name for field in fields), sorted(wanted), name)
 
@@ -494,6 +587,7 @@ class Taken(unittest.TestCase):
             lambda it: make.make_funded("a", 5, it): (EventKind.MAKE_FUNDED, EventKind.MAKE_FUNDED_IN),
             make.remove_currency: (EventKind.REMOVE_CURRENCY, EventKind.REMOVE_CURRENCY_NUMBERED),
             make.remove_thread: (EventKind.REMOVE_THREAD, EventKind.REMOVE_THREAD_NUMBERED),
+            make.kill: (EventKind.KILL, EventKind.KILL_NUMBERED),
         }.items():
             self.assertEqual((call("3").kind, call(3).kind), kinds)
         self.assertEqual(make.make_ticket(5, 3), lot.Event(EventKind.MAKE_TICKET_IN, amount=5, currency_number=3))
@@ -522,7 +616,9 @@ class Taken(unittest.TestCase):
                     self.assertRaises(TypeError, call, number)
                 call(0)
                 call(end - 1)
-        for call in [make.remove_thread, make.remove_currency, lambda it: make.make_funded("a", 1, it)]:
+        for call in [
+            make.remove_thread, make.remove_currency, make.kill, lambda it: make.make_funded("a", 1, it),
+        ]:
             for number in [-1, NARROW]:
                 self.assertRaises(OverflowError, call, number)
             for number in [True, 1.0, None, b"1", 1j]:
@@ -686,7 +782,10 @@ class Values(unittest.TestCase):
         event = lot.events.unlock(1, 1, WIDEST - 1, 9)
         for again in [lambda it: pickle.loads(pickle.dumps(it)), copy.copy, copy.deepcopy]:
             status = ThreadStatus(ThreadState.READY)
-            values = [reply, event, status, Refusal.CYCLE, lot.Runner(1, 2), lot.Drawn(1, 2, 3)]
+            values = [
+                reply, event, status, Refusal.CYCLE, lot.Runner(1, 2), lot.Drawn(1, 2, 3), lot.events.kill("a"),
+                lot.events.kill(3), EventKind.KILL,
+            ]
             for value in values:
                 self.assertEqual(again(value), value)
                 self.assertEqual(repr(again(value)), repr(value))
@@ -714,6 +813,7 @@ class Values(unittest.TestCase):
         for value, wanted in [
             (Reply(ReplyKind.DONE), "Reply(kind=ReplyKind.DONE)"),
             (lot.events.call(1, 2, 0), "Event(kind=EventKind.CALL, processor=1, ticks=0, port=2, sent=0)"),
+            (lot.events.kill(3), "Event(kind=EventKind.KILL_NUMBERED, thread=3)"),
             (lot.Runner(1, 0), "Runner(thread=1, used=0)"),
             (ThreadStatus(ThreadState.QUEUED, other=2), "ThreadStatus(state=ThreadState.QUEUED, other=2)"),
         ]:

@@ -10,8 +10,9 @@ BLOCKED = {"Asleep": 118, "Receiving": 170, "Queued": 222, "Served": 292, "Waiti
 LEAVES = {"Asleep": ["sleep"], "Receiving": ["receive or serve", "without a waiting call"],
           "Queued": ["call, and no thread receives"], "Served": ["call to a thread", "that receives"],
           "Waiting": ["lock of a taken mutex"]}
-RETURNS = {"Asleep": ["wake"], "Receiving": ["a call at its port"], "Served": ["reply or serve of its server"],
-           "Waiting": ["unlock that passes it", "the mutex"]}
+RETURNS = {"Asleep": ["wake"], "Receiving": ["a call at its port"],
+           "Served": ["reply or serve of its server,", "or its kill"],
+           "Waiting": ["unlock that passes it the", "mutex, or kill of its owner"]}
 LENDERS = ("Served", "Waiting")
 
 
@@ -28,7 +29,7 @@ def table():
 def arrows():
     """The pairs that the figure draws."""
     drawn = {("", "Ready"), ("Ready", "Running"), ("Running", "Ready"), ("Queued", "Served"), ("Running", "Dead"),
-             ("Dead", "removed")}
+             ("any but Dead", "Dead"), ("Dead", "removed")}
     return drawn | {("Running", name) for name in LEAVES} | {(name, "Ready") for name in RETURNS}
 
 
@@ -65,7 +66,9 @@ def quantum():
 def end():
     """The last states."""
     left, right = MIDDLE[0], sum(MIDDLE)
-    return (state("Dead", MIDDLE, 396, 30, pencil.INACTIVE) + labelled(sum(RUNNING), left, 411, ["exit"])
+    x = MIDDLE[0] + MIDDLE[1] / 2
+    kill = [pencil.arrow((x, 448), (x, 426)), pencil.text(x + 8, 442, "kill, in any other state", "start")]
+    return (state("Dead", MIDDLE, 396, 30, pencil.INACTIVE) + labelled(sum(RUNNING), left, 411, ["exit"]) + kill
             + state("removed", READY, 396, 30, "#ffffff", dashed=True) + labelled(right, READY[0], 411, ["rmthr"]))
 
 
@@ -74,7 +77,7 @@ def legend():
     parts = []
     for x, fill, words in ((14, pencil.LIVE, "live"), (84, pencil.LENT, "lends to its server or to the mutex's owner"),
                            (390, pencil.INACTIVE, "lends to nobody: its tickets are inactive")):
-        parts += [pencil.box(x, 444, 16, 12, fill), pencil.text(x + 22, 454, words, "start")]
+        parts += [pencil.box(x, 462, 16, 12, fill), pencil.text(x + 22, 472, words, "start")]
     return parts
 
 
@@ -87,4 +90,4 @@ def figure():
         parts += blocked(name, y)
     x = MIDDLE[0] + MIDDLE[1] / 2
     queued = [pencil.arrow((x, 252), (x, 292)), pencil.text(x + 8, 270, "receive or serve takes the call", "start")]
-    return pencil.picture(468, "A thread's life", parts + queued + end() + legend())
+    return pencil.picture(486, "A thread's life", parts + queued + end() + legend())

@@ -1,6 +1,10 @@
 // A daemon for many jobs: they come, work, sleep while their device does, wake, and end. Three users share one
 // processor by the tickets of their currencies, however many jobs each has.
 //
+// One burst in a hundred is stuck: it would go on for ever. The daemon kills its job once it has worked for 2050 ticks
+// without sleep. At that time the job runs, in the middle of a quantum. So the daemon preempts it first, which charges
+// it for the 50 ticks of this quantum. A kill charges nothing, and leaves the processor idle for the next draw.
+//
 // A job that has ended is buried: its ticket and its thread are removed, and the next job takes its place and its name.
 // The sizes bound how many threads are ever made, so the daemon ends after 4096 jobs.
 
@@ -9,20 +13,21 @@
 #include <stdio.h>
 #include <stdlib.h>
 
-enum { USERS = 3, PLACES = 24, JOBS = 4096, QUANTUM = 100 };
+enum { USERS = 3, PLACES = 24, JOBS = 4096, QUANTUM = 100, PATIENCE = 2050 };
 
 // Users have 3, 2 and 1 tickets of base, and 12, 8 and 4 of the places.
 static struct user {
     const char *name;
     uint64_t tickets;
-    uint32_t currency, jobs;
+    uint32_t currency, jobs, killed;
     uint64_t ticks;
-} users[USERS] = {{"alice", 3, 0, 0, 0}, {"bob", 2, 0, 0, 0}, {"carol", 1, 0, 0, 0}};
+} users[USERS] = {{"alice", 3, 0, 0, 0, 0}, {"bob", 2, 0, 0, 0, 0}, {"carol", 1, 0, 0, 0, 0}};
 
-// The job at a place. It sleeps until `wakes`, if that isn't 0.
+// The job at a place, with the ticks that are left of its burst, and those that it has worked since it last slept. It
+// sleeps until `wakes`, if that isn't 0.
 static struct job {
     struct user *user;
-    uint32_t thread, ticket, bursts, left;
+    uint32_t thread, ticket, bursts, left, worked;
     uint64_t wakes;
 } jobs[PLACES];
 
@@ -65,12 +70,16 @@ static void make_user(struct user *user) {
     answer(lot_fund_currency(ticket, user->currency));
 }
 
+static uint32_t burst(void) {
+    return from_to(1, 100) == 1 ? UINT32_MAX : from_to(10, 400);
+}
+
 // Starts a job at a place, with the place's name.
 static void start(struct job *job) {
     char name[sizeof "job-00"];
     snprintf(name, sizeof name, "job-%u", (unsigned)(job - jobs) % 100);
     lot_reply reply = answer(lot_make_funded_in(100, job->user->currency, lot_name_of(name), 1));
-    *job = (struct job){job->user, reply.thread, reply.ticket, from_to(1, 5), from_to(10, 400), 0};
+    *job = (struct job){job->user, reply.thread, reply.ticket, from_to(1, 5), burst(), 0, 0};
     job_of[job->thread] = job;
     job->user->jobs++;
     made++;
@@ -86,16 +95,24 @@ static void bury(struct job *job) {
     }
 }
 
-// Runs a job until its quantum ends, or its burst: it sleeps then, or ends with its last burst.
+// Runs a job until its quantum ends, or its burst: it sleeps then, or ends with its last burst. One that is stuck runs
+// until the daemon's patience ends.
 static void run(struct job *job) {
     struct user *user = job->user;
     lot_reply reply;
-    if (job->left >= QUANTUM) {
+    if (job->worked + QUANTUM > PATIENCE) {
+        reply = answer(lot_preempt(1, PATIENCE - job->worked));
+        answer(lot_kill_numbered(job->thread));
+        user->killed++;
+        bury(job);
+    } else if (job->left >= QUANTUM) {
         job->left -= QUANTUM;
+        job->worked += QUANTUM;
         reply = answer(lot_expire(1));
     } else if (--job->bursts > 0) {
         reply = answer(lot_sleep(1, job->left));
-        job->left = from_to(10, 400);
+        job->left = burst();
+        job->worked = 0;
         job->wakes = now + reply.ticks + from_to(50, 500);
     } else {
         reply = answer(lot_exit(1, job->left));
@@ -141,8 +158,9 @@ int main(void) {
         step();
     }
     for (int i = 0; i < USERS; i++) {
-        printf("%-5s %llu of 6 tickets: %4.1f%% of the ticks, %u jobs\n", users[i].name,
-               (unsigned long long)users[i].tickets, 100.0 * (double)users[i].ticks / (double)now, users[i].jobs);
+        printf("%-5s %llu of 6 tickets: %4.1f%% of the ticks, %u jobs, of which %u were killed\n", users[i].name,
+               (unsigned long long)users[i].tickets, 100.0 * (double)users[i].ticks / (double)now, users[i].jobs,
+               users[i].killed);
     }
     must(lot_kernel_free(&kernel));
     return 0;

@@ -7,12 +7,15 @@
 //     then on, and nobody else has less (insulation).
 //   - One thread masks interrupts, so that its quanta end late. It has its share, and no more.
 //   - One sleeps nearly always. When its sleep is over, the thread that runs loses the processor.
+//   - In each half a hog takes the mutex for good. The sleeper kills it as soon as it wakes. The mutex passes to the
+//     thread that has waited longest.
 //   - One ends in each half. Both have one name, since the first is removed.
 #include "kernel.h"
 
 enum { PORT = 1, MUTEX = 1, HALF = 1250000, NAP = 2500 };
 
-static uint32_t acquired[3], calls, naps, late;
+static uint32_t acquired[3], calls, naps, late, hog, killed;
+static volatile uint32_t hogged; // volatile: else a compiler may leave out the write before `spins`, which never ends
 
 // Each of the two instructions takes one count, as `boot` starts QEMU.
 static void work(uint32_t ticks) {
@@ -21,8 +24,7 @@ static void work(uint32_t ticks) {
 }
 
 static void spins(uint32_t ticks) {
-    for (;;) {
-        work(ticks);
+    for (;; work(ticks)) {
     }
 }
 
@@ -63,11 +65,21 @@ static void masks(uint32_t ticks) {
     }
 }
 
+static void hogs(uint32_t ticks) {
+    trap(LOT_LOCK, MUTEX, 0);
+    hogged++;
+    spins(ticks);
+}
+
 static void sleeps(uint32_t ticks) {
     for (;; naps++) {
         uint64_t due = time_now() + NAP * COUNTS_PER_TICK;
         trap(LOT_SLEEP, NAP, 0);
         late += (uint32_t)((time_now() - due) / COUNTS_PER_TICK);
+        if (killed < hogged) {
+            killed++;
+            trap(LOT_KILL_NUMBERED, hog, 0);
+        }
         work(ticks);
     }
 }
@@ -120,6 +132,7 @@ static void print_row(uint32_t place, uint32_t half, uint64_t sum) {
 static void run_half(uint32_t half) {
     uint64_t sum = 0;
     spawn("greeter", 100, "base", greets, half + 1);
+    hog = spawn("hog", 100, "base", hogs, 1);
     run_threads(HALF);
     for (uint32_t place = 0; place < made; place++) {
         sum += counts_of(numbers[place]) - had[place];
@@ -148,8 +161,8 @@ void kernel_main(void) {
     make();
     run_half(1);
     print("\nquanta ended: %u early, for the sleeper, %u in time, %u late\n", ends[0], ends[1], ends[2]);
-    print("the mutex was had %u, %u and %u times, the server called %u times\n", acquired[0], acquired[1], acquired[2],
-          calls);
+    print("the mutex was had %u, %u and %u times\n", acquired[0], acquired[1], acquired[2]);
+    print("%u hogs took it for good, and %u were killed; the server was called %u times\n", hogged, killed, calls);
     print("the sleeper has slept %u times, and went on %u ticks late on average\n", naps, late / naps);
     power_off();
 }

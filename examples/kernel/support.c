@@ -4,18 +4,14 @@
 #include <stdarg.h>
 
 static void put_number(uint32_t number, uint32_t base, uint32_t width) {
-    char digits[10];
-    uint32_t length = 0;
-    do {
-        digits[length++] = "0123456789abcdef"[number % base];
-        number /= base;
-    } while (number != 0);
-    for (; width > length; width--) {
+    if (number >= base) {
+        put_number(number / base, base, width - (width != 0));
+        width = 0;
+    }
+    for (; width > 1; width--) {
         put(' ');
     }
-    while (length != 0) {
-        put(digits[--length]);
-    }
+    put("0123456789abcdef"[number % base]);
 }
 
 static void put_text(const char *text, uint32_t width) {

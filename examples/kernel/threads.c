@@ -8,7 +8,6 @@ enum { PROCESSOR = 1, STACK_WORDS = 512, CANARY = 0x5afe, ON_SP_EL0 = 4, TRAPPED
 
 typedef struct thread {
     frame registers;
-    lot_name name;
     uint32_t ticket;  // that funds it
     uint64_t counts;  // how long it has run, by the timer
     uint64_t charged; // the ticks that the library has been told of
@@ -50,8 +49,7 @@ static lot_reply tell(lot_event event) {
     lot_reply reply;
     uint32_t status = lot_kernel_event(&lottery, &event, &reply);
     if (status != LOT_DONE || reply.kind == LOT_REPLY_REFUSED || reply.outcome == LOT_OUTCOME_REFUSED) {
-        const char *why = status != LOT_DONE ? lot_status_text(status) : lot_refusal_text(reply.reason);
-        panic("event %u: %s", event.kind, why);
+        panic("event %u: %s", event.kind, status != 0 ? lot_status_text(status) : lot_refusal_text(reply.reason));
     }
     if (reply.has_sent) {
         threads[reply.thread].registers.x[0] = reply.sent;
@@ -97,7 +95,6 @@ static void end_thread(void) { trap(LOT_EXIT, 0, 0); }
 uint32_t spawn(const char *name, uint32_t tickets, const char *currency, thread_body *body, uint32_t argument) {
     lot_reply made = tell(lot_make_funded(tickets, lot_name_of(currency), lot_name_of(name), 1));
     thread *it = &threads[made.thread];
-    it->name = lot_name_of(name);
     it->ticket = made.ticket;
     it->stack[0] = CANARY;
     it->registers.x[0] = argument;
@@ -108,11 +105,11 @@ uint32_t spawn(const char *name, uint32_t tickets, const char *currency, thread_
     return made.thread;
 }
 
-// A thread has ended: its ticket goes, and its name may be given again. (A thread that another one kills would end here
-// too, after an event that the library doesn't have yet, and its own trap in `event_of`.)
+// A thread has ended by itself, or another one has killed it. Its ticket goes, and its name may be given again.
 static void bury(uint32_t number) {
+    threads[number].wakes = 0;
     take_tickets(number);
-    tell(lot_remove_thread(threads[number].name));
+    tell(lot_remove_thread_numbered(number));
 }
 
 // Wakes the sleepers whose time has come, and gives the time of the next one.
@@ -155,20 +152,24 @@ static lot_event event_of(uint32_t kind, uint32_t ticks, uint32_t object, uint32
     case LOT_LOCK: return lot_lock(PROCESSOR, ticks, object);
     case LOT_UNLOCK: return lot_unlock(PROCESSOR, ticks, object, drawn_number());
     case LOT_EXIT: return lot_exit(PROCESSOR, ticks);
+    case LOT_KILL_NUMBERED: return lot_kill_numbered(object);
     default: panic("there is no trap %u", kind);
     }
 }
 
 // A thread has trapped after so many ticks, the last of which is the trap's own. Its registers have `trap`'s arguments.
-static void do_trap(uint32_t number, uint32_t ticks) {
+// Gives the ticks that it was charged: none for a kill, which is a command to the library and no trap. The thread that
+// asked for it goes on, and these ticks count when it next stops.
+static uint32_t do_trap(uint32_t number, uint32_t ticks) {
     uint64_t *x = threads[number].registers.x;
     uint32_t kind = (uint32_t)x[0], object = (uint32_t)x[1];
     tell(event_of(kind, ticks - 1, object, (uint32_t)x[2]));
     if (kind == LOT_SLEEP) {
         threads[number].wakes = now + (uint64_t)object * COUNTS_PER_TICK;
-    } else if (kind == LOT_EXIT) {
-        bury(number);
+    } else if (kind == LOT_EXIT || kind == LOT_KILL_NUMBERED) {
+        bury(kind == LOT_EXIT ? number : object);
     }
+    return kind == LOT_KILL_NUMBERED ? 0 : ticks;
 }
 
 // Runs a thread until it stops, and charges it what the timer says. A trap costs one tick at least, and at most what
@@ -187,7 +188,7 @@ static void run(lot_runner runner, uint64_t next_wake) {
     }
     if (syndrome != 0) {
         ticks = ticks == 0 ? 1 : ticks < left ? ticks : left;
-        do_trap(runner.thread, ticks);
+        ticks = do_trap(runner.thread, ticks);
     } else {
         end_interrupt();
         stop(ticks, left);

@@ -55,6 +55,8 @@ READS = {
     EventKind.FUND_THREAD: ("ticket", "thread"),
     EventKind.REMOVE_THREAD_NUMBERED: ("thread",),
     EventKind.MAKE_FUNDED_IN: ("amount", "currency_number", "name", "script"),
+    EventKind.KILL: ("name",),
+    EventKind.KILL_NUMBERED: ("thread",),
 }
 # The exclusive upper bound of each numeric field. The others are names.
 ENDS = {
@@ -94,7 +96,7 @@ class Event:
     currency: Optional[str] = None  # by its name
     name: Optional[str] = None
     target: Optional[str] = None  # the currency or thread to fund
-    thread: Optional[int] = None  # the number of the thread to wake, fund or remove
+    thread: Optional[int] = None  # the number of the thread to wake, fund, remove or kill
     late: Optional[int] = None  # the ticks by which a quantum ended late
     currency_number: Optional[int] = None  # by its number
 
@@ -137,6 +139,13 @@ def remove_thread(thread: Union[str, int]) -> Event:
     if not isinstance(thread, str):
         return Event(EventKind.REMOVE_THREAD_NUMBERED, thread=thread)
     return Event(EventKind.REMOVE_THREAD, name=thread)
+
+
+def kill(thread: Union[str, int]) -> Event:
+    """The event of `Kernel.kill`."""
+    if not isinstance(thread, str):
+        return Event(EventKind.KILL_NUMBERED, thread=thread)
+    return Event(EventKind.KILL, name=thread)
 
 
 def make_currency(name: str) -> Event:

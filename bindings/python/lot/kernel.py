@@ -240,6 +240,27 @@ class Kernel:
         """
         return self.event(events.remove_thread(thread), check=check)
 
+    def kill(self, thread: Union[str, int], *, check: Optional[bool] = None) -> Reply:
+        """Ends the thread, whatever its status.
+
+        If it runs, its processor is idle then, and it is charged nothing more: to charge what it ran, preempt it first.
+        Its clients are ready, with nothing delivered. Each of its mutexes passes to the thread that has waited longest
+        for it. `exit` differs: a thread that exits keeps its clients and its mutexes.
+
+        Replies `DONE`. Refused: NO_THREAD, DEAD_THREAD.
+
+        >>> with Kernel() as kernel:
+        ...     replies = kernel.run([events.make_funded("stuck", 10), events.draw(1, 0)])
+        ...     kernel.preempt(processor=1, ticks=30)  # what it ran
+        ...     kernel.kill("stuck")
+        ...     row = kernel.thread_row(1)
+        ...     row.status.state, row.ticks, kernel.draw(1, 0).kind
+        Reply(kind=ReplyKind.EXPIRED, thread=1, ticks=30)
+        Reply(kind=ReplyKind.DONE)
+        (ThreadState.DEAD, 30, ReplyKind.IDLE)
+        """
+        return self.event(events.kill(thread), check=check)
+
     def make_funded(
         self,
         name: str,

@@ -39,9 +39,9 @@ class Status(Number):
 class EventKind(Number):
     """The kinds of events. For each, `Kernel` has a method of its name, and `lot.events` a function.
 
-    Four have no method of their own: `make_ticket`, `remove_currency`, `remove_thread` and `make_funded` make events of
-    the kinds `MAKE_TICKET_IN`, `REMOVE_CURRENCY_NUMBERED`, `REMOVE_THREAD_NUMBERED` and `MAKE_FUNDED_IN` when you pass
-    a number in place of a name.
+    Five have no method of their own: `make_ticket`, `remove_currency`, `remove_thread`, `make_funded` and `kill` make
+    events of the kinds `MAKE_TICKET_IN`, `REMOVE_CURRENCY_NUMBERED`, `REMOVE_THREAD_NUMBERED`, `MAKE_FUNDED_IN` and
+    `KILL_NUMBERED` when you pass a number in place of a name.
     """
 
     MAKE_TICKET = 1
@@ -77,6 +77,8 @@ class EventKind(Number):
     FUND_THREAD = 31
     REMOVE_THREAD_NUMBERED = 32
     MAKE_FUNDED_IN = 33
+    KILL = 34
+    KILL_NUMBERED = 35
 
 
 class ReplyKind(Number):
@@ -130,7 +132,7 @@ class Refusal(Number):
     NOT_FUNDING = 9  # the ticket has no target
     CYCLE = 10  # funding would make a cycle
     BASE_FIXED = 11  # base can't be removed or funded
-    DEAD_THREAD = 12  # the target is a dead thread
+    DEAD_THREAD = 12  # the thread to fund or to kill is dead
     FULL = 13  # the limit of `Sizes` is reached
     NO_SCRIPT = 14  # the script's number is 0 or above the number of scripts
     NO_THREAD = 15  # no thread has the name or the number; a dead one has both until it is removed

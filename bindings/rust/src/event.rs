@@ -87,6 +87,18 @@ pub enum Command {
         /// A thread that has ended.
         thread: ThreadRef,
     },
+    /// Ends a thread, whatever its status. If it runs, its processor is idle then, and the thread is charged nothing
+    /// more: to charge what it ran, make an [`Event::Preempt`] first. Its clients are ready, with nothing delivered.
+    /// Each of its mutexes passes to the thread that has waited longest for it. Reply:
+    /// [`Reply::Done`](crate::Reply::Done).
+    ///
+    /// [`Action::Exit`] differs: a thread that exits keeps its clients and its mutexes.
+    ///
+    /// Refusals: `NoThread`, `DeadThread`.
+    Kill {
+        /// A thread that hasn't ended.
+        thread: ThreadRef,
+    },
     /// Makes a thread, which is ready and unfunded. Reply:
     /// [`Reply::Thread`](crate::Reply::Thread).
     ///
@@ -357,6 +369,32 @@ impl Event {
         Event::Command(Command::RemoveThread { thread: ThreadRef::Numbered(thread) })
     }
 
+    /// [`Command::Kill`] of the thread with this name.
+    ///
+    /// ```
+    /// use lot::{Event, Kernel, Name, Reply, Sizes, Status};
+    ///
+    /// let mut kernel = Kernel::new(Sizes::default())?;
+    /// let stuck = "stuck".parse()?;
+    /// kernel.run(&[Event::make_funded(10, Name::BASE, stuck, 1), Event::draw(1, 0)])?;
+    /// // It ran 30 ticks, for which it is charged: it is preempted, and then killed.
+    /// kernel.run(&[Event::preempt(1, 30), Event::kill(stuck)])?;
+    /// let row = kernel.thread_row(1).expect("its row stays until it is removed");
+    /// assert_eq!((row.status, row.ticks), (Status::Dead, 30));
+    /// assert_eq!(kernel.event(&Event::draw(1, 0)), Reply::Idle);
+    /// # Ok::<(), Box<dyn std::error::Error>>(())
+    /// ```
+    #[must_use]
+    pub const fn kill(thread: Name) -> Event {
+        Event::Command(Command::Kill { thread: ThreadRef::Named(thread) })
+    }
+
+    /// [`Command::Kill`] of the thread with this number.
+    #[must_use]
+    pub const fn kill_numbered(thread: u32) -> Event {
+        Event::Command(Command::Kill { thread: ThreadRef::Numbered(thread) })
+    }
+
     /// [`Command::MakeThread`].
     #[must_use]
     pub const fn make_thread(name: Name, script: u32) -> Event {
@@ -472,7 +510,8 @@ impl Command {
             Command::Fund { ticket, target } => target.funding(ticket),
             Command::Unfund { ticket } => ffi::Event { ticket, ..EventKind::Unfund.event() },
             Command::SetTicket { ticket, amount } => ffi::Event { amount, ticket, ..EventKind::SetTicket.event() },
-            Command::RemoveThread { thread } => thread.removal(),
+            Command::RemoveThread { thread } => thread.event(EventKind::RemoveThread, EventKind::RemoveThreadNumbered),
+            Command::Kill { thread } => thread.event(EventKind::Kill, EventKind::KillNumbered),
             Command::MakeThread { name, script } => {
                 ffi::Event { name: name.plain(), script, ..EventKind::MakeThread.event() }
             }

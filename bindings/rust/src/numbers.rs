@@ -83,6 +83,8 @@ pub(crate) enum EventKind {
     FundThread = 31,
     RemoveThreadNumbered = 32,
     MakeFundedIn = 33,
+    Kill = 34,
+    KillNumbered = 35,
 }
 
 impl EventKind {
@@ -161,7 +163,7 @@ numbered! {
         Cycle = 10,
         /// Base can't be removed or funded.
         BaseFixed = 11,
-        /// The thread to fund has ended.
+        /// The thread to fund or to kill has ended.
         DeadThread = 12,
         /// The limit of [`Sizes`](crate::Sizes) is reached, counting removed ones and ended threads.
         Full = 13,

@@ -51,11 +51,11 @@ impl CurrencyRef {
 }
 
 impl ThreadRef {
-    /// The event that removes this thread.
-    pub(crate) fn removal(self) -> ffi::Event {
+    /// The event of the first kind if the thread is named, and of the second if it is numbered.
+    pub(crate) fn event(self, named: EventKind, numbered: EventKind) -> ffi::Event {
         match self {
-            ThreadRef::Named(name) => ffi::Event { name: name.plain(), ..EventKind::RemoveThread.event() },
-            ThreadRef::Numbered(object) => ffi::Event { object, ..EventKind::RemoveThreadNumbered.event() },
+            ThreadRef::Named(name) => ffi::Event { name: name.plain(), ..named.event() },
+            ThreadRef::Numbered(object) => ffi::Event { object, ..numbered.event() },
         }
     }
 }

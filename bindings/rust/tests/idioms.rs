@@ -253,6 +253,10 @@ fn constructors_make_the_events() {
         Event::preempt(1, 7),
         Event::draw(1, 9),
         Event::overrun(1, 100),
+        Event::draw(1, 4),
+        Event::kill(name("v")),
+        Event::make_funded(10, Name::BASE, name("w"), 1),
+        Event::kill_numbered(5),
     ];
     let wanted = [
         Reply::Currency(1),
@@ -280,6 +284,10 @@ fn constructors_make_the_events() {
         Reply::Expired { thread: 4, ticks: 7 },
         Reply::Winner { thread: 4, number: 9, total: 10, delivered: None },
         Reply::Expired { thread: 4, ticks: 200 },
+        Reply::Winner { thread: 4, number: 4, total: 5, delivered: None },
+        Reply::Done,
+        Reply::Funded { ticket: 5, thread: 5 },
+        Reply::Done,
     ];
     assert_eq!(kernel.run(&events).expect("no refusal"), wanted);
 }

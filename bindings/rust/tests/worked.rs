@@ -170,6 +170,126 @@ fn trapped(thread: u32, ticks: u32, outcome: Outcome, goes_on: bool) -> Reply {
     Reply::Trapped { thread, ticks, outcome, ends: false, goes_on }
 }
 
+fn kill(kernel: &mut Kernel, thread: &str) -> Reply {
+    kernel.event(&Event::kill(name(thread)))
+}
+
+fn status(kernel: &Kernel, thread: u32) -> Status {
+    kernel.thread_row(thread).expect("there").status
+}
+
+// A thread that runs and is killed leaves its processor idle, and is charged nothing more. The other processor's thread
+// runs on.
+#[test]
+fn killed_runner() {
+    let mut kernel = Kernel::new(Sizes::SMALL).expect("small");
+    fund_thread(&mut kernel, 400, "base", "a");
+    fund_thread(&mut kernel, 100, "base", "b");
+    draw(&mut kernel, 0);
+    kernel.event(&Event::draw(2, 0)).ok().expect("thread 2");
+    assert_eq!(trap(&mut kernel, 29, Action::Lock { mutex: 1 }), trapped(1, 30, Outcome::Locked, true));
+    assert_eq!(kill(&mut kernel, "a"), Reply::Done);
+    assert_eq!((kernel.runner(1), kernel.runner(2)), (None, Some(Runner { thread: 2, used: 0 })));
+    let row = kernel.thread_row(1).expect("there");
+    assert_eq!((row.status, row.value, row.weight, row.quanta, row.ticks), (Status::Dead, 0, 0, 1, 30));
+    assert_eq!(kernel.event(&Event::expire(1)), Reply::Refused(EventRefusal::NotRunning));
+    // To charge the other thread for the 50 ticks that it ran, it is preempted first.
+    assert_eq!(kernel.event(&Event::preempt(2, 50)), Reply::Expired { thread: 2, ticks: 50 });
+    assert_eq!(kernel.event(&Event::kill_numbered(2)), Reply::Done);
+    assert_eq!((status(&kernel, 2), kernel.thread_row(2).map(|row| row.ticks)), (Status::Dead, Some(50)));
+    // The killed thread owns its mutex no more.
+    command(&mut kernel, Command::Unfund { ticket: 1 });
+    assert_eq!(kernel.event(&Event::remove_thread_numbered(1)), Reply::Done);
+}
+
+// The clients of a killed server are ready, with nothing delivered and with their compensation (4.6).
+#[test]
+fn killed_server() {
+    let mut kernel = Kernel::new(Sizes::SMALL).expect("small");
+    fund_thread(&mut kernel, 1, "base", "server");
+    fund_thread(&mut kernel, 2, "base", "first");
+    fund_thread(&mut kernel, 3, "base", "second");
+    draw(&mut kernel, 0);
+    trap(&mut kernel, 0, Action::Receive { port: 1 });
+    draw(&mut kernel, 0);
+    assert_eq!(trap(&mut kernel, 0, Action::Call { port: 1, number: 7 }), trapped(2, 1, Outcome::ServedBy(1), false));
+    draw(&mut kernel, 300);
+    assert_eq!(trap(&mut kernel, 0, Action::Call { port: 1, number: 8 }), trapped(3, 1, Outcome::Queued, false));
+    draw(&mut kernel, 0);
+    let received = Outcome::Received { client: 3, number: 8 };
+    assert_eq!(trap(&mut kernel, 0, Action::Receive { port: 1 }), trapped(1, 1, received, true));
+    assert_eq!([2, 3].map(|client| status(&kernel, client)), [Status::Served(1); 2]);
+    assert_eq!(kill(&mut kernel, "server"), Reply::Done);
+    assert_eq!([1, 2, 3].map(|thread| status(&kernel, thread)), [Status::Dead, Status::Ready, Status::Ready]);
+    // Each used 1 of 100 ticks before its call.
+    assert_eq!(draw(&mut kernel, 199), Reply::Winner { thread: 2, number: 199, total: 500, delivered: None });
+    let other = kernel.event(&Event::draw(2, 0));
+    assert_eq!(other, Reply::Winner { thread: 3, number: 0, total: 300, delivered: None });
+}
+
+// A killed thread waits at no port: as a receiver it takes no call, and as a caller its call is withdrawn (4.6).
+#[test]
+fn killed_at_a_port() {
+    let mut kernel = Kernel::new(Sizes::SMALL).expect("small");
+    fund_thread(&mut kernel, 1, "base", "receiver");
+    fund_thread(&mut kernel, 2, "base", "caller");
+    draw(&mut kernel, 0);
+    assert_eq!(trap(&mut kernel, 0, Action::Receive { port: 1 }), trapped(1, 1, Outcome::Waits, false));
+    assert_eq!(kill(&mut kernel, "receiver"), Reply::Done);
+    draw(&mut kernel, 0);
+    assert_eq!(trap(&mut kernel, 0, Action::Call { port: 1, number: 7 }), trapped(2, 1, Outcome::Queued, false));
+    assert_eq!(kill(&mut kernel, "caller"), Reply::Done);
+    fund_thread(&mut kernel, 4, "base", "other");
+    assert_eq!(draw(&mut kernel, 3), Reply::Winner { thread: 3, number: 3, total: 4, delivered: None });
+    assert_eq!(trap(&mut kernel, 0, Action::Receive { port: 1 }), trapped(3, 1, Outcome::Waits, false));
+}
+
+// A killed owner's mutex passes to the thread that has waited longest, without a lottery (6.1).
+#[test]
+fn killed_owner() {
+    let mut kernel = Kernel::new(Sizes::SMALL).expect("small");
+    for (amount, thread) in [(10, "a"), (20, "b"), (30, "c")] {
+        fund_thread(&mut kernel, amount, "base", thread);
+    }
+    draw(&mut kernel, 0);
+    trap(&mut kernel, 0, Action::Lock { mutex: 1 });
+    kernel.event(&Event::expire(1)).ok().expect("thread 1");
+    // The second thread waits first, and lends its 20 to the owner.
+    for (number, thread) in [(10, 2), (30, 3)] {
+        assert_eq!(draw(&mut kernel, number), Reply::Winner { thread, number, total: 60, delivered: None });
+        assert_eq!(trap(&mut kernel, 0, Action::Lock { mutex: 1 }), trapped(thread, 1, Outcome::Waits, false));
+    }
+    assert_eq!(kill(&mut kernel, "a"), Reply::Done);
+    assert_eq!([1, 2, 3].map(|thread| status(&kernel, thread)), [Status::Dead, Status::Ready, Status::Waiting(1)]);
+    // It has what the third lends it, and used 1 of 100 ticks.
+    assert_eq!(draw(&mut kernel, 4999), Reply::Winner { thread: 2, number: 4999, total: 5000, delivered: None });
+    // A killed waiter gets no mutex.
+    assert_eq!(kill(&mut kernel, "c"), Reply::Done);
+    let unlock = Action::Unlock { mutex: 1, number: 0 };
+    assert_eq!(trap(&mut kernel, 0, unlock), trapped(2, 1, Outcome::Freed, true));
+}
+
+// A thread that sleeps can be killed, and isn't woken then. A thread that has ended can't be killed.
+#[test]
+fn kill_refusals() {
+    let mut kernel = Kernel::new(Sizes::SMALL).expect("small");
+    assert_eq!(kill(&mut kernel, "a"), Reply::Refused(EventRefusal::NoThread));
+    assert_eq!(kill(&mut kernel, "base"), Reply::Refused(EventRefusal::NoThread));
+    fund_thread(&mut kernel, 400, "base", "a");
+    draw(&mut kernel, 0);
+    assert_eq!(trap(&mut kernel, 0, Action::Sleep), trapped(1, 1, Outcome::Slept, false));
+    assert_eq!(kill(&mut kernel, "a"), Reply::Done);
+    assert_eq!(kernel.event(&Event::wake(1)), Reply::Refused(EventRefusal::NotAsleep));
+    assert_eq!(draw(&mut kernel, 0), Reply::Idle);
+    assert_eq!(kill(&mut kernel, "a"), Reply::Refused(EventRefusal::DeadThread));
+    let numbered =
+        [1, 2, 0].map(|thread| kernel.event(&Event::kill_numbered(thread)).refusal().map(lot::Refusal::number));
+    assert_eq!(numbered, [Some(12), Some(15), Some(15)]);
+    command(&mut kernel, Command::Unfund { ticket: 1 });
+    assert_eq!(command(&mut kernel, Command::RemoveThread { thread: 1.into() }), Reply::Done);
+    assert_eq!(command(&mut kernel, Command::Kill { thread: 1.into() }), Reply::Refused(EventRefusal::NoThread));
+}
+
 // A thread that sleeps competes in no draw. It used 20 of 100 ticks, so it is woken with 5 times its weight (4.4, 4.5).
 #[test]
 fn sleeping() {

@@ -6,7 +6,7 @@ use Rattle.std.proofs.Math.Seq.{take-append_seam}
 use Rattle.std.proofs.lemmas.Nat.{div-add-mod'}
 use Rattle.lot_machine.specs.Commands.{is_good_name}
 use Rattle.lot_machine.specs.declared.action.Action.TheVariants as action
-use Rattle.lot_machine.specs.declared.command.Command.TheVariants.{MakeTicket, RemoveTicket, MakeCurrency, RemoveCurrency, Fund, Unfund, SetTicket, MakeThread, RemoveThread, MakeFunded, List as Listing}
+use Rattle.lot_machine.specs.declared.command.Command.TheVariants.{MakeTicket, RemoveTicket, MakeCurrency, RemoveCurrency, Fund, Unfund, SetTicket, MakeThread, RemoveThread, Kill, MakeFunded, List as Listing}
 use Rattle.lot_machine.specs.declared.command.Kind.TheVariants.{Tickets, Currencies, Threads}
 use Rattle.lot_machine.specs.declared.event.Event.{Event}
 use Rattle.lot_machine.specs.declared.event.Event.TheVariants as event
@@ -62,6 +62,8 @@ meant (event.Command (SetTicket ticket amount)) has = refl
 meant (event.Command (MakeThread name script)) (short, good) = ap (result_map (λ n. event.Command (MakeThread n script))) (named name short good)
 meant (event.Command (RemoveThread (thread_ref.Named thread))) (short, good) = ap (result_map (λ n. event.Command (RemoveThread (thread_ref.Named n)))) (named thread short good)
 meant (event.Command (RemoveThread (thread_ref.Numbered thread))) has = refl
+meant (event.Command (Kill (thread_ref.Named thread))) (short, good) = ap (result_map (λ n. event.Command (Kill (thread_ref.Named n)))) (named thread short good)
+meant (event.Command (Kill (thread_ref.Numbered thread))) has = refl
 meant (event.Command (MakeFunded amount (currency_ref.Named currency) name script)) ((short, good), (short', good')) =
     ap (λ m. result_and_then m (λ c. result_map (λ n. event.Command (MakeFunded amount (currency_ref.Named c) n script)) (name_meant (plain_name name)))) (named currency short good)
     ∙ ap (result_map (λ n. event.Command (MakeFunded amount (currency_ref.Named currency) n script))) (named name short' good')

@@ -4,7 +4,7 @@ use Rattle.std.specs.List.{find}
 use Rattle.lot_machine.specs.declared.action.Action.{Action}
 use Rattle.lot_machine.specs.declared.action.Action.TheVariants as action
 use Rattle.lot_machine.specs.declared.command.Command.{Command}
-use Rattle.lot_machine.specs.declared.command.Command.TheVariants.{MakeTicket, RemoveTicket, MakeCurrency, RemoveCurrency, Fund, Unfund, SetTicket, MakeThread, RemoveThread, MakeFunded, List as Listing}
+use Rattle.lot_machine.specs.declared.command.Command.TheVariants.{MakeTicket, RemoveTicket, MakeCurrency, RemoveCurrency, Fund, Unfund, SetTicket, MakeThread, RemoveThread, Kill, MakeFunded, List as Listing}
 use Rattle.lot_machine.specs.declared.command.Kind.TheVariants.{Tickets, Currencies, Threads}
 use Rattle.lot_machine.specs.declared.event.Event.{Event}
 use Rattle.lot_machine.specs.declared.event.Event.TheVariants as event
@@ -82,6 +82,8 @@ meanings =
     ∷ (EventKind.FundThread, λ e. asks (Fund e.ticket (target_ref.Thread e.object)))
     ∷ (EventKind.RemoveThreadNumbered, λ e. asks (RemoveThread (thread_ref.Numbered e.object)))
     ∷ (EventKind.MakeFundedIn, λ e. asks_of e.name (λ name. MakeFunded e.amount (currency_ref.Numbered e.object) name e.script))
+    ∷ (EventKind.Kill, λ e. asks_of e.name (λ thread. Kill (thread_ref.Named thread)))
+    ∷ (EventKind.KillNumbered, λ e. asks (Kill (thread_ref.Numbered e.object)))
     ∷ []
 
 -- the event for fields of this kind, or `BadKind` without one

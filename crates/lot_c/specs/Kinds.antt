@@ -5,3 +5,4 @@ pub data EventKind : Type 0 where
   ListTickets ListCurrencies ListThreads : EventKind
   Draw Expire Yield Call Receive Reply Lock Unlock Exit Serve Sleep Preempt Overrun Wake : EventKind
   MakeTicketIn RemoveCurrencyNumbered FundCurrency FundThread RemoveThreadNumbered MakeFundedIn : EventKind
+  Kill KillNumbered : EventKind

@@ -71,6 +71,8 @@ event_number EventKind.FundCurrency = 30
 event_number EventKind.FundThread = 31
 event_number EventKind.RemoveThreadNumbered = 32
 event_number EventKind.MakeFundedIn = 33
+event_number EventKind.Kill = 34
+event_number EventKind.KillNumbered = 35
 
 -- the number of a reply's kind; each listing has one
 abbrev pub reply_number : Reply → ℕ

@@ -4,7 +4,7 @@ use Rattle.lot_machine.specs.Commands.{is_good_name}
 use Rattle.lot_machine.specs.declared.action.Action.{Action}
 use Rattle.lot_machine.specs.declared.action.Action.TheVariants as action
 use Rattle.lot_machine.specs.declared.command.Command.{Command}
-use Rattle.lot_machine.specs.declared.command.Command.TheVariants.{MakeTicket, RemoveTicket, MakeCurrency, RemoveCurrency, Fund, Unfund, SetTicket, MakeThread, RemoveThread, MakeFunded, List as Listing}
+use Rattle.lot_machine.specs.declared.command.Command.TheVariants.{MakeTicket, RemoveTicket, MakeCurrency, RemoveCurrency, Fund, Unfund, SetTicket, MakeThread, RemoveThread, Kill, MakeFunded, List as Listing}
 use Rattle.lot_machine.specs.declared.command.Kind.TheVariants.{Tickets, Currencies, Threads}
 use Rattle.lot_machine.specs.declared.event.Event.{Event}
 use Rattle.lot_machine.specs.declared.event.Event.TheVariants as event
@@ -64,6 +64,7 @@ HasCommandNames (RemoveCurrency currency) = HasCurrencyName currency
 HasCommandNames (Fund ticket target) = HasTargetName target
 HasCommandNames (MakeThread name script) = IsName name
 HasCommandNames (RemoveThread thread) = HasThreadName thread
+HasCommandNames (Kill thread) = HasThreadName thread
 HasCommandNames (MakeFunded amount currency name script) = HasCurrencyName currency × IsName name
 HasCommandNames other = Unit {0}
 
@@ -88,6 +89,8 @@ plain_command (SetTicket ticket amount) = record (of_kind EventKind.SetTicket) {
 plain_command (MakeThread name script) = record (of_kind EventKind.MakeThread) { name = plain_name name; script = script }
 plain_command (RemoveThread (thread_ref.Named thread)) = record (of_kind EventKind.RemoveThread) { name = plain_name thread }
 plain_command (RemoveThread (thread_ref.Numbered thread)) = record (of_kind EventKind.RemoveThreadNumbered) { object = thread }
+plain_command (Kill (thread_ref.Named thread)) = record (of_kind EventKind.Kill) { name = plain_name thread }
+plain_command (Kill (thread_ref.Numbered thread)) = record (of_kind EventKind.KillNumbered) { object = thread }
 plain_command (MakeFunded amount (currency_ref.Named currency) name script) = record (of_kind EventKind.MakeFunded) { amount = amount; currency = plain_name currency; name = plain_name name; script = script }
 plain_command (MakeFunded amount (currency_ref.Numbered currency) name script) = record (of_kind EventKind.MakeFundedIn) { amount = amount; object = currency; name = plain_name name; script = script }
 plain_command (Listing Tickets) = of_kind EventKind.ListTickets

@@ -76,6 +76,10 @@ const REMOVE_THREAD_NUMBERED: u32 = 32;
 
 const MAKE_FUNDED_IN: u32 = 33;
 
+const KILL: u32 = 34;
+
+const KILL_NUMBERED: u32 = 35;
+
 /// An event in plain fields. Its kind determines which other fields are read.
 #[repr(C)]
 #[derive(Clone, Copy)]
@@ -85,8 +89,8 @@ pub struct PlainEvent {
     pub processor: u32,
     /// The ticks of work before a trap or a preemption, or the ticks by which a quantum ended late.
     pub ticks: u32,
-    /// The port or the mutex of a trap, or the thread to wake, fund or remove, from 1; or the currency to fund or
-    /// remove, or that issues a ticket, from 0, which is base.
+    /// The port or the mutex of a trap, or the thread to wake, fund, remove or kill, from 1; or the currency to fund
+    /// or remove, or that issues a ticket, from 0, which is base.
     pub object: u32,
     /// The number that a call, a reply or a serve sends.
     pub sent: u32,
@@ -98,7 +102,7 @@ pub struct PlainEvent {
     pub ticket: u64,
     /// The name of the currency that issues a ticket, or of the currency to remove.
     pub currency: PlainName,
-    /// The name of a new currency or thread, of the target to fund, or of the thread to remove.
+    /// The name of a new currency or thread, of the target to fund, or of the thread to remove or to kill.
     pub name: PlainName,
 }
 
@@ -112,6 +116,7 @@ impl PlainEvent {
                 Ok(Event::Command(self.read_command()?))
             }
             MAKE_TICKET_IN..=MAKE_FUNDED_IN => Ok(Event::Command(self.read_numbered()?)),
+            KILL..=KILL_NUMBERED => Ok(Event::Command(self.read_kill()?)),
             DRAW..=SERVE | SLEEP => Ok(self.read_turn()),
             PREEMPT => Ok(Event::Preempt {
                 processor: self.processor,
@@ -214,6 +219,22 @@ impl PlainEvent {
                 currency: CurrencyRef::Numbered(number),
                 name: self.name.read()?,
                 script: self.script,
+            }),
+            _ => unreachable!(),
+        }
+    }
+
+    /// The kill of a thread by name or by number, or the status for invalid fields.
+    fn read_kill(&self) -> Result<Command, Status>
+        requires kind { IsBetween KILL KILL_NUMBERED self.now.kind }
+        ensures { event_meant self.now ≡ result_map event.Command result }
+    {
+        match self.kind {
+            KILL => Ok(Command::Kill {
+                thread: ThreadRef::Named(self.name.read()?),
+            }),
+            KILL_NUMBERED => Ok(Command::Kill {
+                thread: ThreadRef::Numbered(self.object),
             }),
             _ => unreachable!(),
         }

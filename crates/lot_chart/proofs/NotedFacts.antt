@@ -6,7 +6,7 @@ use Rattle.lot_machine.specs.declared.event.Event.{Event}
 use Rattle.lot_machine.specs.declared.reply.Reply.{Reply}
 use Rattle.lot_simulation.specs.Report.{ActorTurn, beside, turns_made}
 use Rattle.lot_simulation.specs.Timed.{Moment, TimedTurn, moment_after, moment_after_all, opening_moment, timed_schedule, timed_turns}
-use Rattle.lot_simulation.specs.World.{Program, World, Answer, Turn, console_turn, opening_world, processor_event, processor_turn, system_after, system_answers, system_run, system_turn}
+use Rattle.lot_simulation.specs.World.{Program, World, Answer, Turn, console_turn, opening_world, actor_event, processor_turn, system_after, system_answers, system_run, system_turn}
 use Rattle.lot_simulation.specs.World.Answer.{Answered, Ended}
 use Rattle.lot_simulation.proofs.TimedRuns.{timed-world}
 use Rattle.lot_curves.specs.declared.stretch.Stretch.{Stretch}
@@ -27,7 +27,7 @@ ended-same program w zero is = from w.commands is
     from (c ∷ cs) told = cc
 ended-same program w (suc n) is =
     let no : (suc n == 0) ≡ false = ne_eqb (suc n) 0 (λ x. omega arith) in
-    let turn : system_turn program w (suc n) ≡ processor_turn w (suc n) (processor_event w (suc n)) = rw no refl in
+    let turn : system_turn program w (suc n) ≡ processor_turn w (suc n) (actor_event program w (suc n)) = rw no refl in
     absurd (let wrong = sym (ap (λ (t : Turn). t.answer) turn) ∙ is in cc)
 
 -- one that is answered is one more in the history
@@ -39,7 +39,7 @@ answered-more program w zero e r is = from w.commands is
     from (c ∷ cs) told = refl
 answered-more program w (suc n) e r is =
     let no : (suc n == 0) ≡ false = ne_eqb (suc n) 0 (λ x. omega arith) in
-    let turn : system_turn program w (suc n) ≡ processor_turn w (suc n) (processor_event w (suc n)) = rw no refl in
+    let turn : system_turn program w (suc n) ≡ processor_turn w (suc n) (actor_event program w (suc n)) = rw no refl in
     ap (λ (t : Turn). t.world.history) turn
 
 -- whose turns were counted

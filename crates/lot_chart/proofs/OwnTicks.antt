@@ -10,6 +10,7 @@ use Rattle.lot_machine.specs.declared.record.Status.{Status}
 use Rattle.lot_machine.specs.declared.record.Status.TheVariants as status
 use Rattle.lot_machine.specs.declared.action.Action.{Action}
 use Rattle.lot_machine.specs.declared.command.Command.{Command}
+use Rattle.lot_machine.specs.declared.command.Command.TheVariants.{MakeTicket, RemoveTicket, MakeCurrency, RemoveCurrency, Fund, Unfund, SetTicket, MakeThread, RemoveThread, Kill, MakeFunded, List as Listing}
 use Rattle.lot_machine.specs.declared.drawn.Drawn.{Drawn}
 use Rattle.lot_machine.specs.declared.event.Event.{Event}
 use Rattle.lot_machine.specs.declared.event.Event.TheVariants as event
@@ -23,7 +24,7 @@ use Rattle.lot_machine.specs.State.{State, thread_on, change_record, ready_threa
 use Rattle.lot_machine.specs.Commands.{Step, command_step, unless_refused}
 use Rattle.lot_machine.specs.Traps.{after_trap, with_ticks}
 use Rattle.lot_machine.specs.Change.{NewThread, PutRecord, newborn}
-use Rattle.lot_machine.specs.Step.{is_bad_processor, started, draw, expire, trap, trap_refusal, trap_effect, checked_effect, thread_there, used_there, event_effect, step}
+use Rattle.lot_machine.specs.Step.{is_bad_processor, started, draw, expire, trap, trap_refusal, trap_effect, checked_effect, thread_there, used_there, wake, event_effect, step}
 use Rattle.lot_machine.specs.Order.{IsInOrder}
 use Rattle.lot_machine.specs.Rows.{row_of_thread, thread_name, thread_row}
 use Rattle.lot_machine.specs.declared.row.ThreadRow.{ThreadRow}
@@ -31,7 +32,7 @@ use Rattle.lot_machine.proofs.OrderKept.{opening-order, step-order}
 use Rattle.lot_machine.proofs.CommandsKept.{all-pass}
 use Rattle.lot_machine.proofs.StepChanges.{Console, Keeps, kept, command-leads}
 use Rattle.lot_machine.proofs.StepSizes.{checked-sizes}
-use Rattle.lot_simulation.specs.World.{Program, World, Turn, Answer, IsLegal, console_turn, processor_turn, processor_event, opening_world, system_turn, system_after, system_answers, system_run}
+use Rattle.lot_simulation.specs.World.{Program, World, Turn, Answer, IsLegal, console_turn, processor_turn, actor_event, opening_world, system_turn, system_after, system_answers, system_run}
 use Rattle.lot_simulation.specs.World.Answer.{Answered}
 use Rattle.lot_simulation.specs.Timed.{TimedTurn, last_moment, timed_schedule, timed_turns}
 use Rattle.lot_simulation.specs.TimedReport.{actor_turns}
@@ -39,7 +40,7 @@ use Rattle.lot_simulation.specs.Report.{ActorTurn, beside, turns_made, turns_of,
 use Rattle.lot_simulation.proofs.TimedRuns.{timed-made, timed-world}
 use Rattle.lot_simulation.proofs.DrawnThreads.{number-some}
 use Rattle.lot_simulation.proofs.ProcessorCounts.{command-silent}
-use Rattle.lot_simulation.proofs.RecordCounts.{IsMade, turn-made, there-has, change-leaves, checked-even, after-even, there-numbered}
+use Rattle.lot_simulation.proofs.RecordCounts.{IsMade, kill-even, actor-made, there-has, change-leaves, checked-even, after-even, there-numbered}
 use Rattle.lot_curves.specs.declared.stretch.Stretch.{Stretch}
 use Rattle.lot_curves.specs.Curves.{stretches_made, timed_stretches}
 use Rattle.lot_curves.specs.declared.stretch.Measure.TheVariants.{Ticks}
@@ -130,6 +131,8 @@ change-own s i a (PutRecord t r) allowed same = absurd (allowed.mover refl)
 change-own s i a other allowed same = same
 
 command-adds : (s : State) (i : ℕ) (c : Command) → Adds s i (command_step s c)
+command-adds s i (Kill thread) =
+    stays s i (command_step s (Kill thread)) (ap (λ xs. get_or xs i 0) (kill-even (λ (r : Record). r.ticks) (λ r st compensation delivered. refl) s thread)) (command-silent s (Kill thread)).2
 command-adds s i c = stays s i (command_step s c) (kept (λ a. own_ticks a.records i ≡ own_ticks s.records i) (change-own s i) (command-leads s c) refl) (command-silent s c).2
 
 draw-adds : (s : State) (i p d : ℕ) → Adds s i (draw s p d)
@@ -168,7 +171,13 @@ step-adds : (s : State) (i : ℕ) (e : Event) → IsMade e → own_ticks s.recor
 step-adds s i (event.Command command) made space = command-adds s i command
 step-adds s i (event.Preempt p ticks) made space = absurd made
 step-adds s i (event.Overrun p ticks) made space = absurd made
-step-adds s i (event.Wake t) made space = absurd made
+step-adds s i (event.Wake t) made space =
+    unless-adds s i _ (wake s t) (λ _.
+    let ready : Record → Record = λ r. record r { status = status.Ready } in
+    record {
+      own = ap (λ xs. get_or xs i 0) (change-leaves (λ r. r.ticks) s.records t ready (λ r. refl)) ∙ omega (arith, cond-none (0 == suc i));
+      short = omega arith;
+    })
 step-adds s i (event.Draw p d) made space = unless-adds s i _ (draw s p d) (λ _. draw-adds s i p d)
 step-adds s i (event.Expire p) made space =
     unless-adds s i _ (event_effect s (event.Expire p)) (λ e.
@@ -214,9 +223,9 @@ module _ (program : Program) (i : ℕ) where
       console [] = record { own = omega (arith, cond-none (0 == suc i)); short = omega arith; order = order }
       console (c ∷ cs) = of_step (event.Command c) (console_turn program w (c ∷ cs)) tt refl refl
 
-      at : (b : Bool) → AddsTurn w i (if b then console_turn program w w.commands else processor_turn w actor (processor_event w actor))
+      at : (b : Bool) → AddsTurn w i (if b then console_turn program w w.commands else processor_turn w actor (actor_event program w actor))
       at true = console w.commands
-      at false = of_step (processor_event w actor) (processor_turn w actor (processor_event w actor)) (turn-made w actor) refl refl
+      at false = of_step (actor_event program w actor) (processor_turn w actor (actor_event program w actor)) (actor-made program w actor) refl refl
 
   run-adds : (w : World) (k : ℕ) (actors : List ℕ) → IsInOrder w.state → own_ticks w.state.records i ≤ k * 1000 → k + length actors < 2 ^ 32
       → own_ticks (system_after program w actors).state.records i ≡ own_ticks w.state.records i + sum_by (λ (turn : ActorTurn). part_of i turn.answer) (beside actors (system_answers program w actors))

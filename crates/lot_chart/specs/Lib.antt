@@ -18,3 +18,5 @@ pub mod Samples
 pub mod Shown
 -- The stretches of a program's turns.
 pub mod Noted
+-- The definitions that a proof unfolds to compute an output on literals.
+pub mod OnLiterals

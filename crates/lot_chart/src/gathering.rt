@@ -1,5 +1,5 @@
 //! Making the turns of a program for its curves.
-ghost use Rattle.std.specs.Prelude.{◌≡◌, ◌+◌, ◌*◌, ◌^◌, ◌<◌, ◌≤◌, [], IfOk, OnOk, ⊤, length, vec_len};
+ghost use Rattle.std.specs.Prelude.{◌≡◌, ◌+◌, ◌*◌, ◌^◌, ◌<◌, ◌≤◌, [], None, IfOk, OnOk, ⊤, length, vec_len};
 ghost use Rattle.std.specs.Fmt.{decimal};
 ghost use Rattle.lot_machine.specs.Bounds.{IsBetween};
 ghost use Rattle.lot_curves.specs.Curves.{curves_of, name_in, names_in};
@@ -56,7 +56,7 @@ impl Observer for Stretches {
 
 /// The time at which the system's last turn ended: its own time, or, if it has none, its actor's own time.
 fn end_of(system: &System, turn: &Turn) -> u64
-    requires { turn.now.actor ≤ system.now.setting.program.limits.processors }
+    requires { turn.now.time ≡ None → turn.now.actor ≤ system.now.setting.program.limits.processors }
     ensures end { result ≡ end_in system.now turn.now.time turn.now.actor }
     ensures early { result ≤ (length system.now.history + 1) * 2 ^ 32 }
 {

@@ -24,7 +24,7 @@ pub fn pictures()
 
 /// Thread 1 ends at tick 2. At tick 3 it is removed, and thread 3 gets its name. The removed thread keeps its column,
 /// with its number as the name, and the ticks that it ran.
-#[tactic(auto, unfolding(lot_simulation::specs::OnLiterals::texts_on_literals, lot_simulation::specs::Timed::timed_room))]
+#[tactic(auto, unfolding(crate::specs::OnLiterals::outputs_on_literals))]
 pub fn removed()
     ensures { shares_output Ticks (text (codes "lottery 3" ∷ codes "quantum 10" ∷ codes "for 6" ∷ codes "script short"
         ∷ codes "compute 1" ∷ codes "endscript" ∷ codes "fundx 1 base a short" ∷ codes "at 3" ∷ codes "unfund 1"

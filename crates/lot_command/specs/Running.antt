@@ -5,7 +5,7 @@ use Rattle.lot_simulation.specs.declared.input.InputFault.{InputFault}
 use Rattle.lot_simulation.specs.Grammar.{program_in}
 use Rattle.lot_simulation.specs.Output.{end_text}
 use Rattle.lot_simulation.specs.Texts.{fault_line}
-use Rattle.lot_simulation.specs.World.{Program}
+use Rattle.lot_simulation.specs.World.{Program, without_time}
 use Rattle.lot_io.specs.Watching.{Watch}
 use Rattle.lot_processors.specs.Workers.{IsFreeRun}
 use Rattle.lot_play.specs.declared.inputs.Played.{Played}
@@ -15,6 +15,11 @@ use Rattle.lot_io.specs.Reading.{HasRead}
 use Rattle.lot_io.specs.Writing.{Begins, IsFaultOf}
 use Rattle.lot_command.specs.declared.run.InputRunFault.{InputRunFault}
 use Rattle.lot_command.specs.declared.run.InputRunFault.TheVariants.{Play, Workers}
+
+-- the program in the bytes as a run takes it, without time
+abbrev pub timeless : Result Program InputFault → Result Program InputFault
+timeless (Ok program) = Ok (without_time program)
+timeless (Err fault) = Err fault
 
 -- The report of a free run of the program was written, and lines that reproduce its history; or the line for a
 -- refused input.
@@ -42,7 +47,7 @@ Runs input contents old new result = EndsRun input (contents old.inner) (content
 -- The effect of a fault: on Write a beginning of the output of a free run of the input was written, otherwise nothing
 -- was.
 abbrev pub HasLeft : Option (List ℕ) → Option (List ℕ) → Option (List ℕ) → Option (List ℕ) → InputRunFault → Type 0
-HasLeft left rest old new (Play Write) = (bytes : List ℕ) × HasRead left rest bytes × HasBegun (program_in bytes) old new
+HasLeft left rest old new (Play Write) = (bytes : List ℕ) × HasRead left rest bytes × HasBegun (timeless (program_in bytes)) old new
 HasLeft left rest old new other = Keeps old new
 
 -- `HasLeft` for a watched reader and a watched writer

@@ -3,7 +3,7 @@ ghost use Rattle.std.specs.Prelude.{◌≡◌, ℕ, List, false, true, IfErr, If
 ghost use Rattle.lot_simulation.specs.Grammar.{program_in};
 ghost use Rattle.lot_io.specs.Reading.{Reads};
 ghost use Rattle.lot_play.specs.declared.inputs.Played.TheVariants.{Done};
-ghost use Rattle.lot_command.specs.Running.{HasRun, IsStopOf, RunLeaves, Runs};
+ghost use Rattle.lot_command.specs.Running.{HasRun, IsStopOf, RunLeaves, Runs, timeless};
 
 use crate::diagnostics::Diagnostics;
 use lot_io::{IoFault, Watched, read_input};
@@ -42,7 +42,7 @@ pub(crate) fn run<R: Read, W: Write, H: Threads + Wait + Sync>(
     ensures flushed { OnOk result (writer.new.flushed ≡ true) }
     ensures stop { IfErr result (λ stop. IsStopOf stop reader.new.failed writer.new.failed) }
     ensures output { IfOk result (λ played. (bytes : List ℕ) × Reads R.remaining reader.old reader.new bytes
-        × HasRun (program_in bytes) (W.contents writer.old.inner) (W.contents writer.new.inner) played) }
+        × HasRun (timeless (program_in bytes)) (W.contents writer.old.inner) (W.contents writer.new.inner) played) }
     ensures fault { IfErr result
         (λ stop. RunLeaves R.remaining reader.old reader.new W.contents writer.old writer.new stop) }
 {
@@ -77,10 +77,13 @@ pub fn run_bytes<W: Write, H: Threads + Wait + Sync>(
 ) -> Result<Played, InputRunFault>
     requires { writer.old.failed ≡ false }
     ensures flushed { OnOk result (writer.new.flushed ≡ true) }
-    ensures run { Runs (program_in bytes.now) W.contents writer.old writer.new result }
+    ensures run { Runs (timeless (program_in bytes.now)) W.contents writer.old writer.new result }
 {
     match parse(alloc, bytes) {
-        Ok(program) => run_program(rt, alloc, &program, warnings, writer),
+        Ok(program) => match program.without_time(alloc) {
+            Ok(program) => run_program(rt, alloc, &program, warnings, writer),
+            Err(_) => Err(InputRunFault::Play(IoFault::Memory)),
+        },
         Err(ParseFault::Memory) => Err(InputRunFault::Play(IoFault::Memory)),
         Err(ParseFault::Input(fault)) => match refuse(fault, writer) {
             Ok(played) => Ok(played),

@@ -25,7 +25,7 @@ use Rattle.lot_machine.proofs.Changes.{number-push, number-set}
 use Rattle.lot_machine.proofs.CommandsKept.{all-pass, unrefused}
 use Rattle.lot_machine.proofs.StepChanges.{By, Console, Keeps, by_event, kept, step-leads}
 use Rattle.lot_machine.proofs.Tickets.{at_number-suc, some-injective}
-use Rattle.lot_simulation.specs.World.{Program, Turn, World, console_turn, opening_world, processor_event, processor_turn, system_after, system_run, system_turn}
+use Rattle.lot_simulation.specs.World.{Program, Turn, World, console_turn, opening_world, actor_event, processor_turn, system_after, system_run, system_turn}
 use Rattle.lot_curves.specs.Curves.{name_in}
 
 -- ---- names of threads
@@ -174,8 +174,8 @@ change-threads by s other a (NewThread t) allowed same = absurd (other allowed)
 change-threads by s other a (DropThread t) allowed same = absurd (other allowed.0)
 change-threads by s other a c allowed same = same
 
-work-named : (s : State) (e : Event) → ¬ (by_event e ≡ Console) → AreNamed s.threads → AreNamed (step s e).state.threads
-work-named s e other named = subst AreNamed (sym (kept (λ (a : State). a.threads ≡ s.threads) (change-threads (by_event e) s other) (step-leads s e) refl)) named
+work-named : (s : State) (e : Event) → ¬ (by_event s e ≡ Console) → AreNamed s.threads → AreNamed (step s e).state.threads
+work-named s e other named = subst AreNamed (sym (kept (λ (a : State). a.threads ≡ s.threads) (change-threads (by_event s e) s other) (step-leads s e) refl)) named
 
 step-named : (s : State) (e : Event) → AreNamed s.threads → AreNamed (step s e).state.threads
 step-named s (event.Command c) named = unrefused (λ (a : State). AreNamed a.threads) s (command_refusal s c) (command_effect s c) named (λ e. effect-named s c e named)
@@ -194,9 +194,9 @@ module _ (program : Program) where
   turn-named : (w : World) (actor : ℕ) → AreNamed w.state.threads → AreNamed (system_turn program w actor).world.state.threads
   turn-named w actor named = by (actor == 0)
     where
-      by : (console : Bool) → AreNamed (cond {A = Turn} console (console_turn program w w.commands) (processor_turn w actor (processor_event w actor))).world.state.threads
+      by : (console : Bool) → AreNamed (cond {A = Turn} console (console_turn program w w.commands) (processor_turn w actor (actor_event program w actor))).world.state.threads
       by true = console-named w w.commands named
-      by false = step-named w.state (processor_event w actor) named
+      by false = step-named w.state (actor_event program w actor) named
 
   after-named : (w : World) (actors : List ℕ) → AreNamed w.state.threads → AreNamed (system_after program w actors).state.threads
   after-named w [] named = named

@@ -1,5 +1,5 @@
 -- What is counted with one turn more.
-use Rattle.std.proofs.Common.{◌≡◌, ◌≢◌, ℕ, ◌+◌, ◌==◌, Bool, true, false, cond, List, [], ◌∷◌, ◌++◌, length, refl, sym, ◌∙◌, ap, subst, length-append, eq-eqb, ne_eqb}
+use Rattle.std.proofs.Common.{◌≡◌, ◌≢◌, ℕ, ◌+◌, ◌*◌, ◌<◌, ◌≤◌, ◌==◌, Bool, true, false, cond, List, [], ◌∷◌, ◌++◌, length, refl, sym, ◌∙◌, ap, subst, arith, length-append, eq-eqb, ne_eqb}
 use Rattle.std.proofs.lemmas.List.Sums.{sum_by_push}
 use Rattle.lot_machine.specs.declared.event.Event.{Event}
 use Rattle.lot_machine.specs.declared.reply.Reply.{Reply}
@@ -47,6 +47,16 @@ module _ (turns : List ActorTurn) (actor : ℕ) (e : Event) (r : Reply) where
       let idles = sum_by_push (λ t. count_in idles_in t.answer) turns (record { actor = actor; answer = Answered e r }) in
       let ticks = sum_by_push (λ t. count_in ticks_in t.answer) turns (record { actor = actor; answer = Answered e r }) in
       rw is (λ i. record { turns = sym longer i; quanta = sym quanta i; idles = sym idles i; ticks = sym ticks i })
+
+-- a turn of an actor without counters leaves those of the others
+pub each-other : (turns : List ActorTurn) (n : ℕ) (counts : List Counts) (turn : ActorTurn) → length counts ≤ turn.actor → AreCounts turns n counts → AreCounts (turns ++ turn ∷ []) (n + 1) counts
+each-other turns n counts turn past are actor d below =
+    let now = are actor d below in
+    let apart : turn.actor ≢ actor = λ same. omega (arith, past, below, same) in
+    record {
+      exact = now.exact ∙ ap counted (sym (turns_of-other actor turns turn apart));
+      small = record { turns = omega (arith, now.small.turns); quanta = omega (arith, now.small.quanta); idles = omega (arith, now.small.idles); ticks = omega (arith, now.small.ticks) };
+    }
 
 -- ---- one turn more, as callers of `turn` know it: the sums of all turns, and those of each actor
 

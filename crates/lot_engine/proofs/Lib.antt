@@ -11,4 +11,5 @@ pub mod CountFacts
 pub mod PlayingFacts
 pub mod WorkFacts
 pub mod Openings
+pub mod WakeFacts
 pub mod OneMore

@@ -1,27 +1,31 @@
 -- What holds of a system's fields, with one turn more.
-use Rattle.std.proofs.Common.{◌≡◌, ℕ, ◌+◌, ◌<◌, ◌≤◌, ◌==◌, Bool, List, [], ◌∷◌, ◌++◌, length, refl, ◌∙◌, arith}
+use Rattle.std.proofs.Common.{◌≡◌, ℕ, ◌+◌, ◌<◌, ◌≤◌, ◌==◌, Bool, true, false, List, [], ◌∷◌, ◌++◌, length, refl, sym, ◌∙◌, ap, arith}
 use Rattle.std.specs.Prelude.{count_by, is_some}
 use Rattle.lot_machine.specs.declared.event.Event.{Event}
 use Rattle.lot_machine.specs.declared.reply.Reply.{Reply}
+use Rattle.lot_machine.specs.declared.event.Event.TheVariants as event
 use Rattle.lot_machine.specs.State.{State}
+use Rattle.lot_machine.specs.Step.{step}
 use Rattle.lot_simulation.specs.Report.{turns_made}
-use Rattle.lot_simulation.specs.World.{IsLegal, Program, system_turn, system_run}
+use Rattle.lot_simulation.specs.World.{IsLegal, IsLegalInTime, Program, system_turn, system_run}
 use Rattle.lot_simulation.specs.World.Answer.{Answered}
 use Rattle.lot_script.specs.Places.{Place}
 use Rattle.lot_text.specs.Programs.{IsProgram}
 use Rattle.lot_engine.specs.declared.counts.Counts.{Counts}
 use Rattle.lot_engine.specs.Counted.{AreCounts, IsCount, IsSmall, counted_with}
 use Rattle.lot_engine.specs.Held.{IsHeld}
-use Rattle.lot_engine.proofs.CountFacts.{each-after, total-after}
+use Rattle.lot_engine.proofs.CountFacts.{each-after, each-other, total-after}
+use Rattle.lot_engine.proofs.WakeFacts.{wake-answer, wake-held}
 use Rattle.lot_engine.proofs.Runs.{system_run-one_more, past-more}
-use Rattle.lot_engine.proofs.TurnFacts.{count-console, count-processor, legal-more}
+use Rattle.lot_engine.proofs.TurnFacts.{count-console, count-processor, in_time-more, legal-more}
 
 -- The invariant of a system: `seeded` and `counted` are how many generators and counters it has, and `spots` and
 -- `turns` for how many threads and turns it has room.
-abbrev pub Holds : Program → ℕ → Bool → List ℕ → State → List Place → List ℕ → ℕ → ℕ → List Counts → ℕ → Counts → ℕ → ℕ → Type 0
-Holds input room wide history state places generators seeded spent each counted total spots turns = record {
+abbrev pub Holds : Program → ℕ → Bool → Bool → List ℕ → State → List Place → List ℕ → ℕ → ℕ → List Counts → ℕ → Counts → ℕ → ℕ → Type 0
+Holds input room wide timer history state places generators seeded spent each counted total spots turns = record {
   program : IsProgram input;
-  legal : IsLegal input room history;
+  legal : timer ≡ false → IsLegal input room history;
+  in_time : IsLegalInTime input room history;
   held : IsHeld input (system_run input history) state places generators spent;
   generators : seeded ≡ input.limits.processors;
   wide : wide ≡ is_some input.duration;
@@ -34,18 +38,19 @@ Holds input room wide history state places generators seeded spent each counted 
   room : room ≤ turns;
 }
 
-module _ (program : Program) (room : ℕ) (wide : Bool) (history : List ℕ) (s : State) (places : List Place) (generators : List ℕ) (seeded spent : ℕ) (counts : List Counts) (counted : ℕ) (total : Counts) (spots turns : ℕ)
-    (i : Holds program room wide history s places generators seeded spent counts counted total spots turns) (actor : ℕ) (below : length history < room)
+module _ (program : Program) (room : ℕ) (wide timer : Bool) (history : List ℕ) (s : State) (places : List Place) (generators : List ℕ) (seeded spent : ℕ) (counts : List Counts) (counted : ℕ) (total : Counts) (spots turns : ℕ)
+    (i : Holds program room wide timer history s places generators seeded spent counts counted total spots turns) (actor : ℕ) (below : length history < room)
     (e : Event) (r : Reply) (answer : (system_turn program (system_run program history) actor).answer ≡ Answered e r) where
   -- a turn of any actor
-  one-more : IsLegal program room (history ++ actor ∷ []) → (after : State) (now : List Place) (next : List ℕ) (gone : ℕ) → IsHeld program (system_turn program (system_run program history) actor).world after now next gone
+  pub one-more : (timer ≡ false → IsLegal program room (history ++ actor ∷ [])) → IsLegalInTime program room (history ++ actor ∷ []) → (after : State) (now : List Place) (next : List ℕ) (gone : ℕ) → IsHeld program (system_turn program (system_run program history) actor).world after now next gone
       → gone ≡ count_by (λ a. a == 0) (history ++ actor ∷ [])
       → (seeds : ℕ) → seeds ≡ seeded → (each : List Counts) → AreCounts (turns_made program history ++ record { actor = actor; answer = Answered e r } ∷ []) (length history + 1) each → (many : ℕ) → many ≡ counted
       → (sum : Counts) → sum ≡ counted_with total r → IsSmall (length history + 1) sum → (wider longer : ℕ) → wider ≡ spots → longer ≡ turns
-      → Holds program room wide (history ++ actor ∷ []) after now next seeds gone each many sum wider longer
-  one-more legal after now next gone held is seeds seeds-same each exact many many-same sum sum-exact small wider longer wider-same longer-same = record {
+      → Holds program room wide timer (history ++ actor ∷ []) after now next seeds gone each many sum wider longer
+  one-more legal in_time after now next gone held is seeds seeds-same each exact many many-same sum sum-exact small wider longer wider-same longer-same = record {
     program = i.program;
     legal = legal;
+    in_time = in_time;
     held = rw (system_run-one_more program history actor) held;
     generators = seeds-same ∙ i.generators;
     wide = i.wide;
@@ -62,20 +67,38 @@ module _ (program : Program) (room : ℕ) (wide : Bool) (history : List ℕ) (s 
   pub processor-more : 0 < actor → actor ≤ program.limits.processors → (after : State) (now : List Place) (next : List ℕ) → IsHeld program (system_turn program (system_run program history) actor).world after now next spent
       → (seeds : ℕ) → seeds ≡ seeded → (each : List Counts) → AreCounts (turns_made program history ++ record { actor = actor; answer = Answered e r } ∷ []) (length history + 1) each → (many : ℕ) → many ≡ counted
       → (sum : Counts) → sum ≡ counted_with total r → IsSmall (length history + 1) sum → (wider longer : ℕ) → wider ≡ spots → longer ≡ turns
-      → Holds program room wide (history ++ actor ∷ []) after now next seeds spent each many sum wider longer
+      → Holds program room wide timer (history ++ actor ∷ []) after now next seeds spent each many sum wider longer
   processor-more some there after now next held =
       let count = count-processor history actor some in
-      one-more (legal-more program room history actor i.legal there below (omega (arith, count, i.legal.console))) after now next spent held (omega (arith, count, i.spent))
+      one-more (λ none. legal-more program room history actor (i.legal none) there below (omega (arith, count, i.in_time.console))) (in_time-more program room history actor below (omega (arith, count, i.in_time.console))) after now next spent held (omega (arith, count, i.spent))
 
 -- a turn of the console
-module _ (program : Program) (room : ℕ) (wide : Bool) (history : List ℕ) (s : State) (places : List Place) (generators : List ℕ) (seeded spent : ℕ) (counts : List Counts) (counted : ℕ) (total : Counts) (spots turns : ℕ)
-    (i : Holds program room wide history s places generators seeded spent counts counted total spots turns) (below : length history < room)
+module _ (program : Program) (room : ℕ) (wide timer : Bool) (history : List ℕ) (s : State) (places : List Place) (generators : List ℕ) (seeded spent : ℕ) (counts : List Counts) (counted : ℕ) (total : Counts) (spots turns : ℕ)
+    (i : Holds program room wide timer history s places generators seeded spent counts counted total spots turns) (below : length history < room)
     (e : Event) (r : Reply) (answer : (system_turn program (system_run program history) 0).answer ≡ Answered e r) where
   pub console-more : spent < length program.commands → (after : State) (now : List Place) → IsHeld program (system_turn program (system_run program history) 0).world after now generators (spent + 1)
       → (each : List Counts) → AreCounts (turns_made program history ++ record { actor = 0; answer = Answered e r } ∷ []) (length history + 1) each → (many : ℕ) → many ≡ counted
       → (sum : Counts) → sum ≡ counted_with total r → IsSmall (length history + 1) sum → (wider longer : ℕ) → wider ≡ spots → longer ≡ turns
-      → Holds program room wide (history ++ 0 ∷ []) after now generators seeded (spent + 1) each many sum wider longer
+      → Holds program room wide timer (history ++ 0 ∷ []) after now generators seeded (spent + 1) each many sum wider longer
   console-more left after now held =
       let count = count-console history in
-      one-more program room wide history s places generators seeded spent counts counted total spots turns i 0 below e r answer
-      (legal-more program room history 0 i.legal (omega arith) below (omega (arith, count, i.spent, left))) after now generators (spent + 1) held (omega (arith, count, i.spent)) seeded refl
+      one-more program room wide timer history s places generators seeded spent counts counted total spots turns i 0 below e r answer
+      (λ none. legal-more program room history 0 (i.legal none) (omega arith) below (omega (arith, count, i.spent, left))) (in_time-more program room history 0 below (omega (arith, count, i.spent, left))) after now generators (spent + 1) held (omega (arith, count, i.spent)) seeded refl
+
+-- a turn of the timer
+module _ (program : Program) (room : ℕ) (wide timer : Bool) (history : List ℕ) (s : State) (places : List Place) (generators : List ℕ) (seeded spent : ℕ) (counts : List Counts) (counted : ℕ) (total : Counts) (spots turns : ℕ)
+    (i : Holds program room wide timer history s places generators seeded spent counts counted total spots turns) (t : ℕ) (some : 0 < t) (there : timer ≡ true) (below : length history < room) (many : length counts ≤ counted) where
+  pub timer-more : (after : State) (r : Reply) → after ≡ (step s (event.Wake t)).state → r ≡ (step s (event.Wake t)).reply
+      → (sum : Counts) → sum ≡ counted_with total r → IsSmall (length history + 1) sum → (longer : ℕ) → longer ≡ turns
+      → Holds program room wide timer (history ++ (program.limits.processors + t) ∷ []) after places generators seeded spent counts counted sum spots longer
+  timer-more after r state replied sum exact small longer same =
+      let actor : ℕ = program.limits.processors + t in
+      let w = system_run program history in
+      let e : Event = event.Wake t in
+      let count = count-processor history actor (omega (arith, some)) in
+      let replies : r ≡ (step w.state e).reply = replied ∙ ap (λ (x : State). (step x e).reply) i.held.state in
+      one-more program room wide timer history s places generators seeded spent counts counted total spots turns i actor below e r (wake-answer program w t some r replies)
+      (λ none. let never : true ≡ false = sym there ∙ none in cc) (in_time-more program room history actor below (omega (arith, count, i.in_time.console))) after places generators spent
+      (wake-held program w s places generators spent i.held t some after state)
+      (omega (arith, count, i.spent)) seeded refl counts
+      (each-other (turns_made program history) (length history) counts (record { actor = actor; answer = Answered e r }) (omega (arith, many, i.counts, some)) i.each_counted) counted refl sum exact small spots longer refl same

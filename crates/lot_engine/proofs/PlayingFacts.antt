@@ -1,13 +1,9 @@
--- What is written of the turns of a schedule.
-use Rattle.std.proofs.Common.{◌≡◌, ℕ, List, [], ◌∷◌, ◌++◌, codes, refl, sym, ◌∙◌, ap, arith, length-append}
-use Rattle.std.specs.Fmt.{decimal}
+-- The turns of a schedule.
+use Rattle.std.proofs.Common.{◌≡◌, ℕ, List, [], ◌∷◌, ◌++◌, refl, sym, ◌∙◌, ap, arith, length-append}
 use Rattle.lot_machine.specs.declared.event.Event.{Event}
 use Rattle.lot_machine.specs.declared.reply.Reply.{Reply}
-use Rattle.lot_simulation.specs.Output.{answer_text, turn_text}
 use Rattle.lot_simulation.specs.Report.{report}
-use Rattle.lot_simulation.specs.declared.style.LineStyle.{LineStyle}
-use Rattle.lot_simulation.specs.Texts.{front, reply_text}
-use Rattle.lot_simulation.specs.World.{Program, World, Answer, Turn, system_turn, system_run}
+use Rattle.lot_simulation.specs.World.{Program, World, Turn, system_turn, system_run}
 use Rattle.lot_simulation.specs.World.Answer.{Answered}
 use Rattle.lot_engine.specs.Playing.{HasPlayed, IsPlayed, turn_in}
 use Rattle.lot_engine.specs.Seen.{Seen, Setting, world_of, after_turn}
@@ -27,11 +23,6 @@ module _ (old : Seen) (actor : ℕ) (e : Event) (r : Reply) (is : (turn_in old a
         past = λ past. past-more old.setting.program old.history actor e r past is;
         bounded = omega (arith, length-append old.history (actor ∷ []));
       }
-
-  pub text-after : (style : LineStyle) → front style ++ (decimal actor ++ (codes " " ++ reply_text style (world_of (after_turn old actor)).state e r)) ≡ turn_text style actor (turn_in old actor)
-  text-after style =
-      ap (λ (w : World). front style ++ (decimal actor ++ (codes " " ++ reply_text style w.state e r))) world-after
-      ∙ ap (λ (a : Answer). front style ++ (decimal actor ++ (codes " " ++ answer_text style (turn_in old actor).world.state a))) (sym is)
 
 -- ---- turns one after another
 

@@ -7,7 +7,7 @@ use Rattle.lot_machine.specs.declared.record.Record.{Record}
 use Rattle.lot_machine.specs.declared.record.Status.{Status}
 use Rattle.lot_machine.specs.declared.action.Action.{Action}
 use Rattle.lot_machine.specs.declared.command.Command.{Command}
-use Rattle.lot_machine.specs.declared.command.Command.TheVariants.{MakeThread, RemoveThread, MakeFunded}
+use Rattle.lot_machine.specs.declared.command.Command.TheVariants.{MakeThread, RemoveThread, Kill, MakeFunded}
 use Rattle.lot_machine.specs.declared.event.Event.TheVariants as event
 use Rattle.lot_machine.specs.declared.refusal.Refusal.{Refusal}
 use Rattle.lot_machine.specs.declared.refusal.Refusal.TheVariants.{BadName, NameTaken, NoCurrency, BadAmount, Full, NoScript}
@@ -18,6 +18,7 @@ use Rattle.lot_machine.specs.State.{State, status_of, ready_threads, weight_of}
 use Rattle.lot_machine.specs.Commands.{Step, is_bad_amount, is_good_name, is_taken, is_no_script, are_tickets_full, are_threads_full, currency_meant, thread_meant, with_thread, command_refusal, command_effect, command_step, unless_refused}
 use Rattle.lot_machine.specs.Step.{draw, thread_there, event_refusal, event_effect, step}
 use Rattle.lot_machine.proofs.CommandsKept.{all-pass}
+use Rattle.lot_machine.proofs.StepSizes.{killed-length}
 use Rattle.lot_machine.proofs.Tickets.{at_number-suc}
 use Rattle.lot_simulation.proofs.DrawnThreads.{drawn-numbered}
 use Rattle.lot_engine.specs.Steps.{MakesNone, OneMore, MakesThread, OfDraw, OfRun}
@@ -57,6 +58,8 @@ command-makes s (MakeFunded amount currency name script) =
     record { number = more.number; thread = more.thread; threads = more.threads; records = more.records; script = more.script; limits = more.limits; count = more.count })
 command-makes s (RemoveThread thread) =
     kept-same s (RemoveThread thread) _ (command_effect s (RemoveThread thread)) (unchanged s) (λ _. record { threads = inr (unwrap_or (thread_meant s thread) 0, refl); records = refl; limits = refl })
+command-makes s (Kill thread) =
+    kept-same s (Kill thread) _ (command_effect s (Kill thread)) (unchanged s) (λ _. record { threads = inl refl; records = killed-length s (unwrap_or (thread_meant s thread) 0); limits = refl })
 command-makes s other = kept-same s other (command_refusal s other) (command_effect s other) (unchanged s) (λ _. record { threads = inl refl; records = refl; limits = refl })
 
 -- ---- draws

@@ -1,6 +1,6 @@
 -- The slice of the thread on a processor is never refused, and leaves its place where it moved on.
 use Rattle.std.proofs.Common.{◌≡◌, ℕ, ◌+◌, ◌-◌, ◌<◌, ◌==◌, min, Bool, true, false, Option, Some, None, List, [], length, get_or, option_map, unwrap_or, subst, refl, sym, ◌∙◌, ap, arith, ne_eqb, le-ltb}
-use Rattle.std.specs.Prelude.{nat_lt, is_some, if◌then◌else◌}
+use Rattle.std.specs.Prelude.{nat_lt, is_some, option_and_then, if◌then◌else◌}
 use Rattle.std.specs.Option.{IfSome}
 use Rattle.std.specs.List.{prefix_len}
 use Rattle.std.proofs.lemmas.Bool.{ltb-true}
@@ -20,7 +20,7 @@ use Rattle.lot_machine.specs.State.{State, thread_at}
 use Rattle.lot_machine.specs.Step.{event_effect, event_refusal, step, thread_there, used_there}
 use Rattle.lot_simulation.specs.declared.script.ScriptTrap.{ScriptTrap}
 use Rattle.lot_simulation.specs.Script.{Context, Slice, is_mark, slice}
-use Rattle.lot_simulation.specs.World.{Program, World, action_of, context_of, number_delivered, number_from, seed_from, system_turn, takes_number}
+use Rattle.lot_simulation.specs.World.{Program, World, action_of, context_of, number_delivered, number_from, seed_from, slice_on, sleeper_by, sleeper_on, system_turn, takes_number}
 use Rattle.lot_simulation.specs.World.Answer.{Answered}
 use Rattle.lot_simulation.specs.declared.script.Line.{Line}
 use Rattle.lot_script.specs.Places.{Place, context_at, first_place}
@@ -32,7 +32,7 @@ use Rattle.lot_engine.specs.Held.{script_lines, IsAt, IsHeld}
 use Rattle.lot_engine.specs.Steps.{OfRun, did, event_done, event_given, place_of, places_after, places_received, slice_between}
 use Rattle.lot_engine.specs.Turns.{IsWork, IsWorkIn, IsSliceOf, work_at}
 use Rattle.lot_engine.proofs.PlaceFacts.{number-or, scripted, at-lengths, at-number, delivered-set}
-use Rattle.lot_engine.proofs.TurnFacts.{there-between, turn-answer, turn-held}
+use Rattle.lot_engine.proofs.TurnFacts.{slice-done, there-between, turn-answer, turn-held}
 
 -- ---- what a slice did as an event
 
@@ -186,7 +186,12 @@ module _ (program : Program) (w : World) (s : State) (places : List Place) (seed
     is-exact = exact
 
     pub run-answer : (system_turn program w p).answer ≡ Answered e r
-    run-answer = turn-answer program w s places seeds spent held p between.0 drawn (Some work) (Some given) is-work of is-exact number e its-event after r state replied
+    run-answer = turn-answer program w s places seeds spent held p between.0 between.1 drawn (Some work) (Some given) is-work of is-exact number e its-event after r state replied
+
+    -- who goes to sleep with it
+    pub run-sleeper : sleeper_on w p ≡ sleeper_by running.thread done.trap
+    run-sleeper =
+        ap (option_and_then (λ t. sleeper_by t (slice_on w p t).trap)) is.runs ∙ ap (λ (x : Slice). sleeper_by running.thread x.trap) (slice-done program w p work given work-kept of exact)
 
     runs : Runs running.thread r
     runs =
@@ -205,4 +210,4 @@ module _ (program : Program) (w : World) (s : State) (places : List Place) (seed
         → IsHeld program (system_turn program w p).world after end passed spent
     run-held end passed received numbers =
         let follows : end ≡ places_after places (Some given) r = received ∙ ap (λ ps. places_received ps r) moved ∙ received-after places running.thread given r thread-kept runs in
-        turn-held program w s places seeds spent held p between.0 drawn (Some work) (Some given) is-work of is-exact number e its-event after r state replied end passed follows numbers
+        turn-held program w s places seeds spent held p between.0 between.1 drawn (Some work) (Some given) is-work of is-exact number e its-event after r state replied end passed follows numbers

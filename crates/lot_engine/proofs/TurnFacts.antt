@@ -3,7 +3,7 @@ use Rattle.std.proofs.Common.{◌≡◌, ◌↔◌, ℕ, suc, ◌+◌, ◌-◌, 
 use Rattle.std.specs.Prelude.{if◌then◌else◌, nat_lt, count_by, is_some}
 use Rattle.std.proofs.Math.Seq.{drop-cons}
 use Rattle.std.proofs.Math.ListN.{drop_of_length-le, length-set}
-use Rattle.std.proofs.lemmas.Bool.{ltb-true, ltb-false}
+use Rattle.std.proofs.lemmas.Bool.{le-leb, ltb-true, ltb-false}
 use Rattle.std.proofs.lemmas.List.Sums.{sum_by_push}
 use Rattle.std.proofs.lemmas.List.Elements.{All-push}
 use Rattle.std.specs.Option.{IfSome, option_flatten}
@@ -24,7 +24,7 @@ use Rattle.lot_simulation.specs.Script.{Context, slice}
 use Rattle.lot_machine.specs.State.{State, status_of, thread_at, thread_on, used_by}
 use Rattle.lot_machine.specs.Order.{IsInOrder}
 use Rattle.lot_machine.specs.Step.{step, thread_there, used_there}
-use Rattle.lot_simulation.specs.World.{Program, World, action_of, event_of_slice, generator_of, number_from, seed_from, number_of, context_of, slice_on, processor_event, takes_number, delivered_to, number_delivered, contexts_after, new_contexts, console_turn, processor_turn, system_turn, system_run, IsLegal}
+use Rattle.lot_simulation.specs.World.{Program, World, action_of, event_of_slice, generator_of, number_from, seed_from, number_of, context_of, slice_on, processor_event, takes_number, delivered_to, number_delivered, contexts_after, new_contexts, console_turn, processor_turn, system_turn, system_run, IsLegal, IsLegalInTime}
 use Rattle.lot_simulation.specs.World.Answer.{Answered}
 use Rattle.lot_machine.proofs.RecordsKept.{found-runs}
 use Rattle.lot_script.specs.Drafts.{IsScript}
@@ -42,7 +42,7 @@ use Rattle.lot_engine.proofs.PlaceFacts.{number-or, if-delivered_to, scripted, a
 
 -- ---- what is kept
 
-kept-in : (program : Program) (s after : State) (made : Option ℕ) → IsKept program s → MakesIn s after made → IsKept program after
+pub kept-in : (program : Program) (s after : State) (made : Option ℕ) → IsKept program s → MakesIn s after made → IsKept program after
 kept-in program s after None kept is =
     let long = as-long is.threads in
     let room : length s.threads ≤ after.limits.threads = rw is.limits kept.count in
@@ -115,11 +115,11 @@ module _ (program : Program) (w : World) (s : State) (places : List Place) (seed
 
 -- ---- processors
 
-pub system_turn-processor : (program : Program) (w : World) (p : ℕ) → 0 < p → system_turn program w p ≡ processor_turn w p (processor_event w p)
-system_turn-processor program w p some = let no : (p == 0) ≡ false = ne_eqb p 0 (λ e. omega arith) in rw no refl
+pub system_turn-processor : (program : Program) (w : World) (p : ℕ) → 0 < p → p ≤ program.limits.processors → system_turn program w p ≡ processor_turn w p (processor_event w p)
+system_turn-processor program w p some few = let no : (p == 0) ≡ false = ne_eqb p 0 (λ e. omega arith) in rw (no, le-leb p program.limits.processors few) refl
 
 -- what the thread on a processor does is what the slice of its work does
-slice-done : (program : Program) (w : World) (p : ℕ) (work : Work) (given : Parts) → IsWork program w p work → IsSliceOf program work given → IsSlice given → slice_on w p work.thread ≡ done_of given
+pub slice-done : (program : Program) (w : World) (p : ℕ) (work : Work) (given : Parts) → IsWork program w p work → IsSliceOf program work given → IsSlice given → slice_on w p work.thread ≡ done_of given
 slice-done program w p work given is of exact =
     let context : context_of w work.thread ≡ context_at given.lines given.start =
     sym is.means ∙ ap (λ lines. context_at lines work.place) (sym of.lines) ∙ ap (λ place. context_at given.lines place) (sym of.start) in
@@ -272,7 +272,7 @@ module _ (program : Program) (w : World) (p : ℕ) (threads : List (Option Threa
     slice-follows reply.Done names = absurd names
     slice-follows (reply.List kind) names = absurd names
 
-module _ (program : Program) (w : World) (s : State) (places : List Place) (seeds : List ℕ) (spent : ℕ) (held : IsHeld program w s places seeds spent) (p : ℕ) (some : 0 < p) where
+module _ (program : Program) (w : World) (s : State) (places : List Place) (seeds : List ℕ) (spent : ℕ) (held : IsHeld program w s places seeds spent) (p : ℕ) (some : 0 < p) (few : p ≤ program.limits.processors) where
   module _ (drawn : ℕ) (work : Option Work) (given : Option Parts) (is : IsWorkIn program w p work) (matches : Matches program work given) (exact : IfSome given IsSlice) (number : drawn ≡ number_from (is_some program.duration) (unwrap_or (at_number seeds p) 0)) where
     module _ (e : Event) (event_is : e ≡ event_given p drawn given) (after : State) (r : Reply) (state : after ≡ (step s e).state) (replied : r ≡ (step s e).reply) where
       its-event : processor_event w p ≡ e
@@ -280,7 +280,7 @@ module _ (program : Program) (w : World) (s : State) (places : List Place) (seed
           event-is program w p drawn work given some is matches exact (number ∙ ap (λ (ns : List ℕ). number_from (is_some program.duration) (unwrap_or (at_number ns p) 0)) held.seeds ∙ ap (λ wide. number_from wide (generator_of w p)) (sym held.wide)) ∙ sym event_is
 
       its-turn : system_turn program w p ≡ processor_turn w p e
-      its-turn = system_turn-processor program w p some ∙ ap (processor_turn w p) its-event
+      its-turn = system_turn-processor program w p some few ∙ ap (processor_turn w p) its-event
 
       pub turn-answer : (system_turn program w p).answer ≡ Answered e r
       turn-answer = rw (its-turn, replied, held.state) refl
@@ -341,6 +341,12 @@ count-processor history p some =
     let no : (p == 0) ≡ false = ne_eqb p 0 (λ e. omega arith) in
     let none : count_by (λ a. a == 0) (p ∷ []) ≡ 0 = rw no refl in
     omega (arith, count-more history p, none)
+
+pub in_time-more : (program : Program) (room : ℕ) (history : List ℕ) (actor : ℕ) → length history < room
+    → count_by (λ a. a == 0) (history ++ actor ∷ []) ≤ length program.commands → IsLegalInTime program room (history ++ actor ∷ [])
+in_time-more program room history actor below left =
+    let longer = length-append history (actor ∷ []) in
+    record { within_room = omega (arith, longer, below); console = left }
 
 pub legal-more : (program : Program) (room : ℕ) (history : List ℕ) (actor : ℕ) → IsLegal program room history → actor ≤ program.limits.processors → length history < room
     → count_by (λ a. a == 0) (history ++ actor ∷ []) ≤ length program.commands → IsLegal program room (history ++ actor ∷ [])

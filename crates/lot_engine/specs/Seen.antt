@@ -1,15 +1,16 @@
 -- A system as its contracts see it.
-use Rattle.std.specs.Prelude.{◌≡◌, ℕ, ◌==◌, true, List, [], ◌∷◌, ◌++◌, count_by, is_some, length}
+use Rattle.std.specs.Prelude.{◌≡◌, ℕ, ◌+◌, ◌==◌, Bool, true, List, [], ◌∷◌, ◌++◌, count_by, is_some, length}
 use Rattle.lot_machine.specs.declared.command.Kind.{Kind}
 use Rattle.lot_machine.specs.declared.command.Kind.TheVariants.{Tickets, Currencies, Threads}
 use Rattle.lot_machine.specs.Rows.{thread_row}
 use Rattle.lot_machine.specs.State.{State}
 use Rattle.lot_simulation.specs.World.{Program, World, system_run}
 
--- a system's program, and its room for turns
+-- a system's program, its room for turns, and whether a timer takes part: in a timed play
 pub record Setting : Type 0 where
   pub program : Program
   pub room : ℕ
+  pub timer : Bool
 
 -- a system's program and room, and the actors of its turns so far
 pub record Seen : Type 0 where
@@ -23,6 +24,10 @@ world_of seen = system_run seen.setting.program seen.history
 -- the number of commands that a system has made
 abbrev pub commands_made : Seen → ℕ
 commands_made seen = count_by (λ actor. actor == 0) seen.history
+
+-- the timer as the actor that wakes this thread
+abbrev pub timer_for : Setting → ℕ → ℕ
+timer_for setting t = setting.program.limits.processors + t
 
 -- the system after one more turn
 abbrev pub after_turn : Seen → ℕ → Seen

@@ -1,6 +1,6 @@
 //! The system.
 ghost use Rattle.std.specs.Prelude.{◌≡◌, ◌↔◌, ◌<◌, ◌≤◌, ◌*◌, ◌^◌, [], ◌∷◌, ◌++◌, All, IfOk, IfErr};
-ghost use Rattle.std.specs.Prelude.{IsFalse, IsTrue, Some, None, false, length, vec_len, vec_capacity};
+ghost use Rattle.std.specs.Prelude.{IsFalse, IsTrue, Some, None, false, true, length, vec_len, vec_capacity};
 ghost use Rattle.lot_machine.specs.Bounds.{IsBetween};
 ghost use Rattle.lot_machine.specs.Lends.{is_live};
 ghost use Rattle.lot_machine.specs.Mutexes.{mutex_at};
@@ -8,11 +8,11 @@ ghost use Rattle.lot_machine.specs.Rows as rows;
 ghost use Rattle.lot_machine.specs.State.{live_of, sizes_of};
 ghost use Rattle.lot_simulation.specs.Formats.{unit_of};
 ghost use Rattle.lot_simulation.specs.World.Answer.{Answered};
-ghost use Rattle.lot_simulation.specs.World.{IsLegal, system_turn};
+ghost use Rattle.lot_simulation.specs.World.{IsLegal, sleeper_on, system_turn};
 ghost use Rattle.lot_simulation.specs.Report.{ticks_in, total_of, turns_made, turns_of};
 ghost use Rattle.lot_engine.specs.Counted.{counted};
 ghost use Rattle.lot_engine.specs.Playing.{IsPlayed, turn_in};
-ghost use Rattle.lot_engine.specs.Seen.{HasRow, after_turn, commands_made, given_count, world_of};
+ghost use Rattle.lot_engine.specs.Seen.{HasRow, after_turn, commands_made, given_count, timer_for, world_of};
 ghost use Rattle.lot_script.specs.Places.{Place as PlaceRecord};
 ghost use Rattle.lot_engine.specs.Turns.{Answers, Faults, Goes, IfStale, IsEnded, IsFresh, IsWorkOf, Prevents, work_at};
 
@@ -22,7 +22,9 @@ use crate::generators::{generators_of, next_event};
 use crate::known::known;
 use crate::places::{follow_command, follow_turn, pass_slice, places_for, receive};
 use crate::slices::script_numbered;
-use crate::turn::{Answer, KeptWork, Running, TurnFaultKind, Work, done_in, matches_work};
+use crate::turn::{
+    Answer, KeptWork, Running, TurnFaultKind, Work, done_in, matches_work, sleeper_by,
+};
 use lot_draw::ParkMiller;
 use lot_kernel::Kernel;
 use lot_machine::{
@@ -30,7 +32,7 @@ use lot_machine::{
     ThreadRow, TicketNumber, TicketRow, index_of,
 };
 use lot_script::{Place, Slice};
-use lot_simulation::Format;
+use lot_simulation::{Format, Sleeper};
 use lot_text::Program;
 use std::alloc::{AllocError, Global};
 use std::marker::Model;
@@ -50,12 +52,14 @@ pub struct System {
     is_wide: bool,
     /// Each thread's place in its script.
     places: Vec<Place>,
-    history: Vec<u8>,
+    history: Vec<u16>,
     /// The counters of each actor, the console first.
     counts: Vec<Counts>,
     /// The counters over all actors.
     total: Counts,
     room: u32,
+    /// Whether a timer takes part.
+    has_timer: bool,
 }
 
 impl Drop for System {
@@ -72,14 +76,15 @@ impl Drop for System {
             counts: _,
             total: _,
             room: _,
+            has_timer: _,
         } = self;
     }
 }
 
 impl Model for System {
-    ghost use Rattle.std.specs.Prelude.{◌≡◌, ◌==◌, ◌+◌, ◌≤◌, All, count_by, is_some, length, vec_len, vec_capacity};
+    ghost use Rattle.std.specs.Prelude.{◌≡◌, ◌==◌, ◌+◌, ◌≤◌, false, All, count_by, is_some, length, vec_len, vec_capacity};
     ghost use Rattle.lot_simulation.specs.Report.{turns_made};
-    ghost use Rattle.lot_simulation.specs.World.{IsLegal, system_run};
+    ghost use Rattle.lot_simulation.specs.World.{IsLegal, IsLegalInTime, system_run};
     ghost use Rattle.lot_text.specs.Programs.{IsProgram};
     ghost use Rattle.lot_engine.specs.Seen.{Seen};
     ghost use Rattle.lot_engine.specs.Counted.{AreCounts, IsCount};
@@ -87,11 +92,15 @@ impl Model for System {
 
     ghost Value = { Seen };
 
-    ghost view = { λ s. record { setting = record { program = s.program; room = s.room }; history = s.history.items } };
+    ghost view = { λ s. record {
+      setting = record { program = s.program; room = s.room; timer = s.has_timer };
+      history = s.history.items;
+    } };
 
     ghost invariant = { λ s. record {
       program : IsProgram s.program;
-      legal : IsLegal s.program s.room s.history.items;
+      legal : s.has_timer ≡ false → IsLegal s.program s.room s.history.items;
+      in_time : IsLegalInTime s.program s.room s.history.items;
       held : IsHeld s.program
           (system_run s.program s.history.items) s.kernel.state s.places.items s.generators.items s.spent;
       generators : vec_len s.generators ≡ s.program.limits.processors;
@@ -107,11 +116,32 @@ impl Model for System {
 }
 
 impl System {
-    /// A system of this program with room for this many turns. It allocates all the memory that the system will ever
-    /// use, and fails only if out of memory.
+    /// A system of this program with room for this many turns, without a timer. It allocates all the memory that the
+    /// system will ever use, and fails only if out of memory.
     pub fn open(alloc: Global, program: &Program, room: u32) -> Result<System, AllocError>
         ensures { IfOk result (λ s. s
-            ≡ record { setting = record { program = program.now; room = room }; history = [] }) }
+            ≡ record { setting = record { program = program.now; room = room; timer = false }; history = [] }) }
+    {
+        System::open_with(alloc, program, room, false)
+    }
+
+    /// The same with a timer, which wakes threads, for a timed play.
+    pub fn open_timed(alloc: Global, program: &Program, room: u32) -> Result<System, AllocError>
+        ensures { IfOk result (λ s. s
+            ≡ record { setting = record { program = program.now; room = room; timer = true }; history = [] }) }
+    {
+        System::open_with(alloc, program, room, true)
+    }
+
+    /// A system of this program with room for this many turns, with or without a timer.
+    fn open_with(
+        alloc: Global,
+        program: &Program,
+        room: u32,
+        has_timer: bool,
+    ) -> Result<System, AllocError>
+        ensures { IfOk result (λ s. s
+            ≡ record { setting = record { program = program.now; room = room; timer = has_timer }; history = [] }) }
     {
         let limits = program.limits();
         Ok(System {
@@ -125,6 +155,7 @@ impl System {
             counts: no_counts(alloc, limits.processors as usize + 1)?,
             total: Counts::NONE,
             room,
+            has_timer,
         })
     }
 
@@ -136,10 +167,11 @@ impl System {
         self.program.limits().processors
     }
 
-    /// The actors of the turns so far.
-    pub fn history(&self) -> &[u8]
+    /// The actors of the turns so far. The timer stands as P + t, with P processors, for a wake of thread t.
+    pub fn history(&self) -> &[u16]
         ensures items { result.now ≡ self.now.history }
-        ensures legal { IsLegal self.now.setting.program self.now.setting.room self.now.history }
+        ensures legal { self.now.setting.timer ≡ false
+            → IsLegal self.now.setting.program self.now.setting.room self.now.history }
         ensures room { self.now.setting.room < 2 ^ 32 }
     {
         known(self.room);
@@ -150,7 +182,8 @@ impl System {
     #[inline(always)]
     pub fn work(&self, actor: u32) -> Option<Work>
         ensures work { IsWorkOf self.now actor result }
-        ensures legal { IsLegal self.now.setting.program self.now.setting.room self.now.history }
+        ensures legal { self.now.setting.timer ≡ false
+            → IsLegal self.now.setting.program self.now.setting.room self.now.history }
     {
         known(self.spent);
         Some(self.kept_work(actor)?.copied())
@@ -185,7 +218,8 @@ impl System {
             × Answers self.old actor answer) }
         ensures err { IfErr result (λ fault. Faults self.old actor slice.entry fault × (self.new ≡ self.old)) }
         ensures stale { IfErr result (λ fault. IfStale fault (¬ IsFresh self.old actor slice.entry)) }
-        ensures legal { IsLegal self.new.setting.program self.new.setting.room self.new.history }
+        ensures legal { self.old.setting.timer ≡ false
+            → IsLegal self.new.setting.program self.new.setting.room self.new.history }
     {
         let mut event = Event::Expire(actor);
         match self.try_turn(actor, &slice, &mut event) {
@@ -213,7 +247,8 @@ impl System {
         ensures ok { IfOk result (λ reply. Goes self.old actor slice.now × (self.new ≡ after_turn self.old actor)
             × ((system_turn self.old.setting.program (world_of self.old) actor).answer ≡ Answered event.new reply)) }
         ensures err { IfErr result (λ why. Prevents self.old actor slice.now why × (self.new ≡ self.old)) }
-        ensures legal { IsLegal self.new.setting.program self.new.setting.room self.new.history }
+        ensures legal { self.old.setting.timer ≡ false
+            → IsLegal self.new.setting.program self.new.setting.room self.new.history }
     {
         let work = self.kept_work(actor);
         if !matches_work(&self.program, &work, slice) {
@@ -231,28 +266,56 @@ impl System {
     }
 
     /// Makes the actor's next turn with the slice of its own work, while the history has room, and stores its event
-    /// and the kernel's reply in `event` and `reply`: as parts of the result they would be copied at each return.
+    /// and the kernel's reply in `event` and `reply`: as parts of the result they would be copied at each return. It
+    /// stores in `sleeper` the thread that goes to sleep with a processor's turn, if one does.
     /// Returns whether it made a turn. It makes none if the actor is the console and no command remains; the system
     /// is unchanged then. It allocates no memory.
     #[inline(always)]
-    pub fn next_turn(&mut self, actor: u32, event: &mut Event, reply: &mut Reply) -> bool
+    pub fn next_turn(
+        &mut self,
+        actor: u32,
+        event: &mut Event,
+        reply: &mut Reply,
+        sleeper: &mut Option<Sleeper>,
+    ) -> bool
         requires there { actor ≤ self.old.setting.program.limits.processors }
         requires room { length self.old.history < self.old.setting.room }
         ensures made { IsTrue result → (self.new ≡ after_turn self.old actor)
             × ((turn_in self.old actor).answer ≡ Answered event.new reply.new) }
         ensures ended { IsFalse result → IsEnded self.old actor × (self.new ≡ self.old) }
         ensures played { IsPlayed self.old actor self.new }
+        ensures sleeper { IsTrue result → 0 < actor → sleeper.new ≡ sleeper_on (world_of self.old) actor }
     {
         if self.is_ended(actor) {
             return false;
         }
         let Some(work) = self.kept_work(actor) else {
+            *sleeper = None;
             self.make_turn(actor, &None, event, reply);
             return true;
         };
         let running = work.running();
-        self.run_turn(actor, running, event, reply);
+        self.run_turn(actor, running, event, reply, sleeper);
         true
+    }
+
+    /// Makes the turn of the timer in which it wakes this thread, while the history has room, and stores its event
+    /// and the kernel's reply in `event` and `reply`. It allocates no memory.
+    pub fn wake(&mut self, thread: u32, event: &mut Event, reply: &mut Reply)
+        requires timer { self.old.setting.timer ≡ true }
+        requires there { IsBetween 1 self.old.setting.program.limits.threads thread }
+        requires room { length self.old.history < self.old.setting.room }
+        ensures seen { self.new ≡ after_turn self.old (timer_for self.old.setting thread) }
+        ensures answer { (turn_in self.old (timer_for self.old.setting thread)).answer
+            ≡ Answered event.new reply.new }
+        ensures played { IsPlayed self.old (timer_for self.old.setting thread) self.new }
+    {
+        *event = Event::Wake { thread };
+        self.kernel.answer(event, reply);
+        let told = *reply;
+        self.total.add_turn(told);
+        let actor = self.program.limits().processors + thread;
+        remember(&mut self.history, actor);
     }
 
     /// Whether the actor is the console and no command remains.
@@ -322,16 +385,25 @@ impl System {
     /// Makes the slice of the thread that runs on the processor. It advances the thread's place in the system's
     /// table.
     #[inline(always)]
-    fn run_turn(&mut self, actor: u32, running: Running, event: &mut Event, reply: &mut Reply)
+    fn run_turn(
+        &mut self,
+        actor: u32,
+        running: Running,
+        event: &mut Event,
+        reply: &mut Reply,
+        sleeper: &mut Option<Sleeper>,
+    )
         requires actor { IsBetween 1 self.old.setting.program.limits.processors actor }
         requires runs { (place : PlaceRecord) × IsWorkOf self.old actor (Some (work_at running place)) }
         requires room { length self.old.history < self.old.setting.room }
         ensures seen { self.new ≡ after_turn self.old actor }
         ensures answer { (system_turn self.old.setting.program (world_of self.old) actor).answer
             ≡ Answered event.new reply.new }
+        ensures sleeper { sleeper.new ≡ sleeper_on (world_of self.old) actor }
     {
         let script = script_numbered(&self.program, running.script);
         let done = pass_slice(&mut self.places, script, running.thread, running.budget);
+        *sleeper = sleeper_by(running.thread, done.trap);
         next_event(&mut self.generators, actor, self.is_wide, Some(done), event);
         self.kernel.answer(event, reply);
         let told = *reply;
@@ -473,11 +545,11 @@ impl System {
 
 /// Appends the actor to the history, which has room for it.
 #[inline(always)]
-fn remember(history: &mut Vec<u8>, actor: u32)
-    requires small { actor < 256 }
+fn remember(history: &mut Vec<u16>, actor: u32)
+    requires small { actor < 65536 }
     requires room { vec_len history.old < vec_capacity history.old }
     ensures items { history.new.items ≡ history.old.items ++ actor ∷ [] }
     ensures capacity { vec_capacity history.new ≡ vec_capacity history.old }
 {
-    history.push_reserved(actor as u8);
+    history.push_reserved(actor as u16);
 }

@@ -9,7 +9,7 @@ ghost use Rattle.lot_engine.specs.Turns.{IsSliceOf, Matches, work_at};
 use crate::slices::script_numbered;
 use lot_machine::{Action, Event, Reply};
 use lot_script::{Place, Slice};
-use lot_simulation::{MutexTrap, PortTrap, ScriptTrap};
+use lot_simulation::{MutexTrap, PortTrap, ScriptTrap, Sleeper};
 use lot_text::Program;
 use std::marker::Model;
 
@@ -184,7 +184,19 @@ fn action_of(trap: ScriptTrap, accumulator: u32, drawn: u128) -> Action
         ScriptTrap::AtPort(PortTrap::Serve, port) => Action::Serve(port, accumulator),
         ScriptTrap::OnMutex(MutexTrap::Lock, mutex) => Action::Lock(mutex),
         ScriptTrap::OnMutex(MutexTrap::Unlock, mutex) => Action::Unlock(mutex, drawn),
+        ScriptTrap::Sleep(_) => Action::Sleep,
         ScriptTrap::Exit => Action::Exit,
+    }
+}
+
+/// The thread as one that goes to sleep, if this is its trap and a sleep.
+#[inline(always)]
+pub(crate) fn sleeper_by(thread: u32, trap: Option<ScriptTrap>) -> Option<Sleeper>
+    ensures { result ≡ world.sleeper_by thread trap }
+{
+    match trap {
+        Some(ScriptTrap::Sleep(ticks)) => Some(Sleeper { thread, ticks }),
+        _ => None,
     }
 }
 

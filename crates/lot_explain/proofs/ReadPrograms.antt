@@ -5,7 +5,7 @@ use Rattle.std.specs.Str.{bytes_eq}
 use Rattle.std.proofs.lemmas.Bool.{leb-false, ltb-false, or_parts}
 use Rattle.std.proofs.lemmas.List.Elements.{All-nil, All-push}
 use Rattle.lot_machine.specs.declared.command.Command.{Command}
-use Rattle.lot_machine.specs.declared.command.Command.TheVariants.{MakeTicket, RemoveTicket, MakeCurrency, RemoveCurrency, Fund, Unfund, SetTicket, MakeThread, RemoveThread, MakeFunded, List as Listing}
+use Rattle.lot_machine.specs.declared.command.Command.TheVariants.{MakeTicket, RemoveTicket, MakeCurrency, RemoveCurrency, Fund, Unfund, SetTicket, MakeThread, RemoveThread, Kill, MakeFunded, List as Listing}
 use Rattle.lot_machine.specs.declared.command.Kind.TheVariants.{Tickets, Currencies, Threads}
 use Rattle.lot_machine.specs.declared.reference.CurrencyRef.TheVariants as currency_ref
 use Rattle.lot_machine.specs.declared.reference.ThreadRef.TheVariants as thread_ref
@@ -202,6 +202,7 @@ module _ (r : Reading) (kept : IsRead r) where
     script-kept script.Reply [] = line-kept (line.Trap trap.Reply)
     script-kept (script.AtPort asked) (name ∷ []) = any-read _ IsRead (λ port. line-kept (line.Trap (trap.AtPort asked port)))
     script-kept (script.OnMutex asked) (name ∷ []) = any-read _ IsRead (λ mutex. line-kept (line.Trap (trap.OnMutex asked mutex)))
+    script-kept script.Sleep (n ∷ []) = any-read _ IsRead (λ ticks. line-kept (line.Trap (trap.Sleep ticks)))
     script-kept script.EndScript [] =
         let closed = record { name = s.name; lines = s.lines } ∷ [] in
         if-passes IsRead ((nat_lt 0 s.loops, BadLine) ∷ []) (record r { unclosed = None; scripts = r.scripts ++ closed })
@@ -244,6 +245,7 @@ module _ (r : Reading) (kept : IsRead r) where
   body-kept n body.Unfund (t ∷ []) = any-read _ IsRead (λ ticket. command-kept (Unfund ticket) tt)
   body-kept n body.SetTicket (t ∷ a ∷ []) = any-read (any_number t) IsRead (λ ticket. any-read (any_number a) IsRead (λ amount. command-kept (SetTicket ticket amount) tt))
   body-kept n body.RemoveThread (c ∷ []) = any-read _ IsRead (λ thread. command-kept (RemoveThread (thread_ref.Named thread)) tt)
+  body-kept n body.Kill (c ∷ []) = any-read _ IsRead (λ thread. command-kept (Kill (thread_ref.Named thread)) tt)
   body-kept n body.MakeThread (token ∷ s ∷ []) =
       then-read IsShortName IsRead (name-short token) (λ name short. any-read (script_number (script_names r) s) IsRead (λ number. command-kept (MakeThread name number) short))
   body-kept n body.MakeFunded (a ∷ c ∷ token ∷ s ∷ []) =

@@ -1,5 +1,6 @@
 -- What explains turns is longer than what is written of them by a line for each turn and each thread that there may be at most.
 use Rattle.std.proofs.Common.{◌≡◌, ℕ, zero, suc, ◌+◌, ◌*◌, ◌^◌, ◌<◌, ◌≤◌, nat_lt, Bool, true, false, cond, Option, Some, None, Ok, List, [], ◌∷◌, ◌++◌, length, refl, ap, arith, length-append}
+use Rattle.std.proofs.Math.Nat.{min-le_left}
 use Rattle.std.specs.Prelude.{All}
 use Rattle.std.specs.List.{flat_map}
 use Rattle.std.proofs.lemmas.Bool.{ltb-false}
@@ -8,7 +9,7 @@ use Rattle.lot_machine.proofs.Tickets.{some-injective}
 use Rattle.lot_simulation.specs.declared.style.LineStyle.TheVariants.{Whole, Timed}
 use Rattle.lot_simulation.specs.declared.timed.Due.{Due}
 use Rattle.lot_simulation.specs.Grammar.{program_in}
-use Rattle.lot_simulation.specs.Output.{output, played_output, scheduled_output, timed_output, timed_text, turn_text, turn_texts}
+use Rattle.lot_simulation.specs.Output.{output, played_output, printed_actor, scheduled_output, timed_output, timed_text, turn_text, turn_texts}
 use Rattle.lot_simulation.specs.Report.{report}
 use Rattle.lot_simulation.specs.Timed.{Moment, TimedTurn, all_due, due_first, earliest, end_of, moment_after, next_due, opening_moment, timed_room, timed_turns, turn_due, turns_from, within}
 use Rattle.lot_simulation.specs.TimedReport.{timed_report}
@@ -34,8 +35,8 @@ texts-short : (program : Program) (w : World) (actors : List ℕ) → IsShort pr
 texts-short program w [] short = omega arith
 texts-short program w (actor ∷ actors) short =
     let turn = system_turn program w actor in
-    more-short (program.limits.threads * 139) (length actors) (lots_text Whole actor w.state turn.answer) (turn_text Whole actor turn) (explained_texts program turn.world actors) (turn_texts program turn.world actors)
-    (turn-short Whole program w actor tt short) (texts-short program turn.world actors (turn-keeps program w actor short))
+    more-short (program.limits.threads * 139) (length actors) (lots_text Whole (printed_actor turn.world.state actor) w.state turn.answer) (turn_text Whole actor turn) (explained_texts program turn.world actors) (turn_texts program turn.world actors)
+    (turn-short Whole program w actor (printed_actor turn.world.state actor) (min-le_left actor (turn.world.state.limits.processors + 1)) tt short) (texts-short program turn.world actors (turn-keeps program w actor short))
 
 -- and what explains the whole schedule, with the report
 pub schedule-short : (program : Program) → IsWithinBounds program.limits → All HasShortName program.commands
@@ -74,8 +75,8 @@ times-short program small (suc room) m short = at (λ next. times-short program 
         let next = moment_after m done in
         let others = turns_from program room next in
         let time : due.time < 2 ^ 32 = omega (arith, within-end (end_of program) (earliest (all_due program m)) due is, small) in
-        more-short (program.limits.threads * 139) (length others) (lots_text (Timed due.time) due.actor m.world.state turn.answer) (turn_text (Timed due.time) due.actor turn) (explained_times turn.world others)
-        (flat_map timed_text others) (turn-short (Timed due.time) program m.world due.actor time short) (later next (turn-keeps program m.world due.actor short))
+        more-short (program.limits.threads * 139) (length others) (lots_text (Timed due.time) (printed_actor turn.world.state due.actor) m.world.state turn.answer) (turn_text (Timed due.time) due.actor turn) (explained_times turn.world others)
+        (flat_map timed_text others) (turn-short (Timed due.time) program m.world due.actor (printed_actor turn.world.state due.actor) (min-le_left due.actor (turn.world.state.limits.processors + 1)) time short) (later next (turn-keeps program m.world due.actor short))
 
 -- and all turns in the order of time, with the report
 pub in_time-short : (program : Program) → IsWithinBounds program.limits → All HasShortName program.commands → end_of program < 2 ^ 32

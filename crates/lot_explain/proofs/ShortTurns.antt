@@ -24,11 +24,12 @@ use Rattle.lot_machine.specs.Step.{event_effect, event_refusal, is_bad_processor
 use Rattle.lot_machine.proofs.CommandsKept.{all-pass, unrefused}
 use Rattle.lot_machine.proofs.OrderKept.{opening-order, step-order}
 use Rattle.lot_machine.proofs.Tickets.{some-injective}
-use Rattle.lot_machine.proofs.StepSizes.{command-grown, step-sizes}
+use Rattle.lot_machine.proofs.StepChanges.{HasSizesOf}
+use Rattle.lot_machine.proofs.StepSizes.{command-grown, other-sizes, step-sizes}
 use Rattle.lot_simulation.specs.declared.style.LineStyle.{LineStyle}
 use Rattle.lot_simulation.specs.declared.script.ScriptTrap.{ScriptTrap}
 use Rattle.lot_simulation.specs.Script.{Slice}
-use Rattle.lot_simulation.specs.World.{Program, World, number_of, slice_on, event_of_slice, processor_event, console_turn, opening_world, processor_turn, system_turn}
+use Rattle.lot_simulation.specs.World.{Program, World, number_of, slice_on, event_of_slice, actor_event, processor_event, console_turn, opening_world, processor_turn, system_turn}
 use Rattle.lot_explain.specs.declared.won.Won.{Won}
 use Rattle.lot_explain.specs.Explained.{lots_text}
 use Rattle.lot_explain.specs.Lots.{entrants_in, lots_of, won_in, won_lines}
@@ -93,11 +94,11 @@ module _ (style : LineStyle) (timely : HasShortTime style) (s : State) (short : 
       omega (arith, lines, mul-le-mul_right 139 lots.few)
 
   -- so are those of a lottery that an event holds: if it isn't refused, its processor is there
-  event-short : (actor : ℕ) (e : Event) → processor_of e ≡ Some actor → length (won_lines style s.limits.unit actor (lots_of s e) (won_in e (step s e).reply)) ≤ s.limits.threads * 139
-  event-short actor e on = at (event_refusal s e) refl
+  event-short : (actor shown : ℕ) (e : Event) → processor_of e ≡ Some actor → shown ≤ actor → length (won_lines style s.limits.unit shown (lots_of s e) (won_in e (step s e).reply)) ≤ s.limits.threads * 139
+  event-short actor shown e on low = at (event_refusal s e) refl
     where
-      at : (o : Option Refusal) → event_refusal s e ≡ o → length (won_lines style s.limits.unit actor (lots_of s e) (won_in e (unless_refused s o (event_effect s e)).reply)) ≤ s.limits.threads * 139
-      at None passes = won-short actor (omega (arith, processor-few s e actor on passes, short.order.bounds.of_processors.1)) e (won_in e (event_effect s e).reply)
+      at : (o : Option Refusal) → event_refusal s e ≡ o → length (won_lines style s.limits.unit shown (lots_of s e) (won_in e (unless_refused s o (event_effect s e)).reply)) ≤ s.limits.threads * 139
+      at None passes = won-short shown (omega (arith, low, processor-few s e actor on passes, short.order.bounds.of_processors.1)) e (won_in e (event_effect s e).reply)
       at (Some refusal) fails = rw (none-won e refusal) (omega arith)
 
 -- ---- a command
@@ -153,10 +154,9 @@ event-on w p = at (thread_on w.state.records p) refl
 short-names : (limits : Sizes) (w : World) → IsShort limits w → HasShortNames w.state
 short-names limits w short = record { order = short.order; room = omega (arith, short.records, short.room, ap (λ (l : Sizes). l.threads) short.limits); names = short.names }
 
--- a turn of a processor keeps them
-processor-keeps : (limits : Sizes) (w : World) (p : ℕ) (e : Event) → processor_of e ≡ Some p → IsShort limits w → IsShort limits (processor_turn w p e).world
-processor-keeps limits w p e on short =
-    let sizes = step-sizes w.state e p on in
+-- a turn of a processor or of the timer keeps them
+processor-keeps : (limits : Sizes) (w : World) (p : ℕ) (e : Event) → HasSizesOf w.state (step w.state e).state → IsShort limits w → IsShort limits (processor_turn w p e).world
+processor-keeps limits w p e sizes short =
     let count = ap (length {A = Option Thread}) sizes.2 in
     record {
       order = step-order w.state e short.order;
@@ -187,9 +187,13 @@ console-keeps program w (c ∷ cs) left short =
 pub turn-keeps : (program : Program) (w : World) (actor : ℕ) → IsShort program.limits w → IsShort program.limits (system_turn program w actor).world
 turn-keeps program w actor short = at (actor == 0)
   where
-    at : (b : Bool) → IsShort program.limits (cond b (console_turn program w w.commands) (processor_turn w actor (processor_event w actor))).world
+    makes : (b : Bool) → HasSizesOf w.state (step w.state (cond b (processor_event w actor) (event.Wake (actor - program.limits.processors)))).state
+    makes true = step-sizes w.state (processor_event w actor) actor (event-on w actor)
+    makes false = other-sizes w.state (event.Wake (actor - program.limits.processors)) (λ same. cc)
+
+    at : (b : Bool) → IsShort program.limits (cond b (console_turn program w w.commands) (processor_turn w actor (actor_event program w actor))).world
     at true = console-keeps program w w.commands short.commands short
-    at false = processor-keeps program.limits w actor (processor_event w actor) (event-on w actor) short
+    at false = processor-keeps program.limits w actor (actor_event program w actor) (makes (nat_le actor program.limits.processors)) short
 
 -- the console holds no lottery
 console-short : (program : Program) (w : World) (commands : List Command) (style : LineStyle) (actor : ℕ) → length (lots_text style actor w.state (console_turn program w commands).answer) ≤ 0
@@ -197,15 +201,16 @@ console-short program w [] style actor = omega arith
 console-short program w (c ∷ cs) style actor = omega arith
 
 -- the lines of the lots of a turn's lottery are no more than there may be threads
-pub turn-short : (style : LineStyle) (program : Program) (w : World) (actor : ℕ) → HasShortTime style → IsShort program.limits w
-    → length (lots_text style actor w.state (system_turn program w actor).answer) ≤ program.limits.threads * 139
-turn-short style program w actor timely short = at (actor == 0)
+pub turn-short : (style : LineStyle) (program : Program) (w : World) (actor shown : ℕ) → shown ≤ actor → HasShortTime style → IsShort program.limits w
+    → length (lots_text style shown w.state (system_turn program w actor).answer) ≤ program.limits.threads * 139
+turn-short style program w actor shown low timely short = at (actor == 0) (nat_le actor program.limits.processors)
   where
-    at : (b : Bool) → length (lots_text style actor w.state (cond b (console_turn program w w.commands) (processor_turn w actor (processor_event w actor))).answer) ≤ program.limits.threads * 139
-    at true = omega (arith, console-short program w w.commands style actor)
-    at false =
-        subst (λ n. length (lots_text style actor w.state (processor_turn w actor (processor_event w actor)).answer) ≤ n * 139) (ap (λ (l : Sizes). l.threads) short.limits)
-        (event-short style timely w.state (short-names program.limits w short) actor (processor_event w actor) (event-on w actor))
+    at : (b c : Bool) → length (lots_text style shown w.state (cond b (console_turn program w w.commands) (processor_turn w actor (cond c (processor_event w actor) (event.Wake (actor - program.limits.processors))))).answer) ≤ program.limits.threads * 139
+    at true c = omega (arith, console-short program w w.commands style shown)
+    at false false = omega arith
+    at false true =
+        subst (λ n. length (lots_text style shown w.state (processor_turn w actor (processor_event w actor)).answer) ≤ n * 139) (ap (λ (l : Sizes). l.threads) short.limits)
+        (event-short style timely w.state (short-names program.limits w short) actor shown (processor_event w actor) (event-on w actor) low)
 
 -- at the start there are no threads
 pub opening-short : (program : Program) → IsWithinBounds program.limits → All HasShortName program.commands → IsShort program.limits (opening_world program)

@@ -15,9 +15,9 @@ use Rattle.lot_io.proofs.WritingFacts.{begins-front}
 use Rattle.lot_print.specs.declared.lots.Lot.{Lot}
 use Rattle.lot_print.proofs.PageFacts.{puts-both, puts-stop}
 use Rattle.lot_simulation.specs.declared.style.LineStyle.{LineStyle}
-use Rattle.lot_simulation.specs.Output.{answer_text}
+use Rattle.lot_simulation.specs.Output.{answer_text, printed_actor}
 use Rattle.lot_simulation.specs.Texts.{front, newline, refused, reply_text}
-use Rattle.lot_simulation.specs.World.{Program, World, Answer, Turn, console_turn, opening_world, processor_event, processor_turn, system_turn}
+use Rattle.lot_simulation.specs.World.{Program, World, Answer, Turn, console_turn, opening_world, actor_event, processor_turn, system_turn}
 use Rattle.lot_simulation.specs.World.Answer.{Answered, Ended}
 use Rattle.lot_engine.specs.Seen.{Seen, world_of}
 use Rattle.lot_playback.specs.declared.turn.Turn.{Turn as ATurn}
@@ -49,25 +49,25 @@ turn-limits program w actor = at (actor == 0)
     console [] = refl
     console (c ∷ cs) = step-limits w.state (event.Command c)
 
-    at : (b : Bool) → (cond b (console_turn program w w.commands) (processor_turn w actor (processor_event w actor))).world.state.limits ≡ w.state.limits
+    at : (b : Bool) → (cond b (console_turn program w w.commands) (processor_turn w actor (actor_event program w actor))).world.state.limits ≡ w.state.limits
     at true = console w.commands
-    at false = step-limits w.state (processor_event w actor)
+    at false = step-limits w.state (actor_event program w actor)
 
 -- ---- the text of a turn
 
-module _ (made : MadeTurn) (m : LineStyle) (a : ℕ) (of_m : m ≡ style_at made.time) (of_a : a ≡ made.actor) where
+module _ (made : MadeTurn) (m : LineStyle) (a : ℕ) (of_m : m ≡ style_at made.time) (of_a : a ≡ printed_actor made.turn.world.state made.actor) where
   -- of one that goes
   answered-is : (u : ℕ) (lots : List Lot) (s : State) (e : Event) (r : Reply) → u ≡ made.before.state.limits.unit → lots ≡ lots_of made.before.state e → s ≡ made.turn.world.state → made.turn.answer ≡ Answered e r
       → won_lines m u a lots (won_in e r) ++ (front m ++ (decimal a ++ (codes " " ++ reply_text m s e r))) ≡ explained_made made
   answered-is u lots s e r of_u of_lots of_s is =
       rw (of_m, of_a, of_u, of_lots, of_s)
-      (ap (λ (x : Answer). lots_text (style_at made.time) made.actor made.before.state x ++ (front (style_at made.time) ++ (decimal made.actor ++ (codes " " ++ answer_text (style_at made.time) made.turn.world.state x)))) (sym is))
+      (ap (λ (x : Answer). lots_text (style_at made.time) (printed_actor made.turn.world.state made.actor) made.before.state x ++ (front (style_at made.time) ++ (decimal (printed_actor made.turn.world.state made.actor) ++ (codes " " ++ answer_text (style_at made.time) made.turn.world.state x)))) (sym is))
 
   -- and of one without a command
   ended-is : made.turn.answer ≡ Ended → front m ++ (decimal a ++ (codes " " ++ (refused 41 (codes "Ended") ++ newline))) ≡ explained_made made
   ended-is is =
       rw (of_m, of_a)
-      (ap (λ (x : Answer). lots_text (style_at made.time) made.actor made.before.state x ++ (front (style_at made.time) ++ (decimal made.actor ++ (codes " " ++ answer_text (style_at made.time) made.turn.world.state x)))) (sym is))
+      (ap (λ (x : Answer). lots_text (style_at made.time) (printed_actor made.turn.world.state made.actor) made.before.state x ++ (front (style_at made.time) ++ (decimal (printed_actor made.turn.world.state made.actor) ++ (codes " " ++ answer_text (style_at made.time) made.turn.world.state x)))) (sym is))
 
 -- ---- a turn that the system has made
 
@@ -91,6 +91,10 @@ module _ (seen : Seen) (turn : ATurn) (lots : List Lot) (made : MadeTurn) (is : 
       ∙ ap (λ (t : Turn). t.world.state.limits.unit) is.turn_is
       ∙ ap (λ (l : Sizes). l.unit) (turn-limits program made.before made.actor)
 
+  -- the actor is printed as that of the turn
+  shown-is : printed_actor (world_of seen).state turn.actor ≡ printed_actor made.turn.world.state made.actor
+  shown-is = ap (λ (w : World). printed_actor w.state turn.actor) is.world ∙ ap (printed_actor made.turn.world.state) is.reports.actor
+
   module _ (answered : turn.has_ended ≡ false) where
     abbrev r : Reply
     r = turn.reply
@@ -110,12 +114,12 @@ module _ (seen : Seen) (turn : ATurn) (lots : List Lot) (made : MadeTurn) (is : 
         subst (λ (ys : List Lot). IfSome (won_in turn.event r) (λ won. won.total ≡ total_of ys)) (sym (same ∙ lots-are))
         (won-total program made.before made.actor turn.event r system-answer)
 
-    pub answered-text : (m : LineStyle) (a u : ℕ) (xs : List Lot) → m ≡ style_at turn.time → a ≡ turn.actor → u ≡ (world_of seen).state.limits.unit → xs ≡ lots
+    pub answered-text : (m : LineStyle) (a u : ℕ) (xs : List Lot) → m ≡ style_at turn.time → a ≡ printed_actor (world_of seen).state turn.actor → u ≡ (world_of seen).state.limits.unit → xs ≡ lots
         → won_lines m u a xs (won_in turn.event r) ++ (front m ++ (decimal a ++ (codes " " ++ reply_text m (world_of seen).state turn.event r))) ≡ explained_made made
     answered-text m a u xs of_m of_a of_u of_xs =
-        answered-is made m a (of_m ∙ ap style_at is.reports.time) (of_a ∙ is.reports.actor) u xs (world_of seen).state turn.event r
+        answered-is made m a (of_m ∙ ap style_at is.reports.time) (of_a ∙ shown-is) u xs (world_of seen).state turn.event r
         (of_u ∙ unit-is) (of_xs ∙ lots-are) (ap (λ (w : World). w.state) is.world) answer-is
 
-  pub ended-text : turn.has_ended ≡ true → (m : LineStyle) (a : ℕ) → m ≡ style_at turn.time → a ≡ turn.actor → front m ++ (decimal a ++ (codes " " ++ (refused 41 (codes "Ended") ++ newline))) ≡ explained_made made
+  pub ended-text : turn.has_ended ≡ true → (m : LineStyle) (a : ℕ) → m ≡ style_at turn.time → a ≡ printed_actor (world_of seen).state turn.actor → front m ++ (decimal a ++ (codes " " ++ (refused 41 (codes "Ended") ++ newline))) ≡ explained_made made
   ended-text ended m a of_m of_a =
-      ended-is made m a (of_m ∙ ap style_at is.reports.time) (of_a ∙ is.reports.actor) (is.reports.answer ∙ ap (λ b. answer_in b turn.event turn.reply) ended)
+      ended-is made m a (of_m ∙ ap style_at is.reports.time) (of_a ∙ shown-is) (is.reports.answer ∙ ap (λ b. answer_in b turn.event turn.reply) ended)

@@ -19,7 +19,7 @@ use Rattle.lot_machine.specs.State.{State, ready_threads, value_of, weight_of}
 use Rattle.lot_machine.specs.Step.{checked_effect, draw, ends_quantum, event_effect, event_refusal, step, thread_there, trap_effect, trap_refusal, used_there}
 use Rattle.lot_machine.proofs.Draws.{winner-is}
 use Rattle.lot_print.specs.declared.lots.Lot.{Lot}
-use Rattle.lot_simulation.specs.World.{Program, World, console_turn, processor_event, system_turn}
+use Rattle.lot_simulation.specs.World.{Program, World, console_turn, actor_event, system_turn}
 use Rattle.lot_simulation.specs.World.Answer.{Answered}
 use Rattle.lot_explain.specs.declared.won.Won.{Won}
 use Rattle.lot_explain.specs.Numbers.{HasNumber, number_in}
@@ -201,7 +201,7 @@ turn-reply program w actor e r is = at (actor == 0) refl
     at : (b : Bool) → (actor == 0) ≡ b → (step w.state e).reply ≡ r
     at true zero = console-reply program w w.commands e r (rw zero at is)
     at false zero =
-        let one : Answered (processor_event w actor) (step w.state (processor_event w actor)).reply ≡ Answered e r = rw zero at is in
+        let one : Answered (actor_event program w actor) (step w.state (actor_event program w actor)).reply ≡ Answered e r = rw zero at is in
         cc
 
 pub turn-won : (program : Program) (w : World) (actor : ℕ) (e : Event) (r : Reply) → (system_turn program w actor).answer ≡ Answered e r → HasWon (lots_of w.state e) e r

@@ -5,7 +5,7 @@ use Rattle.lot_simulation.specs.declared.input.InputFault.{InputFault}
 use Rattle.lot_simulation.specs.declared.style.LineStyle.{LineStyle}
 use Rattle.lot_simulation.specs.declared.style.LineStyle.TheVariants.{Whole, Timed}
 use Rattle.lot_simulation.specs.Grammar.{program_in}
-use Rattle.lot_simulation.specs.Output.{turn_text}
+use Rattle.lot_simulation.specs.Output.{printed_actor, turn_text}
 use Rattle.lot_simulation.specs.Report.{report}
 use Rattle.lot_simulation.specs.Texts.{fault_line}
 use Rattle.lot_simulation.specs.Timed.{TimedTurn, timed_turns}
@@ -22,7 +22,7 @@ lots_text style actor s Ended = []
 
 -- the lots of a turn's lottery, and then the turn's lines, given the world before it
 abbrev pub explained_text : LineStyle → ℕ → World → Turn → List ℕ
-explained_text style actor w turn = lots_text style actor w.state turn.answer ++ turn_text style actor turn
+explained_text style actor w turn = lots_text style (printed_actor turn.world.state actor) w.state turn.answer ++ turn_text style actor turn
 
 -- ---- the turns of a schedule
 

@@ -25,13 +25,13 @@ pub(crate) enum Entrants {
     Waiters(u32),
 }
 
-/// The entrants of the lottery that the actor's next turn may hold.
+/// The entrants of the lottery that the actor's next turn may hold: the console and the timer hold none.
 pub(crate) fn next_entrants(program: &Program, system: &System, actor: u32) -> Entrants
     requires { system.now.setting.program ≡ program.now }
     ensures { (event : AnEvent) (reply : AReply) → (turn_in system.now actor).answer ≡ Answered event reply
         → result ≡ entrants_in event }
 {
-    if actor == 0 {
+    if actor == 0 || actor > system.processors() {
         return Entrants::Nobody;
     }
     entrants_of_slice(&slice_in(system, program, actor))

@@ -15,7 +15,7 @@ use crate::lines::put_lots;
 use lot_engine::System;
 use lot_io::{IoFault, Watched};
 use lot_machine::{Event, Reply};
-use lot_play::{Warnings, heading, play_through, put_answer, style_of};
+use lot_play::{Warnings, heading, play_through, printed_actor, put_answer, style_of};
 use lot_playback::{Observer, Playback, Turn};
 use lot_print::{Heading, Lot, Page, write_ended};
 use lot_text::Program;
@@ -126,7 +126,8 @@ fn put_explained<W: Write>(
     ensures text { (made : MadeTurn) → IsExplained system.old turn.now lots.now.lots made
         → Puts W.contents writer.old writer.new page.old page.new result (explained_made made) }
 {
-    let heading = heading(system, style_of(turn), turn.actor);
+    let actor = printed_actor(system, turn.actor);
+    let heading = heading(system, style_of(turn), actor);
     if turn.has_ended {
         return write_ended(writer, page, heading);
     }

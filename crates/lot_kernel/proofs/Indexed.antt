@@ -1,6 +1,6 @@
 -- An index after a name is added or removed, and what it finds.
 use Rattle.std.proofs.Common.{◌≡◌, ◌∙◌, ◌⊎◌, inl, inr, ℕ, zero, suc, ◌+◌, ◌-◌, ◌<◌, ◌≤◌, min, Bool, true, false, Option, Some, None, List, [], ◌∷◌, ◌++◌, Contains, length, filter, fold, get_or, is_some, map, position, cond, nat_lt, option_map, slice_get, slice_set, ap, sym, refl, subst, arith}
-use Rattle.std.specs.List.{reduce, position_or_len}
+use Rattle.std.specs.List.{reduce}
 use Rattle.std.specs.Option.{option_flatten}
 use Rattle.std.proofs.lemmas.Bool.{le-ltb, lt-ltb, cases_lt}
 use Rattle.std.specs.Str.{bytes_eq}
@@ -17,7 +17,7 @@ use Rattle.lot_machine.specs.declared.reference.ThreadRef.{ThreadRef}
 use Rattle.lot_machine.specs.declared.reference.ThreadRef.TheVariants as thread_ref
 use Rattle.lot_machine.proofs.Changes.{place-set_other}
 use Rattle.lot_machine.proofs.Tickets.{at_number-suc, flatten-some, some-injective}
-use Rattle.lot_machine.proofs.EachOnce.{contains-filter, contains-later, contains-nothing, filter-contains}
+use Rattle.lot_machine.proofs.EachOnce.{contains-filter, contains-nothing, filter-contains}
 use Rattle.lot_lists.specs.NodeLists.{NodeLists, node_at, nodes_of, IsFree, IsListed, IsConsistent, HasSameSize, with_pushed, with_removed}
 use Rattle.lot_graph.proofs.MirrorLemmas.{mirror-free, mirror-listed, mirror-push, mirror-remove}
 use Rattle.lot_kernel.specs.Names.{IsIndexOf, bucket_of, bucket_at, names_of}

@@ -12,3 +12,4 @@ pub mod Commanding
 pub mod Counting
 pub mod Rows
 pub mod Opening
+pub mod Killing

@@ -1,6 +1,6 @@
 //! The index of names, and lookup of names by it.
-ghost use Rattle.std.specs.Prelude.{◌≡◌, ◌+◌, ◌*◌, ◌^◌, ◌<◌, ◌++◌, ◌∷◌, [], ℕ, List, Option, None, Some, IfOk};
-ghost use Rattle.std.specs.Prelude.{length, map, position, slice_get, slice_set};
+ghost use Rattle.std.specs.Prelude.{◌≡◌, ◌+◌, ◌*◌, ◌<◌, ◌++◌, ◌∷◌, [], ℕ, List, Option, None, Some, IfOk};
+ghost use Rattle.std.specs.Prelude.{length, position, slice_get, slice_set};
 ghost use Rattle.std.specs.Str.{bytes_eq};
 ghost use Rattle.lot_machine.specs.Numbered.{option_any};
 ghost use Rattle.lot_lists.specs.NodeLists.{IsFree, IsListed, nodes_of};

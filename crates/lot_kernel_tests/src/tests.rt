@@ -1,6 +1,7 @@
 mod amounts;
 mod bounds;
 mod helpers;
+mod kills;
 mod mutexes;
 mod names;
 mod pauses;
@@ -34,6 +35,7 @@ enum Line<'a> {
     Settkt(u64, u64),
     Mkthr(&'a str, u32),
     Rmthr(&'a str),
+    Kill(&'a str),
     Fundx(u64, &'a str, &'a str, u32),
     List(Kind),
 }
@@ -110,6 +112,9 @@ fn command(rt: &impl Abort, line: Line<'_>) -> Command {
             Command::MakeThread { name, script }
         }
         Line::Rmthr(text) => Command::RemoveThread {
+            thread: ThreadRef::Named(name(rt, text)),
+        },
+        Line::Kill(text) => Command::Kill {
             thread: ThreadRef::Named(name(rt, text)),
         },
         Line::Fundx(amount, issuer, text, script) => Command::MakeFunded {

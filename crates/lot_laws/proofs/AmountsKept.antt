@@ -122,7 +122,7 @@ command-tickets n s (MakeFunded amount currency name script) elsewhere =
     one-more n s.tickets amount (currency_or_base s currency) (target.Thread (length s.threads + 1)))
 command-tickets n s other elsewhere = unrefused (KeepsIn n s) s (command_refusal s other) (command_effect s other) (as-they-were n s.tickets) (λ _. as-they-were n s.tickets)
 
-unchanged : (n : ℕ) (s : State) (e : Event) → ¬ (by_event e ≡ Console) → KeepsIn n s (step s e).state
+unchanged : (n : ℕ) (s : State) (e : Event) → ¬ (by_event s e ≡ Console) → KeepsIn n s (step s e).state
 unchanged n s e other = subst (ComesOf n s.tickets) (sym (other-tickets s e other)) (as-they-were n s.tickets)
 
 event-tickets : (n : ℕ) (s : State) (e : Event) → ¬ SetsAmountOf n e → KeepsIn n s (step s e).state

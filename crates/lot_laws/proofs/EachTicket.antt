@@ -104,7 +104,7 @@ module _ (IsSo : Ticket → Type 0)
       one-more s.tickets amount (currency_or_base s currency) (target.Thread (length s.threads + 1)) passed.0 (λ same. cc) each)
   command-each s other each = unrefused EachIn s (command_refusal s other) (command_effect s other) each (λ _. each)
 
-  unchanged : (s : State) (e : Event) → ¬ (by_event e ≡ Console) → EachIn s → EachIn (step s e).state
+  unchanged : (s : State) (e : Event) → ¬ (by_event s e ≡ Console) → EachIn s → EachIn (step s e).state
   unchanged s e other each = subst Each (sym (other-tickets s e other)) each
 
   pub event-each : (s : State) (e : Event) → EachIn s → EachIn (step s e).state

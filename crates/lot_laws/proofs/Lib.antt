@@ -22,3 +22,5 @@ pub mod Inflated
 pub mod Served
 pub mod StayOut
 pub mod Sleepers
+pub mod Listed
+pub mod Killed

@@ -21,7 +21,7 @@ use Rattle.lot_machine.specs.declared.funding.Edge.TheVariants.{OfTicket, OfLend
 use Rattle.lot_machine.specs.declared.action.Action.{Action}
 use Rattle.lot_machine.specs.declared.action.Action.TheVariants.{Yield, Call, Receive, Reply as ReplyTo, Serve, Lock, Unlock, Sleep, Exit}
 use Rattle.lot_machine.specs.declared.command.Command.{Command}
-use Rattle.lot_machine.specs.declared.command.Command.TheVariants.{MakeTicket, RemoveTicket, Fund, Unfund, SetTicket, MakeThread, RemoveThread, MakeFunded}
+use Rattle.lot_machine.specs.declared.command.Command.TheVariants.{MakeTicket, RemoveTicket, MakeCurrency, RemoveCurrency, Fund, Unfund, SetTicket, MakeThread, RemoveThread, Kill, MakeFunded, List as Listing}
 use Rattle.lot_machine.specs.declared.reference.CurrencyRef.TheVariants as currency_ref
 use Rattle.lot_machine.specs.declared.reference.TargetRef.{TargetRef}
 use Rattle.lot_machine.specs.declared.reference.TargetRef.TheVariants as target_ref
@@ -42,6 +42,7 @@ use Rattle.lot_machine.specs.Commands.{currency_meant, currency_named, thread_me
 use Rattle.lot_machine.specs.Traps.{after_trap, with_ticks}
 use Rattle.lot_machine.specs.Ports.{port_at, first_client, call, receive, reply}
 use Rattle.lot_machine.specs.Mutexes.{mutex_at, lock, unlock}
+use Rattle.lot_machine.specs.Kill.{without, is_owned_by, mutex_without, killed}
 use Rattle.lot_machine.specs.Step.{Effect, of_ports, of_mutexes, is_bad_processor, started, draw, stopped, trap, wake, trap_refusal, trap_effect, checked_effect, thread_there, used_there, event_effect, step, state_after}
 use Rattle.lot_machine.specs.Order.{IsQueue, IsInOrder}
 use Rattle.lot_machine.proofs.Tickets.{at_number-suc, some-injective}
@@ -54,7 +55,9 @@ use Rattle.lot_machine.proofs.Edges.{ends-are, pair, EndsAre}
 use Rattle.lot_machine.proofs.EdgesOnce.{into-once}
 use Rattle.lot_machine.proofs.EdgeSums.{edges-many}
 use Rattle.lot_machine.proofs.EachOnce.{place-in}
-use Rattle.lot_machine.proofs.Idle.{IsAlive, is-dead, status-number, receiver-alive, waiter-alive, there-alive}
+use Rattle.lot_machine.proofs.Idle.{IsAlive, alive-of, is-dead, status-number, receiver-alive, waiter-alive, there-alive}
+use Rattle.lot_machine.proofs.Killed.{owner-either, heir-waits, killed-either}
+use Rattle.lot_machine.proofs.KillKept.{number-mapped}
 use Rattle.lot_machine.proofs.StepChanges.{By, Console, Keeps, kept, by_event, step-leads}
 use Rattle.lot_machine.proofs.StepSizes.{other-sizes, other-tickets}
 use Rattle.lot_machine.proofs.OrderKept.{step-order, opening-order}
@@ -314,8 +317,46 @@ module _ (s : State) (order : IsInOrder s) where
     wake-good : (t : ℕ) → LendsWell (wake s t).state
     wake-good t = (lent-changed (IsIn s.threads) (λ r. record r { status = status.Ready }) s.records t (λ r u e. cc) lent, owned)
 
-    other-good : (e : Event) → ¬ (by_event e ≡ Console) → LendsWell (step s e).state
-    other-good (event.Command command) other = absurd (other refl)
+    -- a kill
+    kill-good : (t : ℕ) → LendsWell (killed s t)
+    kill-good t = (lends, owns)
+      where
+        lends : Lent (IsIn s.threads) (killed s t).records
+        lends u v is = from (killed-either s t u)
+          where
+            from : (status_of (killed s t).records u ≡ status_of s.records u) ⊎ ((status_of (killed s t).records u ≡ Some status.Ready) ⊎ (status_of (killed s t).records u ≡ Some status.Dead)) → IsIn s.threads v
+            from (inl same) = lent u v (sym same ∙ is)
+            from (inr (inl ready)) = let never : Some status.Ready ≡ Some (status.Served v) = sym ready ∙ is in cc
+            from (inr (inr dead)) = let never : Some status.Dead ≡ Some (status.Served v) = sym dead ∙ is in cc
+
+        owns : Owned (IsIn s.threads) (killed s t).mutexes
+        owns m v mutex there owner = from (number-mapped (mutex_without t) s.mutexes m mutex there)
+          where
+            from : ((held : Mutex) × ((at_number s.mutexes m ≡ Some held) × (mutex_without t held ≡ mutex))) → IsIn s.threads v
+            from (held, (here, is)) = whose (owner-either t v held (ap (λ (x : Mutex). x.owner) is ∙ owner))
+              where
+                whose : ((is_owned_by t held ≡ false) × (held.owner ≡ Some v)) ⊎ ((is_owned_by t held ≡ true) × (slice_get (without t held.waiters) 0 ≡ Some v)) → IsIn s.threads v
+                whose (inl (other, before)) = owned m v held here before
+                whose (inr (mine, first)) =
+                    let waits = heir-waits s order.queues t v (record { mutex = m; held = held; there = here; owned = mine; first = first }) in
+                    alive-in v (alive-of s.records v (status.Waiting m) waits (λ e. cc))
+
+    command-good : (c : Command) → ¬ (by_event s (event.Command c) ≡ Console) → LendsWell (step s (event.Command c)).state
+    command-good (Kill thread) other = unrefused LendsWell s _ (command_effect s (Kill thread)) (lent, owned) (λ _. kill-good (unwrap_or (thread_meant s thread) 0))
+    command-good (MakeTicket amount currency) other = absurd (other refl)
+    command-good (RemoveTicket n) other = absurd (other refl)
+    command-good (MakeCurrency name) other = absurd (other refl)
+    command-good (RemoveCurrency currency) other = absurd (other refl)
+    command-good (Fund n to) other = absurd (other refl)
+    command-good (Unfund n) other = absurd (other refl)
+    command-good (SetTicket n amount) other = absurd (other refl)
+    command-good (MakeThread name script) other = absurd (other refl)
+    command-good (RemoveThread thread) other = absurd (other refl)
+    command-good (MakeFunded amount currency name script) other = absurd (other refl)
+    command-good (Listing kind) other = absurd (other refl)
+
+    other-good : (e : Event) → ¬ (by_event s e ≡ Console) → LendsWell (step s e).state
+    other-good (event.Command command) other = command-good command other
     other-good (event.Draw q d) other = unrefused LendsWell s _ (draw s q d) (lent, owned) (λ _. draw-good q d)
     other-good (event.Expire q) other = unrefused LendsWell s _ (event_effect s (event.Expire q)) (lent, owned) (λ _. stopped-good (thread_there s q) (s.limits.quantum - used_there s q) None)
     other-good (event.Preempt q ticks) other = unrefused LendsWell s _ (event_effect s (event.Preempt q ticks)) (lent, owned) (λ _. stopped-good (thread_there s q) ticks None)
@@ -326,6 +367,13 @@ module _ (s : State) (order : IsInOrder s) where
         unrefused LendsWell s _ (event_effect s (event.Trap q ran action)) (lent, owned) (λ e.
         let passed = all-pass ((is_bad_processor s q, BadProcessor) ∷ (is_none (thread_on s.records q), NotRunning) ∷ (nat_lt s.limits.quantum (used_there s q + ran + 1), BadTicks) ∷ []) e in
         trap-good q (thread_there s q) (used_there s q) ran action (alive-in (thread_there s q) (there-alive s q passed.1.0)))
+
+-- an event that changes no tickets and makes no thread
+other-refers : (s : State) (e : Event) → ¬ (by_event s e ≡ Console) → IsInOrder s → RefersIn s → RefersIn (step s e).state
+other-refers s e other order refers =
+    let good = other-good s order refers.1 refers.2 e other in
+    let funded : Funded (IsIn s.threads) (step s e).state.tickets = subst (Funded (IsIn s.threads)) (sym (other-tickets s e other)) refers.0 in
+    subst (λ threads. Refers (IsIn threads) (step s e).state) (sym (other-sizes s e other).2) (funded, good.0, good.1)
 
 -- ---- commands
 
@@ -419,19 +467,19 @@ refers-dropped s gone dead none (funded, lent, owned) = (
         from (inl same) = here (sym same ∙ now)
         from (inr (place, is)) = other (place ∙ status-number s.records gone status.Dead dead)
 
-command-refers : (s : State) (c : Command) → RefersIn s → RefersIn (command_step s c).state
-command-refers s (MakeTicket amount currency) refers =
+command-refers : (s : State) (c : Command) → IsInOrder s → RefersIn s → RefersIn (command_step s c).state
+command-refers s (MakeTicket amount currency) order refers =
     unrefused RefersIn s _ (command_effect s (MakeTicket amount currency)) refers (λ _. (funded-more (IsIn s.threads) s.tickets amount (currency_or_base s currency) target.Unfunded (λ t e. cc) refers.0, refers.1, refers.2))
-command-refers s (RemoveTicket n) refers =
+command-refers s (RemoveTicket n) order refers =
     unrefused RefersIn s _ (command_effect s (RemoveTicket n)) refers (λ _. (funded-set (IsIn s.threads) s.tickets n None (λ t ticket e. cc) refers.0, refers.1, refers.2))
-command-refers s (Fund n to) refers =
+command-refers s (Fund n to) order refers =
     unrefused RefersIn s _ (command_effect s (Fund n to)) refers (λ _. (funded-aimed (IsIn s.threads) s.tickets n (unwrap_or (target_meant s to) target.Unfunded) (target-in s to) refers.0, refers.1, refers.2))
-command-refers s (Unfund n) refers =
+command-refers s (Unfund n) order refers =
     unrefused RefersIn s _ (command_effect s (Unfund n)) refers (λ _. (funded-aimed (IsIn s.threads) s.tickets n target.Unfunded (λ t e. cc) refers.0, refers.1, refers.2))
-command-refers s (SetTicket n amount) refers =
+command-refers s (SetTicket n amount) order refers =
     unrefused RefersIn s _ (command_effect s (SetTicket n amount)) refers (λ _. (funded-amount (IsIn s.threads) s.tickets n amount refers.0, refers.1, refers.2))
-command-refers s (MakeThread name script) refers = unrefused RefersIn s _ (command_effect s (MakeThread name script)) refers (λ _. refers-more s name script refers)
-command-refers s (RemoveThread thread) refers =
+command-refers s (MakeThread name script) order refers = unrefused RefersIn s _ (command_effect s (MakeThread name script)) refers (λ _. refers-more s name script refers)
+command-refers s (RemoveThread thread) order refers =
     unrefused RefersIn s _ (command_effect s (RemoveThread thread)) refers (λ e.
     let passed = all-pass ((is_none (thread_meant s thread), NoThread) ∷ (not (option_any (is_dead_in s) (thread_meant s thread)), Alive)
     ∷ (option_any (is_thread_in_use s) (thread_meant s thread), InUse) ∷ []) e in
@@ -444,7 +492,7 @@ command-refers s (RemoveThread thread) refers =
     by : (o : Option ℕ) → is_none o ≡ false → not (option_any (is_dead_in s) o) ≡ false → option_any (is_thread_in_use s) o ≡ false → RefersIn (record s { threads = set_number s.threads (unwrap_or o 0) None })
     by None named alive used = cc
     by (Some t) named alive used = refers-dropped s t (is-dead (status_of s.records t) (holds (is_dead_in s t) alive)) used refers
-command-refers s (MakeFunded amount currency name script) refers =
+command-refers s (MakeFunded amount currency name script) order refers =
     unrefused RefersIn s _ (command_effect s (MakeFunded amount currency name script)) refers (λ _.
     let made : ThreadRecord = record { name = name; script = script } in
     let more = refers-more s name script refers in
@@ -452,18 +500,13 @@ command-refers s (MakeFunded amount currency name script) refers =
   where
     thread-same : (a b : ℕ) → target.Thread a ≡ target.Thread b → a ≡ b
     thread-same a b e = cc
-command-refers s other refers = unrefused RefersIn s (command_refusal s other) (command_effect s other) refers (λ _. refers)
+command-refers s (Kill thread) order refers = other-refers s (event.Command (Kill thread)) (λ e. cc) order refers
+command-refers s other order refers = unrefused RefersIn s (command_refusal s other) (command_effect s other) refers (λ _. refers)
 
 -- ---- events and runs
 
-other-refers : (s : State) (e : Event) → ¬ (by_event e ≡ Console) → IsInOrder s → RefersIn s → RefersIn (step s e).state
-other-refers s e other order refers =
-    let good = other-good s order refers.1 refers.2 e other in
-    let funded : Funded (IsIn s.threads) (step s e).state.tickets = subst (Funded (IsIn s.threads)) (sym (other-tickets s e other)) refers.0 in
-    subst (λ threads. Refers (IsIn threads) (step s e).state) (sym (other-sizes s e other).2) (funded, good.0, good.1)
-
 event-refers : (s : State) (e : Event) → IsInOrder s → RefersIn s → RefersIn (step s e).state
-event-refers s (event.Command command) order refers = command-refers s command refers
+event-refers s (event.Command command) order refers = command-refers s command order refers
 event-refers s (event.Draw p d) order refers = other-refers s (event.Draw p d) (λ e. cc) order refers
 event-refers s (event.Expire p) order refers = other-refers s (event.Expire p) (λ e. cc) order refers
 event-refers s (event.Trap p ran action) order refers = other-refers s (event.Trap p ran action) (λ e. cc) order refers
@@ -493,16 +536,14 @@ module _ (s : State) (order : IsInOrder s) where
   out now lives threads queue t dead there =
       let (place, at) = place-in threads t there in lives (some-injective now status.Dead (sym (queue.each place t at) ∙ dead))
 
-  pub stands-nowhere-in : (t : ℕ) → IsRemoved s t → StandsNowhere s t
-  stands-nowhere-in t gone =
-      let dead = order.removed t gone in
-      record {
-        dead = dead;
-        receivers = λ p port at. out (status.Receiving p) (λ e. cc) port.receivers (order.queues.receivers p port at) t dead;
-        callers = λ p port at. out (status.Queued p) (λ e. cc) (map (λ (call : QueuedCall). call.caller) port.calls) (order.queues.callers p port at) t dead;
-        waiters = λ m mutex at. out (status.Waiting m) (λ e. cc) mutex.waiters (order.queues.waiters m mutex at) t dead;
-        served = λ server clients at. out (status.Served server) (λ e. cc) clients (order.queues.served server clients at) t dead;
-      }
+  pub dead-nowhere : (t : ℕ) → status_of s.records t ≡ Some status.Dead → StandsNowhere s t
+  dead-nowhere t dead = record {
+    dead = dead;
+    receivers = λ p port at. out (status.Receiving p) (λ e. cc) port.receivers (order.queues.receivers p port at) t dead;
+    callers = λ p port at. out (status.Queued p) (λ e. cc) (map (λ (call : QueuedCall). call.caller) port.calls) (order.queues.callers p port at) t dead;
+    waiters = λ m mutex at. out (status.Waiting m) (λ e. cc) mutex.waiters (order.queues.waiters m mutex at) t dead;
+    served = λ server clients at. out (status.Served server) (λ e. cc) clients (order.queues.served server clients at) t dead;
+  }
 
   -- who serves a thread is lent to by it
   pub serves-nobody : (t : ℕ) → NothingLeadsTo (funding_of s) t → (clients : List ℕ) → at_number s.clients t ≡ Some clients → clients ≡ []
@@ -511,7 +552,7 @@ module _ (s : State) (order : IsInOrder s) where
       absurd (none (Thread client) (OfLender client, lend-edge s client t ((order.queues.served t (client ∷ clients) at).each 0 client refl)))
 
 pub stands-nowhere : (s : State) (t : ℕ) → IsInOrder s → IsRemoved s t → StandsNowhere s t
-stands-nowhere s t order gone = stands-nowhere-in s order t gone
+stands-nowhere s t order gone = dead-nowhere s order t (order.removed t gone)
 
 -- ---- what comes later
 
@@ -549,13 +590,13 @@ event-record : (s : State) (e : Event) (t : ℕ) → IsInOrder s → IsRemoved s
 event-record s e t order gone =
     let dead = order.removed t gone in
     let (r, at, is) = record-of s.records t status.Dead dead in
-    kept (λ a. at_number a.records t ≡ Some r) (change-dead (by_event e) s order t r dead) (step-leads s e) at ∙ sym at
+    kept (λ a. at_number a.records t ≡ Some r) (change-dead (by_event s e) s order t r dead) (step-leads s e) at ∙ sym at
 
 pub stays-removed : (s : State) (events : List Event) (t : ℕ) → IsInOrder s → IsRemoved s t → IsRemoved (state_after s events) t
 stays-removed s [] t order gone = gone
-stays-removed s (e ∷ events) t order gone = stays-removed (step s e).state events t (step-order s e order) (kept (λ a. IsRemoved a t) (change-gap (by_event e) s t) (step-leads s e) gone)
+stays-removed s (e ∷ events) t order gone = stays-removed (step s e).state events t (step-order s e order) (kept (λ a. IsRemoved a t) (change-gap (by_event s e) s t) (step-leads s e) gone)
 
 pub record-stays : (s : State) (events : List Event) (t : ℕ) → IsInOrder s → IsRemoved s t → at_number (state_after s events).records t ≡ at_number s.records t
 record-stays s [] t order gone = refl
 record-stays s (e ∷ events) t order gone =
-    record-stays (step s e).state events t (step-order s e order) (kept (λ a. IsRemoved a t) (change-gap (by_event e) s t) (step-leads s e) gone) ∙ event-record s e t order gone
+    record-stays (step s e).state events t (step-order s e order) (kept (λ a. IsRemoved a t) (change-gap (by_event s e) s t) (step-leads s e) gone) ∙ event-record s e t order gone

@@ -12,5 +12,7 @@ pub mod Transfers
 pub mod Reachable
 -- Removed threads, and the places that could refer to them.
 pub mod Removed
+-- The kill of a thread, and the threads that it releases.
+pub mod Kills
 -- Runs and states that are small enough to compute by hand.
 pub mod Runs

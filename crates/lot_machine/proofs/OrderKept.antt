@@ -1,9 +1,11 @@
 -- A state that is in order stays so through each event, and is sound.
-use Rattle.std.proofs.Common.{◌≡◌, ℕ, zero, suc, ◌+◌, ◌-◌, ◌^◌, ◌<◌, ◌≤◌, Bool, true, false, not, ◌⊎◌, inl, inr, Option, Some, None, is_some, is_none, List, [], ◌∷◌, length, map, replicate, refl, sym, ◌∙◌, ap, subst, arith, nat_lt, nat_le, option_map, option_and_then, unwrap_or, get_or, slice_get, slice_index}
+use Rattle.std.proofs.Common.{◌≡◌, ℕ, zero, suc, ◌+◌, ◌-◌, ◌^◌, ◌<◌, ◌≤◌, Bool, true, false, not, ◌⊎◌, inl, inr, Option, Some, None, is_some, is_none, List, [], ◌∷◌, length, map, position, replicate, refl, sym, ◌∙◌, ap, subst, arith, nat_lt, nat_le, option_map, option_and_then, unwrap_or, get_or, slice_get, slice_index}
 use Rattle.std.specs.Option.{option_flatten}
+use Rattle.std.specs.Str.{bytes_eq}
 use Rattle.std.proofs.lemmas.List.{get_or_past}
 use Rattle.std.proofs.lemmas.List.Elements.{All-nil}
-use Rattle.std.proofs.lemmas.Option.{slice_get_cases, get_or_from_slice_get}
+use Rattle.std.proofs.lemmas.List.Quantifiers.{position-Some}
+use Rattle.std.proofs.lemmas.Option.{slice_get_cases, slice_get_within, get_or_from_slice_get}
 use Rattle.lot_machine.specs.declared.ticket.Ticket.{Ticket}
 use Rattle.lot_machine.specs.declared.ticket.Target.{Target}
 use Rattle.lot_machine.specs.declared.ticket.Target.TheVariants as target
@@ -16,9 +18,12 @@ use Rattle.lot_machine.specs.declared.funding.Lend.TheVariants.{Nobody}
 use Rattle.lot_machine.specs.declared.action.Action.{Action}
 use Rattle.lot_machine.specs.declared.action.Action.TheVariants.{Yield, Call, Receive, Reply as ReplyTo, Serve, Lock, Unlock, Sleep, Exit}
 use Rattle.lot_machine.specs.declared.command.Command.{Command}
+use Rattle.lot_machine.specs.declared.command.Command.TheVariants.{MakeTicket, RemoveTicket, MakeCurrency, RemoveCurrency, Fund, Unfund, SetTicket, MakeThread, RemoveThread, Kill, MakeFunded, List as Listing}
+use Rattle.lot_machine.specs.declared.reference.ThreadRef.{ThreadRef}
+use Rattle.lot_machine.specs.declared.reference.ThreadRef.TheVariants as thread_ref
 use Rattle.lot_machine.specs.declared.event.Event.{Event}
 use Rattle.lot_machine.specs.declared.event.Event.TheVariants as event
-use Rattle.lot_machine.specs.declared.refusal.Refusal.TheVariants.{NoThread, BadProcessor, Busy, NotRunning, BadTicks, NotAsleep}
+use Rattle.lot_machine.specs.declared.refusal.Refusal.TheVariants.{NoThread, DeadThread, BadProcessor, Busy, NotRunning, BadTicks, NotAsleep}
 use Rattle.lot_machine.specs.declared.refusal.TrapRefusal.{TrapRefusal}
 use Rattle.lot_machine.specs.declared.refusal.TrapRefusal.TheVariants.{NoPort, NothingToReply, NoMutex, NotOwner, AlreadyOwner, LockCycle}
 use Rattle.lot_machine.specs.declared.drawn.Drawn.{Drawn}
@@ -29,7 +34,8 @@ use Rattle.lot_machine.specs.Funding.{target_of, issuer_of}
 use Rattle.lot_machine.specs.Lends.{lends_on_to, LendsTo, borrower}
 use Rattle.lot_machine.specs.Lottery.{winner}
 use Rattle.lot_machine.specs.State.{State, Port, Mutex, QueuedCall, opening, funding_of, is_asleep, lend_of, status_of, is_ready, ready_threads, thread_at, thread_on, change_record, value_of, weight_of}
-use Rattle.lot_machine.specs.Commands.{command_step}
+use Rattle.lot_machine.specs.Commands.{thread_meant, is_dead_in, command_effect, command_step}
+use Rattle.lot_machine.specs.Kill.{killed}
 use Rattle.lot_machine.specs.declared.after.After.{After}
 use Rattle.lot_machine.specs.Traps.{after_trap, with_ticks}
 use Rattle.lot_machine.specs.declared.after.After.TheVariants.{GoesOn, Leaves, Ends}
@@ -41,8 +47,9 @@ use Rattle.lot_machine.specs.Order.{IsQueue, HasQueues, IsInOrder}
 use Rattle.lot_machine.proofs.Tickets.{at_number-suc, some-injective}
 use Rattle.lot_machine.proofs.CommandsKept.{unrefused, all-pass}
 use Rattle.lot_machine.proofs.RecordsKept.{RunsAlone, apart}
-use Rattle.lot_machine.proofs.Idle.{alive-of, filter-passes, is-ready, is-asleep, there-runs, there-alone, free-of, used-of, used-elsewhere}
-use Rattle.lot_machine.proofs.StepChanges.{By, On, Leads, kept, Apart, Queues, HasAmount, HasRoom, AreRemovedDead, change-apart, change-gone, change-removed, change-room, change-there, change-queues, command-keeps, command-leads, draw-leads, stopped-leads, wake-leads, checked-leads, finish-leads, passes, Console}
+use Rattle.lot_machine.proofs.Idle.{IsAlive, alive-of, filter-passes, is-ready, is-asleep, there-runs, there-alone, free-of, used-of, used-elsewhere}
+use Rattle.lot_machine.proofs.StepChanges.{By, On, Leads, kept, Apart, Queues, HasAmount, HasRoom, AreRemovedDead, change-apart, change-gone, change-removed, change-room, change-there, change-queues, command-keeps, command-leads, kill-leads, not-dead, draw-leads, stopped-leads, wake-leads, checked-leads, finish-leads, passes, Console}
+use Rattle.lot_machine.proofs.KillKept.{kill-cycle, kill-queues}
 use Rattle.lot_machine.proofs.Queues.{queue-empty, queues-changed, queues-live}
 use Rattle.lot_machine.proofs.TrapQueues.{nowhere-from, stay-queues, call-queues, receive-queues, reply-queues, replied-queues, lock-queues, unlock-queues}
 use Rattle.lot_machine.proofs.TrapCycles.{cycle-nobody, call-cycle, receive-cycle, reply-cycle, replied-cycle, lock-cycle, unlock-cycle}
@@ -58,12 +65,6 @@ frame-order {by} s b order leads no_cycle there queues removed =
     let runs = kept Apart (change-apart by s order.runs_apart) leads order.runs_apart in
     record { no_cycle = no_cycle; funds_there = there; runs_apart = runs; queues = queues; removed = removed; amounts = room.0; ticket_count = room.1; bounds = room.2 }
 
-command-order : (s : State) (c : Command) → IsInOrder s → IsInOrder (command_step s c).state
-command-order s c order =
-    let leads = command-leads s c in
-    let funded = command-keeps s c order.no_cycle order.funds_there in
-    frame-order s (command_step s c).state order leads funded.0 funded.1 (kept Queues (change-queues s) leads order.queues) (kept AreRemovedDead (change-gone s) leads order.removed)
-
 -- nothing makes a cycle, and those who wait stand where their statuses say
 abbrev IsUntangled : State → Type 0
 IsUntangled s = HasNoCycle (funding_of s) × Queues s
@@ -73,6 +74,51 @@ other-order : {by : By} (s b : State) → ¬ (by ≡ Console) → IsInOrder s �
 other-order {by} s b other order leads (no_cycle, queues) =
     frame-order s b order leads no_cycle (kept (λ a. FundsThere (funding_of a)) (change-there by s other) leads order.funds_there) queues
     (kept (λ a. (a.threads ≡ s.threads) × AreRemovedDead a) (change-removed by s other order.queues order.removed) leads (refl, order.removed)).1
+
+-- a thread that a command means was made
+pub meant-within : (s : State) (thread : ThreadRef) (t : ℕ) → thread_meant s thread ≡ Some t → (1 ≤ t) × (t ≤ length s.threads)
+meant-within s (thread_ref.Named name) t e = from (position (option_any (λ (x : Thread). bytes_eq name x.name)) s.threads) refl e
+  where
+    from : (o : Option ℕ) → position (option_any (λ (x : Thread). bytes_eq name x.name)) s.threads ≡ o → option_map (λ place. place + 1) o ≡ Some t → (1 ≤ t) × (t ≤ length s.threads)
+    from None is none = cc
+    from (Some place) is some =
+        let found = position-Some (option_any (λ (x : Thread). bytes_eq name x.name)) s.threads place None is in
+        let next : place + 1 ≡ t = some-injective (place + 1) t some in
+        let below : place < length s.threads = found.0 in (omega (arith, next), omega (arith, next, below))
+meant-within s (thread_ref.Numbered zero) t e = cc
+meant-within s (thread_ref.Numbered (suc i)) t e = from (slice_get s.threads i) refl (sym (ap (λ (o : Option (Option Thread)). option_map (λ (x : Thread). suc i) (option_flatten o)) (at_number-suc s.threads i)) ∙ e)
+  where
+    from : (o : Option (Option Thread)) → slice_get s.threads i ≡ o → option_map (λ (x : Thread). suc i) (option_flatten o) ≡ Some t → (1 ≤ t) × (t ≤ length s.threads)
+    from None is none = cc
+    from (Some x) is some =
+        let below : i < length s.threads = slice_get_within s.threads i x is in
+        let next : suc i ≡ t = number x some in (omega (arith, next), omega (arith, next, below))
+      where
+        number : (x : Option Thread) → option_map (λ (y : Thread). suc i) x ≡ Some t → suc i ≡ t
+        number None h = cc
+        number (Some y) h = some-injective (suc i) t h
+
+-- so it has a number
+pub meant-number : (s : State) (thread : ThreadRef) (t : ℕ) → thread_meant s thread ≡ Some t → suc (t - 1) ≡ t
+meant-number s thread t meant = omega (arith, (meant-within s thread t meant).0)
+
+-- a thread that isn't dead is killed
+kill-order : (s : State) (t : ℕ) → suc (t - 1) ≡ t → IsAlive s.records t → IsInOrder s → IsInOrder (killed s t)
+kill-order s t number alive order = other-order s (killed s t) (λ e. cc) order (kill-leads s t alive) (kill-cycle s t order.no_cycle, kill-queues s order.queues t number)
+
+command-order : (s : State) (c : Command) → IsInOrder s → IsInOrder (command_step s c).state
+command-order s (Kill thread) order =
+    unrefused IsInOrder s _ (command_effect s (Kill thread)) order (λ e.
+    let passed = all-pass ((is_none (thread_meant s thread), NoThread) ∷ (option_any (is_dead_in s) (thread_meant s thread), DeadThread) ∷ []) e in
+    at (thread_meant s thread) refl passed.0 passed.1.0)
+  where
+    at : (o : Option ℕ) → thread_meant s thread ≡ o → is_none o ≡ false → option_any (is_dead_in s) o ≡ false → IsInOrder (killed s (unwrap_or o 0))
+    at None meant named alive = cc
+    at (Some t) meant named alive = kill-order s t (meant-number s thread t meant) (not-dead s t alive) order
+command-order s c order =
+    let leads = command-leads s c in
+    let funded = command-keeps s c order.no_cycle order.funds_there in
+    frame-order s (command_step s c).state order leads funded.0 funded.1 (kept Queues (change-queues s) leads order.queues) (kept AreRemovedDead (change-gone s) leads order.removed)
 
 -- nor does an event of a processor
 processor-order : (p : ℕ) (s b : State) → IsInOrder s → Leads (On p) s b → IsUntangled b → IsInOrder b

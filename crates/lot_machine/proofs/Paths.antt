@@ -53,30 +53,39 @@ module _ (Q R : ℕ → ℕ → Type 0) (a b : ℕ) (either : (t s : ℕ) → Q 
       join (inr (from, to)) (inl (chain, is)) = apart (chain, subst (λ x. IsPath R b chain x) from (subst (λ x. IsPath R x chain t) to is))
       join (inr (from, to)) (inr (before, (after, is))) = apart (after, subst (λ x. IsPath R b after x) from is)
 
--- With more steps, all to w, there is still none if w steps nowhere.
-module _ (Q R : ℕ → ℕ → Type 0) (w : ℕ) (either : (t s : ℕ) → Q t s → R t s ⊎ (s ≡ w)) (ends : (s : ℕ) → ¬ Q w s) where
-  -- nothing but w itself comes after w
-  last : (t : ℕ) (chain : List ℕ) (u : ℕ) → t ≡ w → IsPath Q t chain u → u ≡ w
-  last t [] u at e = sym e ∙ at
-  last t (s ∷ rest) u at (first, others) = absurd (ends s (subst (λ x. Q x s) at first))
+-- nothing comes next
+abbrev pub IsEnd : (ℕ → ℕ → Type 0) → ℕ → Type 0
+IsEnd R t = (s : ℕ) → ¬ R t s
 
-  -- a path goes without the new steps, or it ends in w
-  before : (t : ℕ) (chain : List ℕ) (u : ℕ) → IsPath Q t chain u → Leads R t u ⊎ (u ≡ w)
+-- With more steps, each to one from which nothing comes next, there is still none.
+module _ (Q R : ℕ → ℕ → Type 0) (either : (t s : ℕ) → Q t s → R t s ⊎ IsEnd Q s) where
+  -- a path from an end ends there
+  last : (t : ℕ) (chain : List ℕ) (u : ℕ) → IsEnd Q t → IsPath Q t chain u → IsEnd Q u
+  last t [] u ends e = subst (IsEnd Q) e ends
+  last t (s ∷ rest) u ends (first, others) = absurd (ends s first)
+
+  -- a path goes without the new steps, or it leads to an end
+  before : (t : ℕ) (chain : List ℕ) (u : ℕ) → IsPath Q t chain u → Leads R t u ⊎ IsEnd Q u
   before t [] u e = inl ([], e)
   before t (s ∷ rest) u (first, others) = join (either t s first) (before s rest u others)
     where
-      join : R t s ⊎ (s ≡ w) → Leads R s u ⊎ (u ≡ w) → Leads R t u ⊎ (u ≡ w)
-      join old (inr e) = inr e
+      join : R t s ⊎ IsEnd Q s → Leads R s u ⊎ IsEnd Q u → Leads R t u ⊎ IsEnd Q u
+      join old (inr ends) = inr ends
       join (inl old) (inl (chain, is)) = inl (s ∷ chain, (old, is))
-      join (inr at) (inl lead) = inr (last s rest u at others)
+      join (inr ends) (inl lead) = inr (last s rest u ends others)
 
-  pub steps-to-end : HasNoReturn R → HasNoReturn Q
-  steps-to-end none t (s, first, (rest, others)) = join (either t s first) (before s rest t others)
+  pub steps-to-ends : HasNoReturn R → HasNoReturn Q
+  steps-to-ends none t (s, first, (rest, others)) = join (either t s first) (before s rest t others)
     where
-      at_end : t ≡ w → ⊥
-      at_end at = ends s (subst (λ x. Q x s) at first)
-
-      join : R t s ⊎ (s ≡ w) → Leads R s t ⊎ (t ≡ w) → ⊥
-      join old (inr at) = at_end at
+      join : R t s ⊎ IsEnd Q s → Leads R s t ⊎ IsEnd Q t → ⊥
+      join old (inr ends) = ends s first
       join (inl old) (inl lead) = none t (s, old, lead)
-      join (inr at) (inl lead) = at_end (last s rest t at others)
+      join (inr ends) (inl lead) = last s rest t ends others s first
+
+-- With more steps, all to w, there is still none if w steps nowhere.
+pub steps-to-end : (Q R : ℕ → ℕ → Type 0) (w : ℕ) → ((t s : ℕ) → Q t s → R t s ⊎ (s ≡ w)) → IsEnd Q w → HasNoReturn R → HasNoReturn Q
+steps-to-end Q R w either ends = steps-to-ends Q R (λ t s step. from s (either t s step))
+  where
+    from : {A : Type 0} (s : ℕ) → A ⊎ (s ≡ w) → A ⊎ IsEnd Q s
+    from s (inl old) = inl old
+    from s (inr at) = inr (subst (IsEnd Q) (sym at) ends)

@@ -1,7 +1,7 @@
 -- Each event is a list of changes, each of which is allowed where it is made. So what each allowed change keeps, each event keeps.
-use Rattle.std.proofs.Common.{◌≡◌, ℕ, zero, suc, ◌+◌, ◌-◌, ◌^◌, ◌<◌, ◌≤◌, ◌==◌, Bool, true, false, not, ◌||◌, ◌⊎◌, inl, inr, Option, Some, None, is_some, is_none, List, [], ◌∷◌, ◌++◌, length, drop, map, remove, refl, sym, ◌∙◌, ap, subst, arith, cond, nat_lt, nat_le, option_map, unwrap_or, slice_get, slice_set, slice_index, All, IfSome}
+use Rattle.std.proofs.Common.{◌≡◌, ℕ, zero, suc, ◌+◌, ◌-◌, ◌^◌, ◌<◌, ◌≤◌, ◌==◌, Bool, true, false, not, ◌||◌, ◌⊎◌, inl, inr, Option, Some, None, is_some, is_none, List, [], ◌∷◌, ◌++◌, length, drop, map, remove, refl, sym, ◌∙◌, ap, subst, arith, cond, nat_lt, nat_le, option_map, option_and_then, unwrap_or, slice_get, slice_set, slice_index, All, IfSome}
 use Rattle.std.specs.Option.{option_flatten}
-use Rattle.std.proofs.lemmas.Bool.{ltb-false, leb-false, or_parts}
+use Rattle.std.proofs.lemmas.Bool.{cases_eq, ltb-false, leb-false, or_parts}
 use Rattle.std.proofs.lemmas.List.{length-append, map-append, map-set}
 use Rattle.std.proofs.Math.ListN.{length-set}
 use Rattle.std.proofs.lemmas.List.Elements.{All-head, All-tail, All-push, All-set}
@@ -9,11 +9,12 @@ use Rattle.lot_machine.specs.declared.ticket.Ticket.{Ticket}
 use Rattle.lot_machine.specs.declared.ticket.Target.{Target}
 use Rattle.lot_machine.specs.declared.ticket.Target.TheVariants as target
 use Rattle.lot_machine.specs.declared.record.Record.{Record}
+use Rattle.lot_machine.specs.declared.record.Status.{Status}
 use Rattle.lot_machine.specs.declared.record.Status.TheVariants as status
 use Rattle.lot_machine.specs.declared.action.Action.{Action}
 use Rattle.lot_machine.specs.declared.action.Action.TheVariants.{Yield, Call, Receive, Reply as ReplyTo, Serve, Lock, Unlock, Sleep, Exit}
 use Rattle.lot_machine.specs.declared.command.Command.{Command}
-use Rattle.lot_machine.specs.declared.command.Command.TheVariants.{MakeTicket, RemoveTicket, MakeCurrency, RemoveCurrency, Fund, Unfund, SetTicket, MakeThread, RemoveThread, MakeFunded, List as Listing}
+use Rattle.lot_machine.specs.declared.command.Command.TheVariants.{MakeTicket, RemoveTicket, MakeCurrency, RemoveCurrency, Fund, Unfund, SetTicket, MakeThread, RemoveThread, Kill, MakeFunded, List as Listing}
 use Rattle.lot_machine.specs.declared.event.Event.{Event}
 use Rattle.lot_machine.specs.declared.event.Event.TheVariants as event
 use Rattle.lot_machine.specs.declared.refusal.Refusal.TheVariants.{BadName, NameTaken, NoCurrency, NoTicket, NoTarget, BadAmount, InUse, Funding as IsFunding, Cycle, BaseFixed, DeadThread, Full, NoScript, NoThread, Alive, BadProcessor, Busy, NotRunning, BadTicks, NotAsleep}
@@ -25,32 +26,44 @@ use Rattle.lot_machine.specs.Numbered.{at_number, set_number, option_any}
 use Rattle.lot_machine.specs.Funding.{ticket_in, with_target, retargeted, reissued, issued_in, backing_currency, is_currency, currency_funded}
 use Rattle.lot_machine.specs.Bounds.{IsWithinBounds}
 use Rattle.lot_machine.specs.Lottery.{winner}
-use Rattle.lot_machine.specs.State.{State, funding_of, is_asleep, lend_of, QueuedCall, status_of, thread_at, used_by, thread_on, ready_threads, change_record, value_of, weight_of}
+use Rattle.lot_machine.specs.State.{State, Port, Mutex, funding_of, is_dead, is_asleep, lend_of, QueuedCall, status_of, thread_at, used_on, used_by, thread_on, ready_threads, change_record, change_each, value_of, weight_of}
 use Rattle.lot_machine.specs.Commands.{currency_meant, thread_meant, target_meant, currency_or_base, is_good_name, is_taken, is_no_script, is_bad_amount, are_tickets_full, are_threads_full, is_in_use, is_dead_in, is_thread_in_use, is_dead_thread, is_funding, is_cycle, command_effect, command_step}
 use Rattle.lot_machine.specs.Traps.{after_trap, with_ticks}
 use Rattle.lot_machine.specs.Ports.{clients_of, port_at, first_client, call, receive, reply}
 use Rattle.lot_machine.specs.Mutexes.{mutex_at, lock, unlock}
+use Rattle.lot_machine.specs.Kill.{without, port_without, mutex_without, released_by, released, ended, killed}
 use Rattle.lot_machine.specs.Step.{Effect, of_ports, of_mutexes, is_bad_processor, started, draw, stopped, wake, trap_refusal, trap_effect, checked_effect, thread_there, used_there, event_effect, step}
 use Rattle.lot_machine.specs.Facts.{HasNoCycle, FundsThere, RunsApart}
 use Rattle.lot_machine.specs.Order.{HasQueues}
 use Rattle.lot_machine.specs.Change.{Change, NewTicket, PutTicket, NewCurrency, DropCurrency, NewThread, DropThread, PutRecord, PutClients, PutPort, PutMutex, newborn, applied, applied_all}
-use Rattle.lot_machine.proofs.Idle.{there-alone, free-of, SameUsed, used-changed, used-more, used-of, used-stopped_on, index-holds, IsAlive, nobody-alive, ready-used, receiver-used, caller-used, client-used, waiter-used, there-used, is-dead, is-asleep, alive-of, status-more, status-number, ready-alive, receiver-alive, caller-alive, client-alive, waiter-alive, there-alive}
+use Rattle.lot_machine.proofs.Idle.{there-alone, free-of, used-changed, used-more, used-of, used-stopped_on, index-holds, IsAlive, nobody-alive, ready-used, receiver-used, caller-used, client-used, waiter-used, there-used, is-dead, is-asleep, alive-of, status-more, status-number, ready-alive, receiver-alive, caller-alive, client-alive, waiter-alive, there-alive}
 use Rattle.lot_machine.proofs.Amounts.{HasNoCycle-amount, FundsThere-amount, place-of}
 use Rattle.lot_machine.proofs.CommandsKept.{IsFunded, unrefused, all-pass, none-of, target-there, keeps-remove_ticket, keeps-unfund, keeps-target}
 use Rattle.lot_machine.proofs.FundingKept.{HasNoCycle-new_ticket, FundsThere-new_ticket, HasNoCycle-currencies, FundsThere-after, FundsThere-removed}
 use Rattle.lot_machine.proofs.LendsKept.{HasNoCycle-lends_more}
-use Rattle.lot_machine.proofs.Queues.{queues-more}
-use Rattle.lot_machine.proofs.Changes.{number-push, number-set}
+use Rattle.lot_machine.proofs.Queues.{queues-more, status-other}
+use Rattle.lot_machine.proofs.Tickets.{some-injective}
+use Rattle.lot_machine.proofs.Changes.{number-push, number-set, map-by-sets}
+use Rattle.lot_machine.proofs.KillKept.{kill-cycle}
+use Rattle.lot_machine.proofs.Killed.{IsAmong, IsHeir, released-why, client-waits, heir-waits}
 use Rattle.lot_machine.proofs.RecordsKept.{RunsAlone, StopsIfLeaves, status-changed, nobody-runs, RunsAlone-stops, RunsApart-changed, RunsApart-more}
 
 -- ---- changes that are allowed
 
--- who makes a change: the console, the work of a trap, a timer that wakes threads, or the thread that an event of this processor names
+-- who makes a change: the console, the work of a trap, a timer that wakes threads, the thread that an event of this processor names, or
+-- the console when it kills this thread, if it exists
 pub data By : Type 0 where
   Console : By
   Work : By
   Timer : By
   On : ℕ → By
+  Kills : Option ℕ → By
+
+-- it leaves what threads have won and used
+abbrev pub IsTallied : By → Type 0
+IsTallied Work = Unit {0}
+IsTallied (Kills t) = Unit {0}
+IsTallied other = ⊥
 
 abbrev pub Apart : State → Type 0
 Apart s = RunsApart s.records
@@ -62,19 +75,19 @@ Queues s = HasQueues s.records s.clients s.ports s.mutexes
 abbrev pub HasAmount : Option Ticket → Type 0
 HasAmount place = IfSome place (λ t. t.amount < 2 ^ 32)
 
--- A thread's record changes: the thread is there; it wasn't dead at the start, and it runs on no other processor than the event's,
--- if those who wait stood where their statuses say at the start; it runs afterwards only there, where nobody else does if each processor had its own thread; and
--- the work of a trap leaves what it has won and used.
+-- A thread's record changes: the thread is there; it wasn't dead at the start, and it runs on no other processor than the event's
+-- unless it is killed, if those who wait stood where their statuses say at the start; it runs afterwards only there, where nobody else does if each processor had its own thread; and
+-- the work of a trap, and a kill, leave what it has won and used.
 pub record Moves (by : By) (s a : State) (t : ℕ) (r : Record) : Type 0 where
   pub there : (old : Record) × (at_number a.records t ≡ Some old)
   pub mover : ¬ (by ≡ Console)
-  pub tally : by ≡ Work → r ≡ record there.0 { status = r.status; compensation = r.compensation; delivered = r.delivered }
+  pub tally : IsTallied by → r ≡ record there.0 { status = r.status; compensation = r.compensation; delivered = r.delivered }
   pub alive : Queues s → IsAlive s.records t
-  pub elsewhere : Queues s → (p : ℕ) → ¬ (by ≡ On p) → used_by a.records p t ≡ None
+  pub elsewhere : Queues s → (p : ℕ) → ¬ (by ≡ On p) → ¬ (by ≡ Kills (Some t)) → used_by a.records p t ≡ None
   pub runs : (p used : ℕ) → r.status ≡ status.Running p used → (by ≡ On p) × (Apart s → RunsAlone a.records p t)
 
 -- The change is allowed in the second state, which the event has reached from the first. The console alone changes tickets and
--- currencies and makes and removes threads, and it changes nothing else.
+-- currencies and makes and removes threads, and it changes nothing else unless it kills a thread.
 abbrev pub Allowed : By → State → State → Change → Type 0
 Allowed by s a (NewTicket t) = (by ≡ Console) × (t.amount < 2 ^ 32) × (length a.tickets < a.limits.tickets) × (currency_funded t.target ≡ None)
 Allowed by s a (PutTicket n place) = (by ≡ Console) × (All HasAmount a.tickets → HasAmount place) × (IsFunded a → IsFunded (record a { tickets = set_number a.tickets n place }))
@@ -121,7 +134,7 @@ working p s b leads = kept (Leads (On p) s) (λ a c allowed before. Then before 
     may a (NewThread t) allowed = absurd (not-console allowed)
     may a (DropThread t) allowed = absurd (not-console allowed.0)
     may a (PutRecord t r) allowed =
-        record { there = allowed.there; mover = λ e. cc; tally = λ e. cc; alive = allowed.alive; elsewhere = λ queues q other. allowed.elsewhere queues q (not-on q); runs = λ q used is. absurd (not-on q (allowed.runs q used is).0) }
+        record { there = allowed.there; mover = λ e. cc; tally = λ e. absurd e; alive = allowed.alive; elsewhere = λ queues q other spared. allowed.elsewhere queues q (not-on q) (λ e. cc); runs = λ q used is. absurd (not-on q (allowed.runs q used is).0) }
     may a (PutClients t x) allowed = λ e. cc
     may a (PutPort t x) allowed = λ e. cc
     may a (PutMutex t x) allowed = λ e. cc
@@ -135,8 +148,8 @@ abbrev LeavesTally : (Record → Record) → Type 0
 LeavesTally change = (r : Record) → change r ≡ record r { status = (change r).status; compensation = (change r).compensation; delivered = (change r).delivered }
 
 -- one thread's record changes, if it is there
-put : {by : By} {s : State} (a : State) (change : Record → Record) (t : ℕ) → ¬ (by ≡ Console) → (by ≡ Work → LeavesTally change) → Leads by s a
-    → (Queues s → IsAlive s.records t) → (Queues s → (p : ℕ) → ¬ (by ≡ On p) → used_by a.records p t ≡ None)
+put : {by : By} {s : State} (a : State) (change : Record → Record) (t : ℕ) → ¬ (by ≡ Console) → (IsTallied by → LeavesTally change) → Leads by s a
+    → (Queues s → IsAlive s.records t) → (Queues s → (p : ℕ) → ¬ (by ≡ On p) → ¬ (by ≡ Kills (Some t)) → used_by a.records p t ≡ None)
     → ((r : Record) (p used : ℕ) → (change r).status ≡ status.Running p used → (by ≡ On p) × (Apart s → RunsAlone a.records p t))
     → Leads by s (record a { records = change_record change a.records t })
 put {by} {s} a change t mover tally leads alive elsewhere runs = at (at_number a.records t) refl
@@ -175,13 +188,38 @@ change-alone s p t a (PutRecord u r) allowed alone =
     differs q e = cc
 change-alone s p t a other allowed alone = alone
 
--- each thread has used as many ticks on a processor that isn't the event's as at the start
-pub change-used : (by : By) (s : State) (p : ℕ) → Queues s → ¬ (by ≡ On p) → Keeps by s (λ a. SameUsed p s.records a.records)
-change-used by s p queues other a (NewThread t) allowed same u = used-more a.records newborn p refl u ∙ same u
-change-used by s p queues other a (PutRecord t r) allowed same u =
-    subst (SameUsed p a.records) (put-changes a.records t r allowed.there.0 allowed.there.1)
-    (used-changed (λ _. r) a.records t p (allowed.elsewhere queues p other) (λ _. used-stopped_on p r.status (λ used is. other (allowed.runs p used is).0))) u ∙ same u
-change-used by s p queues other a c allowed same u = same u
+-- a thread that isn't killed has used as many ticks on a processor that isn't the event's as at the start
+pub change-used : (by : By) (s : State) (p u : ℕ) → Queues s → ¬ (by ≡ On p) → ¬ (by ≡ Kills (Some u)) → Keeps by s (λ a. used_by a.records p u ≡ used_by s.records p u)
+change-used by s p u queues other spared a (NewThread t) allowed same = used-more a.records newborn p refl u ∙ same
+change-used by s p u queues other spared a (PutRecord t r) allowed same = from (cases_eq u t)
+  where
+    put : change_record (λ _. r) a.records t ≡ set_number a.records t r
+    put = put-changes a.records t r allowed.there.0 allowed.there.1
+
+    from : (u ≡ t) ⊎ (u ≡ t → ⊥) → used_by (set_number a.records t r) p u ≡ used_by s.records p u
+    from (inl at) =
+        let idle = allowed.elsewhere queues p other (λ kills. spared (kills ∙ ap (λ x. Kills (Some x)) (sym at))) in
+        ap (λ rs. used_by rs p u) (sym put) ∙ used-changed (λ _. r) a.records t p idle (λ _. used-stopped_on p r.status (λ used is. other (allowed.runs p used is).0)) u ∙ same
+    from (inr differs) = ap (λ rs. used_by rs p u) (sym put) ∙ ap (option_and_then (used_on p)) (status-other (λ _. r) a.records t u differs) ∙ same
+change-used by s p u queues other spared a c allowed same = same
+
+-- who runs on a processor that isn't the event's ran there at the start
+pub change-ran : (by : By) (s : State) (p u used : ℕ) → ¬ (by ≡ On p) → Keeps by s (λ a. status_of a.records u ≡ Some (status.Running p used) → status_of s.records u ≡ Some (status.Running p used))
+change-ran by s p u used other a (NewThread t) allowed ran runs = from (number-push a.records newborn u)
+  where
+    from : (at_number (a.records ++ newborn ∷ []) u ≡ at_number a.records u) ⊎ ((at_number a.records u ≡ None) × (at_number (a.records ++ newborn ∷ []) u ≡ Some newborn)) → status_of s.records u ≡ Some (status.Running p used)
+    from (inl same) = ran (ap (option_map (λ (x : Record). x.status)) (sym same) ∙ runs)
+    from (inr (none, new)) = let never : Some status.Ready ≡ Some (status.Running p used) = sym (ap (option_map (λ (x : Record). x.status)) new) ∙ runs in cc
+change-ran by s p u used other a (PutRecord t r) allowed ran runs = from (status-changed (λ _. r) a.records t u)
+  where
+    now : status_of (change_record (λ _. r) a.records t) u ≡ Some (status.Running p used)
+    now = ap (λ rs. status_of rs u) (put-changes a.records t r allowed.there.0 allowed.there.1) ∙ runs
+
+    from : (status_of (change_record (λ _. r) a.records t) u ≡ status_of a.records u) ⊎ ((u ≡ t) × ((x : Record) × (at_number a.records t ≡ Some x) × (status_of (change_record (λ _. r) a.records t) u ≡ Some r.status)))
+        → status_of s.records u ≡ Some (status.Running p used)
+    from (inl same) = ran (sym same ∙ now)
+    from (inr (at, (x, there, new))) = absurd (other (allowed.runs p used (some-injective r.status (status.Running p used) (sym new ∙ now))).0)
+change-ran by s p u used other a c allowed ran runs = ran runs
 
 -- tickets stay within their bounds
 abbrev pub HasRoom : State → Type 0
@@ -256,6 +294,57 @@ change-tickets by s other a (NewTicket t) allowed same = absurd (other allowed.0
 change-tickets by s other a (PutTicket n place) allowed same = absurd (other allowed.0)
 change-tickets by s other a c allowed same = same
 
+-- ---- a kill
+
+-- the waits of some threads end, if each of them waited for a server or a mutex at the start
+release-leads : {by : By} {s : State} (threads : List ℕ) (a : State) → ¬ (by ≡ Console) → Leads by s a
+    → ((place u : ℕ) → slice_get threads place ≡ Some u → Queues s → (now : Status) × (status_of s.records u ≡ Some now) × ¬ (now ≡ status.Dead) × ((p : ℕ) → used_on p now ≡ None))
+    → Leads by s (record a { records = change_each released a.records threads })
+release-leads [] a other leads waits = leads
+release-leads {by} {s} (t ∷ ts) a other leads waits =
+    release-leads ts (record a { records = change_record released a.records t }) other
+    (put a released t other (λ _ r. refl) leads
+    (λ queues. let (now, is, lives, idle) = waits 0 t refl queues in alive-of s.records t now is lives)
+    (λ queues p on spared. let (now, is, lives, idle) = waits 0 t refl queues in
+    kept (λ b. used_by b.records p t ≡ used_by s.records p t) (change-used by s p t queues on spared) leads refl ∙ used-of s.records p t now is (idle p))
+    (λ r p used is. cc))
+    (λ place u e. waits (suc place) u e)
+
+-- each port changes, and each mutex, and the clients of each thread
+ports-lead : {by : By} {s : State} (f : Port → Port) (a : State) → ¬ (by ≡ Console) → Leads by s a → Leads by s (record a { ports = map f a.ports })
+ports-lead {by} {s} f a other leads = map-by-sets (λ ports. Leads by s (record a { ports = ports })) f (λ ports n port before. Then before (PutPort n port) other) [] a.ports leads
+
+mutexes-lead : {by : By} {s : State} (f : Mutex → Mutex) (a : State) → ¬ (by ≡ Console) → Leads by s a → Leads by s (record a { mutexes = map f a.mutexes })
+mutexes-lead {by} {s} f a other leads = map-by-sets (λ mutexes. Leads by s (record a { mutexes = mutexes })) f (λ mutexes n mutex before. Then before (PutMutex n mutex) other) [] a.mutexes leads
+
+clients-lead : {by : By} {s : State} (f : List ℕ → List ℕ) (a : State) → ¬ (by ≡ Console) → Leads by s a → Leads by s (record a { clients = map f a.clients })
+clients-lead {by} {s} f a other leads = map-by-sets (λ clients. Leads by s (record a { clients = clients })) f (λ clients n threads before. Then before (PutClients n threads) other) [] a.clients leads
+
+-- a thread that isn't dead is killed
+pub kill-leads : (s : State) (t : ℕ) → IsAlive s.records t → Leads (Kills (Some t)) s (killed s t)
+kill-leads s t alive =
+    let a : State = record s { records = change_each released s.records (released_by s t) } in
+    let b : State = record a { records = change_record ended a.records t } in
+    let c : State = record b { clients = set_number (map (without t) s.clients) t [] } in
+    let waits_end : Leads (Kills (Some t)) s a = release-leads (released_by s t) s not-console Stays waits in
+    let ends : Leads (Kills (Some t)) s b = put a ended t not-console (λ _ r. refl) waits_end (λ _. alive) (λ queues p on spared. absurd (spared refl)) (λ r p used is. cc) in
+    let unserved : Leads (Kills (Some t)) s c = Then (clients-lead (without t) b not-console ends) (PutClients t []) not-console in
+    mutexes-lead (mutex_without t) (record c { ports = map (port_without t) s.ports }) not-console (ports-lead (port_without t) c not-console unserved)
+  where
+    not-console : ¬ (Kills (Some t) ≡ Console)
+    not-console e = cc
+
+    waits : (place u : ℕ) → slice_get (released_by s t) place ≡ Some u → Queues s → (now : Status) × (status_of s.records u ≡ Some now) × ¬ (now ≡ status.Dead) × ((p : ℕ) → used_on p now ≡ None)
+    waits place u e queues = from (released-why s t place u e)
+      where
+        from : IsAmong (clients_of s.clients t) u ⊎ IsHeir s t u → (now : Status) × (status_of s.records u ≡ Some now) × ¬ (now ≡ status.Dead) × ((p : ℕ) → used_on p now ≡ None)
+        from (inl client) = (status.Served t, client-waits s queues t u client, λ same. cc, λ p. refl)
+        from (inr why) = (status.Waiting why.mutex, heir-waits s queues t u why, λ same. cc, λ p. refl)
+
+-- who isn't found dead isn't
+pub not-dead : (s : State) (t : ℕ) → is_dead_in s t ≡ false → IsAlive s.records t
+not-dead s t alive dead = let passes : is_dead_in s t ≡ true = ap (option_any is_dead) dead in let never : true ≡ false = sym passes ∙ alive in cc
+
 -- ---- commands
 
 amount-at : (tickets : List (Option Ticket)) (i : ℕ) → All HasAmount tickets → IfSome (slice_get tickets i) HasAmount
@@ -285,8 +374,13 @@ amount-small : (o : Option Ticket) (amount : ℕ) → is_bad_amount amount ≡ f
 amount-small None amount good = tt
 amount-small (Some t) amount good = omega (arith, ltb-false 4294967295 amount (or_parts (amount == 0) (nat_lt 4294967295 amount) good).1)
 
+-- whose changes a command's are
+abbrev pub by_command : State → Command → By
+by_command s (Kill thread) = Kills (thread_meant s thread)
+by_command s other = Console
+
 -- Each command: its checks say that its changes are allowed.
-pub command-leads : (s : State) (c : Command) → Leads Console s (command_step s c).state
+pub command-leads : (s : State) (c : Command) → Leads (by_command s c) s (command_step s c).state
 command-leads s (MakeTicket amount currency) =
     unrefused (Leads Console s) s _ (command_effect s (MakeTicket amount currency)) Stays (λ e.
     let passed = all-pass ((is_bad_amount amount, BadAmount) ∷ (is_none (currency_meant s currency), NoCurrency) ∷ (are_tickets_full s, Full) ∷ []) e in
@@ -340,6 +434,14 @@ command-leads s (RemoveThread thread) =
     ended : (o : Option ℕ) → is_none o ≡ false → not (option_any (is_dead_in s) o) ≡ false → status_of s.records (unwrap_or o 0) ≡ Some status.Dead
     ended None named alive = cc
     ended (Some t) named alive = is-dead (status_of s.records t) (holds (is_dead_in s t) alive)
+command-leads s (Kill thread) =
+    unrefused (Leads (Kills (thread_meant s thread)) s) s _ (command_effect s (Kill thread)) Stays (λ e.
+    let passed = all-pass ((is_none (thread_meant s thread), NoThread) ∷ (option_any (is_dead_in s) (thread_meant s thread), DeadThread) ∷ []) e in
+    at (thread_meant s thread) passed.0 passed.1.0)
+  where
+    at : (o : Option ℕ) → is_none o ≡ false → option_any (is_dead_in s) o ≡ false → Leads (Kills o) s (killed s (unwrap_or o 0))
+    at None named alive = cc
+    at (Some t) named alive = kill-leads s t (not-dead s t alive)
 command-leads s (MakeFunded amount currency name script) =
     unrefused (Leads Console s) s _ (command_effect s (MakeFunded amount currency name script)) Stays (λ e.
     let passed = all-pass ((is_bad_amount amount, BadAmount) ∷ (is_none (currency_meant s currency), NoCurrency) ∷ (not (is_good_name name), BadName)
@@ -392,6 +494,7 @@ change-queues s a other allowed queues = queues
 -- a command leaves no ticket that makes a cycle, or that funds a currency which isn't there
 pub command-keeps : (s : State) (c : Command) → HasNoCycle (funding_of s) → FundsThere (funding_of s)
     → HasNoCycle (funding_of (command_step s c).state) × FundsThere (funding_of (command_step s c).state)
+command-keeps s (Kill thread) no_cycle there = unrefused IsFunded s _ (command_effect s (Kill thread)) (no_cycle, there) (λ _. (kill-cycle s (unwrap_or (thread_meant s thread) 0) no_cycle, there))
 command-keeps s c no_cycle there = kept IsFunded (change-funded s) (command-leads s c) (no_cycle, there)
 
 -- ---- what traps do besides
@@ -404,7 +507,7 @@ Works s e = Leads Work s e.state × StopsIfLeaves e.after
 wakes : {s : State} (a : State) (change : Record → Record) (t : ℕ) → Leads Work s a → (Queues s → IsAlive s.records t) → (Queues s → (p : ℕ) → used_by a.records p t ≡ None)
     → ((r : Record) (p used : ℕ) → ¬ ((change r).status ≡ status.Running p used)) → LeavesTally change
     → Leads Work s (record a { records = change_record change a.records t })
-wakes a change t leads alive idle stops tally = put a change t (λ e. cc) (λ _. tally) leads alive (λ queues p _. idle queues p) (λ r p used is. absurd (stops r p used is))
+wakes a change t leads alive idle stops tally = put a change t (λ e. cc) (λ _. tally) leads alive (λ queues p _ _. idle queues p) (λ r p used is. absurd (stops r p used is))
 
 call-leads : (s : State) (t port number : ℕ) → Works s (of_ports s (call s.records s.clients s.ports t port number))
 call-leads s t port number = at (port_at s.ports port).receivers refl
@@ -461,7 +564,7 @@ effect-leads s t (ReplyTo number) = reply-leads s t number
 effect-leads s t (Serve port number) =
     let replied = (reply-leads s t number).0 in
     receive-leads (of_ports s (reply s.records s.clients s.ports t number)).state t port replied (λ first others is queues. caller-alive s.records s.clients s.ports s.mutexes queues port first others is) (λ first others is queues p.
-    kept (λ a. SameUsed p s.records a.records) (change-used Work s p queues (λ e. cc)) replied (λ u. refl) first.caller ∙ caller-used s.records s.clients s.ports s.mutexes queues p port first others is)
+    kept (λ a. used_by a.records p first.caller ≡ used_by s.records p first.caller) (change-used Work s p first.caller queues (λ e. cc) (λ e. cc)) replied refl ∙ caller-used s.records s.clients s.ports s.mutexes queues p port first others is)
 effect-leads s t (Lock m) = lock-leads s t m
 effect-leads s t (Unlock m d) = unlock-leads s (value_of s) m d
 effect-leads s t Sleep = (Stays, λ p used e. cc)
@@ -483,28 +586,28 @@ draw-leads s p d free = at (winner (map (weight_of s) (ready_threads s.records))
     at None is = rw is Stays
     at (Some w) is =
         let won = slice_index (ready_threads s.records) w.place in
-        rw is (put s (started p) won (λ e. cc) (λ e. cc) Stays (λ queues. index-holds (IsAlive s.records) (ready_threads s.records) w.place (nobody-alive s.records) (ready-alive s w.place))
-        (λ queues q other. index-holds (λ t. used_by s.records q t ≡ None) (ready_threads s.records) w.place refl (ready-used s q w.place))
+        rw is (put s (started p) won (λ e. cc) (λ e. absurd e) Stays (λ queues. index-holds (IsAlive s.records) (ready_threads s.records) w.place (nobody-alive s.records) (ready-alive s w.place))
+        (λ queues q other spared. index-holds (λ t. used_by s.records q t ≡ None) (ready_threads s.records) w.place refl (ready-used s q w.place))
         (λ r q used e. (ap On (starts q 0 used e), λ apart u more runs. absurd (nobody-runs s.records p u more free (subst (λ x. status_of s.records u ≡ Some (status.Running x more)) (sym (starts q 0 used e)) runs)))))
 
 -- the thread that runs on the processor is taken off it
 pub stopped-leads : (s : State) (p ticks : ℕ) (compensation : Option ℕ) → is_none (thread_on s.records p) ≡ false → Leads (On p) s (stopped s (thread_there s p) ticks compensation).state
 stopped-leads s p ticks compensation there =
-    put s (λ r. with_ticks ticks (record r { status = status.Ready; compensation = compensation })) (thread_there s p) (λ e. cc) (λ e. cc) Stays (λ _. there-alive s p there)
-    (λ queues q other. there-used s q p (λ same. other (ap On same)) there) (λ r q used is. cc)
+    put s (λ r. with_ticks ticks (record r { status = status.Ready; compensation = compensation })) (thread_there s p) (λ e. cc) (λ e. absurd e) Stays (λ _. there-alive s p there)
+    (λ queues q other spared. there-used s q p (λ same. other (ap On same)) there) (λ r q used is. cc)
 
 -- a thread that sleeps is woken
 pub wake-leads : (s : State) (t : ℕ) → status_of s.records t ≡ Some status.Asleep → Leads Timer s (wake s t).state
 wake-leads s t sleeps =
-    put s (λ r. record r { status = status.Ready }) t (λ e. cc) (λ e. cc) Stays (λ _. alive-of s.records t status.Asleep sleeps (λ e. cc))
-    (λ queues q other. used-of s.records q t status.Asleep sleeps refl) (λ r q used is. cc)
+    put s (λ r. record r { status = status.Ready }) t (λ e. cc) (λ e. absurd e) Stays (λ _. alive-of s.records t status.Asleep sleeps (λ e. cc))
+    (λ queues q other spared. used-of s.records q t status.Asleep sleeps refl) (λ r q used is. cc)
 
 -- how the thread that made a trap goes on, or leaves
 pub finish-leads : (s : State) (p t ticks used : ℕ) (e : Effect) → Works s e → IsAlive s.records t → (Queues s → (q : ℕ) → ¬ (q ≡ p) → used_by s.records q t ≡ None) → (Apart s → RunsAlone s.records p t)
     → Leads (On p) s (record e.state { records = change_record (λ r. with_ticks ticks (after_trap e.after p used s.limits.quantum r)) e.state.records t })
 finish-leads s p t ticks used e (works, stops) alive idle alone =
-    put e.state (λ r. with_ticks ticks (after_trap e.after p used s.limits.quantum r)) t (λ e. cc) (λ e. cc) (working p s e.state works) (λ _. alive)
-    (λ queues q other. kept (λ a. SameUsed q s.records a.records) (change-used Work s q queues (λ e. cc)) works (λ u. refl) t ∙ idle queues q (λ same. other (ap On (sym same))))
+    put e.state (λ r. with_ticks ticks (after_trap e.after p used s.limits.quantum r)) t (λ e. cc) (λ e. absurd e) (working p s e.state works) (λ _. alive)
+    (λ queues q other spared. kept (λ a. used_by a.records q t ≡ used_by s.records q t) (change-used Work s q t queues (λ e. cc) (λ e. cc)) works refl ∙ idle queues q (λ same. other (ap On (sym same))))
     (λ r q more is. let here = runs e.after stops r q more is in (ap On here, λ apart. subst (λ x. RunsAlone e.state.records x t) here (kept (λ a. RunsAlone a.records p t) (change-alone s p t) works (alone apart))))
   where
     runs : (after : After) → StopsIfLeaves after → (r : Record) (q more : ℕ) → (after_trap after p used s.limits.quantum r).status ≡ status.Running q more → p ≡ q
@@ -524,16 +627,16 @@ passes false e = cc
 -- ---- events
 
 -- whose changes an event's are
-abbrev pub by_event : Event → By
-by_event (event.Command command) = Console
-by_event (event.Draw p d) = On p
-by_event (event.Expire p) = On p
-by_event (event.Trap p ran action) = On p
-by_event (event.Preempt p ticks) = On p
-by_event (event.Overrun p ticks) = On p
-by_event (event.Wake t) = Timer
+abbrev pub by_event : State → Event → By
+by_event s (event.Command command) = by_command s command
+by_event s (event.Draw p d) = On p
+by_event s (event.Expire p) = On p
+by_event s (event.Trap p ran action) = On p
+by_event s (event.Preempt p ticks) = On p
+by_event s (event.Overrun p ticks) = On p
+by_event s (event.Wake t) = Timer
 
-pub step-leads : (s : State) (e : Event) → Leads (by_event e) s (step s e).state
+pub step-leads : (s : State) (e : Event) → Leads (by_event s e) s (step s e).state
 step-leads s (event.Command command) = command-leads s command
 step-leads s (event.Draw p d) =
     unrefused (Leads (On p) s) s _ (draw s p d) Stays (λ e.

@@ -1,5 +1,5 @@
 -- How many threads a state has after an event, who they are, and its limits.
-use Rattle.std.proofs.Common.{◌≡◌, ℕ, ◌-◌, Option, Some, None, List, length, refl, arith}
+use Rattle.std.proofs.Common.{◌≡◌, ℕ, ◌-◌, Option, Some, None, List, [], ◌∷◌, length, refl, ◌∙◌, arith}
 use Rattle.std.proofs.Math.ListN.{length-set}
 use Rattle.lot_machine.specs.declared.record.Record.{Record}
 use Rattle.lot_machine.specs.declared.action.Action.{Action}
@@ -8,7 +8,8 @@ use Rattle.lot_machine.specs.declared.command.Command.{Command}
 use Rattle.lot_machine.specs.declared.event.Event.{Event}
 use Rattle.lot_machine.specs.declared.event.Event.TheVariants as event
 use Rattle.lot_machine.specs.Numbered.{at_number}
-use Rattle.lot_machine.specs.State.{State, change_record}
+use Rattle.lot_machine.specs.State.{State, change_record, change_each}
+use Rattle.lot_machine.specs.Kill.{released_by, released, ended, killed}
 use Rattle.lot_machine.specs.Commands.{command_step}
 use Rattle.lot_machine.specs.Step.{trap_effect, checked_effect, step}
 use Rattle.lot_machine.specs.Named.{processor_of}
@@ -22,34 +23,43 @@ change-length change records t = at (at_number records t) refl
     at None is = rw is refl
     at (Some r) is = rw is (length-set records (t - 1) (change r))
 
+-- a change of each of these threads' records
+pub each-length : (change : Record → Record) (records : List Record) (threads : List ℕ) → length (change_each change records threads) ≡ length records
+each-length change records [] = refl
+each-length change records (t ∷ ts) = each-length change (change_record change records t) ts ∙ change-length change records t
+
+-- a kill
+pub killed-length : (s : State) (t : ℕ) → length (killed s t).records ≡ length s.records
+killed-length s t = change-length ended (change_each released s.records (released_by s t)) t ∙ each-length released s.records (released_by s t)
+
 -- a trap's work, whether it is refused or not
 pub checked-sizes : (s : State) (t : ℕ) (action : Action) (o : Option TrapRefusal) → HasSizesOf s (checked_effect s o (trap_effect s t action)).state
 checked-sizes s t action o = kept (HasSizesOf s) (change-sizes Work s (λ e. cc)) (checked-leads s t action o).0 (refl, refl, refl)
 
 -- an event of a processor is not the console's
-not-console : (e : Event) (q : ℕ) → processor_of e ≡ Some q → ¬ (by_event e ≡ Console)
-not-console (event.Command command) q on is = cc
-not-console (event.Draw p d) q on is = cc
-not-console (event.Expire p) q on is = cc
-not-console (event.Trap p ran action) q on is = cc
-not-console (event.Preempt p ticks) q on is = cc
-not-console (event.Overrun p ticks) q on is = cc
-not-console (event.Wake t) q on is = cc
+not-console : (s : State) (e : Event) (q : ℕ) → processor_of e ≡ Some q → ¬ (by_event s e ≡ Console)
+not-console s (event.Command command) q on is = cc
+not-console s (event.Draw p d) q on is = cc
+not-console s (event.Expire p) q on is = cc
+not-console s (event.Trap p ran action) q on is = cc
+not-console s (event.Preempt p ticks) q on is = cc
+not-console s (event.Overrun p ticks) q on is = cc
+not-console s (event.Wake t) q on is = cc
 
 -- an event that isn't the console's makes no thread, and leaves the limits
-pub other-sizes : (s : State) (e : Event) → ¬ (by_event e ≡ Console) → HasSizesOf s (step s e).state
-other-sizes s e other = kept (HasSizesOf s) (change-sizes (by_event e) s other) (step-leads s e) (refl, refl, refl)
+pub other-sizes : (s : State) (e : Event) → ¬ (by_event s e ≡ Console) → HasSizesOf s (step s e).state
+other-sizes s e other = kept (HasSizesOf s) (change-sizes (by_event s e) s other) (step-leads s e) (refl, refl, refl)
 
 -- and the tickets
-pub other-tickets : (s : State) (e : Event) → ¬ (by_event e ≡ Console) → (step s e).state.tickets ≡ s.tickets
-other-tickets s e other = kept (λ a. a.tickets ≡ s.tickets) (change-tickets (by_event e) s other) (step-leads s e) refl
+pub other-tickets : (s : State) (e : Event) → ¬ (by_event s e ≡ Console) → (step s e).state.tickets ≡ s.tickets
+other-tickets s e other = kept (λ a. a.tickets ≡ s.tickets) (change-tickets (by_event s e) s other) (step-leads s e) refl
 
 pub step-sizes : (s : State) (e : Event) (q : ℕ) → processor_of e ≡ Some q → HasSizesOf s (step s e).state
-step-sizes s e q on = other-sizes s e (not-console e q on)
+step-sizes s e q on = other-sizes s e (not-console s e q on)
 
 -- any event leaves the limits, and a thread that it makes has a record
 pub step-grown : (s : State) (e : Event) → HasGrownFrom s (step s e).state
-step-grown s e = kept (HasGrownFrom s) (change-grown (by_event e) s) (step-leads s e) (refl, (0, omega arith, omega arith))
+step-grown s e = kept (HasGrownFrom s) (change-grown (by_event s e) s) (step-leads s e) (refl, (0, omega arith, omega arith))
 
 pub command-grown : (s : State) (c : Command) → HasGrownFrom s (command_step s c).state
 command-grown s c = step-grown s (event.Command c)

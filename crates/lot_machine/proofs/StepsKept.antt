@@ -20,4 +20,4 @@ effect-apart s p t u action runs alone =
     (kept Apart (change-apart Work s runs) works.0 runs, kept (λ a. RunsAlone a.records p t) (change-alone s p t) works.0 alone, works.1)
 
 pub step-apart : (s : State) (e : Event) → RunsApart s.records → RunsApart (step s e).state.records
-step-apart s e runs = kept Apart (change-apart (by_event e) s runs) (step-leads s e) runs
+step-apart s e runs = kept Apart (change-apart (by_event s e) s runs) (step-leads s e) runs

@@ -147,6 +147,11 @@ change_record change records t = changed (at_number records t)
     changed None = records
     changed (Some r) = set_number records t (change r)
 
+-- the records after this change to each of these threads'
+abbrev pub change_each : (Record → Record) → List Record → List ℕ → List Record
+change_each change records [] = records
+change_each change records (t ∷ ts) = change_each change (change_record change records t) ts
+
 -- a thread's value, in base units (4.4)
 abbrev pub value_of : State → ℕ → ℕ
 value_of s t = thread_value s.limits.unit (funding_of s) (live_of s) t

@@ -1,9 +1,10 @@
 -- Notation for small runs: the commands of the console, and the values and listings after them.
 use Rattle.std.specs.Prelude.{ℕ, Bool, List, [], ◌∷◌, map, codes, Option, Some}
-use Rattle.lot_machine.specs.declared.command.Command.TheVariants.{MakeTicket, RemoveTicket, MakeCurrency, RemoveCurrency, Fund, Unfund, SetTicket, MakeThread, MakeFunded}
+use Rattle.lot_machine.specs.declared.command.Command.TheVariants.{MakeTicket, RemoveTicket, MakeCurrency, RemoveCurrency, Fund, Unfund, SetTicket, MakeThread, Kill, MakeFunded}
 use Rattle.lot_machine.specs.declared.event.Event.{Event}
 use Rattle.lot_machine.specs.declared.reference.CurrencyRef.TheVariants as currency_ref
 use Rattle.lot_machine.specs.declared.reference.TargetRef.TheVariants as target_ref
+use Rattle.lot_machine.specs.declared.reference.ThreadRef.TheVariants as thread_ref
 use Rattle.lot_machine.specs.declared.event.Event.TheVariants.{Command}
 use Rattle.lot_machine.specs.declared.reply.Reply.{Reply}
 use Rattle.lot_machine.specs.declared.record.Status.{Status}
@@ -61,6 +62,10 @@ settkt n amount = Command (SetTicket n amount)
 -- make a thread with this name and script 1
 abbrev pub mkthr : List ℕ → Event
 mkthr name = Command (MakeThread name 1)
+
+-- kill the thread with this name
+abbrev pub kill : List ℕ → Event
+kill name = Command (Kill (thread_ref.Named name))
 
 -- make a thread with this name and script 1, and a ticket of this amount in the currency that funds it
 abbrev pub fundx : ℕ → List ℕ → List ℕ → Event

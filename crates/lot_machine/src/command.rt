@@ -55,6 +55,12 @@ pub enum Command {
     RemoveThread {
         thread: ThreadRef,
     },
+    /// `kill`: ends a thread in any status, and takes it off its processor or out of its queue. Its mutexes pass to
+    /// those that have waited longest for them; its clients are Ready, with nothing delivered. A thread that runs is
+    /// charged nothing more: a host that wants to charge what it ran makes an `Event::Preempt` before.
+    Kill {
+        thread: ThreadRef,
+    },
     /// `fundx`: makes a thread, and a ticket that funds it
     MakeFunded {
         amount: u64,
@@ -97,6 +103,9 @@ impl Command {
                 script: *script,
             },
             Command::RemoveThread { thread } => Command::RemoveThread {
+                thread: thread.copied(),
+            },
+            Command::Kill { thread } => Command::Kill {
                 thread: thread.copied(),
             },
             Command::MakeFunded {

@@ -16,7 +16,7 @@ ghost use Rattle.lot_machine.specs.State.{State, opening, funding_of, change_rec
 ghost use Rattle.lot_machine.specs.Commands.{command_step};
 ghost use Rattle.lot_machine.specs.Step.{step, state_after};
 ghost use Rattle.lot_machine.specs.Change.{Change, applied_all};
-ghost use Rattle.lot_machine.specs.Named.{processor_of, thread_in};
+ghost use Rattle.lot_machine.specs.Named.{processor_of, killed_by, thread_in};
 ghost use Rattle.lot_machine.specs.Bounds.{IsWithinBounds};
 ghost use Rattle.lot_machine.specs.declared.sizes.Sizes.{Sizes};
 ghost use Rattle.lot_machine.specs.declared.event.Event.{Event};
@@ -144,13 +144,17 @@ pub fn events_keep_apart()
     ensures { (s : State) (e : Event) → RunsApart s.records → RunsApart (step s e).state.records }
 {}
 
-/// In a state that is in order, an event of one processor changes neither the thread that runs on another, nor the
-/// ticks that each thread has used there.
+/// In a state that is in order, an event of one processor changes neither the thread that runs on another, unless it
+/// kills that thread, nor the ticks that each other thread has used there. If it kills the thread, the processor is
+/// idle afterwards.
 pub fn other_processors_run_on()
     ensures thread { (s : State) (e : Event) (p : ℕ) → IsInOrder s → ¬ (processor_of e ≡ Some p)
+        → ((t : ℕ) → thread_on s.records p ≡ Some t → ¬ (killed_by s e ≡ Some t))
         → thread_on (step s e).state.records p ≡ thread_on s.records p }
     ensures used { (s : State) (e : Event) (p t : ℕ) → IsInOrder s → ¬ (processor_of e ≡ Some p)
-        → used_by (step s e).state.records p t ≡ used_by s.records p t }
+        → ¬ (killed_by s e ≡ Some t) → used_by (step s e).state.records p t ≡ used_by s.records p t }
+    ensures killed { (s : State) (e : Event) (p t : ℕ) → IsInOrder s → killed_by s e ≡ Some t
+        → thread_on s.records p ≡ Some t → thread_on (step s e).state.records p ≡ None }
 {}
 
 /// The thread named in the reply to an event of one processor doesn't run on another processor.

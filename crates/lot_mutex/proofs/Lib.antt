@@ -3,3 +3,5 @@ pub mod Owners
 pub mod Passing
 pub mod Worths
 pub mod Waiting
+pub mod HandedOver
+pub mod PassedOn

@@ -1,6 +1,7 @@
 -- Lotteries, locks and unlocks as their contracts see them.
-use Rattle.std.specs.Prelude.{◌≡◌, ℕ, Option, List, map}
+use Rattle.std.specs.Prelude.{◌≡◌, ℕ, Option, None, List, map, slice_get, if◌then◌else◌}
 use Rattle.lot_machine.specs.declared.funding.Node.{Node}
+use Rattle.lot_machine.specs.Kill.{is_owned_by, passed_on}
 use Rattle.lot_machine.specs.Mutexes.{MutexTrap}
 use Rattle.lot_machine.specs.State.{Mutex}
 use Rattle.lot_queues.specs.QueueLists.{QueueLists}
@@ -26,3 +27,11 @@ pub record IsMutexTrap (v : Threaded) (q : QueueLists) (trap : MutexTrap) (effec
   pub after : effect.after ≡ trap.after
   pub threads : new ≡ with_mutexes v trap new.stale
   pub queues : left ≡ record q { mutexes = trap.mutexes }
+
+-- the mutex, passed on if the thread owns it
+abbrev pub passed_from : ℕ → Mutex → Mutex
+passed_from t mutex = if is_owned_by t mutex then passed_on mutex.waiters else mutex
+
+-- the waiter that gets the mutex if the thread owns it
+abbrev pub next_from : ℕ → Mutex → Option ℕ
+next_from t mutex = if is_owned_by t mutex then slice_get mutex.waiters 0 else None

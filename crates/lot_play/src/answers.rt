@@ -1,6 +1,7 @@
 //! The lines of a turn.
 ghost use Rattle.std.specs.Prelude.{◌≡◌, ◌<◌, ◌++◌, codes, false};
 ghost use Rattle.std.specs.Fmt.{decimal};
+ghost use Rattle.lot_simulation.specs.Output as output;
 ghost use Rattle.lot_simulation.specs.Texts.{front, reply_text};
 ghost use Rattle.lot_engine.specs.Seen.{world_of};
 ghost use Rattle.lot_io.specs.Writing.{Puts};
@@ -53,6 +54,19 @@ pub fn heading(system: &System, style: LineStyle, actor: u32) -> Heading
         style,
         unit: system.unit(),
         actor,
+    }
+}
+
+/// The actor as it is printed: the timer is the one after the processors, whichever thread it wakes.
+#[inline(always)]
+pub fn printed_actor(system: &System, actor: u32) -> u32
+    ensures { result ≡ output.printed_actor (world_of system.now).state actor }
+{
+    let processors = system.processors();
+    if actor <= processors {
+        actor
+    } else {
+        processors + 1
     }
 }
 

@@ -14,7 +14,7 @@ mod reports;
 mod timed_report;
 mod warnings;
 
-pub use answers::{heading, put_answer, style_of};
+pub use answers::{heading, printed_actor, put_answer, style_of};
 pub use ending::write_end;
 pub use first_few::FirstFew;
 pub use inputs::{Played, play, play_bytes, refuse};

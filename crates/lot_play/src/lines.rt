@@ -10,7 +10,9 @@ ghost use Rattle.lot_playback.specs.Stages.{HasMade, Reports, turns_left};
 ghost use Rattle.lot_play.specs.Texts.{made_text, made_texts};
 ghost use Rattle.lot_playback.specs.Turns.{MadeTurn, program_turns};
 
-use crate::{Played, Warnings, end_play, heading, play_through, put_answer, style_of};
+use crate::{
+    Played, Warnings, end_play, heading, play_through, printed_actor, put_answer, style_of,
+};
 use lot_engine::System;
 use lot_io::{IoFault, Watched};
 use lot_playback::{Observer, Playback, Turn};
@@ -82,19 +84,12 @@ fn put_made<W: Write>(
         → Puts W.contents writer.old writer.new page.old page.new result (made_text made) }
 {
     let style = style_of(turn);
+    let actor = printed_actor(system, turn.actor);
     if turn.has_ended {
-        return write_ended(writer, page, heading(system, style, turn.actor));
+        return write_ended(writer, page, heading(system, style, actor));
     }
     warnings.note(turn.actor, &turn.reply);
-    put_answer(
-        system,
-        style,
-        turn.actor,
-        &turn.event,
-        &turn.reply,
-        writer,
-        page,
-    )
+    put_answer(system, style, actor, &turn.event, &turn.reply, writer, page)
 }
 
 /// Makes the program's turns, and writes their lines.

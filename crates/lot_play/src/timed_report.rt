@@ -53,7 +53,7 @@ fn ended_at(program: &Program, system: &System, timekeeper: &Timekeeper) -> u32
     requires end { IsAtEnd system.now timekeeper.now }
     ensures { result ≡ timed.ended_at program.now (moment_in system.now timekeeper.now) }
 {
-    match timekeeper.clocks.next_due(program, system) {
+    match timekeeper.next_due(program, system) {
         Some(_) => timekeeper.clocks.time,
         None => program.duration().unwrap_or(0),
     }

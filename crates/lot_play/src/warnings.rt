@@ -112,7 +112,7 @@ impl Warnings {
     }
 }
 
-/// Whether no thread can run any more: none is Running, or Ready with a weight.
+/// Whether no thread can run any more: none is Running, or Ready with a weight, or sleeps, since a sleep ends.
 fn is_over(system: &mut System) -> bool
     ensures { system.new ≡ system.old }
 {
@@ -126,10 +126,10 @@ fn is_over(system: &mut System) -> bool
     true
 }
 
-/// Whether the thread runs, or can win a draw.
+/// Whether the thread runs, sleeps, or can win a draw.
 fn can_run(row: &ThreadRow) -> bool {
     match row.status {
-        Status::Running { .. } => true,
+        Status::Running { .. } | Status::Asleep => true,
         Status::Ready => row.weight > 0,
         _ => false,
     }

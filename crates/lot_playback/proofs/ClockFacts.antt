@@ -7,7 +7,6 @@ use Rattle.lot_simulation.specs.declared.timed.Due.{Due}
 use Rattle.lot_simulation.specs.Timed.{Moment, TimedTurn, due_first, moment_after, next_due, opening_moment, timed_room, timed_turns, turn_due, turns_from}
 use Rattle.lot_simulation.specs.World.{Program, World, opening_world}
 use Rattle.lot_simulation.specs.World.Answer.{Answered, Ended}
-use Rattle.lot_simulation.proofs.TimedRuns.{due-there}
 use Rattle.lot_playback.specs.InTime.{IsAtEnd, IsDue, IsFollowed, due_turn, moment_in, next_turns, turns_done}
 use Rattle.lot_engine.specs.Playing.{turn_in}
 use Rattle.lot_engine.specs.Seen.{Seen, Setting, after_turn, world_of}
@@ -169,17 +168,6 @@ module _ (seen : Seen) (timekeeper : Timekeeper) (is : IsAtTime seen timekeeper)
       ∙ sym (time-left now then_following time-more) in
       time-left seen timekeeper is ∙ ap (turns_in_time (world_of seen)) (next-some (timed_turns its) n turn next) ∙ ap (λ ts. turn_in_time (world_of seen) turn ∷ ts) rest
 
-  -- its actor is one of the program's
-  there : due.actor ≤ its.limits.processors
-  there =
-      let room = timed_room - length seen.history in
-      let m = moment_in seen timekeeper in
-      let turn = due_turn seen due in
-      let goes : take 1 (turns_from its room m) ≡ turn ∷ [] = ap (take 1) (sym (rest-is (timed_turns its) (turns_from its room m) (length seen.history) is.followed.rest)) ∙ next in
-      let first = due-first its room m turn goes in
-      let is_there = due-there its m due first.1 in
-      is_there.0
-
   -- and it has a command, if it is the console's
   goes-on : (P : Type 0) → (turn_in seen due.actor).answer ≡ Ended → P
   goes-on P none = absurd (let wrong : Answered e r ≡ Ended = sym answer ∙ none in cc)
@@ -192,6 +180,6 @@ module _ (seen : Seen) (timekeeper : Timekeeper) (is : IsAtTime seen timekeeper)
           setting = same-setting;
           left = left-next;
           before = refl;
-          just = λ turns has. record { turn_is = refl; actor = there; ended = λ none. goes-on (made.time ≡ None) none; reports = reports; has = made-more seen now due.actor same-setting world-now made refl refl (counted-answered seen now due.actor e r after answer) its turns has };
+          just = λ turns has. record { turn_is = refl; actor = λ none. absurd (let wrong : Some due.time ≡ None = none in cc); ended = λ none. goes-on (made.time ≡ None) none; reports = reports; has = made-more seen now due.actor same-setting world-now made refl refl (counted-answered seen now due.actor e r after answer) its turns has };
         },
       )

@@ -1,5 +1,5 @@
 -- One more of a program's turns in time.
-use Rattle.std.proofs.Common.{◌≡◌, ℕ, zero, suc, ◌+◌, ◌-◌, ◌<◌, ◌≤◌, ◌==◌, Bool, true, false, Some, None, List, [], ◌∷◌, ◌++◌, length, take, drop, refl, sym, ◌∙◌, ap, subst, arith, append_assoc, append-nil, length-append, length-drop, ne_eqb}
+use Rattle.std.proofs.Common.{◌≡◌, ℕ, zero, suc, ◌+◌, ◌-◌, ◌<◌, ◌≤◌, ◌==◌, Bool, true, false, Option, Some, None, List, [], ◌∷◌, ◌++◌, length, take, drop, refl, sym, ◌∙◌, ap, subst, arith, append_assoc, append-nil, length-append, length-drop, ne_eqb}
 use Rattle.std.specs.Prelude.{map, count_by, replicate, if◌then◌else◌, Result, Ok, Err, IsErr, IfOk}
 use Rattle.std.proofs.lemmas.List.{length-map, map-append}
 use Rattle.std.proofs.Math.Seq.{take-append_seam, drop-append_seam}
@@ -9,13 +9,17 @@ use Rattle.lot_machine.specs.declared.reply.Reply.{Reply}
 use Rattle.lot_simulation.specs.declared.timed.Due.{Due}
 use Rattle.std.proofs.lemmas.List.Sums.{sum_by_push}
 use Rattle.lot_simulation.specs.Report.{ActorTurn, count_in, total_of}
-use Rattle.lot_simulation.specs.Timed.{Moment, TimedTurn, turns_from, timed_turns, timed_room, next_due, due_first, turn_due, moment_after, moment_after_all, opening_moment, clocks_after, is_idle_draw}
+use Rattle.lot_simulation.specs.Timed.{Moment, TimedTurn, turns_from, timed_turns, timed_room, next_due, due_first, turn_due, moment_after, moment_after_all, opening_moment, alarms_after, clocks_after, is_idle_draw}
 use Rattle.lot_simulation.specs.TimedReport.{actor_turns, refusals_in}
 use Rattle.lot_simulation.specs.World.{Program, World, Answer, console_turn, system_turn}
 use Rattle.lot_simulation.specs.World.Answer.{Answered}
+use Rattle.lot_simulation.proofs.OtherTurns.{turn-grows}
 use Rattle.lot_simulation.proofs.TimedRuns.{turns-few}
+use Rattle.lot_simulation.proofs.TimesRise.{AreLater, alarms-later}
+use Rattle.lot_machine.specs.Bounds.{IsWithinBounds}
+use Rattle.lot_playback.proofs.AlarmFacts.{none-asleep}
 use Rattle.lot_playback.specs.declared.timekeeper.Timekeeper.{Timekeeper}
-use Rattle.lot_playback.specs.InTime.{HasFollowed, HasRoomFor, IsFollowed, moment_in, next_turns, turns_done}
+use Rattle.lot_playback.specs.InTime.{AreAlarms, AreNumbered, HasFollowed, HasRoomFor, IsFollowed, alarms_in, moment_in, next_turns, turns_done}
 use Rattle.lot_engine.specs.Seen.{Seen, after_turn, commands_made, world_of}
 use Rattle.lot_engine.proofs.Runs.{system_run-one_more}
 use Rattle.lot_engine.proofs.TurnFacts.{count-console, count-processor}
@@ -154,21 +158,35 @@ module _ (program : Program) (seen : Seen) (timekeeper : Timekeeper) (is : IsFol
         from true = omega (arith, is.left, length-drop 1 now.times)
         from false = is.left
 
-    module _ (e : Event) (r : Reply) (answer : (system_turn seen.setting.program (world_of seen) due.actor).answer ≡ Answered e r) (next : Timekeeper) (time : next.clocks.time ≡ due.time) (clocks : next.clocks.processors.items ≡ clocks_after timekeeper.clocks.processors.items (record { time = due.time; actor = due.actor }) (is_idle_draw (Answered e r))) where
+    module _ (e : Event) (r : Reply) (answer : (system_turn seen.setting.program (world_of seen) due.actor).answer ≡ Answered e r) (next : Timekeeper) (time : next.clocks.time ≡ due.time) (clocks : next.clocks.processors.items ≡ clocks_after (world_of after).state timekeeper.clocks.processors.items (record { time = due.time; actor = due.actor }) (is_idle_draw (Answered e r)))
+        (alarms : alarms_in next.alarms.threads.items ≡ alarms_after now due.time due.actor) where
       pub answer-is : turn.turn.answer ≡ Answered e r
       answer-is = sym (ap (λ (p : Program). (system_turn p (world_of seen) due.actor).answer) is.program_is) ∙ answer
 
       moment-more : moment_in after next ≡ moment_after now turn
       moment-more =
-          let clocks-are : next.clocks.processors.items ≡ clocks_after timekeeper.clocks.processors.items (record { time = due.time; actor = due.actor }) (is_idle_draw turn.turn.answer) =
-          clocks ∙ ap (λ (a : Answer). clocks_after timekeeper.clocks.processors.items (record { time = due.time; actor = due.actor }) (is_idle_draw a)) (sym answer-is) in
-          λ i. record { world = world-more i; time = time i; clocks = clocks-are i; times = times-more i }
+          let clocks-are : next.clocks.processors.items ≡ clocks_after turn.turn.world.state timekeeper.clocks.processors.items (record { time = due.time; actor = due.actor }) (is_idle_draw turn.turn.answer) =
+          clocks ∙ ap (λ (w : World). clocks_after w.state timekeeper.clocks.processors.items (record { time = due.time; actor = due.actor }) (is_idle_draw (Answered e r))) world-more
+          ∙ ap (λ (a : Answer). clocks_after turn.turn.world.state timekeeper.clocks.processors.items (record { time = due.time; actor = due.actor }) (is_idle_draw a)) (sym answer-is) in
+          λ i. record { world = world-more i; time = time i; clocks = clocks-are i; times = times-more i; alarms = alarms i }
 
       -- the system with this turn is followed
-      pub followed-more : HasFollowed (done ++ turn ∷ []) (length seen.history + 1) next → HasRoomFor program next → IsFollowed program after next
-      followed-more followed fits = record {
+      sleepers-more : AreNumbered (length (world_of after).state.records) (alarms_in next.alarms.threads.items)
+      sleepers-more t time there =
+          let grown : length (world_of seen).state.records ≤ length (world_of after).state.records =
+          omega (arith, turn-grows program (world_of seen) due.actor, ap (λ (w : World). length w.state.records) world-more) in
+          let before : AreLater (length (world_of after).state.records) 0 now.alarms = λ u at was. let named = is.sleepers u at was in (named.0, omega (arith, named.1, grown), omega arith) in
+          let later = alarms-later now (length (world_of after).state.records) 0 due.time due.actor (omega arith) before grown t time (ap (λ (f : ℕ → Option ℕ). f t) (sym alarms) ∙ there) in
+          (later.0, omega (arith, later.1))
+
+      pub followed-more : HasFollowed (done ++ turn ∷ []) (length seen.history + 1) next → HasRoomFor program next → AreAlarms program.limits.processors next.alarms → IsFollowed program after next
+      followed-more followed fits sleeping = record {
         program_is = is.program_is;
         room_is = is.room_is;
+        timer_is = is.timer_is;
+        bounds = is.bounds;
+        sleeping = sleeping;
+        sleepers = sleepers-more;
         history = ap (λ h. h ++ due.actor ∷ []) is.history ∙ sym (map-append (λ (t : TimedTurn). t.actor) done (turn ∷ [])) ∙ ap (map (λ (t : TimedTurn). t.actor)) (sym done-more);
         moment = moment-more ∙ ap (λ m. moment_after m turn) is.moment ∙ sym (moment-one_more (opening_moment program) done turn) ∙ ap (moment_after_all (opening_moment program)) (sym done-more);
         rest = rest-more ∙ ap (λ ts. ts ++ others) (sym done-more) ∙ ap (λ n. turns_done program after ++ turns_from program (timed_room - n) (moment_after now turn)) (sym longer) ∙ ap (λ m. turns_done program after ++ turns_from program (timed_room - length after.history) m) (sym moment-more);
@@ -184,15 +202,20 @@ unfolding timed_room
 room-is = refl
 
 -- a system that was opened has made none of the program's turns
-pub opened-followed : (program : Program) (timekeeper : Timekeeper) → length program.times ≡ length program.commands → timekeeper.clocks.time ≡ 0 → timekeeper.clocks.processors.items ≡ replicate program.limits.processors (record { time = 0; waits = false; idle = 0 }) → HasRoomFor program timekeeper → HasFollowed [] 0 timekeeper
-    → IsFollowed program (record { setting = record { program = program; room = 1000000 }; history = [] }) timekeeper
-opened-followed program timekeeper as_many time clocks fits followed =
-    let seen : Seen = record { setting = record { program = program; room = 1000000 }; history = [] } in
-    let moment : moment_in seen timekeeper ≡ opening_moment program = λ i. record { world = world_of seen; time = time i; clocks = clocks i; times = program.times } in
+pub opened-followed : (program : Program) (timekeeper : Timekeeper) → IsWithinBounds program.limits → AreAlarms program.limits.processors timekeeper.alarms → timekeeper.alarms.threads.items ≡ replicate program.limits.threads None → length program.times ≡ length program.commands → timekeeper.clocks.time ≡ 0 → timekeeper.clocks.processors.items ≡ replicate program.limits.processors (record { time = 0; waits = false; idle = 0 }) → HasRoomFor program timekeeper → HasFollowed [] 0 timekeeper
+    → IsFollowed program (record { setting = record { program = program; room = 1000000; timer = true }; history = [] }) timekeeper
+opened-followed program timekeeper bounds sleeping nobody as_many time clocks fits followed =
+    let seen : Seen = record { setting = record { program = program; room = 1000000; timer = true }; history = [] } in
+    let none_asleep : alarms_in timekeeper.alarms.threads.items ≡ (λ (t : ℕ). None) = ap alarms_in nobody ∙ none-asleep program.limits.threads in
+    let moment : moment_in seen timekeeper ≡ opening_moment program = λ i. record { world = world_of seen; time = time i; clocks = clocks i; times = program.times; alarms = none_asleep i } in
     let none : timed_room - 0 ≡ timed_room = omega arith in
     record {
       program_is = refl;
       room_is = room-is;
+      timer_is = refl;
+      bounds = bounds;
+      sleeping = sleeping;
+      sleepers = λ t at there. let wrong : None ≡ Some at = ap (λ (f : ℕ → Option ℕ). f t) (sym none_asleep) ∙ there in cc;
       history = refl;
       moment = moment;
       rest = ap (λ n. turns_from program n (opening_moment program)) (sym none) ∙ ap (turns_from program (timed_room - 0)) (sym moment);

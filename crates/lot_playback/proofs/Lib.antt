@@ -1,4 +1,5 @@
 pub mod TimeFacts
+pub mod AlarmFacts
 pub mod WaitFacts
 pub mod FollowFacts
 pub mod TurnFacts

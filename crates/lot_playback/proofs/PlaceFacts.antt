@@ -164,6 +164,6 @@ module _ (seen : Seen) (place : ℕ) (is : IsAtPlace seen place) where
               setting = played.setting;
               left = left-next;
               before = refl;
-              just = λ turns has. record { turn_is = refl; actor = place-actor; ended = λ none. refl; reports = reports; has = made-more seen now next.actor played.setting played.world made refl refl counted program turns has };
+              just = λ turns has. record { turn_is = refl; actor = λ none. place-actor; ended = λ none. refl; reports = reports; has = made-more seen now next.actor played.setting played.world made refl refl counted program turns has };
             },
           )

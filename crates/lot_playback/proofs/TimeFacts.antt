@@ -1,11 +1,12 @@
 -- Whose turn is next in time.
 use Rattle.std.proofs.Common.{◌≡◌, ℕ, zero, suc, ◌+◌, ◌*◌, ◌<◌, ◌≤◌, Bool, true, false, Option, Some, None, List, [], ◌∷◌, ◌++◌, length, get_or, set, take, drop, refl, sym, ◌∙◌, ap, subst, arith, append_assoc, append-nil}
-use Rattle.std.specs.Prelude.{nat_le, map, option_map, replicate, slice_get, unwrap_or}
+use Rattle.std.specs.Prelude.{nat_le, ◌||◌, is_none, map, option_map, replicate, slice_get, unwrap_or}
 use Rattle.std.specs.List.{flat_map, range_with_len}
 use Rattle.std.proofs.lemmas.Bool.{leb-true, leb-false, le-leb}
 use Rattle.lot_simulation.specs.declared.timed.Due.{Due}
 use Rattle.lot_simulation.specs.declared.timed.Clock.{Clock}
-use Rattle.lot_simulation.specs.Timed.{Moment, clock_of, cost_of, earliest, processor_due, sooner, within, woken}
+use Rattle.lot_machine.specs.State.{State, thread_on}
+use Rattle.lot_simulation.specs.Timed.{Moment, clock_after_console, clock_of, clocks_after_console, cost_of, earliest, processor_due, sooner, within, woken}
 use Rattle.lot_simulation.specs.World.{processor_event}
 use Rattle.lot_machine.proofs.Tickets.{at_number-suc}
 use Rattle.lot_playback.specs.InTime.{HaveIdled, sooner_of}
@@ -114,6 +115,42 @@ module _ {A : Type 0} (f : A → A) where
   turned-length (x ∷ xs) zero = refl
   turned-length (x ∷ xs) (suc i) = ap suc (turned-length xs i)
 
+-- ---- clocks that are set in turn, each by its number
+
+module _ {A : Type 0} (f : ℕ → A) where
+  -- the place i, if those before it are set
+  pub set-at : (xs : List A) (a i : ℕ) (d : A) → i < length xs → get_or (map f (range_with_len a i) ++ drop i xs) i d ≡ get_or xs i d
+  set-at [] a i d below = absurd (omega arith)
+  set-at (x ∷ xs) a zero d below = refl
+  set-at (x ∷ xs) a (suc i) d below = set-at xs (a + 1) i d (omega (arith, below))
+
+  set-suc : (xs : List A) (a i : ℕ) → i < length xs → set (map f (range_with_len a i) ++ drop i xs) i (f (a + i)) ≡ map f (range_with_len a (suc i)) ++ drop (suc i) xs
+  set-suc [] a i below = absurd (omega arith)
+  set-suc (x ∷ xs) a zero below = let e : a + 0 ≡ a = omega arith in ap (λ n. f n ∷ xs) e
+  set-suc (x ∷ xs) a (suc i) below =
+      let e : a + suc i ≡ a + 1 + i = omega arith in
+      ap (λ n. f a ∷ set (map f (range_with_len (a + 1) i) ++ drop i xs) i (f n)) e ∙ ap (λ ys. f a ∷ ys) (set-suc xs (a + 1) i (omega (arith, below)))
+
+  -- one more is set
+  pub set-more : (xs : List A) (i : ℕ) → i < length xs → set (map f (range_with_len 1 i) ++ drop i xs) i (f (i + 1)) ≡ map f (range_with_len 1 (i + 1)) ++ drop (i + 1) xs
+  set-more xs i below =
+      let n : i + 1 ≡ 1 + i = omega arith in
+      let e : suc i ≡ i + 1 = omega arith in
+      ap (λ k. set (map f (range_with_len 1 i) ++ drop i xs) i (f k)) n ∙ set-suc xs 1 i below ∙ ap (λ k. map f (range_with_len 1 k) ++ drop k xs) e
+
+  nothing-left : (xs : List A) → drop (length xs) xs ≡ []
+  nothing-left [] = refl
+  nothing-left (x ∷ xs) = nothing-left xs
+
+  pub set-all : (xs : List A) (i : ℕ) → i ≡ length xs → map f (range_with_len 1 i) ++ drop i xs ≡ map f (range_with_len 1 (length xs))
+  set-all xs i all =
+      ap (λ k. map f (range_with_len 1 k) ++ drop k xs) all ∙ ap (λ ys. map f (range_with_len 1 (length xs)) ++ ys) (nothing-left xs) ∙ append-nil (map f (range_with_len 1 (length xs)))
+
+  pub set-length : (xs : List A) (a i : ℕ) → i ≤ length xs → length (map f (range_with_len a i) ++ drop i xs) ≡ length xs
+  set-length xs a zero few = refl
+  set-length [] a (suc i) few = absurd (omega arith)
+  set-length (x ∷ xs) a (suc i) few = ap suc (set-length xs (a + 1) i (omega (arith, few)))
+
 -- ---- how long processors were idle
 
 abbrev IsIdled : ℕ → Clock → Type 0
@@ -159,3 +196,32 @@ pub none-idled : (count : ℕ) → HaveIdled 0 (replicate count (record { time =
 none-idled zero k d below = absurd (omega arith)
 none-idled (suc count) zero d below = omega arith
 none-idled (suc count) (suc k) d below = none-idled count k d (omega (arith, below))
+
+-- clocks that are each idled, by number
+map-idled : (f : ℕ → Clock) (n a k : ℕ) → ((p : ℕ) → a ≤ p → p < a + k → IsIdled n (f p)) → HaveIdled n (map f (range_with_len a k))
+map-idled f n a zero each j d below = absurd (omega arith)
+map-idled f n a (suc k) each zero d below = each a (omega arith) (omega arith)
+map-idled f n a (suc k) each (suc j) d below = map-idled f n (a + 1) k (λ p low high. each p (omega (arith, low)) (omega (arith, high))) j d (omega (arith, below))
+
+-- clocks after a turn of the console have idled for one turn more at most
+pub console-idled : (s : State) (n time : ℕ) (clocks : List Clock) → time < 4294967296 → HaveIdled n clocks → HaveIdled (n + 1) (clocks_after_console s time clocks)
+console-idled s n time clocks early idled =
+    map-idled (clock_after_console s time clocks) (n + 1) 1 (length clocks) (λ p low high. from p (clock-idled n p clocks low (omega (arith, high)) idled))
+  where
+    from : (p : ℕ) → IsIdled n (clock_of clocks p) → IsIdled (n + 1) (clock_after_console s time clocks p)
+    from p was = at ((clock_of clocks p).waits || is_none (thread_on s.records p)) refl
+      where
+        at : (b : Bool) → ((clock_of clocks p).waits || is_none (thread_on s.records p)) ≡ b → IsIdled (n + 1) (clock_after_console s time clocks p)
+        at true is = rw is (omega (arith, was, early))
+        at false is = rw is (omega (arith, was))
+
+-- the clock at a place is that of its processor
+pub clock-at : (clocks : List Clock) (i : ℕ) (d : Clock) → i < length clocks → clock_of clocks (i + 1) ≡ get_or clocks i d
+clock-at clocks i d below =
+    let e : i + 1 ≡ suc i = omega arith in
+    ap (clock_of clocks) e ∙ ap (λ o. unwrap_or o (record { time = 0; waits = true; idle = 0 })) (at_number-suc clocks i) ∙ from clocks i below
+  where
+    from : (xs : List Clock) (j : ℕ) → j < length xs → unwrap_or (slice_get xs j) (record { time = 0; waits = true; idle = 0 }) ≡ get_or xs j d
+    from [] j below = absurd (omega arith)
+    from (x ∷ xs) zero below = refl
+    from (x ∷ xs) (suc j) below = from xs j (omega (arith, below))

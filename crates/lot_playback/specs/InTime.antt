@@ -1,5 +1,5 @@
 -- Timed turns of a system.
-use Rattle.std.specs.Prelude.{◌≡◌, ℕ, ◌+◌, ◌-◌, ◌<◌, ◌≤◌, ◌*◌, ◌^◌, nat_le, Bool, true, false, Option, Some, None, List, ◌++◌, length, map, take, drop, slice_index_or, All, if◌then◌else◌}
+use Rattle.std.specs.Prelude.{◌≡◌, ℕ, ◌+◌, ◌-◌, ◌<◌, ◌≤◌, ◌*◌, ◌^◌, nat_le, Bool, true, false, Option, Some, None, List, [], ◌∷◌, ◌++◌, length, map, take, drop, slice_index_or, All, if◌then◌else◌}
 use Rattle.lot_machine.specs.declared.action.Action.TheVariants as action
 use Rattle.lot_machine.specs.declared.event.Event.{Event}
 use Rattle.lot_machine.specs.declared.event.Event.TheVariants as event
@@ -7,23 +7,59 @@ use Rattle.lot_machine.specs.declared.reply.Outcome.TheVariants as outcome
 use Rattle.lot_machine.specs.declared.reply.Reply.{Reply}
 use Rattle.lot_machine.specs.declared.reply.Reply.TheVariants as reply
 use Rattle.lot_simulation.specs.declared.timed.Clock.{Clock}
+use Rattle.std.specs.List.{flat_map, range_with_len}
+use Rattle.std.specs.Option.{IfSome, option_flatten, option_map_or}
+use Rattle.lot_machine.specs.Bounds.{IsBetween, IsWithinBounds}
+use Rattle.lot_machine.specs.Numbered.{at_number, numbers}
 use Rattle.lot_simulation.specs.declared.timed.Due.{Due}
+use Rattle.lot_simulation.specs.declared.timed.Sleeper.{Sleeper}
 use Rattle.lot_simulation.specs.declared.script.ScriptTrap.{ScriptTrap}
 use Rattle.lot_simulation.specs.declared.timed.WaitChange.{WaitChange}
 use Rattle.lot_simulation.specs.declared.timed.WaitChange.TheVariants.{Nobody, Begins, Ends}
 use Rattle.lot_simulation.specs.declared.timed.Waits.{Waits}
 use Rattle.lot_simulation.specs.Report.{total_of}
-use Rattle.lot_simulation.specs.Timed.{Moment, TimedTurn, moment_after_all, next_due, opening_moment, timed_room, timed_turns, turns_from}
+use Rattle.lot_simulation.specs.Timed.{Moment, TimedTurn, alarm_due, earliest, moment_after_all, next_due, opening_moment, timed_room, timed_turns, turns_from}
 use Rattle.lot_simulation.specs.TimedReport.{actor_turns, mutex_change, refusals_in, reply_change, waits_after, waits_in}
 use Rattle.lot_simulation.specs.World.{Program, Answer}
+use Rattle.lot_playback.specs.declared.alarms.Alarms.{Alarms}
 use Rattle.lot_playback.specs.declared.timekeeper.Timekeeper.{Timekeeper}
 use Rattle.lot_script.specs.Slices.{Parts}
 use Rattle.lot_engine.specs.Playing.{turn_in}
 use Rattle.lot_engine.specs.Seen.{Seen, commands_made, world_of}
 
--- the moment of a system at this time, with these clocks
-abbrev pub moment_of : Seen → ℕ → List Clock → Moment
-moment_of seen time clocks = record { world = world_of seen; time = time; clocks = clocks; times = drop (commands_made seen) seen.setting.program.times }
+-- the moment of a system at this time, with these clocks and alarms
+abbrev pub moment_of : Seen → ℕ → List Clock → (ℕ → Option ℕ) → Moment
+moment_of seen time clocks alarms = record { world = world_of seen; time = time; clocks = clocks; times = drop (commands_made seen) seen.setting.program.times; alarms = alarms }
+
+-- ---- alarms
+
+-- the alarms in a table, which starts with thread 1
+abbrev pub alarms_in : List (Option ℕ) → ℕ → Option ℕ
+alarms_in threads t = option_flatten (at_number threads t)
+
+-- the timer's turn for a thread, if that sleeps, after this many processors
+abbrev pub alarm_at : ℕ → (ℕ → Option ℕ) → ℕ → List Due
+alarm_at processors alarms t = option_map_or (λ time. record { time = time; actor = processors + t } ∷ []) (alarms t) []
+
+-- each thread that sleeps is one of this many
+abbrev pub AreNumbered : ℕ → (ℕ → Option ℕ) → Type 0
+AreNumbered count alarms = (t time : ℕ) → alarms t ≡ Some time → IsBetween 1 count t
+
+-- no thread above the highest sleeps, and the next turn is the earliest of the others', after this many processors
+pub record AreAlarms (processors : ℕ) (alarms : Alarms) : Type 0 where
+  pub few : length alarms.threads.items ≤ 4096
+  pub highest : alarms.highest ≤ length alarms.threads.items
+  pub asleep : (t time : ℕ) → alarms_in alarms.threads.items t ≡ Some time → t ≤ alarms.highest
+  pub next : alarms.next ≡ earliest (flat_map (alarm_at processors (alarms_in alarms.threads.items)) (range_with_len 1 alarms.highest))
+
+-- the next turn of the alarms is the timer's in the system's world
+abbrev pub IsNextAlarm : Program → Seen → Alarms → Type 0
+IsNextAlarm program seen alarms = alarms.next ≡ earliest (flat_map (alarm_due program (alarms_in alarms.threads.items)) (numbers (world_of seen).state.records))
+
+-- the threads that a turn of the actor lets sleep and wakes are among this many
+pub record CanFollow (actor processors threads : ℕ) (sleeper : Option Sleeper) : Type 0 where
+  pub sleeps : 0 < actor → actor ≤ processors → IfSome sleeper (λ s. IsBetween 1 threads s.thread)
+  pub wakes : processors < actor → actor ≤ processors + threads
 
 -- the earlier of two turns, if there are any, or the first of them if both have one time
 abbrev pub sooner_of : Option Due → Option Due → Option Due
@@ -88,12 +124,13 @@ pub record HasRoomFor (program : Program) (timekeeper : Timekeeper) : Type 0 whe
   pub clocks : length timekeeper.clocks.processors.items ≡ program.limits.processors
   pub mutexes : length timekeeper.mutexes.threads.items ≡ program.limits.threads
   pub replies : length timekeeper.replies.threads.items ≡ program.limits.threads
+  pub alarms : length timekeeper.alarms.threads.items ≡ program.limits.threads
 
 -- ---- turns that a system has made
 
 -- the moment of a system with these records
 abbrev pub moment_in : Seen → Timekeeper → Moment
-moment_in seen timekeeper = moment_of seen timekeeper.clocks.time timekeeper.clocks.processors.items
+moment_in seen timekeeper = moment_of seen timekeeper.clocks.time timekeeper.clocks.processors.items (alarms_in timekeeper.alarms.threads.items)
 
 -- the timed turns that a system has made: as many as its history has entries
 abbrev pub turns_done : Program → Seen → List TimedTurn
@@ -111,11 +148,15 @@ due_turn seen due = record { time = due.time; actor = due.actor; turn = turn_in 
 pub record IsFollowed (program : Program) (seen : Seen) (timekeeper : Timekeeper) : Type 0 where
   pub program_is : seen.setting.program ≡ program
   pub room_is : seen.setting.room ≡ timed_room
+  pub timer_is : seen.setting.timer ≡ true
+  pub bounds : IsWithinBounds program.limits
   pub history : seen.history ≡ map (λ turn. turn.actor) (turns_done program seen)
   pub moment : moment_in seen timekeeper ≡ moment_after_all (opening_moment program) (turns_done program seen)
   pub rest : timed_turns program ≡ turns_done program seen ++ turns_from program (timed_room - length seen.history) (moment_in seen timekeeper)
   pub left : length (world_of seen).commands ≡ length (moment_in seen timekeeper).times
   pub room : HasRoomFor program timekeeper
+  pub sleeping : AreAlarms program.limits.processors timekeeper.alarms
+  pub sleepers : AreNumbered (length (world_of seen).state.records) (alarms_in timekeeper.alarms.threads.items)
   pub followed : HasFollowed (turns_done program seen) (length seen.history) timekeeper
 
 -- this is the next turn, no later than the program's end, and there is room for it

@@ -47,11 +47,11 @@ pub record HasMade (program : Program) (turns : List MadeTurn) (seen : Seen) : T
   pub world : world_of seen ≡ world_after_turns (opening_world program) turns
   pub counted : turns_made program seen.history ≡ counted_turns turns
 
--- After these turns the system has made this one, and the stored turn reports it. Its actor is one of the program's.
--- Only a turn of a schedule can be the console's without a command.
+-- After these turns the system has made this one, and the stored turn reports it. The actor of a turn of a schedule is
+-- one of the program's. Only a turn of a schedule can be the console's without a command.
 pub record HasJustMade (program : Program) (turns : List MadeTurn) (made : MadeTurn) (turn : Turn) (seen : Seen) : Type 0 where
   pub turn_is : made.turn ≡ system_turn program made.before made.actor
-  pub actor : made.actor ≤ program.limits.processors
+  pub actor : made.time ≡ None → made.actor ≤ program.limits.processors
   pub ended : made.turn.answer ≡ Ended → made.time ≡ None
   pub reports : Reports turn made
   pub has : HasMade program (turns ++ made ∷ []) seen

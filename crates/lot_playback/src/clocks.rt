@@ -1,17 +1,19 @@
 //! The next turn in time order.
-ghost use Rattle.std.specs.Prelude.{◌≡◌, ℕ, ◌<◌, ◌≤◌, ◌+◌, ◌^◌, List, false, map, replicate, IfOk, IfSome, vec_len};
+ghost use Rattle.std.specs.Prelude.{◌≡◌, ℕ, ◌<◌, ◌≤◌, ◌+◌, ◌^◌, ◌||◌, List, Option, false, map, replicate, is_none, IfOk, IfSome, vec_len, if◌then◌else◌};
 ghost use Rattle.lot_machine.specs.Bounds.{IsBetween};
+ghost use Rattle.lot_machine.specs.State.{thread_on};
 ghost use Rattle.lot_machine.specs.declared.event.Event.{Event as EventRecord};
 ghost use Rattle.lot_simulation.specs.Timed as timed;
-ghost use Rattle.lot_simulation.specs.Timed.{all_due, clock_of, clocks_after, is_idle_draw};
+ghost use Rattle.lot_simulation.specs.Timed.{all_due, clock_of, clocks_after, clocks_after_console, is_idle_draw};
 ghost use Rattle.lot_simulation.specs.TimedReport as reports;
 ghost use Rattle.lot_simulation.specs.World.{processor_event};
 ghost use Rattle.lot_simulation.specs.World.Answer.{Answered};
 ghost use Rattle.lot_simulation.specs.declared.timed.Clock.{Clock as ClockRecord};
 ghost use Rattle.lot_engine.specs.Seen.{world_of};
 ghost use Rattle.lot_playback.specs.InTime as in_time;
-ghost use Rattle.lot_playback.specs.InTime.{HaveIdled, moment_of};
+ghost use Rattle.lot_playback.specs.InTime.{HaveIdled, IsNextAlarm, alarms_in, moment_of};
 
+use crate::alarms::Alarms;
 use lot_engine::{System, slice_in};
 use lot_machine::Reply;
 use lot_script::Slice;
@@ -46,29 +48,33 @@ impl Clocks {
         })
     }
 
-    /// The next turn; there is none if all processors wait and no command remains, or if it would come after the end.
-    pub fn next_due(&self, program: &Program, system: &System) -> Option<Due>
+    /// The next turn, given the alarms. There is none if all processors wait, no thread sleeps and no command remains,
+    /// or if it would come after the end.
+    pub fn next_due(&self, program: &Program, system: &System, alarms: &Alarms) -> Option<Due>
         requires program { system.now.setting.program ≡ program.now }
         requires clocks { vec_len self.now.processors ≡ program.now.limits.processors }
+        requires alarms { IsNextAlarm program.now system.now alarms.now }
         ensures due { result
-            ≡ timed.next_due program.now (moment_of system.now self.now.time self.now.processors.items) }
+            ≡ timed.next_due program.now (moment_of system.now self.now.time self.now.processors.items
+            (alarms_in alarms.now.threads.items)) }
         ensures within { IfSome result (λ due. due.time < 2 ^ 32) }
     {
-        let due = self.earliest(program, system)?;
+        let due = self.earliest(program, system, alarms)?;
         if u64::from(program.duration().unwrap_or(0)) < due.time {
             return None;
         }
         Some(due)
     }
 
-    /// The earliest turn; among turns at one time, that of the lowest actor.
-    fn earliest(&self, program: &Program, system: &System) -> Option<Due>
+    /// The earliest turn; among turns at one time the console's, then the timer's, then that of the lowest processor.
+    fn earliest(&self, program: &Program, system: &System, alarms: &Alarms) -> Option<Due>
         requires program { system.now.setting.program ≡ program.now }
         requires clocks { vec_len self.now.processors ≡ program.now.limits.processors }
+        requires alarms { IsNextAlarm program.now system.now alarms.now }
         ensures { result ≡ timed.earliest (all_due program.now
-            (moment_of system.now self.now.time self.now.processors.items)) }
+            (moment_of system.now self.now.time self.now.processors.items (alarms_in alarms.now.threads.items))) }
     {
-        let mut first = console_due(program, system);
+        let mut first = sooner_of(console_due(program, system), alarms.next);
         for place in 0..program.limits().processors {
             let due = self.processor_due(program, system, place + 1);
             first = sooner_of(first, due);
@@ -80,8 +86,8 @@ impl Clocks {
     fn processor_due(&self, program: &Program, system: &System, processor: u32) -> Option<Due>
         requires program { system.now.setting.program ≡ program.now }
         requires there { IsBetween 1 (vec_len self.now.processors) processor }
-        ensures { result ≡ timed.earliest (timed.processor_due
-            (moment_of system.now self.now.time self.now.processors.items) processor) }
+        ensures { (alarms : ℕ → Option ℕ) → result ≡ timed.earliest (timed.processor_due
+            (moment_of system.now self.now.time self.now.processors.items alarms) processor) }
     {
         let clock = self.clock(processor);
         if clock.waits {
@@ -98,29 +104,54 @@ impl Clocks {
         self.processors[processor as usize - 1]
     }
 
-    /// Records this actor's turn at this time, with this reply: its clock afterwards, and the waiting processors.
-    pub(crate) fn follow(&mut self, time: u32, actor: u32, reply: Reply)
-        requires there { actor ≤ vec_len self.old.processors }
+    /// Records this actor's turn at this time, with this reply, which led to this system: its clock afterwards, and the
+    /// other processors' that waited. The console and the timer have no clock.
+    pub(crate) fn follow(&mut self, system: &System, time: u32, actor: u32, reply: Reply)
+        requires few { vec_len self.old.processors ≤ 64 }
         requires idled { (turns : ℕ) × (turns < 2 ^ 31) × HaveIdled turns self.old.processors.items }
         ensures time { self.new.time ≡ time }
         ensures clocks { (e : EventRecord)
-            → self.new.processors.items ≡ clocks_after self.old.processors.items (record { time = time; actor = actor })
-            (is_idle_draw (Answered e reply)) }
+            → self.new.processors.items ≡ clocks_after (world_of system.now).state self.old.processors.items
+            (record { time = time; actor = actor }) (is_idle_draw (Answered e reply)) }
         ensures idled { (turns : ℕ) → HaveIdled turns self.old.processors.items
             → HaveIdled (turns + 1) self.new.processors.items }
         ensures count { vec_len self.new.processors ≡ vec_len self.old.processors }
     {
         self.time = time;
         if actor == 0 {
-            self.wake(time);
+            self.follow_console(system, time);
             return;
         }
         let waits = matches!(reply, Reply::Idle);
+        if actor as usize > self.processors.len() {
+            if !waits {
+                self.wake(time);
+            }
+            return;
+        }
         let idle = self.clock(actor).idle;
         if !waits {
             self.wake(time);
         }
         self.processors[actor as usize - 1] = Clock { time, waits, idle };
+    }
+
+    /// Ends the waits of all processors, and the slices of threads that were killed, since the console made a turn at
+    /// this time, which led to this system.
+    fn follow_console(&mut self, system: &System, time: u32)
+        requires few { vec_len self.old.processors ≤ 64 }
+        requires idled { (turns : ℕ) × (turns < 2 ^ 31) × HaveIdled turns self.old.processors.items }
+        ensures time { self.new.time ≡ self.old.time }
+        ensures clocks { self.new.processors.items
+            ≡ clocks_after_console (world_of system.now).state time self.old.processors.items }
+        ensures idled { (turns : ℕ) → HaveIdled turns self.old.processors.items
+            → HaveIdled (turns + 1) self.new.processors.items }
+        ensures count { vec_len self.new.processors ≡ vec_len self.old.processors }
+    {
+        for place in 0..self.processors.len() {
+            let is_idle = is_idle(system, place as u32 + 1);
+            self.processors[place] = after_console(self.processors[place], is_idle, time);
+        }
     }
 
     /// Ends the waits of all processors, since a turn was made at this time.
@@ -150,8 +181,8 @@ impl Clocks {
 /// The console's turn, if a command remains.
 fn console_due(program: &Program, system: &System) -> Option<Due>
     requires { system.now.setting.program ≡ program.now }
-    ensures { (now : ℕ) (clocks : List ClockRecord)
-        → result ≡ timed.earliest (timed.console_due (moment_of system.now now clocks)) }
+    ensures { (now : ℕ) (clocks : List ClockRecord) (alarms : ℕ → Option ℕ)
+        → result ≡ timed.earliest (timed.console_due (moment_of system.now now clocks alarms)) }
 {
     let time = program.times().get(system.commands_made())?;
     Some(Due {
@@ -193,14 +224,43 @@ fn cost_of_slice(slice: &Slice) -> u32
     }
 }
 
+/// Whether nobody runs on the processor.
+fn is_idle(system: &System, processor: u32) -> bool
+    requires { 0 < processor }
+    ensures { result ≡ is_none (thread_on (world_of system.now).state.records processor) }
+{
+    system.work(processor).is_none()
+}
+
 /// The clock of a processor whose wait, if any, ends at this time.
 fn woken(clock: Clock, time: u32) -> Clock
     requires { clock.idle < 2 ^ 63 }
     ensures { result ≡ timed.woken time clock }
 {
-    if !clock.waits {
-        return clock;
+    if clock.waits {
+        idle_to(clock, time)
+    } else {
+        clock
     }
+}
+
+/// The clock of a processor after a turn of the console at this time, given whether nobody runs there then.
+fn after_console(clock: Clock, is_idle: bool, time: u32) -> Clock
+    requires { clock.idle < 2 ^ 63 }
+    ensures { result ≡ (if clock.waits || is_idle then timed.idle_to time clock else clock) }
+{
+    if clock.waits || is_idle {
+        idle_to(clock, time)
+    } else {
+        clock
+    }
+}
+
+/// The clock of a processor that has been idle since its last turn, and is due for a draw at this time.
+fn idle_to(clock: Clock, time: u32) -> Clock
+    requires { clock.idle < 2 ^ 63 }
+    ensures { result ≡ timed.idle_to time clock }
+{
     Clock {
         time,
         waits: false,
@@ -209,7 +269,7 @@ fn woken(clock: Clock, time: u32) -> Clock
 }
 
 /// The earlier of two turns, if there are any, or the first of them if both have one time.
-fn sooner_of(first: Option<Due>, second: Option<Due>) -> Option<Due>
+pub(crate) fn sooner_of(first: Option<Due>, second: Option<Due>) -> Option<Due>
     ensures { result ≡ in_time.sooner_of first second }
 {
     match (first, second) {

@@ -1,6 +1,7 @@
 //! A program's turns, one after another, in either order: those of a schedule, or those due by clocks.
 #![tactic(auto)]
 
+mod alarms;
 mod clocks;
 mod making;
 mod observer;
@@ -9,6 +10,7 @@ mod timekeeper;
 mod turn;
 mod waits;
 
+pub use alarms::Alarms;
 pub use clocks::Clocks;
 pub use observer::Observer;
 pub use playback::{Order, Playback};

@@ -1,11 +1,17 @@
 //! Making a turn, in either order.
-ghost use Rattle.std.specs.Prelude.{◌≡◌, [], IfNone, IfSome, length};
+ghost use Rattle.std.specs.Prelude.{◌≡◌, ℕ, ◌<◌, ◌≤◌, [], IfNone, IfSome, length};
+ghost use Rattle.lot_simulation.specs.World.{sleeper_on};
+ghost use Rattle.lot_simulation.specs.World.Answer.{Answered};
+ghost use Rattle.lot_engine.specs.Playing.{turn_in};
+ghost use Rattle.lot_engine.specs.Seen.{after_turn, world_of};
+ghost use Rattle.lot_playback.specs.InTime.{CanFollow, IsDue};
 ghost use Rattle.lot_playback.specs.Orders.{IsAtPlace, IsAtTime};
 ghost use Rattle.lot_playback.specs.Stages.{IsNext, MakesTurn, turns_left};
 ghost use Rattle.lot_playback.specs.Turns.{MadeTurn};
 
 use crate::{NextTurn, Timekeeper, Turn};
 use lot_engine::System;
+use lot_simulation::Sleeper;
 use lot_text::Program;
 
 /// The turn at this place of the schedule, if there is one.
@@ -41,7 +47,7 @@ pub(crate) fn next_in_time(
     if system.is_full() {
         return None;
     }
-    let due = timekeeper.clocks.next_due(program, system)?;
+    let due = timekeeper.next_due(program, system)?;
     Some(NextTurn {
         time: Some(due.time as u32),
         actor: due.actor,
@@ -67,7 +73,8 @@ pub(crate) fn make_scheduled(
     *place += 1;
     turn.time = None;
     turn.actor = next.actor;
-    turn.has_ended = !system.next_turn(next.actor, &mut turn.event, &mut turn.reply);
+    let mut sleeper = None;
+    turn.has_ended = !system.next_turn(next.actor, &mut turn.event, &mut turn.reply, &mut sleeper);
 }
 
 /// Makes the turn that is due by the clocks, and stores it in `turn`.
@@ -92,8 +99,40 @@ pub(crate) fn make_in_time(
     turn.time = next.time;
     turn.actor = next.actor;
     turn.has_ended = false;
-    if !system.next_turn(next.actor, &mut turn.event, &mut turn.reply) {
+    let sleeper = make_due(system, timekeeper, next.actor, turn);
+    timekeeper.follow(system, time, next.actor, &turn.event, turn.reply, sleeper);
+}
+
+/// Makes the turn of this actor, which is due, and stores its event and reply in `turn`. Returns the thread that goes
+/// to sleep with it, if one does.
+#[inline(always)]
+fn make_due(
+    system: &mut System,
+    timekeeper: &Timekeeper,
+    actor: u32,
+    turn: &mut Turn,
+) -> Option<Sleeper>
+    requires there { IsAtTime system.old timekeeper.now }
+    requires due { (time : ℕ) × IsDue system.old.setting.program system.old timekeeper.now
+        (record { time = time; actor = actor }) }
+    ensures made { (system.new ≡ after_turn system.old actor)
+        × ((turn_in system.old actor).answer ≡ Answered turn.new.event turn.new.reply) }
+    ensures sleeper { 0 < actor → actor ≤ system.old.setting.program.limits.processors
+        → result ≡ sleeper_on (world_of system.old) actor }
+    ensures can { CanFollow actor system.old.setting.program.limits.processors
+        (length timekeeper.now.alarms.threads.items) result }
+    ensures rest { turn.new ≡ record turn.old { event = turn.new.event; reply = turn.new.reply } }
+{
+    let processors = system.processors();
+    // Brings into the proof that the table has a place for each thread.
+    let _ = system.thread_count();
+    if actor > processors {
+        system.wake(actor - processors, &mut turn.event, &mut turn.reply);
+        return None;
+    }
+    let mut sleeper = None;
+    if !system.next_turn(actor, &mut turn.event, &mut turn.reply, &mut sleeper) {
         unreachable!()
     }
-    timekeeper.follow(time, next.actor, &turn.event, turn.reply);
+    sleeper
 }

@@ -76,7 +76,7 @@ impl Playback {
         ensures none { IfOk result (λ playback. playback.made ≡ 0) }
         ensures made { IfOk result (λ playback. HasMade program.now [] playback.seen) }
     {
-        let system = System::open(alloc, program, MOST_TURNS)?;
+        let system = System::open_timed(alloc, program, MOST_TURNS)?;
         let timekeeper = Timekeeper::open(alloc, program)?;
         Ok(Playback {
             system,

@@ -1,15 +1,20 @@
 //! The records of a timed play, which its report needs in addition to the system.
-ghost use Rattle.std.specs.Prelude.{◌≡◌, ℕ, ◌<◌, ◌≤◌, ◌+◌, ◌^◌, ◌++◌, List, [], ◌∷◌, IfOk, false, replicate, vec_len};
+ghost use Rattle.std.specs.Prelude.{◌≡◌, ℕ, ◌<◌, ◌≤◌, ◌+◌, ◌^◌, ◌++◌, List, [], ◌∷◌, None, IfOk, IfSome, false, length, replicate, vec_len};
 ghost use Rattle.lot_simulation.specs.TimedReport as reports;
-ghost use Rattle.lot_simulation.specs.Timed.{TimedTurn, clocks_after, is_idle_draw};
-ghost use Rattle.lot_simulation.specs.World.{Program as ProgramRecord};
+ghost use Rattle.lot_simulation.specs.Timed as timed;
+ghost use Rattle.lot_simulation.specs.Timed.{Moment, TimedTurn, alarms_after, clocks_after, is_idle_draw};
+ghost use Rattle.lot_simulation.specs.World.{Program as ProgramRecord, sleeper_on};
 ghost use Rattle.lot_simulation.specs.World.Answer.{Answered};
-ghost use Rattle.lot_playback.specs.InTime.{HasFollowed, HasRoomFor};
+ghost use Rattle.lot_engine.specs.Seen.{world_of};
+ghost use Rattle.lot_playback.specs.InTime.{AreAlarms, CanFollow, HasFollowed, HasRoomFor, IsFollowed, alarms_in, moment_in};
 ghost use Rattle.lot_text.specs.Programs.{IsProgram};
 
+use crate::alarms::Alarms;
 use crate::clocks::Clocks;
 use crate::waits::{WaitTable, mutex_change, reply_change};
+use lot_engine::System;
 use lot_machine::{Event, Reply};
+use lot_simulation::{Due, Sleeper};
 use lot_text::Program;
 use std::alloc::{AllocError, Global};
 
@@ -21,6 +26,8 @@ pub const MOST_TURNS: u32 = 1000000;
 pub struct Timekeeper {
     /// The processors' clocks.
     pub clocks: Clocks,
+    /// When each sleeping thread wakes.
+    pub alarms: Alarms,
     /// Each thread's waits for mutexes.
     pub mutexes: WaitTable,
     /// Each thread's waits for replies.
@@ -36,6 +43,9 @@ impl Timekeeper {
         ensures time { IfOk result (λ timekeeper. timekeeper.clocks.time ≡ 0) }
         ensures clocks { IfOk result (λ timekeeper. timekeeper.clocks.processors.items
             ≡ replicate program.now.limits.processors (record { time = 0; waits = false; idle = 0 })) }
+        ensures alarms { IfOk result (λ timekeeper. timekeeper.alarms.threads.items
+            ≡ replicate program.now.limits.threads None) }
+        ensures sleeping { IfOk result (λ timekeeper. AreAlarms program.now.limits.processors timekeeper.alarms) }
         ensures room { IfOk result (HasRoomFor program.now) }
         ensures followed { IfOk result (HasFollowed [] 0) }
         ensures legal { IsProgram program.now }
@@ -43,26 +53,56 @@ impl Timekeeper {
         let limits = program.limits();
         Ok(Timekeeper {
             clocks: Clocks::open(alloc, limits.processors)?,
+            alarms: Alarms::open(alloc, limits.threads)?,
             mutexes: WaitTable::open(alloc, limits.threads)?,
             replies: WaitTable::open(alloc, limits.threads)?,
             refused: 0,
         })
     }
 
-    /// Records this actor's turn at this time, with its event and reply.
-    pub(crate) fn follow(&mut self, time: u32, actor: u32, event: &Event, reply: Reply)
-        requires there { actor ≤ vec_len self.old.clocks.processors }
+    /// The next turn, if there is one.
+    pub fn next_due(&self, program: &Program, system: &System) -> Option<Due>
+        requires program { system.now.setting.program ≡ program.now }
+        requires followed { IsFollowed system.now.setting.program system.now self.now }
+        ensures due { result ≡ timed.next_due program.now (moment_in system.now self.now) }
+        ensures within { IfSome result (λ due. due.time < 2 ^ 32) }
+    {
+        self.clocks.next_due(program, system, &self.alarms)
+    }
+
+    /// Records this actor's turn at this time, with its event and reply, which led to this system, and the thread that
+    /// goes to sleep with it, if one does.
+    pub(crate) fn follow(
+        &mut self,
+        system: &System,
+        time: u32,
+        actor: u32,
+        event: &Event,
+        reply: Reply,
+        sleeper: Option<Sleeper>,
+    )
+        requires processors { vec_len self.old.clocks.processors ≤ 64 }
+        requires sleeping { AreAlarms (vec_len self.old.clocks.processors) self.old.alarms }
+        requires can { CanFollow actor (vec_len self.old.clocks.processors)
+            (length self.old.alarms.threads.items) sleeper }
         requires followed { (done : List TimedTurn) × (n : ℕ) × (n < 2 ^ 31) × HasFollowed done n self.old }
         ensures time { self.new.clocks.time ≡ time }
         ensures clocks { self.new.clocks.processors.items
-            ≡ clocks_after self.old.clocks.processors.items (record { time = time; actor = actor })
-            (is_idle_draw (Answered event.now reply)) }
+            ≡ clocks_after (world_of system.now).state self.old.clocks.processors.items
+            (record { time = time; actor = actor }) (is_idle_draw (Answered event.now reply)) }
+        ensures alarms { (m : Moment) → m.alarms ≡ alarms_in self.old.alarms.threads.items
+            → length m.clocks ≡ length self.old.clocks.processors.items
+            → (0 < actor → actor ≤ length self.old.clocks.processors.items → sleeper ≡ sleeper_on m.world actor)
+            → alarms_in self.new.alarms.threads.items ≡ alarms_after m time actor }
+        ensures sleeping { AreAlarms (vec_len self.old.clocks.processors) self.new.alarms }
         ensures followed { (done : List TimedTurn) (n : ℕ) (turn : TimedTurn) → turn.time ≡ time
             → turn.turn.answer ≡ Answered event.now reply → HasFollowed done n self.old
             → HasFollowed (done ++ turn ∷ []) (n + 1) self.new }
         ensures room { (program : ProgramRecord) → HasRoomFor program self.old → HasRoomFor program self.new }
     {
-        self.clocks.follow(time, actor, reply);
+        let processors = self.clocks.processors.len() as u32;
+        self.clocks.follow(system, time, actor, reply);
+        self.alarms.follow(time, actor, processors, sleeper);
         self.mutexes.follow(time, mutex_change(event, reply));
         self.replies.follow(time, reply_change(reply));
         self.refused += refusals_in(reply);

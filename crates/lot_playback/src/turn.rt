@@ -6,7 +6,7 @@ use lot_machine::{Event, Reply};
 pub struct NextTurn {
     /// Its time in ticks, if the program is timed.
     pub time: Option<u32>,
-    /// 0 is the console, and the others are the processors.
+    /// 0 is the console, and 1 to P are the processors. P + t is the timer, as it wakes thread t.
     pub actor: u32,
 }
 
@@ -15,7 +15,7 @@ pub struct NextTurn {
 pub struct Turn {
     /// Its time in ticks, if the program is timed.
     pub time: Option<u32>,
-    /// 0 is the console, and the others are the processors.
+    /// 0 is the console, and 1 to P are the processors. P + t is the timer, as it wakes thread t.
     pub actor: u32,
     /// Whether it is the console's after its last command. Its event and reply are meaningless then.
     pub has_ended: bool,

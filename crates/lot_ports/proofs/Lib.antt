@@ -1,3 +1,4 @@
 -- Lemmas, in the order in which they stand on each other.
 pub mod Callers
 pub mod Serving
+pub mod Releasing

@@ -7,4 +7,4 @@
 
 mod ports;
 
-pub use ports::{call, receive, reply, serve};
+pub use ports::{call, receive, release_clients, reply, serve};

@@ -1,10 +1,14 @@
 //! Calls, receives and replies (4.6).
-ghost use Rattle.std.specs.Prelude.{◌≡◌, Some, length};
+ghost use Rattle.std.specs.Prelude.{◌≡◌, [], Some, length};
+ghost use Rattle.lot_machine.specs.declared.funding.Node.{Node as ANode};
+ghost use Rattle.lot_machine.specs.Kill.{released};
+ghost use Rattle.lot_machine.specs.Numbered.{set_number};
 ghost use Rattle.lot_machine.specs.Ports as machine;
-ghost use Rattle.lot_machine.specs.Ports.{first_client};
+ghost use Rattle.lot_machine.specs.Ports.{first_client, clients_of};
+ghost use Rattle.lot_machine.specs.State.{change_each};
 ghost use Rattle.lot_machine.specs.declared.reply.Outcome.TheVariants.{Replied};
 ghost use Rattle.lot_queues.specs.QueueLists.{IsThere, IsNowhere};
-ghost use Rattle.lot_threads.specs.Threaded.{IsLiveIn};
+ghost use Rattle.lot_threads.specs.Threaded.{IsLiveIn, IsStaleIn, MakesStaleIn, with_records};
 ghost use Rattle.lot_ports.specs.Traps.{IsPortTrap};
 
 use lot_machine::{After, Outcome, PortNumber, Status, ThreadNumber};
@@ -125,6 +129,23 @@ pub fn serve(
     Effect {
         outcome: replied_then(client.number, receipt.outcome),
         after: receipt.after,
+    }
+}
+
+/// Ends the calls of a server's clients: each is Ready again, with nothing delivered.
+pub fn release_clients(threads: &mut Threads, queues: &mut Queues, server: ThreadNumber)
+    requires server { IsThere queues.old.clients server.number }
+    requires same { length threads.old.records ≡ length queues.old.clients }
+    ensures threads { threads.new ≡ with_records threads.old
+        (change_each released threads.old.records (clients_of queues.old.clients server.number)) threads.new.stale }
+    ensures queues { queues.new ≡ record queues.old {
+      clients = set_number queues.old.clients server.number [];
+    } }
+    ensures kept { (node : ANode) → IsStaleIn threads.old node → IsStaleIn threads.new node }
+    ensures stale { MakesStaleIn threads.old threads.new }
+{
+    while let Some(client) = queues.take_client(server.number) {
+        threads.set_status(ThreadNumber { number: client }, Status::Ready);
     }
 }
 

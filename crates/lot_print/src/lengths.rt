@@ -6,8 +6,8 @@ use lot_simulation::SCHEDULE_WORD;
 /// The largest number of actors in a `schedule` line.
 pub(crate) const ACTORS: usize = 64;
 
-/// A number of 8, 32 or 64 bits.
-const ACTOR: usize = 3;
+/// A number of 16, 32 or 64 bits.
+const ACTOR: usize = 5;
 
 const NUMBER: usize = 10;
 

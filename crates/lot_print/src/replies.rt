@@ -111,7 +111,7 @@ fn push_reply<const N: usize>(line: &mut Line<N>, heading: Heading, event: &Even
         Reply::Currency(n) => push_made(line, "currency ", n),
         Reply::Thread(n) => push_made(line, "thread ", n),
         Reply::Funded { ticket, thread } => push_funded(line, ticket, thread),
-        Reply::Done => line.push_word("done\n"),
+        Reply::Done => push_done(line, event),
         Reply::List(_) => (),
         Reply::Winner {
             thread,
@@ -137,6 +137,17 @@ fn push_reply<const N: usize>(line: &mut Line<N>, heading: Heading, event: &Even
     }
 }
 
+/// Appends what was done, a command or a wake, and the line's end.
+fn push_done<const N: usize>(line: &mut Line<N>, event: &Event)
+    requires { length line.old + 170 ≤ N }
+    ensures { line.new ≡ line.old ++ (texts.done_text event.now ++ newline) }
+{
+    match event {
+        Event::Wake { thread } => push_made(line, "wake thread ", *thread),
+        _ => line.push_word("done\n"),
+    }
+}
+
 /// Appends the reason why the event was refused, and the line's end.
 #[inline(never)]
 fn push_refusal<const N: usize>(line: &mut Line<N>, why: Refusal)
@@ -150,7 +161,7 @@ fn push_refusal<const N: usize>(line: &mut Line<N>, why: Refusal)
 /// Appends the word and the number of the new ticket, currency or thread, and the line's end.
 #[inline(never)]
 fn push_made<const N: usize>(line: &mut Line<N>, word: &str, number: u32)
-    requires { (length line.old + 20 ≤ N) × (length word.now ≤ 9) }
+    requires { (length line.old + 23 ≤ N) × (length word.now ≤ 12) }
     ensures { line.new ≡ line.old ++ (word.now ++ (decimal number ++ newline)) }
 {
     line.push_text(word);

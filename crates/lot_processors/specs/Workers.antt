@@ -1,5 +1,5 @@
 -- Workers at the seats of a station.
-use Rattle.std.specs.Prelude.{◌≡◌, ◌⊎◌, ℕ, ◌+◌, ◌*◌, ◌<◌, ◌≤◌, ◌==◌, All, List, [], Option, Some, None, length, count_by, sum_by, slice_index_or, if◌then◌else◌}
+use Rattle.std.specs.Prelude.{◌≡◌, ◌⊎◌, ℕ, ◌+◌, ◌*◌, ◌<◌, ◌≤◌, ◌==◌, false, All, List, [], Option, Some, None, length, count_by, sum_by, slice_index_or, if◌then◌else◌}
 use Rattle.lot_machine.specs.declared.reply.Reply.{Reply}
 use Rattle.lot_simulation.specs.Report.{quanta_in, ticks_in}
 use Rattle.lot_simulation.specs.World.{Program, IsLegal}
@@ -112,9 +112,9 @@ pub record IsFirstFault (found : TurnFault) (before after : List Holder) : Type 
 abbrev pub turns_in_all : Program → ℕ
 turns_in_all program = length program.commands + program.limits.processors * program.turns
 
--- the program, with room for the turns of a free run
+-- the program, with room for the turns of a free run and without a timer
 abbrev pub free_setting : Program → Setting
-free_setting program = record { program = program; room = turns_in_all program }
+free_setting program = record { program = program; room = turns_in_all program; timer = false }
 
 -- The history is legal for the program, and has each actor's number of turns in a free run.
 pub record IsFreeRun (program : Program) (history : List ℕ) : Type 0 where

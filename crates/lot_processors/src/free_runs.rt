@@ -30,6 +30,9 @@ pub enum FreeRunFault {
 
 /// Opens a system of the program, lets workers make all its commands and all its processors' turns, and returns the
 /// system. It may block.
+///
+/// The turns have no time, and nothing wakes a thread that sleeps: pass the program without time
+/// (`Program::without_time`).
 pub fn free_run<G: Gate + Sync, R: Threads + Wait + Sync>(
     rt: &R,
     alloc: Global,

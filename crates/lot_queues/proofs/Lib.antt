@@ -7,3 +7,4 @@ pub mod Pushed
 pub mod Taken
 pub mod FirstTaken
 pub mod Callers
+pub mod TakenOut

@@ -89,6 +89,11 @@ module _ {f : Fields} {q : QueueLists} (held : Holds f q) where
   first-within list w below is other node c =
       relisted-within f.lists list (drop 1 (nodes_of f.lists list)) below (λ n d. contains-drop (nodes_of f.lists list) 1 n d) other node (subst (λ (v : NodeLists). Contains (nodes_of v other) node) is c)
 
+  -- the first thread of a list is there
+  pub first-there : (list : ℕ) (o t : Option ℕ) → o ≡ node_at f.lists list 0 → t ≡ option_map (λ n. n + 1) o → IfSome t (IsThere q.clients)
+  first-there list None t o_is t_is = subst (λ (x : Option ℕ). IfSome x (IsThere q.clients)) (sym t_is) tt
+  first-there list (Some n) t o_is t_is = subst (λ (x : Option ℕ). IfSome x (IsThere q.clients)) (sym t_is) (there held (n + 1) (omega arith) (omega (arith, node-made list 0 n (sym o_is))))
+
   -- ---- what holds then, if the fields `with_lists f w` hold r
 
   module _ {w : NodeLists} {r : QueueLists} (after : Holds (with_lists f w) r) where

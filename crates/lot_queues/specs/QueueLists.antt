@@ -4,6 +4,7 @@ use Rattle.lot_machine.specs.Numbered.{set_number}
 use Rattle.lot_machine.specs.State.{Port, Mutex, QueuedCall}
 use Rattle.lot_machine.specs.Ports.{port_at, clients_of}
 use Rattle.lot_machine.specs.Mutexes.{mutex_at}
+use Rattle.lot_machine.specs.Kill.{without, port_without}
 
 -- The clients of each thread, and each port and mutex with its queues: the machine's fields of these names (4.6,
 -- 6.1).
@@ -57,3 +58,15 @@ with_waiters mutexes m waiters = set_number mutexes m (record { owner = (mutex_a
 -- the mutexes with this owner of one of them, or with one of them free
 abbrev pub with_owner : List Mutex → ℕ → Option ℕ → List Mutex
 with_owner mutexes m owner = set_number mutexes m (record { owner = owner; waiters = (mutex_at mutexes m).waiters })
+
+-- the mutexes without the thread among their waiters
+abbrev pub waiters_without : List Mutex → ℕ → List Mutex
+waiters_without mutexes t = map (λ m. record { owner = m.owner; waiters = without t m.waiters }) mutexes
+
+-- the queues without the thread
+abbrev pub queues_without : QueueLists → ℕ → QueueLists
+queues_without q t = record q {
+  clients = map (without t) q.clients;
+  ports = map (port_without t) q.ports;
+  mutexes = waiters_without q.mutexes t;
+}

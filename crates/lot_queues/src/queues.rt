@@ -5,9 +5,10 @@ ghost use Rattle.lot_machine.specs.Numbered.{set_number};
 ghost use Rattle.lot_machine.specs.Ports as machine;
 ghost use Rattle.lot_machine.specs.Ports.{port_at, clients_of, with_client};
 ghost use Rattle.lot_machine.specs.Mutexes.{mutex_at};
-ghost use Rattle.lot_lists.specs.NodeLists.{nodes_of, node_at, IsFree, IsConsistent};
+ghost use Rattle.lot_machine.specs.Kill.{without};
+ghost use Rattle.lot_lists.specs.NodeLists.{nodes_of, node_at, IsFree, HasSameSize, IsConsistent};
 ghost use Rattle.lot_queues.specs.QueueLists.{IsThere, IsNowhere, IsWaiter, empty_queues, with_calls, with_receivers};
-ghost use Rattle.lot_queues.specs.QueueLists.{with_waiters, with_owner};
+ghost use Rattle.lot_queues.specs.QueueLists.{with_waiters, with_owner, queues_without};
 ghost use Rattle.lot_queues.specs.Calls.{queued_call};
 ghost use Rattle.lot_queues.specs.Fields.{relisted, threads_in, call_of};
 
@@ -279,6 +280,15 @@ impl Queues {
             .push_back(self.layout.waiters(mutex), node_of(thread));
     }
 
+    /// The thread that has waited longest for a mutex, or `None` if none waits.
+    pub fn first_waiter(&self, mutex: u32) -> Option<u32>
+        requires { IsThere self.now.mutexes mutex }
+        ensures first { result ≡ slice_get (mutex_at self.now.mutexes mutex).waiters 0 }
+        ensures there { IfSome result (IsThere self.now.clients) }
+    {
+        thread_of(self.lists.first(self.layout.waiters(mutex)))
+    }
+
     /// Removes a thread from the waiters of the mutex for which it waits.
     pub fn take_waiter(&mut self, thread: u32)
         requires waits { IsWaiter self.old.mutexes thread }
@@ -292,6 +302,16 @@ impl Queues {
         ensures others { (t : ℕ) → IsNowhere self.old t → IsNowhere self.new t }
     {
         self.lists.remove(node_of(thread));
+    }
+
+    /// Takes a thread out of its queue, if it is in one: it calls, receives and waits no longer, and no thread serves
+    /// it.
+    pub fn take_out(&mut self, thread: u32)
+        requires { IsThere self.old.clients thread }
+        ensures out { self.new ≡ queues_without self.old thread }
+        ensures nowhere { IsNowhere self.new thread }
+    {
+        remove_listed(&mut self.lists, node_of(thread));
     }
 
     /// Stores in `out` the threads that wait for a mutex, the one that has waited longest first. It allocates
@@ -318,6 +338,20 @@ fn take_first(lists: &mut Lists, list: usize) -> Option<usize>
     let node = lists.first(list)?;
     lists.remove(node);
     Some(node)
+}
+
+/// Removes a node from its list, if it is in one.
+fn remove_listed(lists: &mut Lists, node: usize)
+    requires { node < lists.old.nodes }
+    ensures left { (list : ℕ) → nodes_of lists.new list ≡ without node (nodes_of lists.old list) }
+    ensures size { HasSameSize lists.old lists.new }
+    ensures free { IsFree lists.new node }
+    ensures consistent { IsConsistent lists.new }
+{
+    if lists.list_of(node).is_none() {
+        return;
+    }
+    lists.remove(node);
 }
 
 /// The thread of a node.

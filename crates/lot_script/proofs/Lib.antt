@@ -7,3 +7,4 @@ pub mod Opened
 pub mod Passed
 pub mod Reached
 pub mod Rests
+pub mod Awake

@@ -7,7 +7,7 @@ use Rattle.std.proofs.lemmas.Bool.{cases_lt}
 use Rattle.lot_simulation.specs.declared.script.Line.{Line}
 use Rattle.lot_simulation.specs.declared.script.Line.TheVariants as line
 use Rattle.lot_simulation.specs.declared.script.ScriptTrap.{ScriptTrap}
-use Rattle.lot_simulation.specs.declared.script.ScriptTrap.TheVariants.{Yield, Reply, AtPort, OnMutex, Exit}
+use Rattle.lot_simulation.specs.declared.script.ScriptTrap.TheVariants.{Yield, Reply, AtPort, OnMutex, Sleep, Exit}
 use Rattle.lot_simulation.specs.Script.{Item, rest_after, unrolled}
 use Rattle.lot_simulation.specs.Script.Item.{Traps}
 use Rattle.lot_script.specs.declared.open_loops.OpenLoop.{OpenLoop}
@@ -321,6 +321,7 @@ trap-drops Yield items good = refl
 trap-drops Reply items good = refl
 trap-drops (AtPort asked port) items good = refl
 trap-drops (OnMutex asked mutex) items good = refl
+trap-drops (Sleep n) items good = refl
 trap-drops Exit items good = absurd good
 
 stepped : (lines : List Line) (p : Place) (l : Line) → Stands lines p l → (q : Place) × IsStepped lines p q

@@ -2,7 +2,7 @@
 use Rattle.std.specs.Prelude.{◌≡◌, ℕ, ◌+◌, ◌-◌, ◌<◌, ◌≤◌, ◌==◌, nat_lt, nat_le, Bool, true, ◌||◌, ⊤, List, [], ◌∷◌, ◌++◌, length, fold, All}
 use Rattle.lot_simulation.specs.declared.script.Line.{Line}
 use Rattle.lot_simulation.specs.declared.script.Line.TheVariants as line
-use Rattle.lot_simulation.specs.declared.script.ScriptTrap.TheVariants.{Exit}
+use Rattle.lot_simulation.specs.declared.script.ScriptTrap.TheVariants.{Sleep, Exit}
 use Rattle.lot_simulation.specs.declared.input.InputRefusal.{InputRefusal}
 use Rattle.lot_simulation.specs.declared.input.InputRefusal.TheVariants.{BadLine, BadNumber, TooDeep, TooLong}
 use Rattle.lot_machine.specs.Bounds.{IsBetween}
@@ -22,10 +22,11 @@ loops_after loops other = loops
 abbrev pub pushed : Draft → Line → Draft
 pushed d l = record { lines = d.lines ++ l ∷ []; loops = loops_after d.loops l }
 
--- the line is valid: a `compute` has at least one tick, a `loop` 1 to 65535 copies, and it is no exit
+-- the line is valid: a `compute` and a `sleep` have at least one tick, a `loop` 1 to 65535 copies, and it is no exit
 abbrev pub IsLine : Line → Type 0
 IsLine (line.Compute n) = 0 < n
 IsLine (line.Loop n) = IsBetween 1 65535 n
+IsLine (line.Trap (Sleep n)) = 0 < n
 IsLine (line.Trap Exit) = ⊥
 IsLine other = ⊤
 
@@ -67,5 +68,6 @@ abbrev pub line_checks : Draft → Line → List (Bool × InputRefusal)
 line_checks d (line.Compute n) = (n == 0, BadNumber) ∷ (is_full d, TooLong) ∷ []
 line_checks d (line.Loop n) = (n == 0 || nat_lt 65535 n, BadNumber) ∷ (nat_le 8 d.loops, TooDeep) ∷ (is_full d, TooLong) ∷ []
 line_checks d line.End = (d.loops == 0, BadLine) ∷ (is_full d, TooLong) ∷ []
+line_checks d (line.Trap (Sleep n)) = (n == 0, BadNumber) ∷ (is_full d, TooLong) ∷ []
 line_checks d (line.Trap Exit) = (true, BadLine) ∷ []
 line_checks d other = (is_full d, TooLong) ∷ []

@@ -57,8 +57,8 @@ impl ScriptBuilder {
     }
 
     /// Returns `Ok` if the line can come next, and otherwise the refusal for an input with it: `BadNumber` for a
-    /// `compute` or a `loop` out of its range, `TooDeep` for a ninth open loop, `BadLine` for an `end` without a loop
-    /// and for an exit, which no line is, and `TooLong` for line 1025, checked in this order.
+    /// `compute`, a `sleep` or a `loop` out of its range, `TooDeep` for a ninth open loop, `BadLine` for an `end`
+    /// without a loop and for an exit, which no line is, and `TooLong` for line 1025, checked in this order.
     pub fn check(&self, line: Line) -> Result<(), InputRefusal>
         ensures checks { result ≡ checked (line_checks self.now line) tt }
         ensures number { OnOk result (IsLine line) }
@@ -67,6 +67,9 @@ impl ScriptBuilder {
     {
         match line {
             Line::Compute(ticks) if !is_in(ranges::WORK, ticks) => {
+                return Err(InputRefusal::BadNumber);
+            }
+            Line::Trap(ScriptTrap::Sleep(ticks)) if !is_in(ranges::SLEEP, ticks) => {
                 return Err(InputRefusal::BadNumber);
             }
             Line::Loop(times) if !is_in(ranges::TIMES, times) => {

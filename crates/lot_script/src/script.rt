@@ -1,12 +1,12 @@
 //! Scripts.
-ghost use Rattle.std.specs.Prelude.{◌≡◌, ◌↔◌, ◌<◌, ◌≤◌, length, IfOk, IsTrue};
-ghost use Rattle.lot_simulation.specs.Script.{start as whole_context, unrolled};
+ghost use Rattle.std.specs.Prelude.{◌≡◌, ◌↔◌, ◌<◌, ◌≤◌, length, map, IfOk, IsTrue};
+ghost use Rattle.lot_simulation.specs.Script.{start as whole_context, unrolled, without_sleep};
 ghost use Rattle.lot_script.specs.Drafts.{IsScript};
 ghost use Rattle.lot_script.specs.Places.{CanBeDone, Fits, IsRestOf, context_at, first_place, open_at, rest_at};
 
 use crate::Place;
 use crate::open_loops::OpenLoops;
-use lot_simulation::Line;
+use lot_simulation::{Line, ScriptTrap};
 use std::alloc::{AllocError, Global};
 use std::marker::Model;
 
@@ -43,6 +43,17 @@ impl Script {
         ensures { IfOk result (λ script. script ≡ self.now) }
     {
         let lines = Vec::from_slice(alloc, self.lines())?;
+        Ok(Script { lines })
+    }
+
+    /// A copy of the script in which each `sleep` is a `yield`, as a run without time takes it.
+    pub fn without_sleeps(&self, alloc: Global) -> Result<Script, AllocError>
+        ensures { IfOk result (λ script. script ≡ map without_sleep self.now) }
+    {
+        let mut lines = Vec::with_capacity(alloc, self.lines.len())?;
+        for line in self.lines() {
+            lines.push(without_sleep(*line))?;
+        }
         Ok(Script { lines })
     }
 
@@ -90,6 +101,16 @@ impl Script {
             loops.follow(number, self.lines[number]);
         }
         loops
+    }
+}
+
+/// The line as a run without time takes it: a `sleep` is a `yield`.
+fn without_sleep(line: Line) -> Line
+    ensures { result ≡ without_sleep line }
+{
+    match line {
+        Line::Trap(ScriptTrap::Sleep(_)) => Line::Trap(ScriptTrap::Yield),
+        other => other,
     }
 }
 

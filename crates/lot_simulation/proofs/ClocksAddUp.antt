@@ -1,9 +1,10 @@
 -- What a processor has run and how long it was idle are its clock.
-use Rattle.std.proofs.Common.{◌≡◌, ℕ, zero, suc, ◌+◌, ◌-◌, ◌<◌, ◌≤◌, ◌==◌, nat_lt, Bool, true, false, ◌⊎◌, inl, inr, Option, Some, None, is_none, List, [], ◌∷◌, length, map, replicate, take, min, refl, sym, ◌∙◌, ap, subst, arith, cond, ne_eqb, eq-eqb, slice_get, get_or, unwrap_or, option_map}
-use Rattle.std.specs.List.{flat_map, prefix_len, range_with_len}
+use Rattle.std.proofs.Common.{◌≡◌, ℕ, zero, suc, ◌+◌, ◌-◌, ◌<◌, ◌≤◌, ◌==◌, nat_lt, Bool, true, false, ◌||◌, ◌⊎◌, inl, inr, Option, Some, None, is_none, List, [], ◌∷◌, length, map, replicate, take, min, refl, sym, ◌∙◌, ap, subst, arith, cond, ne_eqb, eq-eqb, slice_get, get_or, unwrap_or, option_map}
+use Rattle.std.specs.List.{prefix_len}
 use Rattle.std.specs.List.Sorted.{IsNonDecreasing}
 use Rattle.std.proofs.Math.ListN.{length-set}
-use Rattle.std.proofs.lemmas.Bool.{cases_eq, eqb-true, eqb-false, le-ltb, ltb-true, ltb-false}
+use Rattle.std.proofs.lemmas.Bool.{cases_eq, le-leb, eqb-true, eqb-false, le-ltb, ltb-true, ltb-false}
+use Rattle.std.proofs.lemmas.List.FromFn.{length-map-range_with_len}
 use Rattle.std.proofs.lemmas.List.{length-map, length-replicate}
 use Rattle.std.proofs.lemmas.List.Sums.{sum_by-cons}
 use Rattle.std.proofs.lemmas.Option.{slice_get_cases}
@@ -28,11 +29,11 @@ use Rattle.lot_simulation.specs.declared.timed.Clock.{Clock}
 use Rattle.lot_simulation.specs.declared.timed.Due.{Due}
 use Rattle.lot_simulation.specs.Report.{ActorTurn, count_in, ticks_in, total_of, turns_of}
 use Rattle.lot_simulation.specs.Script.{Context, is_mark, slice}
-use Rattle.lot_simulation.specs.Timed.{Moment, TimedTurn, all_due, clock_of, clocks_after, clocks_after_processor, console_due, cost_of, due_first, earliest, end_of, ended_at, is_idle_draw, last_moment, moment_after, moment_after_all, next_due, opening_moment, processor_due, timed_room, timed_turns, turn_due, turns_from, within, woken}
+use Rattle.lot_simulation.specs.Timed.{Moment, TimedTurn, all_due, clock_after_console, clock_of, clocks_after, clocks_after_console, clocks_after_processor, cost_of, due_first, earliest, end_of, ended_at, idle_to, is_idle_draw, last_moment, moment_after, moment_after_all, next_due, opening_moment, timed_room, timed_turns, turn_due, turns_from, within, woken}
 use Rattle.lot_simulation.specs.TimedReport.{actor_turns, clock_at, idle_until}
-use Rattle.lot_simulation.specs.World.{Program, World, action_of, console_turn, context_of, number_of, processor_event, processor_turn, event_of_slice, slice_on, system_turn}
+use Rattle.lot_simulation.specs.World.{Program, World, action_of, actor_event, console_turn, context_of, number_of, processor_event, processor_turn, event_of_slice, slice_on, system_turn}
 use Rattle.lot_simulation.proofs.OtherTurns.{event_for, event-for, set-kept}
-use Rattle.lot_simulation.proofs.TimesRise.{Each, IsTimely, each-append, each-range, earliest-one, kept, next, number-map, of-due, opening-timely, there, within-some}
+use Rattle.lot_simulation.proofs.TimesRise.{Each, IsTimely, console-clock, each-due, earliest-one, kept, next, number-map, opening-timely, there, within-some}
 
 -- ---- what a turn costs its processor is what it has used by its reply
 
@@ -98,10 +99,10 @@ own-cost w p low high = subst (λ e. ticks_in (step w.state e).reply ≡ cost_of
     from None is = draw-free w.state p (number_of w p)
     from (Some t) is = slice-cost w p t (good-processor w.state p low high) is
 
-turn-cost : (program : Program) (w : World) (p : ℕ) → 1 ≤ p → p ≤ w.state.limits.processors → count_in ticks_in (system_turn program w p).answer ≡ cost_of w (processor_event w p)
-turn-cost program w p low high =
+turn-cost : (program : Program) (w : World) (p : ℕ) → 1 ≤ p → p ≤ w.state.limits.processors → p ≤ program.limits.processors → count_in ticks_in (system_turn program w p).answer ≡ cost_of w (processor_event w p)
+turn-cost program w p low high there =
     let some : (p == 0) ≡ false = ne_eqb p 0 (λ e. omega (arith, low, e)) in
-    rw some (own-cost w p low high)
+    rw (some, le-leb p program.limits.processors there) (own-cost w p low high)
 
 turn-limits : (program : Program) (w : World) (actor : ℕ) → (system_turn program w actor).world.state.limits ≡ w.state.limits
 turn-limits program w actor = at (actor == 0)
@@ -110,9 +111,9 @@ turn-limits program w actor = at (actor == 0)
     console [] = refl
     console (c ∷ cs) = step-limits w.state (event.Command c)
 
-    at : (b : Bool) → (cond b (console_turn program w w.commands) (processor_turn w actor (processor_event w actor))).world.state.limits ≡ w.state.limits
+    at : (b : Bool) → (cond b (console_turn program w w.commands) (processor_turn w actor (actor_event program w actor))).world.state.limits ≡ w.state.limits
     at true = console w.commands
-    at false = step-limits w.state (processor_event w actor)
+    at false = step-limits w.state (actor_event program w actor)
 
 -- ---- a processor's clock
 
@@ -137,16 +138,34 @@ have-clock clocks (suc i) low high = from (slice_get_cases clocks i).1
     from (inl (x, _, here, _)) = (x, at_number-suc clocks i ∙ here)
     from (inr (past, _)) = absurd (omega (arith, past, high))
 
--- it is at its own turn's time and was idle no longer, or it is as it was, woken or not
+-- the clock stands, or has been idle until now
+abbrev Stands : ℕ → Clock → Clock → Type 0
+Stands time before after = (after ≡ idle_to time before) ⊎ (after ≡ before)
+
+woken-stands : (time : ℕ) (clock : Clock) → Stands time clock (woken time clock)
+woken-stands time clock = at clock.waits
+  where
+    at : (b : Bool) → Stands time clock (cond b (idle_to time clock) clock)
+    at true = inl refl
+    at false = inr refl
+
+console-stands : (s : State) (time : ℕ) (clocks : List Clock) (p : ℕ) → Stands time (clock_of clocks p) (clock_after_console s time clocks p)
+console-stands s time clocks p = at ((clock_of clocks p).waits || is_none (thread_on s.records p))
+  where
+    at : (b : Bool) → Stands time (clock_of clocks p) (cond b (idle_to time (clock_of clocks p)) (clock_of clocks p))
+    at true = inl refl
+    at false = inr refl
+
+-- it is at its own turn's time and was idle no longer, or it was idle or stands
 abbrev Moves : ℕ → Due → Clock → Clock → Type 0
-Moves p due before after = ((due.actor ≡ p) × (after.time ≡ due.time) × (after.idle ≡ before.idle)) ⊎ (¬ (due.actor ≡ p) × ((after ≡ woken due.time before) ⊎ (after ≡ before)))
+Moves p due before after = ((due.actor ≡ p) × (after.time ≡ due.time) × (after.idle ≡ before.idle)) ⊎ (¬ (due.actor ≡ p) × Stands due.time before after)
 
 module _ (clocks : List Clock) (p : ℕ) (low : 1 ≤ p) (c : Clock) (is : at_number clocks p ≡ Some c) where
   all-woken : (time : ℕ) → at_number (map (woken time) clocks) p ≡ Some (woken time c)
   all-woken time = number-map (woken time) clocks p ∙ ap (option_map (woken time)) is
 
   -- after one clock of these is set
-  set-moves : (some : List Clock) (here : Clock) (due : Due) (new : Clock) → 1 ≤ due.actor → at_number some p ≡ Some here → (here ≡ woken due.time c) ⊎ (here ≡ c)
+  set-moves : (some : List Clock) (here : Clock) (due : Due) (new : Clock) → 1 ≤ due.actor → at_number some p ≡ Some here → Stands due.time c here
       → new.time ≡ due.time → new.idle ≡ (clock_of clocks due.actor).idle → Moves p due c (clock_of (set_number some due.actor new) p)
   set-moves some here due new positive here_is kept time idle = from (cases_eq due.actor p)
     where
@@ -160,31 +179,36 @@ module _ (clocks : List Clock) (p : ℕ) (low : 1 ≤ p) (c : Clock) (is : at_nu
           let now : clock_of (set_number some due.actor new) p ≡ here = there (set_number some due.actor new) p here (set-kept some due.actor p new apart ∙ here_is) in
           inr (other, stays now kept)
         where
-          stays : clock_of (set_number some due.actor new) p ≡ here → (here ≡ woken due.time c) ⊎ (here ≡ c) → (clock_of (set_number some due.actor new) p ≡ woken due.time c) ⊎ (clock_of (set_number some due.actor new) p ≡ c)
-          stays now (inl woke) = inl (now ∙ woke)
+          stays : clock_of (set_number some due.actor new) p ≡ here → Stands due.time c here → Stands due.time c (clock_of (set_number some due.actor new) p)
+          stays now (inl idle) = inl (now ∙ idle)
           stays now (inr stood) = inr (now ∙ stood)
 
   processor-moves : (due : Due) (idle : Bool) → 1 ≤ due.actor → Moves p due c (clock_of (clocks_after_processor clocks due idle) p)
   processor-moves due true positive = set-moves clocks c due (record { time = due.time; waits = true; idle = (clock_of clocks due.actor).idle }) positive is (inr refl) refl refl
   processor-moves due false positive =
-      set-moves (map (woken due.time) clocks) (woken due.time c) due (record { time = due.time; waits = false; idle = (clock_of clocks due.actor).idle }) positive (all-woken due.time) (inl refl) refl refl
+      set-moves (map (woken due.time) clocks) (woken due.time c) due (record { time = due.time; waits = false; idle = (clock_of clocks due.actor).idle }) positive (all-woken due.time) (woken-stands due.time c) refl refl
 
-  clock-moves : (due : Due) (idle : Bool) → Moves p due c (clock_of (clocks_after clocks due idle) p)
-  clock-moves due idle = at (due.actor == 0) refl
+  console-moves : (s : State) (due : Due) → ¬ (due.actor ≡ p) → p ≤ length clocks → Moves p due c (clock_of (clocks_after_console s due.time clocks) p)
+  console-moves s due other high =
+      let now : clock_of (clocks_after_console s due.time clocks) p ≡ clock_after_console s due.time clocks p =
+      there (clocks_after_console s due.time clocks) p (clock_after_console s due.time clocks p) (console-clock s due.time clocks p low high) in
+      inr (other, subst (λ x. Stands due.time c x) (sym now) (subst (λ x. Stands due.time x (clock_after_console s due.time clocks p)) (there clocks p c is) (console-stands s due.time clocks p)))
+
+  clock-moves : (s : State) (due : Due) (idle : Bool) → p ≤ length clocks → Moves p due c (clock_of (clocks_after s clocks due idle) p)
+  clock-moves s due idle high = at (due.actor == 0) refl
     where
-      at : (b : Bool) → (due.actor == 0) ≡ b → Moves p due c (clock_of (cond b (map (woken due.time) clocks) (clocks_after_processor clocks due idle)) p)
-      at true console =
-          inr ((λ same. omega (arith, low, same, eqb-true due.actor 0 console)), inl (there (map (woken due.time) clocks) p (woken due.time c) (all-woken due.time)))
+      at : (b : Bool) → (due.actor == 0) ≡ b → Moves p due c (clock_of (cond b (clocks_after_console s due.time clocks) (clocks_after_processor clocks due idle)) p)
+      at true console = console-moves s due (λ same. omega (arith, low, same, eqb-true due.actor 0 console)) high
       at false other = processor-moves due idle (from (eqb-false due.actor 0 other))
         where
           from : ¬ (due.actor ≡ 0) → 1 ≤ due.actor
           from apart = omega (arith, apart)
 
-clocks-length : (clocks : List Clock) (due : Due) (idle : Bool) → length (clocks_after clocks due idle) ≡ length clocks
-clocks-length clocks due idle = at (due.actor == 0) idle
+clocks-length : (s : State) (clocks : List Clock) (due : Due) (idle : Bool) → length (clocks_after s clocks due idle) ≡ length clocks
+clocks-length s clocks due idle = at (due.actor == 0) idle
   where
-    at : (b idle : Bool) → length (cond b (map (woken due.time) clocks) (clocks_after_processor clocks due idle)) ≡ length clocks
-    at true idle = length-map clocks (woken due.time)
+    at : (b idle : Bool) → length (cond b (clocks_after_console s due.time clocks) (clocks_after_processor clocks due idle)) ≡ length clocks
+    at true idle = length-map-range_with_len (clock_after_console s due.time clocks) 1 (length clocks)
     at false true = length-set clocks (due.actor - 1) _
     at false false = length-set (map (woken due.time) clocks) (due.actor - 1) _ ∙ length-map clocks (woken due.time)
 
@@ -228,9 +252,8 @@ module _ (program : Program) (p : ℕ) (low : 1 ≤ p) (high : p ≤ program.lim
   own-time : (m : Moment) (due : Due) → earliest (all_due program m) ≡ Some due → IsOwn m due
   own-time m due first =
       earliest-one (IsOwn m) (all_due program m) due
-      (each-append (IsOwn m) (console_due m) (flat_map (processor_due m) (range_with_len 1 program.limits.processors)) (console-own m m.times)
-      (each-range (IsOwn m) (processor_due m) 1 program.limits.processors
-      (λ q above below. of-due (IsOwn m) m q (λ _ same. ap (λ k. (clock_of m.clocks k).time + cost_of m.world (processor_event m.world k)) same))))
+      (each-due (IsOwn m) program m (console-own m m.times) (λ t time above below _ same. absurd (omega (arith, high, above, same)))
+      (λ q above below _ same. ap (λ k. (clock_of m.clocks k).time + cost_of m.world (processor_event m.world k)) same))
       first
 
   module _ (ticks : ℕ) (m : Moment) (is : IsClocked ticks m) (due : Due) (first : next_due program m ≡ Some due) where
@@ -245,7 +268,7 @@ module _ (program : Program) (p : ℕ) (low : 1 ≤ p) (high : p ≤ program.lim
     own-used same =
         let there : p ≤ m.world.state.limits.processors = omega (arith, high, ap (λ (l : Sizes). l.processors) is.limits) in
         ap (λ b. cond b (count_in ticks_in (system_turn program m.world due.actor).answer) 0) (eq-eqb due.actor p same)
-        ∙ ap (λ a. count_in ticks_in (system_turn program m.world a).answer) same ∙ turn-cost program m.world p low there
+        ∙ ap (λ a. count_in ticks_in (system_turn program m.world a).answer) same ∙ turn-cost program m.world p low there high
 
     other-used : ¬ (due.actor ≡ p) → used ≡ 0
     other-used other = ap (λ b. cond b (count_in ticks_in (system_turn program m.world due.actor).answer) 0) (ne_eqb due.actor p other)
@@ -256,44 +279,40 @@ module _ (program : Program) (p : ℕ) (low : 1 ≤ p) (high : p ≤ program.lim
     abbrev IsRight : Clock → Type 0
     IsRight clock = (ticks + used + clock.idle ≡ clock.time) × (clock.time ≤ due.time)
 
-    -- from a clock that stands, or that is woken
+    -- from a clock that stands, or that was idle
     stood : (clock : Clock) → ¬ (due.actor ≡ p) → clock ≡ clock_of m.clocks p → IsRight clock
     stood clock other same =
         let time = ap (λ (c : Clock). c.time) same in
         let idle = ap (λ (c : Clock). c.idle) same in
         (omega (arith, other-used other, time, idle, is.sum), omega (arith, time, is.past, later))
 
-    woke : ¬ (due.actor ≡ p) → IsRight (woken due.time (clock_of m.clocks p))
-    woke other = at (clock_of m.clocks p).waits refl
-      where
-        at : (b : Bool) → (clock_of m.clocks p).waits ≡ b → IsRight (woken due.time (clock_of m.clocks p))
-        at true waits =
-            let now : woken due.time (clock_of m.clocks p) ≡ record { time = due.time; waits = false; idle = (clock_of m.clocks p).idle + (due.time - (clock_of m.clocks p).time) } = rw waits refl in
-            let time = ap (λ (c : Clock). c.time) now in
-            let idle = ap (λ (c : Clock). c.idle) now in
-            (omega (arith, other-used other, time, idle, is.sum, is.past, later), omega (arith, time))
-        at false waits =
-            let now : woken due.time (clock_of m.clocks p) ≡ clock_of m.clocks p = rw waits refl in
-            stood (woken due.time (clock_of m.clocks p)) other now
+    idled : ¬ (due.actor ≡ p) → IsRight (idle_to due.time (clock_of m.clocks p))
+    idled other = (omega (arith, other-used other, is.sum, is.past, later), omega arith)
 
     right : (clock : Clock) → Moves p due (clock_of m.clocks p) clock → IsRight clock
     right clock (inl (same, time, idle)) = (omega (arith, own-used same, own-time m due soonest same, time, idle, is.sum), omega (arith, time))
-    right clock (inr (other, inl now)) = subst IsRight (sym now) (woke other)
+    right clock (inr (other, inl now)) = subst IsRight (sym now) (idled other)
     right clock (inr (other, inr now)) = stood clock other now
 
-    moves : Moves p due (clock_of m.clocks p) (clock_of (clocks_after m.clocks due (is_idle_draw (system_turn program m.world due.actor).answer)) p)
+    abbrev after : State
+    after = (system_turn program m.world due.actor).world.state
+
+    abbrev idle : Bool
+    idle = is_idle_draw (system_turn program m.world due.actor).answer
+
+    moves : Moves p due (clock_of m.clocks p) (clock_of (clocks_after after m.clocks due idle) p)
     moves =
         let here = have-clock m.clocks p low (omega (arith, high, is.count)) in
-        subst (λ c. Moves p due c (clock_of (clocks_after m.clocks due (is_idle_draw (system_turn program m.world due.actor).answer)) p))
-        (sym (there m.clocks p here.0 here.1)) (clock-moves m.clocks p low here.0 here.1 due (is_idle_draw (system_turn program m.world due.actor).answer))
+        subst (λ c. Moves p due c (clock_of (clocks_after after m.clocks due idle) p))
+        (sym (there m.clocks p here.0 here.1)) (clock-moves m.clocks p low here.0 here.1 after due idle (omega (arith, high, is.count)))
 
     clocked-after : IsClocked (ticks + used) (moment_after m (turn_due program m due))
     clocked-after =
-        let now = right (clock_of (clocks_after m.clocks due (is_idle_draw (system_turn program m.world due.actor).answer)) p) moves in
+        let now = right (clock_of (clocks_after after m.clocks due idle) p) moves in
         record {
           timely = kept program m is.timely due soonest;
           limits = turn-limits program m.world due.actor ∙ is.limits;
-          count = clocks-length m.clocks due (is_idle_draw (system_turn program m.world due.actor).answer) ∙ is.count;
+          count = clocks-length after m.clocks due idle ∙ is.count;
           sum = now.0;
           past = now.1;
           within = within-end (end_of program) (earliest (all_due program m)) due first;

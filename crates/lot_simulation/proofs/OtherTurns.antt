@@ -1,5 +1,5 @@
 -- A turn of one actor leaves what the next turn of another processor costs.
-use Rattle.std.proofs.Common.{◌≡◌, ℕ, zero, suc, ◌+◌, ◌-◌, ◌<◌, ◌≤◌, ◌==◌, Bool, true, false, ◌⊎◌, inl, inr, Option, Some, None, List, [], ◌∷◌, ◌++◌, length, drop, refl, sym, ◌∙◌, ap, subst, arith, cond, unwrap_or, get_or, slice_get}
+use Rattle.std.proofs.Common.{◌≡◌, ℕ, zero, suc, ◌+◌, ◌-◌, ◌<◌, ◌≤◌, ◌==◌, nat_le, Bool, true, false, ◌⊎◌, inl, inr, Option, Some, None, is_none, List, [], ◌∷◌, ◌++◌, length, drop, refl, sym, ◌∙◌, ap, subst, arith, cond, unwrap_or, get_or, slice_get}
 use Rattle.std.proofs.lemmas.Bool.{eqb-true}
 use Rattle.std.proofs.Math.ListN.{length-set}
 use Rattle.std.proofs.lemmas.List.{length-append, length-map, length-drop}
@@ -11,20 +11,22 @@ use Rattle.lot_machine.specs.declared.reply.Reply.{Reply}
 use Rattle.lot_machine.specs.declared.reply.Reply.TheVariants as reply
 use Rattle.lot_machine.specs.declared.record.Status.TheVariants as status
 use Rattle.lot_machine.specs.Numbered.{at_number, set_number}
-use Rattle.lot_machine.specs.State.{thread_on}
-use Rattle.lot_machine.specs.Step.{step, used_there}
+use Rattle.lot_machine.specs.State.{State, thread_on}
+use Rattle.lot_machine.specs.declared.refusal.Refusal.{Refusal}
+use Rattle.lot_machine.specs.Commands.{unless_refused}
+use Rattle.lot_machine.specs.Step.{event_refusal, step, used_there, wake}
 use Rattle.lot_machine.specs.Order.{IsInOrder}
-use Rattle.lot_machine.specs.Named.{processor_of, thread_in}
+use Rattle.lot_machine.specs.Named.{processor_of, killed_by, thread_in}
 use Rattle.lot_machine.proofs.Changes.{number-set, place-after}
 use Rattle.lot_machine.proofs.Tickets.{at_number-suc}
 use Rattle.lot_machine.proofs.RecordsKept.{found-runs, numbered}
 use Rattle.lot_machine.proofs.OrderKept.{step-order}
-use Rattle.lot_machine.proofs.RunsElsewhere.{step-found, step-used_there}
+use Rattle.lot_machine.proofs.RunsElsewhere.{step-found, step-idle, step-used_there}
 use Rattle.lot_machine.proofs.NamedThreads.{named-apart}
-use Rattle.lot_machine.proofs.StepSizes.{step-sizes, step-limits, command-grown}
+use Rattle.lot_machine.proofs.StepSizes.{other-sizes, step-grown, step-sizes, step-limits, command-grown}
 use Rattle.lot_simulation.specs.declared.script.ScriptTrap.{ScriptTrap}
 use Rattle.lot_simulation.specs.Script.{Slice, slice}
-use Rattle.lot_simulation.specs.World.{Program, World, Turn, number_of, context_of, slice_on, event_of_slice, processor_event, contexts_after, new_contexts, console_turn, processor_turn, system_turn}
+use Rattle.lot_simulation.specs.World.{Program, World, Turn, number_of, context_of, slice_on, event_of_slice, processor_event, actor_event, contexts_after, new_contexts, console_turn, processor_turn, system_turn}
 use Rattle.lot_simulation.specs.Timed.{cost_of}
 
 -- ---- what a turn costs
@@ -134,9 +136,23 @@ number-after {A} xs more (suc i) low high = from (slice_get_cases xs i).1
 
 -- ---- turns
 
--- the world stays orderly, and what the next turn of another processor costs stays
+-- somebody runs on the processor after the turn, if the turn is the console's, which may kill
+abbrev pub IsSpared : ℕ → State → ℕ → Type 0
+IsSpared actor s p = actor ≡ 0 → is_none (thread_on s.records p) ≡ false
+
+-- the world stays orderly, and what the next turn of another processor costs stays, unless its thread was killed
 abbrev pub TurnKeeps : World → ℕ → Turn → Type 0
-TurnKeeps w actor turn = IsOrderly turn.world × ((p : ℕ) → ¬ (p ≡ actor) → 1 ≤ p → cost_of turn.world (processor_event turn.world p) ≡ cost_of w (processor_event w p))
+TurnKeeps w actor turn = IsOrderly turn.world × ((p : ℕ) → ¬ (p ≡ actor) → 1 ≤ p → IsSpared actor turn.world.state p → cost_of turn.world (processor_event turn.world p) ≡ cost_of w (processor_event w p))
+
+-- an event of a processor kills nobody
+not-killed : (s : State) (e : Event) (q t : ℕ) → processor_of e ≡ Some q → ¬ (killed_by s e ≡ Some t)
+not-killed s (event.Command command) q t on kills = cc
+not-killed s (event.Draw p d) q t on kills = cc
+not-killed s (event.Expire p) q t on kills = cc
+not-killed s (event.Trap p ran action) q t on kills = cc
+not-killed s (event.Preempt p ticks) q t on kills = cc
+not-killed s (event.Overrun p ticks) q t on kills = cc
+not-killed s (event.Wake u) q t on kills = cc
 
 processor-keeps : (w : World) (q : ℕ) (e : Event) → processor_of e ≡ Some q → IsOrderly w → TurnKeeps w q (processor_turn w q e)
 processor-keeps w q e on orderly =
@@ -145,9 +161,10 @@ processor-keeps w q e on orderly =
         order = step-order w.state e orderly.order;
         contexts = omega (arith, orderly.contexts, sizes.1, contexts-length w q (step w.state e).reply);
       },
-      λ p other positive.
+      λ p other positive spared.
           let apart : ¬ (processor_of e ≡ Some p) = λ same. other (number p (sym same ∙ on)) in
-          cost-same (processor_turn w q e).world w p (step-limits w.state e) (step-used_there w.state e p orderly.order apart) (step-found w.state e p orderly.order apart)
+          let alive : (u : ℕ) → thread_on w.state.records p ≡ Some u → ¬ (killed_by w.state e ≡ Some u) = λ u found. not-killed w.state e q u on in
+          cost-same (processor_turn w q e).world w p (step-limits w.state e) (step-used_there w.state e p orderly.order apart alive) (step-found w.state e p orderly.order apart alive)
           (λ t found. ap (λ o. unwrap_or o (record { rest = []; accumulator = 0 }))
           (contexts-kept w q t (step w.state e).reply (λ named is. named-apart w.state e p q named t on (λ same. other (sym same)) is found))),
     )
@@ -155,8 +172,38 @@ processor-keeps w q e on orderly =
     number : (p : ℕ) → Some p ≡ Some q → p ≡ q
     number p same = cc
 
+-- a wake names no thread that runs or ran
+wake-names : (s : State) (t : ℕ) → thread_in (step s (event.Wake t)).reply ≡ None
+wake-names s t = at (event_refusal s (event.Wake t))
+  where
+    at : (o : Option Refusal) → thread_in (unless_refused s o (wake s t)).reply ≡ None
+    at None = refl
+    at (Some why) = refl
+
+wake-keeps : (w : World) (actor t : ℕ) → IsOrderly w → TurnKeeps w actor (processor_turn w actor (event.Wake t))
+wake-keeps w actor t orderly =
+    let e : Event = event.Wake t in
+    let sizes = other-sizes w.state e (λ same. cc) in (
+      record {
+        order = step-order w.state e orderly.order;
+        contexts = omega (arith, orderly.contexts, sizes.1, contexts-length w actor (step w.state e).reply);
+      },
+      λ p other positive spared.
+          let alive : (u : ℕ) → thread_on w.state.records p ≡ Some u → ¬ (killed_by w.state e ≡ Some u) = λ u found. nobody u in
+          cost-same (processor_turn w actor e).world w p (step-limits w.state e) (step-used_there w.state e p orderly.order (nobody p) alive) (step-found w.state e p orderly.order (nobody p) alive)
+          (λ u found. ap (λ o. unwrap_or o (record { rest = []; accumulator = 0 }))
+          (contexts-kept w actor u (step w.state e).reply (λ named is. let none : None ≡ Some named = sym (wake-names w.state t) ∙ is in cc))),
+    )
+  where
+    nobody : (p : ℕ) → ¬ (None ≡ Some p)
+    nobody p e = cc
+
+-- who runs on a processor wasn't killed if somebody runs there afterwards
+runs-on : (s : State) (e : Event) (p : ℕ) → IsInOrder s → is_none (thread_on (step s e).state.records p) ≡ false → (t : ℕ) → thread_on s.records p ≡ Some t → ¬ (killed_by s e ≡ Some t)
+runs-on s e p order runs t found kills = let idle : true ≡ false = sym (ap is_none (step-idle s e p t order kills found)) ∙ runs in cc
+
 console-keeps : (program : Program) (w : World) (commands : List Command) → IsOrderly w → TurnKeeps w 0 (console_turn program w commands)
-console-keeps program w [] orderly = (orderly, λ p other positive. refl)
+console-keeps program w [] orderly = (orderly, λ p other positive spared. refl)
 console-keeps program w (c ∷ cs) orderly =
     let after = (step w.state (event.Command c)).state in
     let grown = command-grown w.state c in
@@ -166,8 +213,9 @@ console-keeps program w (c ∷ cs) orderly =
         order = step-order w.state (event.Command c) orderly.order;
         contexts = omega (arith, orderly.contexts, grown.1.1, grown.1.2, count, length-drop (length w.state.threads) after.threads, length-append w.contexts more);
       },
-      λ p other positive.
-          cost-same (console_turn program w (c ∷ cs)).world w p grown.0 (step-used_there w.state (event.Command c) p orderly.order (nobody p)) (step-found w.state (event.Command c) p orderly.order (nobody p))
+      λ p other positive spared.
+          let alive = runs-on w.state (event.Command c) p orderly.order (spared refl) in
+          cost-same (console_turn program w (c ∷ cs)).world w p grown.0 (step-used_there w.state (event.Command c) p orderly.order (nobody p) alive) (step-found w.state (event.Command c) p orderly.order (nobody p) alive)
           (λ t found.
           let runs = found-runs w.state.records p t found in
           let there = numbered w.state.records t (status.Running p runs.0) runs.1 in
@@ -180,6 +228,26 @@ console-keeps program w (c ∷ cs) orderly =
 pub turn-keeps : (program : Program) (w : World) (actor : ℕ) → IsOrderly w → TurnKeeps w actor (system_turn program w actor)
 turn-keeps program w actor orderly = at (actor == 0) refl
   where
-    at : (b : Bool) → (actor == 0) ≡ b → TurnKeeps w actor (cond b (console_turn program w w.commands) (processor_turn w actor (processor_event w actor)))
+    makes : (b : Bool) → nat_le actor program.limits.processors ≡ b
+        → TurnKeeps w actor (processor_turn w actor (cond b (processor_event w actor) (event.Wake (actor - program.limits.processors))))
+    makes true is = processor-keeps w actor (processor_event w actor) (event-on w actor) orderly
+    makes false is = wake-keeps w actor (actor - program.limits.processors) orderly
+
+    at : (b : Bool) → (actor == 0) ≡ b → TurnKeeps w actor (cond b (console_turn program w w.commands) (processor_turn w actor (actor_event program w actor)))
     at true is = let console : actor ≡ 0 = eqb-true actor 0 is in subst (λ a. TurnKeeps w a (console_turn program w w.commands)) (sym console) (console-keeps program w w.commands orderly)
-    at false is = processor-keeps w actor (processor_event w actor) (event-on w actor) orderly
+    at false is = makes (nat_le actor program.limits.processors) refl
+
+-- a turn takes no thread away
+pub turn-grows : (program : Program) (w : World) (actor : ℕ) → length w.state.records ≤ length (system_turn program w actor).world.state.records
+turn-grows program w actor = at (actor == 0)
+  where
+    grows : (e : Event) → length w.state.records ≤ length (step w.state e).state.records
+    grows e = omega (arith, (step-grown w.state e).1.1)
+
+    console : (commands : List Command) → length w.state.records ≤ length (console_turn program w commands).world.state.records
+    console [] = omega arith
+    console (c ∷ cs) = grows (event.Command c)
+
+    at : (b : Bool) → length w.state.records ≤ length (cond b (console_turn program w w.commands) (processor_turn w actor (actor_event program w actor))).world.state.records
+    at true = console w.commands
+    at false = grows (actor_event program w actor)

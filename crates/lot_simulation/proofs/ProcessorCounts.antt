@@ -1,17 +1,19 @@
--- The console wins no draws and uses no ticks, so what is counted of the processors adds up to what is counted of all.
-use Rattle.std.proofs.Common.{◌≡◌, ℕ, zero, suc, ◌+◌, Option, Some, None, List, [], ◌∷◌, sum_by, refl, ◌∙◌, ap, arith, cond}
+-- The console and the timer win no draws and use no ticks, so what is counted of the processors adds up to what is counted of all.
+use Rattle.std.proofs.Common.{◌≡◌, ℕ, ◌+◌, ◌-◌, ◌<◌, ◌≤◌, ◌==◌, nat_le, Bool, true, false, ◌⊎◌, inl, inr, Option, Some, None, List, [], ◌∷◌, sum_by, refl, sym, ◌∙◌, arith, cond, ne_eqb, eq-eqb}
 use Rattle.std.specs.List.{range_with_len}
-use Rattle.std.proofs.Math.Dec.{eqb-suc-zero}
+use Rattle.std.proofs.lemmas.Bool.{cases_lt, eqb-false, leb-true}
 use Rattle.std.proofs.lemmas.List.Sums.{sum_by-cons}
 use Rattle.lot_machine.specs.declared.command.Command.{Command}
 use Rattle.lot_machine.specs.declared.command.Command.TheVariants.{List as Listing}
 use Rattle.lot_machine.specs.declared.refusal.Refusal.{Refusal}
 use Rattle.lot_machine.specs.declared.reply.Reply.{Reply}
+use Rattle.lot_machine.specs.declared.event.Event.TheVariants as event
 use Rattle.lot_machine.specs.State.{State}
+use Rattle.lot_machine.specs.Step.{event_refusal, step, wake}
 use Rattle.lot_machine.specs.Commands.{Step, command_refusal, command_effect, command_step, unless_refused}
-use Rattle.lot_simulation.specs.World.{Program, World, IsLegal, console_turn, opening_world, system_turn, system_answers}
+use Rattle.lot_simulation.specs.World.{Program, World, console_turn, opening_world, processor_event, processor_turn, system_turn, system_answers}
 use Rattle.lot_simulation.specs.Report.{ActorTurn, beside, turns_made, quanta_in, idles_in, ticks_in, count_in, total_of, turns_of}
-use Rattle.lot_simulation.proofs.ActorCounts.{counts-add_up, turns_made-actors}
+use Rattle.lot_machine.proofs.Sums.{sum-at_most, sum-nothing, sum-one, sum-plus, sum-same}
 
 -- nothing is counted in the reply
 abbrev pub IsSilent : Reply → Type 0
@@ -25,36 +27,77 @@ pub command-silent : (s : State) (c : Command) → IsSilent (command_step s c).r
 command-silent s (Listing kind) = (refl, refl, refl)
 command-silent s other = unless-silent s (command_refusal s other) (command_effect s other) (refl, refl, refl)
 
-module _ (count : Reply → ℕ) (silent : (s : State) (c : Command) → count (command_step s c).reply ≡ 0) (program : Program) where
+-- so is a wake
+pub wake-silent : (s : State) (t : ℕ) → IsSilent (step s (event.Wake t)).reply
+wake-silent s t = unless-silent s (event_refusal s (event.Wake t)) (wake s t) (refl, refl, refl)
+
+-- one turn more of some actor
+turns-cons : (count : Reply → ℕ) (p : ℕ) (turn : ActorTurn) (turns : List ActorTurn)
+    → total_of count (turns_of p (turn ∷ turns)) ≡ cond (turn.actor == p) (count_in count turn.answer) 0 + total_of count (turns_of p turns)
+turns-cons count p turn turns = at (turn.actor == p)
+  where
+    at : (b : Bool) → total_of count (cond b (turn ∷ turns_of p turns) (turns_of p turns)) ≡ cond b (count_in count turn.answer) 0 + total_of count (turns_of p turns)
+    at true = sum_by-cons (λ (t : ActorTurn). count_in count t.answer) turn (turns_of p turns)
+    at false = omega arith
+
+module _ (count : Reply → ℕ) (silent : (s : State) (c : Command) → count (command_step s c).reply ≡ 0) (wakes : (s : State) (t : ℕ) → count (step s (event.Wake t)).reply ≡ 0) (program : Program) where
   console-silent : (w : World) (commands : List Command) → count_in count (console_turn program w commands).answer ≡ 0
   console-silent w [] = refl
   console-silent w (c ∷ cs) = silent w.state c
 
-  turns-silent : (w : World) (actors : List ℕ) → total_of count (turns_of 0 (beside actors (system_answers program w actors))) ≡ 0
-  turns-silent w [] = refl
-  turns-silent w (zero ∷ actors) =
-      let others = beside actors (system_answers program (system_turn program w 0).world actors) in
-      omega (arith, sum_by-cons (λ (t : ActorTurn). count_in count t.answer) (record { actor = 0; answer = (system_turn program w 0).answer }) (turns_of 0 others), console-silent w w.commands, turns-silent (system_turn program w 0).world actors)
-  turns-silent w (suc n ∷ actors) =
-      let turn : ActorTurn = record { actor = suc n; answer = (system_turn program w (suc n)).answer } in
-      let others = turns_of 0 (beside actors (system_answers program (system_turn program w (suc n)).world actors)) in
-      ap (λ b. total_of count (cond b (turn ∷ others) others)) (eqb-suc-zero n) ∙ turns-silent (system_turn program w (suc n)).world actors
+  -- an actor that is no processor counts nothing
+  others-silent : (w : World) (actor : ℕ) → ¬ ((1 ≤ actor) × (actor ≤ program.limits.processors)) → count_in count (system_turn program w actor).answer ≡ 0
+  others-silent w actor other = at (actor == 0) (nat_le actor program.limits.processors) refl refl
+    where
+      at : (b c : Bool) → (actor == 0) ≡ b → nat_le actor program.limits.processors ≡ c
+          → count_in count (cond b (console_turn program w w.commands) (processor_turn w actor (cond c (processor_event w actor) (event.Wake (actor - program.limits.processors))))).answer ≡ 0
+      at true c is among = console-silent w w.commands
+      at false true is among = absurd (from (eqb-false actor 0 is) (leb-true actor program.limits.processors among))
+        where
+          from : ¬ (actor ≡ 0) → actor ≤ program.limits.processors → ⊥
+          from some high = other (omega (arith, some), high)
+      at false false is among = wakes w.state (actor - program.limits.processors)
 
-  processors-add_up : (room : ℕ) (history : List ℕ) → IsLegal program room history
-      → sum_by (λ p. total_of count (turns_of p (turns_made program history))) (range_with_len 1 program.limits.processors) ≡ total_of count (turns_made program history)
-  processors-add_up room history legal =
-      let turns = turns_made program history in
-      let all = counts-add_up (program.limits.processors + 1) count turns (turns_made-actors program room history legal) in
-      let more : program.limits.processors + 1 ≡ suc program.limits.processors = omega arith in
-      let parted = ap (λ n. sum_by (λ p. total_of count (turns_of p turns)) (range_with_len 0 n)) more ∙ sum_by-cons (λ p. total_of count (turns_of p turns)) 0 (range_with_len 1 program.limits.processors) in
-      omega (arith, all, parted, turns-silent (opening_world program) history)
+  -- what is counted of a turn is counted of its processor, if anything is
+  own-counts : (w : World) (actor : ℕ)
+      → sum_by (λ p. cond (actor == p) (count_in count (system_turn program w actor).answer) 0) (range_with_len 1 program.limits.processors) ≡ count_in count (system_turn program w actor).answer
+  own-counts w actor = at (cases_lt actor 1) (cases_lt program.limits.processors actor)
+    where
+      amount : ℕ
+      amount = count_in count (system_turn program w actor).answer
 
-module _ (program : Program) (room : ℕ) (history : List ℕ) (legal : IsLegal program room history) where
+      apart : (k : ℕ) → ¬ (k ≡ actor) → (actor == k) ≡ false
+      apart k differs = ne_eqb actor k (λ same. differs (sym same))
+
+      none : ¬ ((1 ≤ actor) × (actor ≤ program.limits.processors)) → sum_by (λ p. cond (actor == p) amount 0) (range_with_len 1 program.limits.processors) ≡ amount
+      none other = omega (arith, others-silent w actor other, sum-at_most (λ p. actor == p) amount actor apart 1 program.limits.processors)
+
+      at : (actor < 1) ⊎ (1 ≤ actor) → (program.limits.processors < actor) ⊎ (actor ≤ program.limits.processors)
+          → sum_by (λ p. cond (actor == p) amount 0) (range_with_len 1 program.limits.processors) ≡ amount
+      at (inr low) (inr high) = sum-one (λ p. actor == p) amount actor apart (eq-eqb actor actor refl) 1 program.limits.processors low (omega (arith, high))
+      at (inl few) high = none (λ h. omega (arith, few, h.0))
+      at (inr low) (inl many) = none (λ h. omega (arith, many, h.1))
+
+  turns-add_up : (w : World) (actors : List ℕ)
+      → sum_by (λ p. total_of count (turns_of p (beside actors (system_answers program w actors)))) (range_with_len 1 program.limits.processors) ≡ total_of count (beside actors (system_answers program w actors))
+  turns-add_up w [] = sum-nothing (range_with_len 1 program.limits.processors)
+  turns-add_up w (actor ∷ actors) =
+      let turn : ActorTurn = record { actor = actor; answer = (system_turn program w actor).answer } in
+      let others = beside actors (system_answers program (system_turn program w actor).world actors) in
+      let numbers = range_with_len 1 program.limits.processors in
+      sum-same (λ p. total_of count (turns_of p (turn ∷ others))) (λ p. cond (actor == p) (count_in count turn.answer) 0 + total_of count (turns_of p others)) numbers (λ p. turns-cons count p turn others)
+      ∙ sum-plus (λ p. cond (actor == p) (count_in count turn.answer) 0) (λ p. total_of count (turns_of p others)) numbers
+      ∙ omega (arith, own-counts w actor, turns-add_up (system_turn program w actor).world actors, sum_by-cons (λ (t : ActorTurn). count_in count t.answer) turn others)
+
+  processors-add_up : (history : List ℕ) → sum_by (λ p. total_of count (turns_of p (turns_made program history))) (range_with_len 1 program.limits.processors) ≡ total_of count (turns_made program history)
+  processors-add_up history = turns-add_up (opening_world program) history
+
+module _ (program : Program) (history : List ℕ) where
   pub quanta-of_processors : sum_by (λ p. total_of quanta_in (turns_of p (turns_made program history))) (range_with_len 1 program.limits.processors) ≡ total_of quanta_in (turns_made program history)
-  quanta-of_processors = processors-add_up quanta_in (λ s c. (command-silent s c).0) program room history legal
+  quanta-of_processors = processors-add_up quanta_in (λ s c. (command-silent s c).0) (λ s t. (wake-silent s t).0) program history
 
   pub idles-of_processors : sum_by (λ p. total_of idles_in (turns_of p (turns_made program history))) (range_with_len 1 program.limits.processors) ≡ total_of idles_in (turns_made program history)
-  idles-of_processors = processors-add_up idles_in (λ s c. (command-silent s c).1) program room history legal
+  idles-of_processors = processors-add_up idles_in (λ s c. (command-silent s c).1) (λ s t. (wake-silent s t).1) program history
 
   pub ticks-of_processors : sum_by (λ p. total_of ticks_in (turns_of p (turns_made program history))) (range_with_len 1 program.limits.processors) ≡ total_of ticks_in (turns_made program history)
-  ticks-of_processors = processors-add_up ticks_in (λ s c. (command-silent s c).2) program room history legal
+  ticks-of_processors = processors-add_up ticks_in (λ s c. (command-silent s c).2) (λ s t. (wake-silent s t).2) program history

@@ -1,6 +1,6 @@
 -- The quanta and the ticks of the threads' records add up to what is counted in the turns that led to them.
 use Rattle.std.specs.Prelude.{⊤}
-use Rattle.std.proofs.Common.{◌≡◌, ℕ, zero, suc, ◌+◌, ◌-◌, ◌*◌, ◌^◌, ◌<◌, ◌≤◌, ◌==◌, Bool, true, false, Option, Some, None, is_none, List, [], ◌∷◌, length, map, sum, sum_by, get_or, set, slice_get, slice_index, nat_lt, refl, sym, ◌∙◌, ap, subst, arith, if◌then◌else◌}
+use Rattle.std.proofs.Common.{◌≡◌, ℕ, zero, suc, ◌+◌, ◌-◌, ◌*◌, ◌^◌, ◌<◌, ◌≤◌, ◌==◌, Bool, true, false, Option, Some, None, is_none, List, [], ◌∷◌, length, map, sum, sum_by, get_or, set, slice_get, slice_index, nat_lt, nat_le, refl, sym, ◌∙◌, ap, subst, arith, if◌then◌else◌}
 use Rattle.std.proofs.Math.Nat.{min-eq_left}
 use Rattle.std.proofs.lemmas.Bool.{ltb-false}
 use Rattle.std.proofs.lemmas.Option.{slice_get_within, get_or_from_slice_get}
@@ -13,6 +13,7 @@ use Rattle.lot_machine.specs.declared.action.Action.{Action}
 use Rattle.lot_machine.specs.declared.after.After.{After}
 use Rattle.lot_machine.specs.declared.after.After.TheVariants.{GoesOn, Leaves, Ends}
 use Rattle.lot_machine.specs.declared.command.Command.{Command}
+use Rattle.lot_machine.specs.declared.command.Command.TheVariants.{Kill}
 use Rattle.lot_machine.specs.declared.event.Event.{Event}
 use Rattle.lot_machine.specs.declared.event.Event.TheVariants as event
 use Rattle.lot_machine.specs.declared.refusal.Refusal.{Refusal}
@@ -23,21 +24,22 @@ use Rattle.lot_machine.specs.Bounds.{IsBetween, IsWithinBounds}
 use Rattle.lot_machine.specs.Numbered.{at_number, set_number}
 use Rattle.lot_machine.specs.Lottery.{winner}
 use Rattle.lot_machine.specs.State.{State, thread_on, change_record, ready_threads, weight_of, saturated}
-use Rattle.lot_machine.specs.Commands.{Step, command_step, unless_refused}
+use Rattle.lot_machine.specs.declared.reference.ThreadRef.{ThreadRef}
+use Rattle.lot_machine.specs.Commands.{Step, command_step, thread_meant, unless_refused}
 use Rattle.lot_machine.specs.Traps.{after_trap, with_ticks}
 use Rattle.lot_machine.specs.Change.{NewThread, PutRecord, newborn}
-use Rattle.lot_machine.specs.Step.{is_bad_processor, started, draw, expire, trap, trap_refusal, trap_effect, checked_effect, thread_there, used_there, event_effect, step}
+use Rattle.lot_machine.specs.Step.{is_bad_processor, started, draw, expire, trap, trap_refusal, trap_effect, checked_effect, thread_there, used_there, wake, event_effect, step}
 use Rattle.lot_machine.specs.Order.{IsInOrder}
 use Rattle.lot_simulation.specs.declared.script.ScriptTrap.{ScriptTrap}
 use Rattle.lot_simulation.specs.Script.{Slice}
-use Rattle.lot_simulation.specs.World.{Program, World, Turn, event_of_slice, number_of, slice_on, console_turn, processor_turn, processor_event, opening_world, system_turn, system_after, system_answers, system_run}
+use Rattle.lot_simulation.specs.World.{Program, World, Turn, event_of_slice, number_of, slice_on, console_turn, processor_turn, processor_event, actor_event, opening_world, system_turn, system_after, system_answers, system_run}
 use Rattle.lot_simulation.specs.World.Answer.{Answered}
 use Rattle.lot_simulation.specs.Report.{ActorTurn, beside, turns_made, count_in, quanta_in, ticks_in, total_of}
 use Rattle.lot_machine.proofs.OrderKept.{opening-order, step-order}
 use Rattle.lot_machine.proofs.CommandsKept.{all-pass, some-of}
 use Rattle.lot_machine.proofs.RecordsKept.{found-runs, numbered}
 use Rattle.lot_machine.proofs.Tickets.{at_number-suc}
-use Rattle.lot_machine.proofs.StepChanges.{Console, Work, Keeps, kept, command-leads, checked-leads}
+use Rattle.lot_machine.proofs.StepChanges.{By, Console, Kills, Work, IsTallied, Keeps, kept, command-leads, checked-leads}
 use Rattle.lot_machine.proofs.StepSizes.{checked-sizes}
 use Rattle.lot_simulation.proofs.DrawnThreads.{drawn-numbered, number-some}
 use Rattle.lot_simulation.proofs.ProcessorCounts.{command-silent}
@@ -117,11 +119,28 @@ change-sum g s none a (NewThread t) allowed same = omega (arith, sum_by_push g a
 change-sum g s none a (PutRecord t r) allowed same = absurd (allowed.mover refl)
 change-sum g s none a other allowed same = same
 
+-- something of a record that says nothing of what its thread does
+module _ (g : Record → ℕ) (even : (r : Record) (st : Status) (compensation delivered : Option ℕ) → g (record r { status = st; compensation = compensation; delivered = delivered }) ≡ g r) where
+  -- the work of a trap leaves it, in each record, and so does a kill
+  change-even : (by : By) (s : State) → IsTallied by → Keeps by s (λ a. map g a.records ≡ map g s.records)
+  change-even by s tallied a (NewThread t) allowed same = absurd (subst IsTallied allowed tallied)
+  change-even by s tallied a (PutRecord t r) allowed same =
+      put-leaves g a.records t r allowed.there.0 allowed.there.1 (ap g (allowed.tally tallied) ∙ even allowed.there.0 r.status r.compensation r.delivered) ∙ same
+  change-even by s tallied a other allowed same = same
+
+  pub kill-even : (s : State) (thread : ThreadRef) → map g (command_step s (Kill thread)).state.records ≡ map g s.records
+  kill-even s thread = kept (λ a. map g a.records ≡ map g s.records) (change-even (Kills (thread_meant s thread)) s tt) (command-leads s (Kill thread)) refl
+
+  command-sum : (s : State) (c : Command) → g newborn ≡ 0 → sum_by g (command_step s c).state.records ≡ sum_by g s.records
+  command-sum s (Kill thread) none =
+      sum-same g (command_step s (Kill thread)).state.records s.records (kill-even s thread)
+  command-sum s c none = kept (λ a. sum_by g a.records ≡ sum_by g s.records) (change-sum g s none) (command-leads s c) refl
+
 command-adds : (s : State) (c : Command) → Adds s (command_step s c)
 command-adds s c =
     let silent = command-silent s c in
-    let quanta = kept (λ a. quanta_of a.records ≡ quanta_of s.records) (change-sum (λ r. r.quanta) s refl) (command-leads s c) refl in
-    let ticks = kept (λ a. ticks_of a.records ≡ ticks_of s.records) (change-sum (λ r. r.ticks) s refl) (command-leads s c) refl in
+    let quanta = command-sum (λ r. r.quanta) (λ r st compensation delivered. refl) s c refl in
+    let ticks = command-sum (λ r. r.ticks) (λ r st compensation delivered. refl) s c refl in
     record { quanta = omega (arith, quanta, silent.0); ticks = omega (arith, ticks, silent.2); bounded = omega (arith, silent.0); short = omega (arith, silent.2) }
 
 -- ---- draws
@@ -175,15 +194,8 @@ expire-adds s t used r there space =
 
 -- something of a record that says nothing of what its thread does
 module _ (g : Record → ℕ) (even : (r : Record) (st : Status) (compensation delivered : Option ℕ) → g (record r { status = st; compensation = compensation; delivered = delivered }) ≡ g r) where
-  -- the work of a trap leaves it, in each record
-  change-even : (s : State) → Keeps Work s (λ a. map g a.records ≡ map g s.records)
-  change-even s a (NewThread t) allowed same = cc
-  change-even s a (PutRecord t r) allowed same =
-      put-leaves g a.records t r allowed.there.0 allowed.there.1 (ap g (allowed.tally refl) ∙ even allowed.there.0 r.status r.compensation r.delivered) ∙ same
-  change-even s a other allowed same = same
-
   pub checked-even : (s : State) (t : ℕ) (action : Action) (o : Option TrapRefusal) → map g (checked_effect s o (trap_effect s t action)).state.records ≡ map g s.records
-  checked-even s t action o = kept (λ a. map g a.records ≡ map g s.records) (change-even s) (checked-leads s t action o).0 refl
+  checked-even s t action o = kept (λ a. map g a.records ≡ map g s.records) (change-even g even Work s tt) (checked-leads s t action o).0 refl
 
   pub after-even : (after : After) (p used quantum : ℕ) (r : Record) → g (after_trap after p used quantum r) ≡ g r
   after-even GoesOn p used quantum r = at (nat_lt used quantum) refl
@@ -223,11 +235,10 @@ there-numbered s p some = from (some-of (thread_on s.records p) some)
         let named = numbered s.records t (status.Running p there.0) there.1 in
         rw found (named.0, omega (arith, named.1))
 
--- a command, a draw, an expiry or a trap: no system makes other events
+-- a command, a draw, an expiry, a trap or a wake: no system makes other events
 abbrev pub IsMade : Event → Type 0
 IsMade (event.Preempt p ticks) = ⊥
 IsMade (event.Overrun p ticks) = ⊥
-IsMade (event.Wake t) = ⊥
 IsMade other = ⊤
 
 pub slice-made : (p drawn : ℕ) (s : Slice) → IsMade (event_of_slice p drawn s)
@@ -245,11 +256,27 @@ turn-made w p = by (thread_on w.state.records p) refl
     by None is = rw is tt
     by (Some t) is = rw is (slice-made p (number_of w p) (slice_on w p t))
 
+-- so is that of any turn
+pub actor-made : (program : Program) (w : World) (actor : ℕ) → IsMade (actor_event program w actor)
+actor-made program w actor = at (nat_le actor program.limits.processors)
+  where
+    at : (b : Bool) → IsMade (if b then processor_event w actor else event.Wake (actor - program.limits.processors))
+    at true = turn-made w actor
+    at false = tt
+
 step-adds : (s : State) (e : Event) → IsMade e → HasSpace s → Adds s (step s e)
 step-adds s (event.Command command) made space = command-adds s command
 step-adds s (event.Preempt p ticks) made space = absurd made
 step-adds s (event.Overrun p ticks) made space = absurd made
-step-adds s (event.Wake t) made space = absurd made
+step-adds s (event.Wake t) made space =
+    unless-adds s _ (wake s t) (λ _.
+    let ready : Record → Record = λ r. record r { status = status.Ready } in
+    record {
+      quanta = omega (arith, sum-same (λ r. r.quanta) (change_record ready s.records t) s.records (change-leaves (λ r. r.quanta) s.records t ready (λ r. refl)));
+      ticks = omega (arith, sum-same (λ r. r.ticks) (change_record ready s.records t) s.records (change-leaves (λ r. r.ticks) s.records t ready (λ r. refl)));
+      bounded = omega arith;
+      short = omega arith;
+    })
 step-adds s (event.Draw p d) made space = unless-adds s _ (draw s p d) (λ _. draw-adds s p d space)
 step-adds s (event.Expire p) made space =
     unless-adds s _ (event_effect s (event.Expire p)) (λ e.
@@ -289,9 +316,9 @@ module _ (program : Program) where
       console [] = record { quanta = omega arith; ticks = omega arith; bounded = omega arith; short = omega arith; order = order }
       console (c ∷ cs) = of_step (event.Command c) (console_turn program w (c ∷ cs)) tt refl refl
 
-      at : (b : Bool) → AddsTurn w (if b then console_turn program w w.commands else processor_turn w actor (processor_event w actor))
+      at : (b : Bool) → AddsTurn w (if b then console_turn program w w.commands else processor_turn w actor (actor_event program w actor))
       at true = console w.commands
-      at false = of_step (processor_event w actor) (processor_turn w actor (processor_event w actor)) (turn-made w actor) refl refl
+      at false = of_step (actor_event program w actor) (processor_turn w actor (actor_event program w actor)) (actor-made program w actor) refl refl
 
   -- after k turns, and with less than 2 ^ 32 in all
   run-adds : (w : World) (k : ℕ) (actors : List ℕ) → IsInOrder w.state → quanta_of w.state.records ≤ k → ticks_of w.state.records ≤ k * 1000 → k + length actors < 2 ^ 32

@@ -1,17 +1,15 @@
 -- Turns in the order of time are a run of the system, over a legal history.
-use Rattle.std.proofs.Common.{◌≡◌, ℕ, zero, suc, ◌<◌, ◌≤◌, ◌==◌, Bool, true, false, Option, Some, None, All, List, [], ◌∷◌, length, map, take, drop, refl, ap, arith, cond, lit<}
+use Rattle.std.proofs.Common.{◌≡◌, ℕ, zero, suc, ◌<◌, ◌≤◌, ◌==◌, Bool, true, false, Option, Some, None, List, [], ◌∷◌, length, map, take, drop, refl, ap, arith, cond, lit<}
 use Rattle.std.specs.Prelude.{count_by}
-use Rattle.std.specs.List.{flat_map, range_with_len}
 use Rattle.std.proofs.lemmas.Bool.{eqb-true}
 use Rattle.std.proofs.lemmas.List.{length-map, length-drop}
-use Rattle.std.proofs.lemmas.List.Elements.{All-cons, All-nil}
 use Rattle.std.proofs.lemmas.List.Sums.{sum_by-cons}
 use Rattle.lot_simulation.specs.declared.timed.Due.{Due}
 use Rattle.lot_simulation.specs.Report.{ActorTurn, beside, turns_made}
-use Rattle.lot_simulation.specs.Timed.{Moment, TimedTurn, all_due, console_due, due_first, end_of, earliest, last_moment, moment_after, moment_after_all, next_due, opening_moment, processor_due, timed_room, timed_schedule, timed_turns, turn_due, turns_from}
+use Rattle.lot_simulation.specs.Timed.{Moment, TimedTurn, all_due, console_due, due_first, end_of, earliest, last_moment, moment_after, moment_after_all, next_due, opening_moment, timed_room, timed_schedule, timed_turns, turn_due, turns_from}
 use Rattle.lot_simulation.specs.TimedReport.{actor_turns}
-use Rattle.lot_simulation.specs.World.{Program, IsLegal, system_after, system_answers, system_run, system_turn}
-use Rattle.lot_simulation.proofs.TimesRise.{Each, each-append, each-range, earliest-one, of-due, within-some}
+use Rattle.lot_simulation.specs.World.{Program, IsLegalInTime, system_after, system_answers, system_run, system_turn}
+use Rattle.lot_simulation.proofs.TimesRise.{Each, each-due, earliest-one, within-some}
 
 -- there are fewer turns than a counter can hold
 pub room-small : timed_room < 2147483648
@@ -55,33 +53,31 @@ module _ (program : Program) where
 
   -- ---- whose turn may come next
 
-  -- its actor is there, and if it is the console a command is left
+  -- if it is the console's, a command is left
   abbrev pub IsThere : Moment → Due → Type 0
-  IsThere m due = (due.actor ≤ program.limits.processors) × (due.actor ≡ 0 → 0 < length m.times)
+  IsThere m due = due.actor ≡ 0 → 0 < length m.times
 
   console-there : (m : Moment) → Each (IsThere m) (console_due m)
   console-there m = at m.times refl
     where
       at : (times : List ℕ) → m.times ≡ times → Each (IsThere m) (map (λ time. record { time = time; actor = 0 }) (take 1 times))
       at [] is = tt
-      at (t ∷ ts) is = ((omega arith, λ _. omega (arith, ap length is)), tt)
+      at (t ∷ ts) is = ((λ _. omega (arith, ap length is)), tt)
 
   pub due-there : (m : Moment) (due : Due) → next_due program m ≡ Some due → IsThere m due
   due-there m due is =
       earliest-one (IsThere m) (all_due program m) due
-      (each-append (IsThere m) (console_due m) (flat_map (processor_due m) (range_with_len 1 program.limits.processors)) (console-there m)
-      (each-range (IsThere m) (processor_due m) 1 program.limits.processors
-      (λ p low high. of-due (IsThere m) m p (λ _. (omega (arith, high), λ e. absurd (omega (arith, low, e)))))))
+      (each-due (IsThere m) program m (console-there m) (λ t time low high _ e. absurd (omega (arith, low, e))) (λ p low high _ e. absurd (omega (arith, low, e))))
       (within-some (end_of program) (earliest (all_due program m)) due is)
 
   -- ---- the history is legal
 
-  -- these actors are there, and the console has no more turns than commands are left
+  -- the console has no more of these turns than commands are left
   abbrev CanFollow : Moment → List ℕ → Type 0
-  CanFollow m actors = All (λ actor. actor ≤ program.limits.processors) actors × (count_by (λ actor. actor == 0) actors ≤ length m.times)
+  CanFollow m actors = count_by (λ actor. actor == 0) actors ≤ length m.times
 
   follows : (room : ℕ) (m : Moment) → CanFollow m (actors_from program room m)
-  follows zero m = (All-nil (λ actor. actor ≤ program.limits.processors), omega arith)
+  follows zero m = omega arith
   follows (suc room) m = at (next_due program m) refl (λ done. follows room (moment_after m done))
     where
       counted : (m : Moment) (actor : ℕ) (others : List ℕ) → (actor ≡ 0 → 0 < length m.times) → count_by (λ a. a == 0) others ≤ length (cond (actor == 0) (drop 1 m.times) m.times) → count_by (λ a. a == 0) (actor ∷ others) ≤ length m.times
@@ -93,23 +89,18 @@ module _ (program : Program) where
 
       at : (o : Option Due) → next_due program m ≡ o → ((done : TimedTurn) → CanFollow (moment_after m done) (actors_from program room (moment_after m done)))
           → CanFollow m (map (λ done. done.actor) (due_first program m (λ done. turns_from program room (moment_after m done)) o))
-      at None is later = (All-nil (λ actor. actor ≤ program.limits.processors), omega arith)
+      at None is later = omega arith
       at (Some due) is later =
           let there = due-there m due is in
           let done = turn_due program m due in
-          let rest = later done in
-          let others = actors_from program room (moment_after m done) in (
-            All-cons (λ actor. actor ≤ program.limits.processors) due.actor others there.0 rest.0,
-            counted m due.actor others there.1 rest.1,
-          )
+          counted m due.actor (actors_from program room (moment_after m done)) there (later done)
 
-  pub timed-legal : length program.times ≡ length program.commands → IsLegal program timed_room (timed_schedule program)
+  pub timed-legal : length program.times ≡ length program.commands → IsLegalInTime program timed_room (timed_schedule program)
   timed-legal each =
       let all = follows timed_room (opening_moment program) in
       record {
-        actors = all.0;
         within_room = omega (arith, length-map (timed_turns program) (λ (done : TimedTurn). done.actor), turns-few timed_room (opening_moment program));
-        console = omega (arith, all.1, each);
+        console = omega (arith, all, each);
       }
 
   pub timed-made : actor_turns (timed_turns program) ≡ turns_made program (timed_schedule program)

@@ -1,20 +1,31 @@
 -- In the order of time no turn comes before the one before it.
-use Rattle.std.proofs.Common.{◌≡◌, ℕ, zero, suc, ◌+◌, ◌-◌, ◌<◌, ◌≤◌, ◌==◌, Bool, true, false, ◌⊎◌, inl, inr, Option, Some, None, List, [], ◌∷◌, ◌++◌, length, map, take, drop, refl, sym, ◌∙◌, ap, subst, arith, cond, nat_lt, nat_le, unwrap_or, option_map, get_or}
+use Rattle.std.proofs.Common.{◌≡◌, ℕ, zero, suc, ◌+◌, ◌-◌, ◌<◌, ◌≤◌, ◌==◌, Bool, true, false, ◌||◌, ◌⊎◌, inl, inr, Option, Some, None, is_none, List, [], ◌∷◌, ◌++◌, length, map, take, drop, refl, sym, ◌∙◌, ap, subst, arith, cond, nat_lt, nat_le, unwrap_or, option_map, get_or}
 use Rattle.std.specs.List.{flat_map, range_with_len}
 use Rattle.std.specs.List.Sorted.{IsNonDecreasing}
 use Rattle.std.proofs.lemmas.Bool.{eqb-true, eqb-false, leb-true, leb-false, cases_eq}
+use Rattle.std.proofs.lemmas.List.FromFn.{get_or-map-range_with_len, length-map-range_with_len}
 use Rattle.std.proofs.lemmas.Option.{slice_get-map}
 use Rattle.lot_machine.specs.Bounds.{IsWithinBounds}
-use Rattle.lot_machine.specs.Numbered.{at_number, set_number}
+use Rattle.lot_machine.specs.Numbered.{at_number, numbers, set_number}
 use Rattle.lot_machine.proofs.Changes.{number-set}
+use Rattle.lot_machine.proofs.LendSums.{number-within}
 use Rattle.lot_machine.proofs.Queues.{number-set_same}
 use Rattle.lot_machine.proofs.Tickets.{at_number-suc, some-injective}
 use Rattle.lot_machine.proofs.OrderKept.{opening-order}
+use Rattle.lot_machine.proofs.RecordsKept.{found-runs, numbered}
+use Rattle.lot_machine.specs.State.{State, thread_on}
+use Rattle.lot_machine.specs.declared.record.Status.TheVariants as status
+use Rattle.lot_simulation.specs.declared.script.ScriptTrap.{ScriptTrap}
+use Rattle.lot_simulation.specs.declared.script.ScriptTrap.TheVariants.{Sleep}
+use Rattle.std.specs.Prelude.{option_and_then}
+use Rattle.std.specs.Option.{option_map_or}
 use Rattle.lot_simulation.specs.declared.timed.Clock.{Clock}
 use Rattle.lot_simulation.specs.declared.timed.Due.{Due}
-use Rattle.lot_simulation.specs.World.{Program, processor_event, system_turn}
-use Rattle.lot_simulation.specs.Timed.{Moment, opening_moment, clock_of, cost_of, console_due, processor_due, all_due, sooner, earliest, within, end_of, next_due, is_idle_draw, woken, clocks_after_processor, clocks_after, TimedTurn, turn_due, moment_after, due_first, turns_from, timed_room, timed_turns}
-use Rattle.lot_simulation.proofs.OtherTurns.{IsOrderly, turn-keeps}
+use Rattle.lot_simulation.specs.declared.timed.Sleeper.{Sleeper}
+use Rattle.lot_simulation.specs.World.{Program, World, processor_event, slice_on, sleeper_by, sleeper_on, system_turn}
+use Rattle.lot_simulation.specs.Timed.{Moment, opening_moment, clock_of, cost_of, console_due, alarm_due, timer_due, processor_due, processors_due, all_due, set_alarm, alarms_asleep, alarms_after, sooner, earliest, within, end_of, next_due, is_idle_draw, idle_to, woken, clock_after_console, clocks_after_console, clocks_after_processor, clocks_after, TimedTurn, turn_due, moment_after, due_first, turns_from, timed_room, timed_turns}
+use Rattle.lot_simulation.proofs.DrawnThreads.{number-some}
+use Rattle.lot_simulation.proofs.OtherTurns.{IsOrderly, IsSpared, turn-grows, turn-keeps}
 
 -- ---- times that rise
 
@@ -109,6 +120,49 @@ module _ (P : Due → Type 0) where
       at true h = tt
       at false h = (h refl, tt)
 
+  -- the timer's turn for a thread, if that sleeps
+  pub alarm-of : (program : Program) (alarms : ℕ → Option ℕ) (t time : ℕ) → Each P (alarm_due program alarms t) → alarms t ≡ Some time → P (record { time = time; actor = program.limits.processors + t })
+  alarm-of program alarms t time all is = at (alarms t) all is
+    where
+      at : (o : Option ℕ) → Each P (option_map_or (λ time. record { time = time; actor = program.limits.processors + t } ∷ []) o []) → o ≡ Some time → P (record { time = time; actor = program.limits.processors + t })
+      at None all is = cc
+      at (Some other) all is = let same : other ≡ time = cc in subst (λ k. P (record { time = k; actor = program.limits.processors + t })) same all.0
+
+  pub of-alarm : (program : Program) (alarms : ℕ → Option ℕ) (t : ℕ) → ((time : ℕ) → alarms t ≡ Some time → P (record { time = time; actor = program.limits.processors + t })) → Each P (alarm_due program alarms t)
+  of-alarm program alarms t is = at (alarms t) is
+    where
+      at : (o : Option ℕ) → ((time : ℕ) → o ≡ Some time → P (record { time = time; actor = program.limits.processors + t }))
+          → Each P (option_map_or (λ time. record { time = time; actor = program.limits.processors + t } ∷ []) o [])
+      at None h = tt
+      at (Some time) h = (h time refl, tt)
+
+  -- of all turns that may come next
+  pub each-due : (program : Program) (m : Moment) → Each P (console_due m)
+      → ((t time : ℕ) → 1 ≤ t → t < 1 + length m.world.state.records → m.alarms t ≡ Some time → P (record { time = time; actor = program.limits.processors + t }))
+      → ((p : ℕ) → 1 ≤ p → p < 1 + program.limits.processors → (clock_of m.clocks p).waits ≡ false → P (record { time = (clock_of m.clocks p).time + cost_of m.world (processor_event m.world p); actor = p }))
+      → Each P (all_due program m)
+  each-due program m console alarms processors =
+      each-append (console_due m) (timer_due program m ++ processors_due program m) console
+      (each-append (timer_due program m) (processors_due program m)
+      (each-range (alarm_due program m.alarms) 1 (length m.world.state.records) (λ t low high. of-alarm program m.alarms t (λ time is. alarms t time low high is)))
+      (each-range (processor_due m) 1 program.limits.processors (λ p low high. of-due m p (λ runs. processors p low high runs))))
+
+  pub console-each : (program : Program) (m : Moment) → Each P (all_due program m) → Each P (console_due m)
+  console-each program m all = each-first (console_due m) (timer_due program m ++ processors_due program m) all
+
+  pub alarm-each : (program : Program) (m : Moment) (t time : ℕ) → Each P (all_due program m) → 1 ≤ t → t < 1 + length m.world.state.records → m.alarms t ≡ Some time → P (record { time = time; actor = program.limits.processors + t })
+  alarm-each program m t time all low high is =
+      alarm-of program m.alarms t time
+      (range-each (alarm_due program m.alarms) 1 (length m.world.state.records) t
+      (each-first (timer_due program m) (processors_due program m) (each-second (console_due m) (timer_due program m ++ processors_due program m) all)) low high) is
+
+  pub processor-each : (program : Program) (m : Moment) (p : ℕ) → Each P (all_due program m) → 1 ≤ p → p < 1 + program.limits.processors → (clock_of m.clocks p).waits ≡ false
+      → P (record { time = (clock_of m.clocks p).time + cost_of m.world (processor_event m.world p); actor = p })
+  processor-each program m p all low high runs =
+      due-of m p
+      (range-each (processor_due m) 1 program.limits.processors p
+      (each-second (timer_due program m) (processors_due program m) (each-second (console_due m) (timer_due program m ++ processors_due program m) all)) low high) runs
+
   weaker : (Q : Due → Type 0) → ((due : Due) → P due → Q due) → (dues : List Due) → Each P dues → Each Q dues
   weaker Q from [] all = tt
   weaker Q from (due ∷ others) all = (from due all.0, weaker Q from others all.1)
@@ -196,33 +250,26 @@ set-own clocks actor p new positive runs = from (cases_eq p actor)
     from (inl same) = own same (at_number clocks p) refl (number-set clocks actor new p)
     from (inr differs) = other differs (number-set clocks actor new p)
 
--- After a turn the time has come to a clock that doesn't wait, or it is another's and as before.
-abbrev IsAfter : Due → ℕ → Clock → Clock → Type 0
-IsAfter due p before after = (due.time ≤ after.time) ⊎ (¬ (p ≡ due.actor) × (after ≡ before))
+-- After a turn the time has come to a clock that doesn't wait, or it is another's and as before. It has come to those of
+-- all whose threads the console's turn killed.
+abbrev IsAfter : State → Due → ℕ → Clock → Clock → Type 0
+IsAfter s due p before after = (due.time ≤ after.time) ⊎ (¬ (p ≡ due.actor) × (after ≡ before) × IsSpared due.actor s p)
 
 -- after the acting processor's own clock is set to the turn's time
-own-after : (clocks : List Clock) (due : Due) (p : ℕ) (new : Clock) → 1 ≤ due.actor → new.time ≡ due.time → (clock_of (set_number clocks due.actor new) p).waits ≡ false
-    → IsAfter due p (clock_of clocks p) (clock_of (set_number clocks due.actor new) p)
-own-after clocks due p new positive time runs = from (set-own clocks due.actor p new positive runs)
+own-after : (s : State) (clocks : List Clock) (due : Due) (p : ℕ) (new : Clock) → 1 ≤ due.actor → new.time ≡ due.time → (clock_of (set_number clocks due.actor new) p).waits ≡ false
+    → IsAfter s due p (clock_of clocks p) (clock_of (set_number clocks due.actor new) p)
+own-after s clocks due p new positive time runs = from (set-own clocks due.actor p new positive runs)
   where
     from : ((p ≡ due.actor) × (clock_of (set_number clocks due.actor new) p ≡ new)) ⊎ (¬ (p ≡ due.actor) × (clock_of (set_number clocks due.actor new) p ≡ clock_of clocks p))
-        → IsAfter due p (clock_of clocks p) (clock_of (set_number clocks due.actor new) p)
+        → IsAfter s due p (clock_of clocks p) (clock_of (set_number clocks due.actor new) p)
     from (inl (_, now)) = inl (omega (arith, time, ap (λ (c : Clock). c.time) now))
-    from (inr other) = inr other
+    from (inr (other, same)) = inr (other, same, λ console. absurd (omega (arith, positive, console)))
 
--- after all are woken
-all-after : (clocks : List Clock) (due : Due) (p : ℕ) → ¬ (p ≡ due.actor) → (clock_of (map (woken due.time) clocks) p).waits ≡ false → IsAfter due p (clock_of clocks p) (clock_of (map (woken due.time) clocks) p)
-all-after clocks due p other runs = from (woken-kept due.time clocks p runs)
-  where
-    from : IsKept due.time (clock_of clocks p) (clock_of (map (woken due.time) clocks) p) → IsAfter due p (clock_of clocks p) (clock_of (map (woken due.time) clocks) p)
-    from (inl late) = inl late
-    from (inr same) = inr (other, same)
-
--- after a turn of a processor
-processor-after : (clocks : List Clock) (due : Due) (idle : Bool) (p : ℕ) → 1 ≤ due.actor → (clock_of (clocks_after_processor clocks due idle) p).waits ≡ false
-    → IsAfter due p (clock_of clocks p) (clock_of (clocks_after_processor clocks due idle) p)
-processor-after clocks due true p positive runs = own-after clocks due p (record { time = due.time; waits = true; idle = (clock_of clocks due.actor).idle }) positive refl runs
-processor-after clocks due false p positive runs = from (own-after all due p new positive refl runs)
+-- after a turn of a processor or of the timer
+processor-after : (s : State) (clocks : List Clock) (due : Due) (idle : Bool) (p : ℕ) → 1 ≤ due.actor → (clock_of (clocks_after_processor clocks due idle) p).waits ≡ false
+    → IsAfter s due p (clock_of clocks p) (clock_of (clocks_after_processor clocks due idle) p)
+processor-after s clocks due true p positive runs = own-after s clocks due p (record { time = due.time; waits = true; idle = (clock_of clocks due.actor).idle }) positive refl runs
+processor-after s clocks due false p positive runs = from (own-after s all due p new positive refl runs)
   where
     all : List Clock
     all = map (woken due.time) clocks
@@ -230,34 +277,112 @@ processor-after clocks due false p positive runs = from (own-after all due p new
     new : Clock
     new = record { time = due.time; waits = false; idle = (clock_of clocks due.actor).idle }
 
-    from : IsAfter due p (clock_of (map (woken due.time) clocks) p) (clock_of (clocks_after_processor clocks due false) p) → IsAfter due p (clock_of clocks p) (clock_of (clocks_after_processor clocks due false) p)
+    from : IsAfter s due p (clock_of (map (woken due.time) clocks) p) (clock_of (clocks_after_processor clocks due false) p) → IsAfter s due p (clock_of clocks p) (clock_of (clocks_after_processor clocks due false) p)
     from (inl late) = inl late
-    from (inr (other, same)) = next (all-after clocks due p other (ap (λ (c : Clock). c.waits) (sym same) ∙ runs))
+    from (inr (other, same, spared)) = next (woken-kept due.time clocks p (ap (λ (c : Clock). c.waits) (sym same) ∙ runs))
       where
-        next : IsAfter due p (clock_of clocks p) (clock_of (map (woken due.time) clocks) p) → IsAfter due p (clock_of clocks p) (clock_of (clocks_after_processor clocks due false) p)
+        next : IsKept due.time (clock_of clocks p) (clock_of (map (woken due.time) clocks) p) → IsAfter s due p (clock_of clocks p) (clock_of (clocks_after_processor clocks due false) p)
         next (inl late) = inl (omega (arith, late, ap (λ (c : Clock). c.time) same))
-        next (inr (_, kept)) = inr (other, same ∙ kept)
+        next (inr kept) = inr (other, same ∙ kept, spared)
+
+-- the clock of a processor that is there, after a turn of the console
+pub console-clock : (s : State) (time : ℕ) (clocks : List Clock) (p : ℕ) → 1 ≤ p → p ≤ length clocks → at_number (clocks_after_console s time clocks) p ≡ Some (clock_after_console s time clocks p)
+console-clock s time clocks p low high =
+    let new : ℕ → Clock = clock_after_console s time clocks in
+    let none : Clock = record { time = 0; waits = true; idle = 0 } in
+    number-some (map new (numbers clocks)) p none (low, omega (arith, high, length-map-range_with_len new 1 (length clocks)))
+    ∙ ap Some (get_or-map-range_with_len new 1 (length clocks) (p - 1) p none (omega (arith, low, high)) (omega (arith, low)))
+
+neither : (a b : Bool) → (a || b) ≡ false → b ≡ false
+neither true b e = cc
+neither false b e = e
+
+-- after a turn of the console
+console-after : (s : State) (clocks : List Clock) (due : Due) (p : ℕ) → ¬ (p ≡ due.actor) → 1 ≤ p → (clock_of (clocks_after_console s due.time clocks) p).waits ≡ false
+    → IsAfter s due p (clock_of clocks p) (clock_of (clocks_after_console s due.time clocks) p)
+console-after s clocks due p other low runs = from (at_number (clocks_after_console s due.time clocks) p) refl
+  where
+    from : (o : Option Clock) → at_number (clocks_after_console s due.time clocks) p ≡ o → IsAfter s due p (clock_of clocks p) (clock_of (clocks_after_console s due.time clocks) p)
+    from None is = let impossible : true ≡ false = sym (missing (clocks_after_console s due.time clocks) p is) ∙ runs in cc
+    from (Some c) is = at ((clock_of clocks p).waits || is_none (thread_on s.records p)) refl
+      where
+        high : p ≤ length clocks
+        high = omega (arith, (number-within (clocks_after_console s due.time clocks) p c is).1, length-map-range_with_len (clock_after_console s due.time clocks) 1 (length clocks))
+
+        new : clock_of (clocks_after_console s due.time clocks) p ≡ clock_after_console s due.time clocks p
+        new = there (clocks_after_console s due.time clocks) p (clock_after_console s due.time clocks p) (console-clock s due.time clocks p low high)
+
+        at : (b : Bool) → ((clock_of clocks p).waits || is_none (thread_on s.records p)) ≡ b → IsAfter s due p (clock_of clocks p) (clock_of (clocks_after_console s due.time clocks) p)
+        at true idle =
+            let now : clock_after_console s due.time clocks p ≡ idle_to due.time (clock_of clocks p) = rw idle refl in
+            inl (omega (arith, ap (λ (x : Clock). x.time) (new ∙ now)))
+        at false spared =
+            let now : clock_after_console s due.time clocks p ≡ clock_of clocks p = rw spared refl in
+            inr (other, new ∙ now, λ console. neither (clock_of clocks p).waits (is_none (thread_on s.records p)) spared)
 
 -- after any turn
-clock-after : (clocks : List Clock) (due : Due) (idle : Bool) (p : ℕ) → 1 ≤ p → (clock_of (clocks_after clocks due idle) p).waits ≡ false → IsAfter due p (clock_of clocks p) (clock_of (clocks_after clocks due idle) p)
-clock-after clocks due idle p positive runs = at (due.actor == 0) refl runs
+clock-after : (s : State) (clocks : List Clock) (due : Due) (idle : Bool) (p : ℕ) → 1 ≤ p → (clock_of (clocks_after s clocks due idle) p).waits ≡ false → IsAfter s due p (clock_of clocks p) (clock_of (clocks_after s clocks due idle) p)
+clock-after s clocks due idle p positive runs = at (due.actor == 0) refl runs
   where
-    at : (b : Bool) → (due.actor == 0) ≡ b → (clock_of (cond b (map (woken due.time) clocks) (clocks_after_processor clocks due idle)) p).waits ≡ false
-        → IsAfter due p (clock_of clocks p) (clock_of (cond b (map (woken due.time) clocks) (clocks_after_processor clocks due idle)) p)
-    at true is run = all-after clocks due p (λ same. absurd (omega (arith, positive, same, eqb-true due.actor 0 is))) run
-    at false is run = processor-after clocks due idle p (from (eqb-false due.actor 0 is)) run
+    at : (b : Bool) → (due.actor == 0) ≡ b → (clock_of (cond b (clocks_after_console s due.time clocks) (clocks_after_processor clocks due idle)) p).waits ≡ false
+        → IsAfter s due p (clock_of clocks p) (clock_of (cond b (clocks_after_console s due.time clocks) (clocks_after_processor clocks due idle)) p)
+    at true is run = console-after s clocks due p (λ same. absurd (omega (arith, positive, same, eqb-true due.actor 0 is))) positive run
+    at false is run = processor-after s clocks due idle p (from (eqb-false due.actor 0 is)) run
       where
         from : ¬ (due.actor ≡ 0) → 1 ≤ due.actor
         from other = omega (arith, other)
 
 -- ---- moments
 
+-- ---- alarms
+
+-- a thread that sleeps is one of the numbered, and wakes no earlier than this
+abbrev pub AreLater : ℕ → ℕ → (ℕ → Option ℕ) → Type 0
+AreLater count now alarms = (t time : ℕ) → alarms t ≡ Some time → (1 ≤ t) × (t < 1 + count) × (now ≤ time)
+
+-- the thread that goes to sleep runs on the processor
+pub sleeper-found : (w : World) (p : ℕ) (sleeper : Sleeper) → sleeper_on w p ≡ Some sleeper → thread_on w.state.records p ≡ Some sleeper.thread
+sleeper-found w p sleeper is = at (thread_on w.state.records p) is
+  where
+    by : (t : ℕ) (trap : Option ScriptTrap) → sleeper_by t trap ≡ Some sleeper → Some t ≡ Some sleeper.thread
+    by t (Some (Sleep ticks)) e = let same : record { thread = t; ticks = ticks } ≡ sleeper = some-injective _ _ e in ap (λ (s : Sleeper). Some s.thread) same
+    by t other e = cc
+
+    at : (o : Option ℕ) → option_and_then (λ t. sleeper_by t (slice_on w p t).trap) o ≡ Some sleeper → o ≡ Some sleeper.thread
+    at None e = cc
+    at (Some t) e = by t (slice_on w p t).trap e
+
+-- after one is set
+pub set-later : (count now : ℕ) (alarms : ℕ → Option ℕ) (thread : ℕ) (alarm : Option ℕ) → AreLater count now alarms
+    → ((time : ℕ) → alarm ≡ Some time → (1 ≤ thread) × (thread < 1 + count) × (now ≤ time)) → AreLater count now (set_alarm alarms thread alarm)
+set-later count now alarms thread alarm later new t time = at (t == thread) refl
+  where
+    at : (b : Bool) → (t == thread) ≡ b → cond b alarm (alarms t) ≡ Some time → (1 ≤ t) × (t < 1 + count) × (now ≤ time)
+    at true is e = let same = eqb-true t thread is in let of = new time e in (omega (arith, same, of.0), omega (arith, same, of.1), of.2)
+    at false is e = later t time e
+
+-- after a turn at a time that is no earlier
+pub alarms-later : (m : Moment) (count low time actor : ℕ) → low ≤ time → AreLater count low m.alarms → length m.world.state.records ≤ count → AreLater count low (alarms_after m time actor)
+alarms-later m count low time actor early later few = at (actor == 0) (nat_le actor (length m.clocks)) (sleeper_on m.world actor) refl
+  where
+    at : (b c : Bool) (o : Option Sleeper) → sleeper_on m.world actor ≡ o
+        → AreLater count low (cond b m.alarms (cond c (alarms_asleep m.alarms time o) (set_alarm m.alarms (actor - length m.clocks) None)))
+    at true c o is = later
+    at false true None is = later
+    at false true (Some sleeper) is =
+        let runs = found-runs m.world.state.records actor sleeper.thread (sleeper-found m.world actor sleeper is) in
+        let there = numbered m.world.state.records sleeper.thread (status.Running actor runs.0) runs.1 in
+        set-later count low m.alarms sleeper.thread (Some (time + sleeper.ticks)) later
+        (λ t e. let same : time + sleeper.ticks ≡ t = some-injective (time + sleeper.ticks) t e in (there.0, omega (arith, there.1, few), omega (arith, same, early)))
+    at false false o is = set-later count low m.alarms (actor - length m.clocks) None later (λ t e. cc)
+
 -- What each moment keeps: its world is orderly, the commands that are left are made no earlier, in order, and so is what the
--- processors do next.
+-- processors do next. Nor does a thread wake earlier.
 pub record IsTimely (program : Program) (m : Moment) : Type 0 where
   pub orderly : IsOrderly m.world
   pub times : Rises m.time m.times
   pub due : (p : ℕ) → 1 ≤ p → p < 1 + program.limits.processors → (clock_of m.clocks p).waits ≡ false → m.time ≤ (clock_of m.clocks p).time + cost_of m.world (processor_event m.world p)
+  pub alarms : AreLater (length m.world.state.records) m.time m.alarms
 
 -- a turn isn't done earlier than this, and the console's is when its next command is made
 abbrev pub IsNext : Moment → Due → Type 0
@@ -278,9 +403,8 @@ console-rises time low (t ∷ ts) later rises = (later.0, rises.1)
 module _ (program : Program) (m : Moment) (timely : IsTimely program m) where
   all-next : Each (IsNext m) (all_due program m)
   all-next =
-      each-append (IsNext m) (console_due m) (flat_map (processor_due m) (range_with_len 1 program.limits.processors)) (console-next m timely.times)
-      (each-range (IsNext m) (processor_due m) 1 program.limits.processors
-      (λ p low high. of-due (IsNext m) m p (λ runs. (timely.due p low high runs, λ same. absurd (omega (arith, low, same))))))
+      each-due (IsNext m) program m (console-next m timely.times) (λ t time low high is. ((timely.alarms t time is).2, λ same. absurd (omega (arith, low, same))))
+      (λ p low high runs. (timely.due p low high runs, λ same. absurd (omega (arith, low, same))))
 
   module _ (due : Due) (first : earliest (all_due program m) ≡ Some due) where
     pub next : IsNext m due
@@ -300,7 +424,20 @@ module _ (program : Program) (m : Moment) (timely : IsTimely program m) where
             from (rest, these) =
                 let up : Rises m.time (due.time ∷ rest) = subst (Rises m.time) these timely.times in
                 subst (λ times. Rises due.time (drop 1 times)) (sym these) up.1
-        at false is = console-rises due.time m.time m.times (each-first (IsBy due) (console_due m) (flat_map (processor_due m) (range_with_len 1 program.limits.processors)) least) timely.times
+        at false is = console-rises due.time m.time m.times (console-each (IsBy due) program m least) timely.times
+
+    -- the alarms then
+    alarms-then : AreLater (length (system_turn program m.world due.actor).world.state.records) due.time m.alarms
+    alarms-then t time is =
+        let at = timely.alarms t time is in
+        (at.0, omega (arith, at.1, turn-grows program m.world due.actor), alarm-each (IsBy due) program m t time least at.0 at.1 is)
+
+    -- the world and the clocks then
+    abbrev after : World
+    after = (system_turn program m.world due.actor).world
+
+    abbrev clocks : List Clock
+    clocks = clocks_after after.state m.clocks due (is_idle_draw (system_turn program m.world due.actor).answer)
 
     pub kept : IsTimely program (moment_after m (turn_due program m due))
     kept =
@@ -309,25 +446,20 @@ module _ (program : Program) (m : Moment) (timely : IsTimely program m) where
           orderly = turns.0;
           times = times-then;
           due = λ p low high runs. due-then p low high turns.1 runs;
+          alarms = alarms-later m (length (system_turn program m.world due.actor).world.state.records) due.time due.time due.actor (omega arith) alarms-then (turn-grows program m.world due.actor);
         }
       where
         due-then : (p : ℕ) → 1 ≤ p → p < 1 + program.limits.processors
-            → ((q : ℕ) → ¬ (q ≡ due.actor) → 1 ≤ q → cost_of (system_turn program m.world due.actor).world (processor_event (system_turn program m.world due.actor).world q) ≡ cost_of m.world (processor_event m.world q))
-            → (clock_of (clocks_after m.clocks due (is_idle_draw (system_turn program m.world due.actor).answer)) p).waits ≡ false
-            → due.time ≤ (clock_of (clocks_after m.clocks due (is_idle_draw (system_turn program m.world due.actor).answer)) p).time
-            + cost_of (system_turn program m.world due.actor).world (processor_event (system_turn program m.world due.actor).world p)
-        due-then p low high costs runs = from (clock-after m.clocks due (is_idle_draw (system_turn program m.world due.actor).answer) p low runs)
+            → ((q : ℕ) → ¬ (q ≡ due.actor) → 1 ≤ q → IsSpared due.actor after.state q → cost_of after (processor_event after q) ≡ cost_of m.world (processor_event m.world q))
+            → (clock_of clocks p).waits ≡ false → due.time ≤ (clock_of clocks p).time + cost_of after (processor_event after p)
+        due-then p low high costs runs = from (clock-after after.state m.clocks due (is_idle_draw (system_turn program m.world due.actor).answer) p low runs)
           where
-            from : IsAfter due p (clock_of m.clocks p) (clock_of (clocks_after m.clocks due (is_idle_draw (system_turn program m.world due.actor).answer)) p)
-                → due.time ≤ (clock_of (clocks_after m.clocks due (is_idle_draw (system_turn program m.world due.actor).answer)) p).time
-                + cost_of (system_turn program m.world due.actor).world (processor_event (system_turn program m.world due.actor).world p)
+            from : IsAfter after.state due p (clock_of m.clocks p) (clock_of clocks p) → due.time ≤ (clock_of clocks p).time + cost_of after (processor_event after p)
             from (inl late) = omega (arith, late)
-            from (inr (other, same)) =
+            from (inr (other, same, spared)) =
                 let ran : (clock_of m.clocks p).waits ≡ false = ap (λ (c : Clock). c.waits) (sym same) ∙ runs in
-                let dues = range-each (IsBy due) (processor_due m) 1 program.limits.processors p
-                (each-second (IsBy due) (console_due m) (flat_map (processor_due m) (range_with_len 1 program.limits.processors)) least) low high in
-                let earlier = due-of (IsBy due) m p dues ran in
-                omega (arith, earlier, ap (λ (c : Clock). c.time) same, costs p other low)
+                let earlier = processor-each (IsBy due) program m p least low high ran in
+                omega (arith, earlier, ap (λ (c : Clock). c.time) same, costs p other low spared)
 
 -- ---- all turns
 
@@ -354,6 +486,7 @@ opening-timely program bounds sorted = record {
   orderly = record { order = opening-order program.limits bounds; contexts = omega arith };
   times = sorted-from program.times sorted;
   due = λ p low high runs. omega arith;
+  alarms = λ t time e. cc;
 }
 
 pub times-rise : (program : Program) → IsWithinBounds program.limits → IsNonDecreasing program.times → IsNonDecreasing (map (λ done. done.time) (timed_turns program))

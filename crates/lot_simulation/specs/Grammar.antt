@@ -6,7 +6,7 @@ use Rattle.lot_simulation.specs.declared.script.Line.{Line}
 use Rattle.lot_simulation.specs.declared.script.Line.TheVariants as line
 use Rattle.lot_simulation.specs.declared.script.ScriptTrap.TheVariants as trap
 use Rattle.lot_machine.specs.declared.command.Command.{Command}
-use Rattle.lot_machine.specs.declared.command.Command.TheVariants.{MakeTicket, RemoveTicket, MakeCurrency, RemoveCurrency, Fund, Unfund, SetTicket, MakeThread, RemoveThread, MakeFunded, List as Listing}
+use Rattle.lot_machine.specs.declared.command.Command.TheVariants.{MakeTicket, RemoveTicket, MakeCurrency, RemoveCurrency, Fund, Unfund, SetTicket, MakeThread, RemoveThread, Kill, MakeFunded, List as Listing}
 use Rattle.lot_machine.specs.declared.command.Kind.TheVariants.{Tickets, Currencies, Threads}
 use Rattle.lot_machine.specs.declared.reference.CurrencyRef.TheVariants as currency_ref
 use Rattle.lot_machine.specs.declared.reference.ThreadRef.TheVariants as thread_ref
@@ -114,6 +114,9 @@ script_line r s (script.AtPort asked) (name ∷ []) = do
 script_line r s (script.OnMutex asked) (name ∷ []) = do
   mutex ← known_name r.mutexes name
   add_line r s (line.Trap (trap.OnMutex asked mutex))
+script_line r s script.Sleep (n ∷ []) = do
+  ticks ← number_between 1 4294967295 n
+  add_line r s (line.Trap (trap.Sleep ticks))
 script_line r s script.EndScript [] =
     checked ((nat_lt 0 s.loops, BadLine) ∷ []) (record r { unclosed = None; scripts = r.scripts ++ record { name = s.name; lines = s.lines } ∷ [] })
 script_line r s word tokens = Err BadLine
@@ -219,6 +222,9 @@ body_line n r body.SetTicket (t ∷ a ∷ []) = do
 body_line n r body.RemoveThread (token ∷ []) = do
   thread ← any_name token
   add_command r (RemoveThread (thread_ref.Named thread))
+body_line n r body.Kill (token ∷ []) = do
+  thread ← any_name token
+  add_command r (Kill (thread_ref.Named thread))
 body_line n r body.MakeThread (token ∷ s ∷ []) = do
   name ← any_name token
   number ← script_number (script_names r) s

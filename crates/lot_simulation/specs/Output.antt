@@ -1,5 +1,5 @@
 -- The whole output of the program.
-use Rattle.std.specs.Prelude.{ℕ, Option, Some, None, Result, Ok, Err, List, [], ◌∷◌, ◌++◌, codes}
+use Rattle.std.specs.Prelude.{ℕ, ◌+◌, min, Option, Some, None, Result, Ok, Err, List, [], ◌∷◌, ◌++◌, codes}
 use Rattle.std.specs.Fmt.{decimal}
 use Rattle.lot_simulation.specs.declared.input.InputFault.{InputFault}
 use Rattle.lot_machine.specs.State.{State}
@@ -11,7 +11,7 @@ use Rattle.lot_simulation.specs.declared.style.LineStyle.{LineStyle}
 use Rattle.lot_simulation.specs.declared.style.LineStyle.TheVariants.{Whole, Timed}
 use Rattle.lot_simulation.specs.Timed.{TimedTurn, timed_turns}
 use Rattle.lot_simulation.specs.TimedReport.{timed_report}
-use Rattle.lot_simulation.specs.World.{Program, World, Answer, Turn, opening_world, system_turn, system_run}
+use Rattle.lot_simulation.specs.World.{Program, World, Answer, Turn, opening_world, system_turn, system_run, without_time}
 use Rattle.lot_simulation.specs.World.Answer.{Answered, Ended}
 
 -- the text of an answer, given the state after its turn
@@ -19,9 +19,14 @@ abbrev pub answer_text : LineStyle → State → Answer → List ℕ
 answer_text style s (Answered e r) = reply_text style s e r
 answer_text style s Ended = refused 41 (codes "Ended") ++ newline
 
+-- The actor as it is printed: the timer is the one after the processors, whichever thread it wakes.
+abbrev pub printed_actor : State → ℕ → ℕ
+printed_actor s actor = min actor (s.limits.processors + 1)
+
 -- the lines of a turn; the first begins with the actor
 abbrev pub turn_text : LineStyle → ℕ → Turn → List ℕ
-turn_text style actor turn = front style ++ (decimal actor ++ (codes " " ++ answer_text style turn.world.state turn.answer))
+turn_text style actor turn =
+    front style ++ (decimal (printed_actor turn.world.state actor) ++ (codes " " ++ answer_text style turn.world.state turn.answer))
 
 -- the lines of these actors' turns, from this world on
 abbrev pub turn_texts : Program → World → List ℕ → List ℕ
@@ -58,9 +63,9 @@ output bytes = output_of (program_in bytes)
 abbrev pub end_text : Program → List ℕ → List ℕ
 end_text program history = report program history ++ history_lines program.limits.unit history
 
--- the output of `run` for a program with this history, or the line for a refused input
+-- The output of `run` for a program with this history, or the line for a refused input. A run has no time.
 abbrev pub run_output_of : Result Program InputFault → List ℕ → List ℕ
-run_output_of (Ok program) history = end_text program history
+run_output_of (Ok program) history = end_text (without_time program) history
 run_output_of (Err fault) history = fault_line fault
 
 -- the output of `run` for these bytes, if the turns came in this order

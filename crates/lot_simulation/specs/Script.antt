@@ -4,7 +4,7 @@ use Rattle.std.specs.List.{repeat, prefix_len}
 use Rattle.lot_simulation.specs.declared.script.Line.{Line}
 use Rattle.lot_simulation.specs.declared.script.Line.TheVariants as line
 use Rattle.lot_simulation.specs.declared.script.ScriptTrap.{ScriptTrap}
-use Rattle.lot_simulation.specs.declared.script.ScriptTrap.TheVariants.{Exit}
+use Rattle.lot_simulation.specs.declared.script.ScriptTrap.TheVariants.{Yield, Sleep, Exit}
 
 -- one step of a script: a mark, which costs one tick, or a trap
 pub data Item : Type 0 where
@@ -47,6 +47,11 @@ pieces (l ∷ lines) = record { first = items_of l ++ (pieces lines).first; othe
 -- The meaning of a script: a list of marks and traps, with its loops unrolled, that ends with an exit trap.
 abbrev pub unrolled : List Line → List Item
 unrolled lines = (pieces lines).first
+
+-- A line as a run without time takes it: there a sleep ends at once, so it is a yield.
+abbrev pub without_sleep : Line → Line
+without_sleep (line.Trap (Sleep n)) = line.Trap Yield
+without_sleep other = other
 
 -- the rest of a thread's script, and its accumulator
 pub record Context : Type 0 where

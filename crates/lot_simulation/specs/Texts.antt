@@ -274,6 +274,11 @@ listing_text style s Threads =
 
 -- ---- replies
 
+-- what was done: a command, or a wake, with its thread
+abbrev pub done_text : Event → List ℕ
+done_text (event.Wake thread) = codes "wake thread " ++ decimal thread
+done_text other = codes "done"
+
 -- the number delivered to a winner, if any
 abbrev pub delivered_text : Option ℕ → List ℕ
 delivered_text None = []
@@ -285,7 +290,7 @@ plain_text style unit e (reply.Ticket n) = codes "ticket " ++ (decimal n ++ newl
 plain_text style unit e (reply.Currency n) = codes "currency " ++ (decimal n ++ newline)
 plain_text style unit e (reply.Thread n) = codes "thread " ++ (decimal n ++ newline)
 plain_text style unit e (reply.Funded ticket thread) = codes "funded " ++ (decimal ticket ++ (codes " " ++ (decimal thread ++ newline)))
-plain_text style unit e reply.Done = codes "done" ++ newline
+plain_text style unit e reply.Done = done_text e ++ newline
 plain_text style unit e (reply.List kind) = []
 plain_text style unit e (reply.Winner thread number total delivered) =
     codes "draw " ++ (drawn_value style unit number ++ (codes " of " ++ (drawn_value style unit total ++ (codes " thread " ++ (decimal thread ++ (delivered_text delivered ++ newline))))))

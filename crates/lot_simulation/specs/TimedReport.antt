@@ -42,13 +42,14 @@ wait_ended time waits = made waits.since
     made None = waits
     made (Some since) = record { count = waits.count + 1; total = waits.total + (time - since); longest = max waits.longest (time - since); since = None }
 
--- A thread waits for a mutex from the lock that finds it taken until the unlock that passes it on (6.1).
+-- A thread waits for a mutex from the lock that finds it taken until the unlock that passes it on (6.1). A wait that a
+-- kill ends isn't counted.
 abbrev pub mutex_change : Answer → WaitChange
 mutex_change (Answered (event.Trap p ran (action.Lock mutex)) (reply.Trapped thread ticks outcome.Waits ends)) = Begins thread
 mutex_change (Answered e (reply.Trapped thread ticks (outcome.Passed to drawn) ends)) = Ends to
 mutex_change other = Nobody
 
--- A thread waits for a reply from its call until the reply to it (4.6).
+-- A thread waits for a reply from its call until the reply to it (4.6); nor is such a wait that a kill ends.
 abbrev pub reply_change : Answer → WaitChange
 reply_change (Answered e (reply.Trapped thread ticks (outcome.ServedBy server) ends)) = Begins thread
 reply_change (Answered e (reply.Trapped thread ticks outcome.Queued ends)) = Begins thread
@@ -113,12 +114,12 @@ timed_processor_total m end turns p =
     ++ (codes " ticks " ++ (decimal (total_of ticks_in (turns_of p turns))
     ++ (codes " unused " ++ (decimal (idle_until end (clock_of m.clocks p)) ++ newline)))))))))
 
--- 1 if a command was refused
+-- 1 if a command or a wake was refused
 abbrev pub refusals_in : Reply → ℕ
 refusals_in (reply.Refused why) = 1
 refusals_in other = 0
 
--- the counts over all turns, and the numbers of refused commands and of commands never made
+-- the counts over all turns, and the numbers of refused commands and wakes, and of commands never made
 abbrev pub timed_whole_total : Moment → List ActorTurn → List ℕ
 timed_whole_total m turns =
     codes "total turns " ++ (decimal (length turns) ++ (codes " quanta " ++ (decimal (total_of quanta_in turns)

@@ -44,9 +44,11 @@ body_words =
     ∷ (codes "lscur", body.ListCurrencies) ∷ (codes "lsthr", body.ListThreads) ∷ (codes "schedule", body.Schedule)
     ∷ (codes "runs", body.Runs) ∷ []
 
--- The words of a timed input's body: also `at`, which gives commands their time, `settkt` and `rmthr`.
+-- The words of a timed input's body: also `at`, which gives commands their time, `settkt`, `rmthr` and `kill`.
 abbrev pub timed_body_words : List (List ℕ × BodyWord)
-timed_body_words = (codes "at", body.At) ∷ (codes "settkt", body.SetTicket) ∷ (codes "rmthr", body.RemoveThread) ∷ body_words
+timed_body_words =
+    (codes "at", body.At) ∷ (codes "settkt", body.SetTicket) ∷ (codes "rmthr", body.RemoveThread) ∷ (codes "kill", body.Kill)
+    ∷ body_words
 
 -- the words of a script
 abbrev pub script_words : List (List ℕ × ScriptWord)
@@ -57,6 +59,6 @@ script_words =
     ∷ (codes "lock", script.OnMutex Lock) ∷ (codes "unlock", script.OnMutex Unlock) ∷ (codes "endscript", script.EndScript)
     ∷ []
 
--- the words of a timed input's scripts: also `serve`, to reply and receive in one trap
+-- the words of a timed input's scripts: also `sleep`, and `serve`, to reply and receive in one trap
 abbrev pub timed_script_words : List (List ℕ × ScriptWord)
-timed_script_words = (codes "serve", script.AtPort Serve) ∷ script_words
+timed_script_words = (codes "sleep", script.Sleep) ∷ (codes "serve", script.AtPort Serve) ∷ script_words

@@ -1,5 +1,5 @@
 -- The simulated system: a console, processors with their generators, and threads with their scripts.
-use Rattle.std.specs.Prelude.{ℕ, ◌-◌, ◌≤◌, ◌==◌, Bool, true, false, Option, Some, None, is_some, List, [], ◌∷◌, ◌++◌, length, map, drop, count_by, All, option_and_then, unwrap_or, if◌then◌else◌}
+use Rattle.std.specs.Prelude.{ℕ, ◌-◌, ◌≤◌, ◌==◌, nat_le, Bool, true, false, Option, Some, None, is_some, List, [], ◌∷◌, ◌++◌, length, map, drop, count_by, All, option_and_then, unwrap_or, if◌then◌else◌}
 use Rattle.std.specs.List.{last_or}
 use Rattle.lot_simulation.specs.declared.script.Line.{Line}
 use Rattle.lot_simulation.specs.declared.script.ScriptTrap.{ScriptTrap}
@@ -16,12 +16,13 @@ use Rattle.lot_machine.specs.declared.reply.Reply.TheVariants as reply
 use Rattle.lot_machine.specs.declared.reply.Outcome.{Outcome}
 use Rattle.lot_machine.specs.declared.reply.Outcome.TheVariants.{Received, RepliedThenReceived}
 use Rattle.lot_machine.specs.declared.sizes.Sizes.{Sizes}
+use Rattle.lot_simulation.specs.declared.timed.Sleeper.{Sleeper}
 use Rattle.lot_machine.specs.Numbered.{at_number, set_number}
 use Rattle.lot_machine.specs.Lottery.{drawn_number, seed_after_number, wide_number, seed_after_wide_number}
 use Rattle.lot_machine.specs.State.{State, opening, thread_on}
 use Rattle.lot_machine.specs.Commands.{Step}
 use Rattle.lot_machine.specs.Step.{step, used_there}
-use Rattle.lot_simulation.specs.Script.{Context, Slice, slice, start}
+use Rattle.lot_simulation.specs.Script.{Context, Slice, slice, start, without_sleep}
 
 -- The contents of an input: the kernel's limits, seeds, scripts and commands; the turns of each processor in a free
 -- run, and the schedule; or the duration of a timed input.
@@ -84,6 +85,7 @@ action_of (script_trap.AtPort Receive port) accumulator drawn = action.Receive p
 action_of (script_trap.AtPort Serve port) accumulator drawn = action.Serve port accumulator
 action_of (script_trap.OnMutex Lock mutex) accumulator drawn = action.Lock mutex
 action_of (script_trap.OnMutex Unlock mutex) accumulator drawn = action.Unlock mutex drawn
+action_of (script_trap.Sleep ticks) accumulator drawn = action.Sleep
 action_of script_trap.Exit accumulator drawn = action.Exit
 
 -- the slice as an event: an expiry, or a trap after its ticks
@@ -101,6 +103,19 @@ processor_event w p = made (thread_on w.state.records p)
     made : Option ℕ → Event
     made None = event.Draw p (number_of w p)
     made (Some t) = event_of_slice p (number_of w p) (slice_on w p t)
+
+-- A turn of actor P + t, with P processors, is one of the timer: it wakes thread t.
+abbrev pub actor_event : Program → World → ℕ → Event
+actor_event program w actor = if nat_le actor program.limits.processors then processor_event w actor else event.Wake (actor - program.limits.processors)
+
+-- the thread as a sleeper, if this is its trap and a sleep
+abbrev pub sleeper_by : ℕ → Option ScriptTrap → Option Sleeper
+sleeper_by t (Some (script_trap.Sleep ticks)) = Some (record { thread = t; ticks = ticks })
+sleeper_by t other = None
+
+-- the thread on the processor, if its slice ends with a sleep
+abbrev pub sleeper_on : World → ℕ → Option Sleeper
+sleeper_on w p = option_and_then (λ t. sleeper_by t (slice_on w p t).trap) (thread_on w.state.records p)
 
 -- ---- the world after it
 
@@ -161,7 +176,7 @@ console_turn program w (c ∷ cs) = made (step w.state (event.Command c))
       answer = Answered (event.Command c) done.reply;
     }
 
--- the turn in which a processor makes this event
+-- the turn in which a processor or the timer makes this event
 abbrev pub processor_turn : World → ℕ → Event → Turn
 processor_turn w p e = made (step w.state e)
   where
@@ -171,9 +186,9 @@ processor_turn w p e = made (step w.state e)
       answer = Answered e done.reply;
     }
 
--- A turn of actor 0, the console, makes its next command; a turn of a processor makes its next event.
+-- A turn of actor 0, the console, makes its next command; a turn of a processor or of the timer makes its event.
 abbrev pub system_turn : Program → World → ℕ → Turn
-system_turn program w actor = if actor == 0 then console_turn program w w.commands else processor_turn w actor (processor_event w actor)
+system_turn program w actor = if actor == 0 then console_turn program w w.commands else processor_turn w actor (actor_event program w actor)
 
 -- the answers to these actors' turns, in order
 abbrev pub system_answers : Program → World → List ℕ → List Answer
@@ -199,3 +214,14 @@ pub record IsLegal (program : Program) (room : ℕ) (history : List ℕ) : Type 
   pub actors : All (λ actor. actor ≤ program.limits.processors) history
   pub within_room : length history ≤ room
   pub console : count_by (λ actor. actor == 0) history ≤ length program.commands
+
+-- A legal history of timed turns: the timer takes part.
+pub record IsLegalInTime (program : Program) (room : ℕ) (history : List ℕ) : Type 0 where
+  pub within_room : length history ≤ room
+  pub console : count_by (λ actor. actor == 0) history ≤ length program.commands
+
+-- ---- without time
+
+-- the program without time: a sleep ends at once, so it is a yield
+abbrev pub without_time : Program → Program
+without_time program = record program { scripts = map (map without_sleep) program.scripts }

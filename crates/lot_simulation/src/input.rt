@@ -28,6 +28,7 @@ pub enum BodyWord {
     Unfund,
     SetTicket,
     RemoveThread,
+    Kill,
     MakeThread,
     MakeFunded,
     ListTickets,
@@ -50,6 +51,7 @@ pub enum ScriptWord {
     Reply,
     AtPort(PortTrap),
     OnMutex(MutexTrap),
+    Sleep,
     EndScript,
 }
 

@@ -4,7 +4,7 @@ ghost use Rattle.std.specs.List.{range_with_len};
 ghost use Rattle.std.specs.List.Sorted.{IsNonDecreasing};
 ghost use Rattle.lot_machine.specs.Bounds.{IsBetween, IsWithinBounds};
 ghost use Rattle.lot_machine.specs.declared.reply.Reply.{Reply};
-ghost use Rattle.lot_simulation.specs.World.{Program, IsLegal, system_run};
+ghost use Rattle.lot_simulation.specs.World.{Program, IsLegal, IsLegalInTime, system_run};
 ghost use Rattle.lot_simulation.specs.Report.{idles_in, quanta_in, ticks_in, total_of, turns_made, turns_of};
 ghost use Rattle.lot_simulation.specs.Timed.{clock_of, ended_at, last_moment, timed_room, timed_schedule, timed_turns};
 ghost use Rattle.lot_simulation.specs.TimedReport.{actor_turns, clock_at, idle_until};
@@ -32,7 +32,7 @@ pub fn times_never_fall()
 /// this history makes the same turns and ends in the same world.
 pub fn timed_turns_are_a_run()
     ensures legal { (program : Program) → length program.times ≡ length program.commands
-        → IsLegal program timed_room (timed_schedule program) }
+        → IsLegalInTime program timed_room (timed_schedule program) }
     ensures turns { (program : Program)
         → actor_turns (timed_turns program) ≡ turns_made program (timed_schedule program) }
     ensures world { (program : Program) → (last_moment program).world ≡ system_run program (timed_schedule program) }

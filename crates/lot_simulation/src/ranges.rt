@@ -69,6 +69,12 @@ pub const WORK: Range = Range {
     last: u32::MAX,
 };
 
+/// The ticks for which a thread sleeps.
+pub const SLEEP: Range = Range {
+    first: 1,
+    last: u32::MAX,
+};
+
 /// The number that `set` or `add` applies to the accumulator.
 pub const NUMBER: Range = Range {
     first: 0,

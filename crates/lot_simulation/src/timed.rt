@@ -19,6 +19,15 @@ pub struct Due {
     pub actor: u32,
 }
 
+/// A thread that goes to sleep.
+#[derive(Clone, Copy, Debug, PartialEq, Eq)]
+pub struct Sleeper {
+    /// Its number.
+    pub thread: u32,
+    /// For how many ticks it sleeps.
+    pub ticks: u32,
+}
+
 /// A thread's waits for mutexes, or its waits for replies. Times are in ticks.
 #[derive(Clone, Copy, Debug, PartialEq, Eq)]
 pub struct Waits {

@@ -307,6 +307,20 @@ pub fn refused_inputs()
         ≡ refused_on_line (codes "2 51 BadLine") }
     ensures removal_in_first { output (text (codes "lottery 1" ∷ codes "rmthr a" ∷ []))
         ≡ refused_on_line (codes "2 51 BadLine") }
+    ensures kill_in_second { output (text (codes "lottery 2" ∷ codes "kill a" ∷ []))
+        ≡ refused_on_line (codes "2 51 BadLine") }
+    ensures kill_in_first { output (text (codes "lottery 1" ∷ codes "kill a" ∷ []))
+        ≡ refused_on_line (codes "2 51 BadLine") }
+    ensures kill_lacking { output (text (codes "lottery 3" ∷ codes "for 5" ∷ codes "kill" ∷ []))
+        ≡ refused_on_line (codes "3 51 BadLine") }
+    ensures sleep_in_second { output (text (codes "lottery 2" ∷ codes "script s" ∷ codes "sleep 5" ∷ []))
+        ≡ refused_on_line (codes "3 51 BadLine") }
+    ensures sleep_in_first { output (text (codes "lottery 1" ∷ codes "script s" ∷ codes "sleep 5" ∷ []))
+        ≡ refused_on_line (codes "3 51 BadLine") }
+    ensures no_sleep { output (text (codes "lottery 3" ∷ codes "for 5" ∷ codes "script s" ∷ codes "sleep 0" ∷ []))
+        ≡ refused_on_line (codes "4 52 BadNumber") }
+    ensures longest_sleep { output (text (codes "lottery 3" ∷ codes "for 5" ∷ codes "script s"
+        ∷ codes "sleep 4294967296" ∷ [])) ≡ refused_on_line (codes "4 52 BadNumber") }
     ensures removal_lacking { output (text (codes "lottery 3" ∷ codes "for 5" ∷ codes "rmthr" ∷ []))
         ≡ refused_on_line (codes "3 51 BadLine") }
     ensures serve_in_first { output (text (codes "lottery 1" ∷ codes "port p" ∷ codes "script s" ∷ codes "serve p"
@@ -337,4 +351,147 @@ pub fn several_words()
         ∷ codes "compute 0 nonsense" ∷ [])) ≡ refused_on_line (codes "4 52 BadNumber") }
     ensures others { output (text (codes "lottery 2" ∷ codes "script s" ∷ codes "yield yield" ∷ []))
         ≡ refused_on_line (codes "3 51 BadLine") }
+{}
+
+/// Two threads that sleep and wake at the same time, the one with the lower number first. The wakes end the waits of
+/// both processors.
+#[tactic(auto, unfolding(crate::specs::OnLiterals::texts_on_literals, crate::specs::Timed::timed_room))]
+pub fn sleepers()
+    ensures { output (text (codes "lottery 3" ∷ codes "processors 2" ∷ codes "quantum 10" ∷ codes "for 25"
+        ∷ codes "seed 3 9" ∷ codes "script nap" ∷ codes "compute 2 sleep 8 compute 3 endscript"
+        ∷ codes "fundx 2 base a nap" ∷ codes "fundx 1 base b nap" ∷ []))
+        ≡ text (codes "0 0 funded 1 1" ∷ codes "0 0 funded 2 2" ∷ codes "0 1 draw 2.054 of 3 thread 2"
+        ∷ codes "0 2 draw 1.144 of 2 thread 1" ∷ codes "3 1 thread 2 ticks 3 sleep" ∷ codes "3 1 idle"
+        ∷ codes "3 2 thread 1 ticks 3 sleep" ∷ codes "3 1 idle" ∷ codes "3 2 idle" ∷ codes "11 3 wake thread 1"
+        ∷ codes "11 3 wake thread 2" ∷ codes "11 1 draw 0.238 of 9.996 thread 1"
+        ∷ codes "11 2 draw 0.421 of 3.332 thread 2" ∷ codes "15 1 thread 1 ticks 4 exit" ∷ codes "15 1 idle"
+        ∷ codes "15 2 thread 2 ticks 4 exit" ∷ codes "15 1 idle" ∷ codes "15 2 idle" ∷ codes "report"
+        ∷ codes "thread 1 a quanta 2 ticks 7 share 50% value 0%"
+        ∷ codes "thread 2 b quanta 2 ticks 7 share 50% value 0%"
+        ∷ codes "processor 1 quanta 2 idle 4 ticks 7 unused 18"
+        ∷ codes "processor 2 quanta 2 idle 2 ticks 7 unused 18"
+        ∷ codes "total turns 18 quanta 4 ticks 14 refused 0 left 0" ∷ []) }
+{}
+
+/// A wake at the same time as a command and a draw: the command comes first, and the woken thread takes part in the
+/// draw, with the compensation from before its sleep (4.5).
+#[tactic(auto, unfolding(crate::specs::OnLiterals::texts_on_literals, crate::specs::Timed::timed_room))]
+pub fn wakes_at_a_command()
+    ensures { output (text (codes "lottery 3" ∷ codes "quantum 10" ∷ codes "for 30" ∷ codes "script nap"
+        ∷ codes "compute 3 sleep 6 endscript" ∷ codes "script spin" ∷ codes "compute 16 endscript"
+        ∷ codes "fundx 2 base a nap" ∷ codes "at 10" ∷ codes "fundx 3 base b spin" ∷ []))
+        ≡ text (codes "0 0 funded 1 1" ∷ codes "0 1 draw 1.992 of 2 thread 1"
+        ∷ codes "4 1 thread 1 ticks 4 sleep" ∷ codes "4 1 idle" ∷ codes "10 0 funded 2 2"
+        ∷ codes "10 2 wake thread 1" ∷ codes "10 1 draw 7.921 of 8 thread 2"
+        ∷ codes "20 1 thread 2 ticks 10 expire" ∷ codes "20 1 draw 4.363 of 8 thread 1"
+        ∷ codes "21 1 thread 1 ticks 1 exit" ∷ codes "21 1 draw 2.738 of 3 thread 2"
+        ∷ codes "28 1 thread 2 ticks 7 exit" ∷ codes "28 1 idle" ∷ codes "report"
+        ∷ codes "thread 1 a quanta 2 ticks 5 share 22.727% value 0%"
+        ∷ codes "thread 2 b quanta 2 ticks 17 share 77.272% value 0%"
+        ∷ codes "processor 1 quanta 4 idle 2 ticks 22 unused 8"
+        ∷ codes "total turns 13 quanta 4 ticks 22 refused 0 left 0" ∷ []) }
+{}
+
+/// All processors wait while the only thread sleeps. Its second sleep would end after the end.
+#[tactic(auto, unfolding(crate::specs::OnLiterals::texts_on_literals, crate::specs::Timed::timed_room))]
+pub fn sleeps_past_the_end()
+    ensures { output (text (codes "lottery 3" ∷ codes "quantum 10" ∷ codes "for 30" ∷ codes "script nap"
+        ∷ codes "sleep 5 sleep 24 endscript" ∷ codes "fundx 1 base a nap" ∷ []))
+        ≡ text (codes "0 0 funded 1 1" ∷ codes "0 1 draw 0.992 of 1 thread 1"
+        ∷ codes "1 1 thread 1 ticks 1 sleep" ∷ codes "1 1 idle" ∷ codes "6 2 wake thread 1"
+        ∷ codes "6 1 draw 3.921 of 10 thread 1" ∷ codes "7 1 thread 1 ticks 1 sleep" ∷ codes "7 1 idle"
+        ∷ codes "report" ∷ codes "thread 1 a quanta 2 ticks 2 share 100% value 0%"
+        ∷ codes "processor 1 quanta 2 idle 2 ticks 2 unused 28"
+        ∷ codes "total turns 8 quanta 2 ticks 2 refused 0 left 0" ∷ []) }
+{}
+
+/// A kill in the middle of a slice. Nobody is charged for the four ticks that the thread ran: the processor counts them
+/// as unused, and draws at the time of the kill. The dead thread keeps its name, and can't be killed again.
+#[tactic(auto, unfolding(crate::specs::OnLiterals::texts_on_literals, crate::specs::Timed::timed_room))]
+pub fn killed_in_a_slice()
+    ensures { output (text (codes "lottery 3" ∷ codes "quantum 10" ∷ codes "for 24" ∷ codes "script spin"
+        ∷ codes "compute 100 endscript" ∷ codes "fundx 2 base a spin" ∷ codes "fundx 1 base b spin" ∷ codes "at 4"
+        ∷ codes "kill a" ∷ codes "kill a" ∷ codes "kill c" ∷ codes "lsthr" ∷ []))
+        ≡ text (codes "0 0 funded 1 1" ∷ codes "0 0 funded 2 2" ∷ codes "0 1 draw 0.992 of 3 thread 1"
+        ∷ codes "4 0 done" ∷ codes "4 0 refused 12 DeadThread" ∷ codes "4 0 refused 15 NoThread" ∷ codes "4 0 lsthr 2"
+        ∷ codes "4 thread 1 a dead value 0 weight 0 quanta 1 ticks 0"
+        ∷ codes "4 thread 2 b ready value 1 weight 1 quanta 0 ticks 0" ∷ codes "4 1 draw 0.281 of 1 thread 2"
+        ∷ codes "14 1 thread 2 ticks 10 expire" ∷ codes "14 1 draw 0.921 of 1 thread 2"
+        ∷ codes "24 1 thread 2 ticks 10 expire" ∷ codes "24 1 draw 0.363 of 1 thread 2" ∷ codes "report"
+        ∷ codes "thread 1 a quanta 1 ticks 0 share 0% value 0%"
+        ∷ codes "thread 2 b quanta 3 ticks 20 share 100% value 100%"
+        ∷ codes "processor 1 quanta 4 idle 0 ticks 20 unused 4"
+        ∷ codes "total turns 12 quanta 4 ticks 20 refused 2 left 0" ∷ []) }
+{}
+
+/// A kill on one of two processors: the other's slice goes on, and its next turn comes when it would have come. Where
+/// nobody is ready after a kill, the processor waits.
+#[tactic(auto, unfolding(crate::specs::OnLiterals::texts_on_literals, crate::specs::Timed::timed_room))]
+pub fn killed_beside_another()
+    ensures { output (text (codes "lottery 3" ∷ codes "processors 2" ∷ codes "quantum 10" ∷ codes "for 25"
+        ∷ codes "script spin" ∷ codes "compute 100 endscript" ∷ codes "fundx 3 base a spin"
+        ∷ codes "fundx 2 base b spin" ∷ codes "fundx 1 base c spin" ∷ codes "at 6" ∷ codes "kill c" ∷ codes "at 13"
+        ∷ codes "kill b" ∷ []))
+        ≡ text (codes "0 0 funded 1 1" ∷ codes "0 0 funded 2 2" ∷ codes "0 0 funded 3 3"
+        ∷ codes "0 1 draw 3.992 of 6 thread 2" ∷ codes "0 2 draw 3.054 of 4 thread 3" ∷ codes "6 0 done"
+        ∷ codes "6 2 draw 1.878 of 3 thread 1" ∷ codes "10 1 thread 2 ticks 10 expire"
+        ∷ codes "10 1 draw 1.281 of 2 thread 2" ∷ codes "13 0 done" ∷ codes "13 1 idle"
+        ∷ codes "16 2 thread 1 ticks 10 expire" ∷ codes "16 1 draw 1.363 of 3 thread 1" ∷ codes "16 2 idle"
+        ∷ codes "report" ∷ codes "thread 1 a quanta 2 ticks 10 share 50% value 100%"
+        ∷ codes "thread 2 b quanta 2 ticks 10 share 50% value 0%"
+        ∷ codes "thread 3 c quanta 1 ticks 0 share 0% value 0%" ∷ codes "processor 1 quanta 3 idle 1 ticks 10 unused 6"
+        ∷ codes "processor 2 quanta 2 idle 1 ticks 10 unused 15"
+        ∷ codes "total turns 14 quanta 5 ticks 20 refused 0 left 0" ∷ []) }
+{}
+
+/// The timer isn't told of a kill: the wake of a thread that was killed in its sleep comes, and is refused.
+#[tactic(auto, unfolding(crate::specs::OnLiterals::texts_on_literals, crate::specs::Timed::timed_room))]
+pub fn killed_sleeper()
+    ensures { output (text (codes "lottery 3" ∷ codes "quantum 10" ∷ codes "for 20" ∷ codes "script nap"
+        ∷ codes "sleep 5 endscript" ∷ codes "script spin" ∷ codes "compute 12 endscript" ∷ codes "fundx 1 base a nap"
+        ∷ codes "at 3" ∷ codes "kill a" ∷ codes "fundx 1 base b spin" ∷ []))
+        ≡ text (codes "0 0 funded 1 1" ∷ codes "0 1 draw 0.992 of 1 thread 1" ∷ codes "1 1 thread 1 ticks 1 sleep"
+        ∷ codes "1 1 idle" ∷ codes "3 0 done" ∷ codes "3 0 funded 2 2" ∷ codes "3 1 draw 0.921 of 1 thread 2"
+        ∷ codes "6 2 refused 24 NotAsleep" ∷ codes "13 1 thread 2 ticks 10 expire"
+        ∷ codes "13 1 draw 0.363 of 1 thread 2" ∷ codes "16 1 thread 2 ticks 3 exit" ∷ codes "16 1 idle"
+        ∷ codes "report" ∷ codes "thread 1 a quanta 1 ticks 1 share 7.142% value 0%"
+        ∷ codes "thread 2 b quanta 2 ticks 13 share 92.857% value 0%"
+        ∷ codes "processor 1 quanta 3 idle 2 ticks 14 unused 6"
+        ∷ codes "total turns 12 quanta 3 ticks 14 refused 1 left 0" ∷ []) }
+{}
+
+/// A killed server's client is ready at once, with the compensation that it has, and gets no number. Its wait isn't
+/// counted as one for a reply.
+#[tactic(auto, unfolding(crate::specs::OnLiterals::texts_on_literals, crate::specs::Timed::timed_room))]
+pub fn killed_server()
+    ensures { output (text (codes "lottery 3" ∷ codes "quantum 10" ∷ codes "for 30" ∷ codes "port p"
+        ∷ codes "script srv" ∷ codes "receive p compute 5 reply endscript" ∷ codes "script cli"
+        ∷ codes "set 7 call p endscript" ∷ codes "fundx 2 base s srv" ∷ codes "fundx 1 base c cli" ∷ codes "at 4"
+        ∷ codes "kill s" ∷ []))
+        ≡ text (codes "0 0 funded 1 1" ∷ codes "0 0 funded 2 2" ∷ codes "0 1 draw 0.992 of 3 thread 1"
+        ∷ codes "1 1 thread 1 ticks 1 receive 1 waits" ∷ codes "1 1 draw 0.281 of 1 thread 2"
+        ∷ codes "3 1 thread 2 ticks 2 call 1 served by 1" ∷ codes "3 1 draw 13.921 of 30 thread 1 got 7"
+        ∷ codes "4 0 done" ∷ codes "4 1 draw 1.363 of 5 thread 2" ∷ codes "5 1 thread 2 ticks 1 exit"
+        ∷ codes "5 1 idle" ∷ codes "report" ∷ codes "thread 1 s quanta 2 ticks 1 share 25% value 0%"
+        ∷ codes "thread 2 c quanta 2 ticks 3 share 75% value 0%"
+        ∷ codes "processor 1 quanta 4 idle 1 ticks 4 unused 26"
+        ∷ codes "total turns 11 quanta 4 ticks 4 refused 0 left 0" ∷ []) }
+{}
+
+/// A killed owner's mutex passes at once to the thread that waits for it. Its wait isn't counted as one for a mutex.
+#[tactic(auto, unfolding(crate::specs::OnLiterals::texts_on_literals, crate::specs::Timed::timed_room))]
+pub fn killed_owner()
+    ensures { output (text (codes "lottery 3" ∷ codes "processors 2" ∷ codes "quantum 10" ∷ codes "for 20"
+        ∷ codes "mutex m" ∷ codes "script one" ∷ codes "lock m compute 12 unlock m endscript"
+        ∷ codes "fundx 2 base a one" ∷ codes "fundx 1 base b one" ∷ codes "at 5" ∷ codes "kill a" ∷ []))
+        ≡ text (codes "0 0 funded 1 1" ∷ codes "0 0 funded 2 2" ∷ codes "0 1 draw 0.992 of 3 thread 1"
+        ∷ codes "0 2 draw 0.054 of 1 thread 2" ∷ codes "1 1 thread 1 ticks 1 lock 1 taken"
+        ∷ codes "1 2 thread 2 ticks 1 lock 1 waits" ∷ codes "1 2 idle" ∷ codes "5 0 done"
+        ∷ codes "5 1 draw 3.281 of 10 thread 2" ∷ codes "5 2 idle" ∷ codes "15 1 thread 2 ticks 10 expire"
+        ∷ codes "15 1 draw 0.921 of 1 thread 2" ∷ codes "15 2 idle" ∷ codes "18 1 thread 2 ticks 3 unlock 1 free"
+        ∷ codes "18 2 idle" ∷ codes "19 1 thread 2 ticks 1 exit" ∷ codes "19 1 idle" ∷ codes "19 2 idle"
+        ∷ codes "report" ∷ codes "thread 1 a quanta 1 ticks 1 share 6.25% value 0%"
+        ∷ codes "thread 2 b quanta 3 ticks 15 share 93.75% value 0%"
+        ∷ codes "processor 1 quanta 3 idle 1 ticks 15 unused 5" ∷ codes "processor 2 quanta 1 idle 5 ticks 1 unused 19"
+        ∷ codes "total turns 18 quanta 4 ticks 16 refused 0 left 0" ∷ []) }
 {}

@@ -71,8 +71,8 @@ pub const HEADER_WORDS: [WordRow<HeaderWord>; 7] = [
     ),
 ];
 
-/// The words of the body; first `at`, `settkt` and `rmthr`, which only some formats have.
-pub const BODY_WORDS: [WordRow<BodyWord>; 19] = [
+/// The words of the body; first `at`, `settkt`, `rmthr` and `kill`, which only some formats have.
+pub const BODY_WORDS: [WordRow<BodyWord>; 20] = [
     (b"at", BodyWord::At, Once(&[("TICK", Time(ranges::TICK))])),
     (
         b"settkt",
@@ -84,6 +84,7 @@ pub const BODY_WORDS: [WordRow<BodyWord>; 19] = [
         BodyWord::RemoveThread,
         Command(&[("THREAD", AnyName)]),
     ),
+    (b"kill", BodyWord::Kill, Command(&[("THREAD", AnyName)])),
     (
         b"port",
         BodyWord::Port,
@@ -159,8 +160,13 @@ pub const BODY_WORDS: [WordRow<BodyWord>; 19] = [
     ),
 ];
 
-/// The words of a script; first `serve`, which only some formats have.
-pub const SCRIPT_WORDS: [WordRow<ScriptWord>; 13] = [
+/// The words of a script; first `sleep` and `serve`, which only some formats have.
+pub const SCRIPT_WORDS: [WordRow<ScriptWord>; 14] = [
+    (
+        b"sleep",
+        ScriptWord::Sleep,
+        Once(&[("TICKS", Number(ranges::SLEEP))]),
+    ),
     (
         b"serve",
         ScriptWord::AtPort(PortTrap::Serve),
@@ -215,9 +221,9 @@ pub const SCRIPT_WORDS: [WordRow<ScriptWord>; 13] = [
 // The tables above as static data: a constant would be built anew at each call.
 static HEADER_TABLE: [WordRow<HeaderWord>; 7] = HEADER_WORDS;
 
-static BODY_TABLE: [WordRow<BodyWord>; 19] = BODY_WORDS;
+static BODY_TABLE: [WordRow<BodyWord>; 20] = BODY_WORDS;
 
-static SCRIPT_TABLE: [WordRow<ScriptWord>; 13] = SCRIPT_WORDS;
+static SCRIPT_TABLE: [WordRow<ScriptWord>; 14] = SCRIPT_WORDS;
 
 impl HeaderWord {
     /// The word of the header with this spelling in an input of this format, if there is one.
@@ -247,7 +253,7 @@ impl BodyWord {
         if format.is_timed() {
             word_spelled(&BODY_TABLE, token)
         } else {
-            word_spelled(&BODY_TABLE[3..], token)
+            word_spelled(&BODY_TABLE[4..], token)
         }
     }
 }
@@ -260,7 +266,7 @@ impl ScriptWord {
         if format.is_timed() {
             word_spelled(&SCRIPT_TABLE, token)
         } else {
-            word_spelled(&SCRIPT_TABLE[1..], token)
+            word_spelled(&SCRIPT_TABLE[2..], token)
         }
     }
 }

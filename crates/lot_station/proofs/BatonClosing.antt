@@ -1,6 +1,6 @@
 -- Seats in a list, taken in one after another.
-use Rattle.std.proofs.Common.{◌≡◌, ℕ, zero, suc, ◌+◌, ◌<◌, List, [], ◌∷◌, ◌++◌, length, map, drop, get_or, Option, Some, None, refl, sym, ap, ◌∙◌, subst, append_assoc, append-nil, arith, ◌⊎◌, inl, inr, ⊎_elim}
-use Rattle.std.specs.Prelude.{All, slice_get}
+use Rattle.std.proofs.Common.{◌≡◌, ℕ, zero, suc, ◌+◌, ◌<◌, List, [], ◌∷◌, ◌++◌, length, map, drop, get_or, Option, Some, None, false, refl, sym, ap, ◌∙◌, subst, append_assoc, append-nil, arith, ◌⊎◌, inl, inr, ⊎_elim}
+use Rattle.std.specs.Prelude.{All, IfSome, slice_get}
 use Rattle.std.proofs.lemmas.Option.{get_or_from_slice_get, slice_get-get_or, slice_get_within}
 use Rattle.atomic_table.specs.Seated.{TableId}
 use Rattle.lot_engine.specs.declared.fault.TurnFault.{TurnFault}
@@ -76,3 +76,8 @@ pub last_actor : (b : Baton) (x : Seen) (l : List Seat) → All (IsSeatOf b) l �
 last_actor b x [] all order shows = absurd (omega (arith, order.0))
 last_actor b x (y ∷ ys) all order shows =
     sym (all 0 y (omega arith)).1 ∙ sym (ap (λ z. z.program.limits.processors) (shows 0 y (omega arith)).begins.0)
+
+-- the system has no timer, as its first seat hasn't
+pub no_timer : (n : ℕ) (x : Seen) (l : List Seat) → HasEachSeat n l → All (Shows x) l → IfSome (slice_get l 0) (λ s. s.seen.setting.timer ≡ false) → x.setting.timer ≡ false
+no_timer n x [] order shows first = absurd (omega (arith, order.0))
+no_timer n x (y ∷ ys) order shows first = ap (λ z. z.timer) (shows 0 y (omega arith)).begins.0 ∙ first

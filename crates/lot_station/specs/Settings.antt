@@ -1,5 +1,5 @@
 -- Systems of a program and a room.
-use Rattle.std.specs.Prelude.{ℕ, ◌==◌, List, [], count_by, None}
+use Rattle.std.specs.Prelude.{ℕ, ◌==◌, List, [], count_by, false, None}
 use Rattle.lot_simulation.specs.Report.{ActorTurn, turns_made, turns_of}
 use Rattle.lot_simulation.specs.World.{IsLegal}
 use Rattle.lot_engine.specs.declared.counts.Counts.{Counts}
@@ -36,7 +36,7 @@ pub record AtSome (setting : Setting) (IsSo : Seen → Type 0) : Type 0 where
   pub legal : IsLegal setting.program setting.room history
   pub is_so : IsSo (record { setting = setting; history = history })
 
--- some program and room, without meaning
+-- some program and room, without a timer and without meaning
 abbrev pub no_setting : Setting
 no_setting = record {
   program = record {
@@ -50,6 +50,7 @@ no_setting = record {
     times = [];
   };
   room = 0;
+  timer = false;
 }
 
 -- a system of `no_setting` without turns

@@ -1,5 +1,5 @@
 //! The system and its books under the lock.
-ghost use Rattle.std.specs.Prelude.{◌≡◌, length, IfOk, IfErr, OnErr};
+ghost use Rattle.std.specs.Prelude.{◌≡◌, false, length, IfOk, IfErr, OnErr};
 ghost use Rattle.lot_simulation.specs.Report as report;
 ghost use Rattle.lot_simulation.specs.Report.{total_of};
 ghost use Rattle.lot_engine.specs.Seen.{Setting};
@@ -31,6 +31,7 @@ pub(crate) struct Desk<T: TurnLedger, Q: Ledger, K: Ledger> {
     pub(crate) quanta: Book<Q>,
     pub(crate) ticks: Book<K>,
     ghost setting: { system.setting ≡ T.setting },
+    ghost timer: { system.setting.timer ≡ false },
     ghost legal: { IsLegalIn system },
     ghost all_turns: { turns.total ≡ length system.history },
     ghost all_quanta: { quanta.total ≡ total_of report.quanta_in (turns_in system) },

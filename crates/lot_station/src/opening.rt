@@ -1,5 +1,5 @@
 //! Opening a station.
-ghost use Rattle.std.specs.Prelude.{◌≡◌, ◌+◌, ◌<◌, length, IfOk};
+ghost use Rattle.std.specs.Prelude.{◌≡◌, ◌+◌, ◌<◌, false, length, IfOk};
 ghost use Rattle.lot_simulation.specs.Report.{quanta_in, ticks_in, total_of};
 ghost use Rattle.lot_simulation.specs.World.{IsLegal};
 ghost use Rattle.lot_station.specs.Holders.{AreDealt};
@@ -17,6 +17,9 @@ impl<T: TurnLedger, Q: Ledger, K: Ledger> Station<T, Q, K> {
     /// Puts the system under a lock, and deals a seat for each actor, in order, with that actor's shares of the
     /// system's history. The blanks become the ledgers of turns, quanta and ticks, with one part for each seat. It
     /// fails only if out of memory, and then drops the system.
+    ///
+    /// The system has no timer: a station's turns have no time, so nothing would wake a thread that sleeps, and no
+    /// seat has a share of a timer's turns. A program that sleeps is run without time (`Program::without_time`).
     pub fn open(
         alloc: Global,
         system: System,
@@ -25,6 +28,7 @@ impl<T: TurnLedger, Q: Ledger, K: Ledger> Station<T, Q, K> {
         ticks: Blank,
     ) -> Result<(Station<T, Q, K>, Vec<Seat<T, Q, K>>), AllocError>
         requires setting { system.setting ≡ T.setting }
+        requires timer { system.setting.timer ≡ false }
         requires turns { (turns.name ≡ T.name) × (turns.parts ≡ T.parts)
             × (T.parts ≡ system.setting.program.limits.processors + 1) }
         requires quanta { (quanta.name ≡ Q.name) × (quanta.parts ≡ Q.parts)

@@ -1,6 +1,8 @@
 //! Stations whose seats take turns one after another and in threads, and workers at gates; the texts of faults, and
 //! runs in which an allocation fails.
 
+ghost use Rattle.std.specs.Prelude.{◌≡◌, false, IfSome};
+
 mod baton;
 mod full;
 mod gates;
@@ -79,7 +81,9 @@ fn program_of(alloc: Global, input: &str) -> Option<Program> {
 }
 
 /// The program of an input, and a system of it with room for this many turns.
-fn opened(alloc: Global, input: &str, room: u32) -> Option<(Program, System)> {
+fn opened(alloc: Global, input: &str, room: u32) -> Option<(Program, System)>
+    ensures { IfSome result (λ r. r.1.setting.timer ≡ false) }
+{
     let program = program_of(alloc, input)?;
     let system = System::open(alloc, &program, room).ok()?;
     Some((program, system))

@@ -38,6 +38,7 @@ pub(crate) fn body_line(
         BodyWord::Unfund => unfund(reading, tokens),
         BodyWord::SetTicket => set_ticket(reading, tokens),
         BodyWord::RemoveThread => remove_thread(reading, tokens),
+        BodyWord::Kill => kill(reading, tokens),
         BodyWord::MakeThread => make_thread(reading, tokens),
         BodyWord::MakeFunded => make_funded(reading, tokens),
         BodyWord::ListTickets => list_tickets(reading, tokens),
@@ -170,6 +171,15 @@ fn remove_thread(reading: &mut Reading, mut tokens: Tokens<'_>) -> Result<(), Li
     let thread = tokens.only()?;
     let thread = ThreadRef::Named(any_name(thread)?);
     reading.add_command(Command::RemoveThread { thread })
+}
+
+/// `kill THREAD`, in an input of `lottery 3`
+fn kill(reading: &mut Reading, mut tokens: Tokens<'_>) -> Result<(), LineFault>
+    ensures { (n : ℕ) → Gives reading.new result (body_after_header n reading.old BodyWord.Kill tokens.entry) }
+{
+    let thread = tokens.only()?;
+    let thread = ThreadRef::Named(any_name(thread)?);
+    reading.add_command(Command::Kill { thread })
 }
 
 /// `settkt TICKET AMOUNT`, in an input of `lottery 3`

@@ -1,7 +1,9 @@
 //! The program in an input.
-ghost use Rattle.std.specs.Prelude.{◌≡◌, is_some, IfOk};
+ghost use Rattle.std.specs.Prelude.{◌≡◌, is_some, map, IfOk};
 ghost use Rattle.lot_machine.specs.State.{sizes_of};
 ghost use Rattle.lot_simulation.specs.Formats.{is_timed, unit_of};
+ghost use Rattle.lot_simulation.specs.Script.{without_sleep};
+ghost use Rattle.lot_simulation.specs.World.{without_time};
 ghost use Rattle.lot_text.specs.Programs.{IsProgram};
 
 use lot_machine::{Command, Limits};
@@ -136,6 +138,16 @@ impl Program {
         self.times.as_slice()
     }
 
+    /// A copy of the program without time, as a free run makes it: each `sleep` ends at once, so it is a `yield`. It
+    /// fails only if out of memory.
+    pub fn without_time(&self, alloc: Global) -> Result<Program, AllocError>
+        ensures { IfOk result (λ program. program ≡ without_time self.now) }
+    {
+        let mut copy = self.copied(alloc)?;
+        copy.scripts = scripts_without_sleeps(alloc, self.scripts())?;
+        Ok(copy)
+    }
+
     /// A copy of the program, in memory of its own. It fails only if out of memory.
     pub fn copied(&self, alloc: Global) -> Result<Program, AllocError>
         ensures { IfOk result (λ program. program ≡ self.now) }
@@ -161,6 +173,17 @@ fn copied_scripts(alloc: Global, scripts: &[Script]) -> Result<Vec<Script>, Allo
     let mut copies = Vec::with_capacity(alloc, scripts.len())?;
     for script in scripts {
         copies.push(script.copied(alloc)?)?;
+    }
+    Ok(copies)
+}
+
+/// A copy of the scripts in which each `sleep` is a `yield`.
+fn scripts_without_sleeps(alloc: Global, scripts: &[Script]) -> Result<Vec<Script>, AllocError>
+    ensures { IfOk result (λ copies. copies.items ≡ map (map without_sleep) scripts.now) }
+{
+    let mut copies = Vec::with_capacity(alloc, scripts.len())?;
+    for script in scripts {
+        copies.push(script.without_sleeps(alloc)?)?;
     }
     Ok(copies)
 }

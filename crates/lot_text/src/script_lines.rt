@@ -33,6 +33,7 @@ pub(crate) fn script_line(
         ScriptWord::Reply => reply(reading, script, tokens),
         ScriptWord::AtPort(asked) => at_port(reading, script, asked, tokens),
         ScriptWord::OnMutex(asked) => on_mutex(reading, script, asked, tokens),
+        ScriptWord::Sleep => sleep(reading, script, tokens),
         ScriptWord::EndScript => end_script(reading, script, tokens),
     }
 }
@@ -155,6 +156,17 @@ fn on_mutex(
         script,
         Line::Trap(ScriptTrap::OnMutex(asked, mutex)),
     )
+}
+
+/// `sleep TICKS`
+fn sleep(reading: &mut Reading, script: OpenScript, tokens: Tokens<'_>) -> Result<(), LineFault>
+    requires { length reading.old.scripts < 256 }
+    ensures { Gives reading.new result
+        (script_line_read (within_script reading.old script) script ScriptWord.Sleep tokens.entry) }
+{
+    let ticks = tokens.only()?;
+    let ticks = number_in(ranges::SLEEP, ticks)?;
+    add_line(reading, script, Line::Trap(ScriptTrap::Sleep(ticks)))
 }
 
 /// `endscript`

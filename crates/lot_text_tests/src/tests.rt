@@ -24,6 +24,7 @@ enum Asked<'a> {
     SetTicket(u64, u64),
     MakeThread(&'a str, u32),
     RemoveThread(&'a str),
+    Kill(&'a str),
     MakeFunded(u64, &'a str, &'a str, u32),
     List(Kind),
 }
@@ -68,6 +69,9 @@ fn command(rt: &impl Abort, asked: Asked<'_>) -> Command {
             Command::MakeThread { name, script }
         }
         Asked::RemoveThread(text) => Command::RemoveThread {
+            thread: ThreadRef::Named(name(rt, text)),
+        },
+        Asked::Kill(text) => Command::Kill {
             thread: ThreadRef::Named(name(rt, text)),
         },
         Asked::MakeFunded(amount, issuer, text, script) => Command::MakeFunded {
@@ -276,9 +280,9 @@ fn reads_the_whole_grammar(rt: HostRuntime) {
 
 /// The parts that only timed inputs have. One name has 16 bytes, the longest, and isn't good.
 const TIMED: &str =
-    "lottery 3\nprocessors 2\nturns 5\nfor 4294967295\nport p\nscript s\nloop 2 serve p yield\nend endscript\n\
+    "lottery 3\nprocessors 2\nturns 5\nfor 4294967295\nport p\nscript s\nloop 2 serve p yield\nend sleep 4294967295 sleep 1 endscript\n\
     mkthr a s\nat 10\nat 20\nlstkt\nlscur\nat 20\nlsthr\nsettkt 3 0\nsettkt 0 18446744073709551615\n\
-    rmthr a\nrmthr 0123456789abcdef\nat 4294967295";
+    rmthr a\nrmthr 0123456789abcdef\nkill a\nkill fedcba9876543210\nat 4294967295";
 
 /// The seeds are those after 1 of the generator that multiplies by 48271 modulo 2147483647.
 const TIMED_SAYS: Said<'_> = Said {
@@ -300,6 +304,8 @@ const TIMED_SAYS: Said<'_> = Said {
         Line::Trap(ScriptTrap::AtPort(PortTrap::Serve, 1)),
         Line::Trap(ScriptTrap::Yield),
         Line::End,
+        Line::Trap(ScriptTrap::Sleep(4294967295)),
+        Line::Trap(ScriptTrap::Sleep(1)),
     ]],
     commands: &[
         Asked::MakeThread("a", 1),
@@ -310,10 +316,12 @@ const TIMED_SAYS: Said<'_> = Said {
         Asked::SetTicket(0, 18446744073709551615),
         Asked::RemoveThread("a"),
         Asked::RemoveThread("0123456789abcdef"),
+        Asked::Kill("a"),
+        Asked::Kill("fedcba9876543210"),
     ],
     schedule: &[],
     duration: Some(4294967295),
-    times: &[0, 20, 20, 20, 20, 20, 20, 20],
+    times: &[0, 20, 20, 20, 20, 20, 20, 20, 20, 20],
 };
 
 #[test]
@@ -465,6 +473,8 @@ const REFUSED_BODIES: [Refusals<'_>; 8] = [
             "settkt x 5",
             "rmthr a",
             "rmthr",
+            "kill a",
+            "kill",
         ],
     },
     Refusals {
@@ -475,6 +485,7 @@ const REFUSED_BODIES: [Refusals<'_>; 8] = [
             "script spin\ncompu",
             "script spin\ncompute",
             "script s\nyield 1",
+            "script s\nsleep 5",
             "script s\nscript t",
             "script s\nquantum 5",
             "script s\nendscript 1",
@@ -594,6 +605,8 @@ const REFUSED_RUNS: [Refusals<'_>; 4] = [
             "settkt 007 5",
             "rmthr a",
             "rmthr abcdefghijklmnopq",
+            "kill a",
+            "kill abcdefghijklmnopq",
         ],
     },
     Refusals {
@@ -630,6 +643,7 @@ const REFUSED_DURATIONS: [Refusals<'_>; 3] = [
             "at 0",
             "settkt 1 5",
             "rmthr a",
+            "kill a",
         ],
     },
     Refusals {
@@ -662,12 +676,15 @@ const REFUSED_TIMES: [Refusals<'_>; 5] = [
             "rmthr",
             "rmthr a b",
             "rmthr a #",
+            "kill",
+            "kill a b",
+            "kill a #",
         ],
     },
     Refusals {
         line: 3,
         refusal: InputRefusal::TooLong,
-        ends: &["rmthr abcdefghijklmnopq"],
+        ends: &["rmthr abcdefghijklmnopq", "kill abcdefghijklmnopq"],
     },
     Refusals {
         line: 3,
@@ -705,12 +722,14 @@ const REFUSED_PHRASES: [Refusals<'_>; 4] = [
             "yield end",
             "loop 2 endscript",
             "endscript yield",
+            "yield sleep",
+            "sleep 5 7",
         ],
     },
     Refusals {
         line: 5,
         refusal: InputRefusal::BadNumber,
-        ends: &["yield compute 0 nonsense"],
+        ends: &["yield compute 0 nonsense", "sleep 0", "sleep 4294967296"],
     },
     Refusals {
         line: 5,

@@ -1,4 +1,4 @@
-//! Starting and stopping threads, and delivering numbers to them.
+//! Starting, stopping and ending threads, and delivering numbers to them.
 ghost use Rattle.std.specs.Prelude.{◌≡◌, ◌<◌, None, Some, IfSome, option_and_then};
 ghost use Rattle.lot_machine.specs.declared.funding.Node.{Node as ANode};
 ghost use Rattle.lot_machine.specs.declared.record.Status.TheVariants as status;
@@ -6,6 +6,7 @@ ghost use Rattle.lot_machine.specs.Bounds.{IsBetween};
 ghost use Rattle.lot_machine.specs.Numbered.{at_number};
 ghost use Rattle.lot_machine.specs.State as states;
 ghost use Rattle.lot_machine.specs.State.{change_record, thread_on};
+ghost use Rattle.lot_machine.specs.Kill.{ended};
 ghost use Rattle.lot_machine.specs.Step.{started};
 ghost use Rattle.lot_machine.specs.Traps.{with_ticks};
 ghost use Rattle.lot_value.specs.Changing.{CanLend};
@@ -47,6 +48,7 @@ impl Threads {
     }
 
     /// Takes a thread off its processor after these further ticks: it is Ready with this compensation (3.4, 4.2).
+    #[inline(always)]
     pub fn stop(&mut self, thread: ThreadNumber, ticks: u32, compensation: Option<u32>)
         requires thread { IsThreadOf self.old thread.number }
         requires some { IfSome compensation (λ used. 0 < used) }
@@ -85,6 +87,25 @@ impl Threads {
             unreachable!()
         };
         self.change(thread, Record { status, ..before });
+    }
+
+    /// Ends a thread in any status: it is Dead, without compensation (4.5).
+    pub fn end(&mut self, thread: ThreadNumber)
+        requires thread { IsThreadOf self.old thread.number }
+        ensures ended { self.new ≡ with_records self.old (change_record ended self.old.records thread.number)
+            self.new.stale }
+        ensures kept { (node : ANode) → IsStaleIn self.old node → IsStaleIn self.new node }
+        ensures stale { MakesStaleIn self.old self.new }
+    {
+        let Some(before) = self.record(thread) else {
+            unreachable!()
+        };
+        let next = Record {
+            status: Status::Dead,
+            compensation: None,
+            ..before
+        };
+        self.change(thread, next);
     }
 
     /// Makes a thread Ready again, and delivers a number to it: the thread gets the number when it next runs (4.6).

@@ -140,11 +140,13 @@ fundx 3 base c spin
     ),
 ];
 
-/// Runs the program, and plays its schedule. Compares whether the run has this word, and the reports of both.
+/// Runs one program, and plays its schedule with another one. Compares whether the run has this word, and the reports
+/// of both.
 fn check_played_back<H: Abort + Threads + Wait + Sync>(
     rt: &H,
     alloc: Global,
     program: &str,
+    played: &str,
     total: &str,
 ) {
     let run = written(rt, alloc, "run", program);
@@ -153,7 +155,7 @@ fn check_played_back<H: Abort + Threads + Wait + Sync>(
         .find("\nschedule ")
         .or(run.as_str().find("\nruns "));
     let (report, schedule) = run.as_str().split_at(lines.expect(rt, "a schedule") + 1);
-    let input = format!(in alloc; "{program}{schedule}").expect(rt, "memory");
+    let input = format!(in alloc; "{played}{schedule}").expect(rt, "memory");
     let played = written(rt, alloc, "play", input.as_str());
     let found = (
         run.as_str().contains(total),
@@ -166,8 +168,41 @@ fn check_played_back<H: Abort + Threads + Wait + Sync>(
 #[test]
 fn a_run_is_played_back(rt: HostRuntime) {
     for (program, total) in PROGRAMS {
-        check_played_back(&rt, rt.alloc(), program, total);
+        check_played_back(&rt, rt.alloc(), program, program, total);
     }
+}
+
+/// Two processors and one thread, which sleeps in each round of its loop.
+const SLEEPS: &str = "lottery 3
+processors 2
+quantum 10
+turns 40
+for 1
+script s
+loop 1000 compute 3 sleep 4294967295 end
+endscript
+fundx 1 base a s
+";
+
+/// The same thread in a format without `sleep`. It yields in each round.
+const YIELDS: &str = "lottery 2
+processors 2
+quantum 10
+turns 40
+script s
+loop 1000
+compute 3
+yield
+end
+endscript
+fundx 1 base a s
+";
+
+// A run has no time, so it takes each sleep as a yield. The one thread wins each draw for which it is ready, whatever
+// the numbers drawn are.
+#[test]
+fn a_run_takes_sleeps_as_yields(rt: HostRuntime) {
+    check_played_back(&rt, rt.alloc(), SLEEPS, YIELDS, "total turns 81 ");
 }
 
 #[test]

@@ -373,6 +373,144 @@ total turns 8 quanta 3 ticks 12 refused 0 left 0
 ",
 );
 
+/// Two threads that wake at the same time, while both processors wait: `a`, which has the lower number, comes first, and
+/// went to sleep last. Then `a` sleeps to the last tick, and `b` past it.
+const SLEEPERS: (&str, &str) = (
+    "lottery 3
+processors 2
+quantum 10
+for 30
+script long
+compute 4 sleep 10 compute 2 sleep 12
+endscript
+script short
+compute 1 sleep 13 compute 2 sleep 13
+endscript
+fundx 1 base a long
+fundx 1 base b short
+",
+    "0 0 funded 1 1
+0 0 funded 2 2
+0 1 draw 1.992 of 2 thread 2
+0 2 draw 0.054 of 1 thread 1
+2 1 thread 2 ticks 2 sleep
+2 1 idle
+5 2 thread 1 ticks 5 sleep
+5 1 idle
+5 2 idle
+15 3 wake thread 1
+15 3 wake thread 2
+15 1 draw 2.363 of 7 thread 2
+15 2 draw 1.265 of 2 thread 1
+18 1 thread 2 ticks 3 sleep
+18 1 idle
+18 2 thread 1 ticks 3 sleep
+18 1 idle
+18 2 idle
+30 3 wake thread 1
+30 1 draw 0.902 of 3.332 thread 1
+30 2 idle
+report
+thread 1 a quanta 3 ticks 8 share 61.538% value 100%
+thread 2 b quanta 2 ticks 5 share 38.461% value 0%
+processor 1 quanta 3 idle 4 ticks 5 unused 25
+processor 2 quanta 2 idle 3 ticks 8 unused 22
+total turns 21 quanta 5 ticks 13 refused 0 left 0
+",
+);
+
+/// A command and a wake at the last tick. The command comes first, and the woken thread takes part in the draw.
+const LAST_TICK: (&str, &str) = (
+    "lottery 3
+quantum 10
+for 20
+script nap
+compute 4 sleep 15 compute 2
+endscript
+fundx 1 base a nap
+at 20
+lsthr
+",
+    "0 0 funded 1 1
+0 1 draw 0.992 of 1 thread 1
+5 1 thread 1 ticks 5 sleep
+5 1 idle
+20 0 lsthr 1
+20 thread 1 a asleep value 0 weight 0 quanta 1 ticks 5
+20 2 wake thread 1
+20 1 draw 1.921 of 2 thread 1
+report
+thread 1 a quanta 2 ticks 5 share 100% value 100%
+processor 1 quanta 2 idle 1 ticks 5 unused 15
+total turns 7 quanta 2 ticks 5 refused 0 left 0
+",
+);
+
+/// A thread that sleeps with a mutex. The one that waits for it has no value until the owner wakes, and then lends to it.
+const SLEEPING_OWNER: (&str, &str) = (
+    "lottery 3
+quantum 10
+for 60
+mutex m
+script own
+lock m sleep 20 unlock m
+endscript
+script wants
+lock m unlock m
+endscript
+script spin
+compute 25
+endscript
+fundx 1 base a own
+at 2
+fundx 2 base b wants
+at 6
+fundx 1 base c spin
+lsthr
+at 23
+lsthr
+",
+    "0 0 funded 1 1
+0 1 draw 0.992 of 1 thread 1
+1 1 thread 1 ticks 1 lock 1 taken
+2 0 funded 2 2
+2 1 thread 1 ticks 1 sleep
+2 1 draw 1.281 of 2 thread 2
+3 1 thread 2 ticks 1 lock 1 waits
+3 1 idle
+6 0 funded 3 3
+6 0 lsthr 3
+6 thread 1 a asleep value 0 weight 0 quanta 1 ticks 2
+6 thread 2 b waiting 1 value 0 weight 0 quanta 1 ticks 1
+6 thread 3 c ready value 1 weight 1 quanta 0 ticks 0
+6 1 draw 0.363 of 1 thread 3
+16 1 thread 3 ticks 10 expire
+16 1 draw 0.738 of 1 thread 3
+22 2 wake thread 1
+23 0 lsthr 3
+23 thread 1 a ready value 3 weight 15 quanta 1 ticks 2
+23 thread 2 b waiting 1 value 2 weight 20 quanta 1 ticks 1
+23 thread 3 c running 1 used 0 value 1 weight 1 quanta 2 ticks 10
+26 1 thread 3 ticks 10 expire
+26 1 draw 15.058 of 16 thread 3
+32 1 thread 3 ticks 6 exit
+32 1 draw 1.828 of 15 thread 1
+33 1 thread 1 ticks 1 unlock 1 to 2 draw 0.316 of 2
+33 1 draw 15.273 of 30 thread 2
+34 1 thread 2 ticks 1 unlock 1 free
+35 1 thread 2 ticks 1 exit
+35 1 draw 6.929 of 10 thread 1
+36 1 thread 1 ticks 1 exit
+36 1 idle
+report
+thread 1 a quanta 3 ticks 4 share 12.121% value 0%
+thread 2 b quanta 2 ticks 3 share 9.09% value 0% mutex waits 1 mean 30 longest 30
+thread 3 c quanta 3 ticks 26 share 78.787% value 0%
+processor 1 quanta 8 idle 2 ticks 33 unused 27
+total turns 26 quanta 8 ticks 33 refused 0 left 0
+",
+);
+
 #[test]
 fn turns_in_time(rt: HostRuntime) {
     let rows = [
@@ -391,5 +529,41 @@ fn turns_in_time(rt: HostRuntime) {
     ];
     for (input, output) in rows {
         check_play(&rt, rt.alloc(), input, 0, output);
+    }
+}
+
+// The outputs are computed by a small model of the rules.
+#[test]
+fn sleepers_in_time(rt: HostRuntime) {
+    for (input, output) in [SLEEPERS, LAST_TICK, SLEEPING_OWNER] {
+        check_play(&rt, rt.alloc(), input, 0, output);
+    }
+}
+
+#[test]
+fn refused_sleeps(rt: HostRuntime) {
+    for (input, output) in [
+        (
+            "lottery 1\nscript s\nsleep 5\n",
+            "refused line 3 51 BadLine\n",
+        ),
+        (
+            "lottery 2\nscript s\nsleep 5\n",
+            "refused line 3 51 BadLine\n",
+        ),
+        (
+            "lottery 3\nfor 5\nscript s\nsleep\n",
+            "refused line 4 51 BadLine\n",
+        ),
+        (
+            "lottery 3\nfor 5\nscript s\nsleep 0\n",
+            "refused line 4 52 BadNumber\n",
+        ),
+        (
+            "lottery 3\nfor 5\nscript s\nsleep 4294967296\n",
+            "refused line 4 52 BadNumber\n",
+        ),
+    ] {
+        check_play(&rt, rt.alloc(), input, 1, output);
     }
 }

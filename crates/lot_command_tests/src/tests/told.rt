@@ -125,6 +125,26 @@ line 13: the command was refused: no thread has this name
 }
 
 #[test]
+fn kills(rt: HostRuntime) {
+    let input = "lottery 3
+quantum 10
+for 8
+script s
+compute 40
+endscript
+fundx 3 base a s
+at 3
+kill a
+kill a
+kill b
+";
+    let expected = "line 10: the command was refused: the thread has ended
+line 11: the command was refused: no thread has this name
+";
+    check_told(&rt, rt.alloc(), ["lot_sim", "play"], input, 0, expected);
+}
+
+#[test]
 fn one_command_never_made(rt: HostRuntime) {
     let input = "lottery 1\nmkcur a\nmkcur b\nschedule 0\n";
     check_told(
@@ -254,4 +274,24 @@ schedule 0 0 0 1 1 1 1 1 1 1 1 1 1 1
 thread 'd' waits for good for a server at port 1
 ",
     );
+}
+
+// The owner of the mutex sleeps at the end, and would go on.
+#[test]
+fn mutex_of_a_sleeper(rt: HostRuntime) {
+    let input = "lottery 3
+quantum 10
+for 30
+mutex m
+script own
+lock m sleep 100
+endscript
+script wants
+lock m
+endscript
+fundx 1 base a own
+at 5
+fundx 1 base b wants
+";
+    check_told(&rt, rt.alloc(), ["lot_sim", "play"], input, 0, "");
 }

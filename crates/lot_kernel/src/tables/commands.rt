@@ -8,7 +8,7 @@ ghost use Rattle.lot_machine.specs.declared.reply.Reply.TheVariants.{Done, Refus
 ghost use Rattle.lot_machine.specs.declared.ticket.Target.TheVariants.{Unfunded};
 ghost use Rattle.lot_machine.specs.declared.command.Command.TheVariants.{MakeTicket, RemoveTicket, MakeCurrency};
 ghost use Rattle.lot_machine.specs.declared.command.Command.TheVariants.{RemoveCurrency, Fund, Unfund, SetTicket};
-ghost use Rattle.lot_machine.specs.declared.command.Command.TheVariants.{MakeThread, MakeFunded, RemoveThread};
+ghost use Rattle.lot_machine.specs.declared.command.Command.TheVariants.{MakeThread, MakeFunded, RemoveThread, Kill};
 ghost use Rattle.lot_machine.specs.Commands as names;
 ghost use Rattle.lot_machine.specs.Commands.{command_step};
 ghost use Rattle.lot_machine.specs.Funding.{target_of, ticket_at, ticket_in, with_new_ticket, with_target};
@@ -48,6 +48,7 @@ impl Tables {
             Command::SetTicket { ticket, amount } => *reply = self.set_ticket(*ticket, *amount),
             Command::MakeThread { name, script } => *reply = self.make_thread(name, *script),
             Command::RemoveThread { thread } => *reply = self.remove_thread(thread),
+            Command::Kill { thread } => *reply = self.kill(thread),
             Command::MakeFunded {
                 amount,
                 currency,
@@ -203,6 +204,24 @@ impl Tables {
         }
         self.thread_index.remove(index_of(number));
         self.threads.remove_thread(ThreadNumber { number });
+        Reply::Done
+    }
+
+    fn kill(&mut self, thread: &ThreadRef) -> Reply
+        requires { IsInOrder self.old.state }
+        ensures reply { result ≡ (command_step self.old.state (Kill thread.now)).reply }
+        ensures state { self.new.state ≡ (command_step self.old.state (Kill thread.now)).state }
+        ensures stale { MakesStale self.old self.new }
+        ensures kept { KeepsStale self.old self.new }
+        ensures meter { self.new.meter ≡ self.old.meter }
+    {
+        let Some(number) = self.thread_meant(thread) else {
+            return Reply::Refused(Refusal::NoThread);
+        };
+        if self.is_dead(number) {
+            return Reply::Refused(Refusal::DeadThread);
+        }
+        self.end(ThreadNumber { number });
         Reply::Done
     }
 

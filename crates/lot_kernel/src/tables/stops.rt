@@ -1,7 +1,9 @@
-//! Events that end a thread's run without a trap, and wakes of sleepers (3.4, 4.2, 4.4).
+//! Events that end a thread's run without a trap, ends of killed threads, and wakes of sleepers (3.4, 4.2, 4.4).
 ghost use Rattle.std.specs.Prelude.{◌≡◌, ◌<◌, ◌≤◌, IfSome, length};
 ghost use Rattle.lot_machine.specs.declared.event.Event.TheVariants as event;
+ghost use Rattle.lot_machine.specs.Kill.{killed};
 ghost use Rattle.lot_machine.specs.Numbered.{option_any};
+ghost use Rattle.lot_machine.specs.Order.{IsInOrder};
 ghost use Rattle.lot_machine.specs.State as states;
 ghost use Rattle.lot_machine.specs.Step.{step, stopped};
 ghost use Rattle.lot_kernel.specs.Counted.{KeepsStale};
@@ -99,6 +101,22 @@ impl Tables {
             thread: thread.number,
             ticks,
         };
+    }
+
+    /// Ends a thread in any status, and the waits of its clients and of those that have waited longest for its
+    /// mutexes, one after another.
+    pub(super) fn end(&mut self, thread: ThreadNumber)
+        requires order { IsInOrder self.old.state }
+        requires there { (0 < thread.number) × (thread.number ≤ length self.old.state.threads) }
+        ensures state { self.new.state ≡ killed self.old.state thread.number }
+        ensures stale { MakesStale self.old self.new }
+        ensures kept { KeepsStale self.old self.new }
+        ensures meter { self.new.meter ≡ self.old.meter }
+    {
+        self.queues.take_out(thread.number);
+        lot_ports::release_clients(&mut self.threads, &mut self.queues, thread);
+        lot_mutex::pass_all_on(&mut self.threads, &mut self.queues, thread);
+        self.threads.end(thread);
     }
 
     /// Makes a sleeping thread Ready.

@@ -7,7 +7,7 @@ ghost use Rattle.lot_queues.specs.QueueLists.{IsThere};
 
 use super::helpers::{Won, add_thread, check_step, finish, is_known, is_won, may_wait, stands};
 use lot_machine::{Limits, MutexNumber, Outcome, Sizes, Status, ThreadNumber};
-use lot_mutex::{Lottery, are_waiting, have_same_owners, lock, unlock};
+use lot_mutex::{Lottery, are_waiting, have_same_owners, lock, pass_all_on, unlock};
 use lot_queues::Queues;
 use lot_threads::{Effect, Threads};
 use std::alloc::Global;
@@ -21,6 +21,8 @@ enum Step {
     Lock(u32, u32, Outcome),
     /// An unlock by a thread of a mutex, with the number of its lottery, and the edges that it reads.
     Unlock(u32, u32, u128, Outcome, u64),
+    /// The mutexes of a thread pass on.
+    PassAllOn(u32),
     /// The result of a draw.
     Wins(u128, Won),
     Stands(u32, Status),
@@ -114,6 +116,18 @@ fn unlocks(
     effect.outcome == outcome && read == reads
 }
 
+/// Passes the mutexes of a thread on.
+fn pass_on_from(rt: &impl Abort, scene: &mut Scene, owner: u32) {
+    let Scene {
+        threads,
+        queues,
+        ..
+    } = scene;
+    let owner = ThreadNumber { number: owner };
+    assert!(rt; may_wait(threads, queues, owner) && have_same_owners(threads, queues));
+    pass_all_on(threads, queues, owner)
+}
+
 /// Takes a step, and returns whether it comes out as the row says.
 fn take(rt: &impl Abort, scene: &mut Scene, step: Step) -> bool {
     match step {
@@ -124,6 +138,10 @@ fn take(rt: &impl Abort, scene: &mut Scene, step: Step) -> bool {
         Step::Lock(thread, mutex, outcome) => locks(rt, scene, thread, mutex, outcome),
         Step::Unlock(owner, mutex, d, outcome, reads) => {
             unlocks(rt, scene, (owner, mutex), d, (outcome, reads))
+        }
+        Step::PassAllOn(owner) => {
+            pass_on_from(rt, scene, owner);
+            true
         }
         Step::Wins(d, won) => is_won(scene.threads.draw(d), won),
         Step::Stands(thread, status) => stands(&scene.threads, thread, status),
@@ -201,6 +219,30 @@ const PASSED: [Step; 19] = [
 #[test]
 fn a_mutex_is_passed(rt: HostRuntime) {
     play(&rt, rt.alloc(), small_limits(), &PASSED)
+}
+
+const LEFT: [Step; 14] = [
+    Step::AddThread(1),
+    Step::AddThread(10),
+    Step::AddThread(100),
+    Step::Lock(1, 1, Outcome::Locked),
+    Step::Lock(1, 2, Outcome::Locked),
+    Step::Lock(3, 1, Outcome::Waits),
+    Step::Lock(2, 1, Outcome::Waits),
+    Step::PassAllOn(1),
+    Step::PassAllOn(1),
+    Step::Owner(1, Some(3)),
+    Step::Owner(2, None),
+    Step::Stands(3, Status::Ready),
+    Step::Stands(2, Status::Waiting(1)),
+    Step::Wins(110, (3, 110, 111)),
+];
+
+// A mutex that is left behind passes to the thread that has waited longest, to which the other one lends then; a mutex
+// for which nobody waits is free.
+#[test]
+fn mutexes_are_left(rt: HostRuntime) {
+    play(&rt, rt.alloc(), small_limits(), &LEFT)
 }
 
 const UNSETTLED: [Step; 5] = [

@@ -1,7 +1,7 @@
 //! Calls, receives and replies among a few threads, with their lends.
 use super::helpers::{Won, add_thread, check_step, finish, is_known, is_won, may_wait, stands};
 use lot_machine::{Limits, Outcome, PortNumber, Sizes, Status, ThreadNumber};
-use lot_ports::{call, receive, reply, serve};
+use lot_ports::{call, receive, release_clients, reply, serve};
 use lot_queues::Queues;
 use lot_threads::{Effect, Threads};
 use std::alloc::Global;
@@ -19,6 +19,8 @@ enum Step {
     Reply(u32, u32, Option<Outcome>),
     /// A reply by a thread with a number, and a receipt at a port; `None` if it has no client.
     Serve(u32, u32, u32, Option<Outcome>),
+    /// The clients of a thread are released.
+    Release(u32),
     /// The result of a draw.
     Wins(u128, Won),
     Stands(u32, Status),
@@ -81,6 +83,11 @@ fn make_serving(
     Some(serve(threads, queues, server, client, port, number))
 }
 
+fn release(rt: &impl Abort, threads: &mut Threads, queues: &mut Queues, server: ThreadNumber) {
+    assert!(rt; is_known(threads, queues, server));
+    release_clients(threads, queues, server)
+}
+
 /// The outcome of what a thread did at a port, after which it goes on or leaves.
 fn done(rt: &impl Abort, threads: &mut Threads, thread: ThreadNumber, effect: Effect) -> Outcome {
     finish(rt, threads, thread, effect.after);
@@ -140,6 +147,10 @@ fn take(rt: &impl Abort, threads: &mut Threads, queues: &mut Queues, step: Step)
         }
         Step::Reply(_, _, outcome) | Step::Serve(_, _, _, outcome) => {
             make_trap(rt, threads, queues, step) == outcome
+        }
+        Step::Release(server) => {
+            release(rt, threads, queues, ThreadNumber { number: server });
+            true
         }
         Step::Wins(d, won) => is_won(threads.draw(d), won),
         Step::Stands(thread, status) => stands(threads, thread, status),
@@ -261,6 +272,38 @@ fn a_server_serves(rt: HostRuntime) {
 #[test]
 fn calls_wait(rt: HostRuntime) {
     play(&rt, rt.alloc(), small_limits(), &QUEUED_FIRST)
+}
+
+const RELEASED: [Step; 16] = [
+    Step::AddThread(1),
+    Step::AddThread(10),
+    Step::AddThread(100),
+    Step::Receive(1, 1, Outcome::Waits),
+    Step::Call(2, 1, 5, Outcome::ServedBy(1)),
+    Step::Call(3, 1, 6, Outcome::Queued),
+    Step::Receive(
+        1,
+        1,
+        Outcome::Received {
+            client: 3,
+            number: 6,
+        },
+    ),
+    Step::Wins(110, (1, 110, 111)),
+    Step::Release(1),
+    Step::Stands(2, Status::Ready),
+    Step::Stands(3, Status::Ready),
+    Step::Gets(2, None),
+    Step::Gets(3, None),
+    Step::Wins(110, (3, 110, 111)),
+    Step::Reply(1, 4, None),
+    Step::Release(1),
+];
+
+// The calls of released clients return, with nothing delivered, and lend no more.
+#[test]
+fn clients_are_released(rt: HostRuntime) {
+    play(&rt, rt.alloc(), small_limits(), &RELEASED)
 }
 
 const NO_PORT: [Step; 3] = [

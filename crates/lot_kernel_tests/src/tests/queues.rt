@@ -231,6 +231,56 @@ fn a_waiter_is_taken_from_its_place(rt: HostRuntime) {
     check_waiters(&rt, rt.alloc(), &queues, 2, &[]);
 }
 
+/// Takes a thread out of its queue, if it is in one.
+fn take_out(rt: &impl Abort, queues: &mut Queues, thread: u32) {
+    assert!(rt; has_thread(queues, thread));
+    queues.take_out(thread);
+    check_nowhere(rt, queues, thread, true)
+}
+
+/// Puts three threads into a queue, which is empty, and takes out the second of them and one that is in no queue: the
+/// others stay in order.
+fn check_taken_out(rt: &impl Abort, queues: &mut Queues, queue: Queue) {
+    for thread in [3, 1, 2] {
+        push(rt, queues, queue, thread);
+    }
+    for thread in [1, 4] {
+        take_out(rt, queues, thread);
+    }
+    for expected in [Some(3), Some(2), None] {
+        check_taken(rt, queues, queue, expected);
+    }
+}
+
+#[test]
+fn a_thread_is_taken_out_of_its_queue(rt: HostRuntime) {
+    let mut queues = full(&rt, rt.alloc());
+    for queue in IN_ORDER {
+        check_taken_out(&rt, &mut queues, queue);
+    }
+}
+
+/// Compares the thread that has waited longest for a mutex.
+fn check_first_waiter(rt: &impl Abort, queues: &Queues, mutex: u32, expected: Option<u32>) {
+    assert!(rt; has_mutex(queues, mutex));
+    check_same(rt, &queues.first_waiter(mutex), &expected);
+}
+
+#[test]
+fn a_waiter_is_taken_out_of_its_queue(rt: HostRuntime) {
+    let mut queues = full(&rt, rt.alloc());
+    check_first_waiter(&rt, &queues, 2, None);
+    for thread in [2, 5, 1] {
+        push(&rt, &mut queues, Queue::Waiters(2), thread);
+    }
+    check_first_waiter(&rt, &queues, 2, Some(2));
+    take_out(&rt, &mut queues, 5);
+    check_waiters(&rt, rt.alloc(), &queues, 2, &[2, 1]);
+    take_out(&rt, &mut queues, 2);
+    check_first_waiter(&rt, &queues, 2, Some(1));
+    check_first_waiter(&rt, &queues, 3, None)
+}
+
 #[test]
 fn a_mutex_has_an_owner_or_is_free(rt: HostRuntime) {
     let mut queues = full(&rt, rt.alloc());

@@ -184,6 +184,18 @@ const REMOVED: &[Count<'static>] = &[
     Count::Draws(4, (2, 4, 5), 0),
 ];
 
+// A kill reads nothing, and neither does one that is refused. Once nothing funds the killed thread, its value is found
+// without a read.
+const KILLED: &[Count<'static>] = &[
+    Count::Does(Line::Fundx(10, "base", "a", 1)),
+    Count::Does(Line::Fundx(5, "base", "b", 1)),
+    Count::Draws(0, (1, 0, 15), 2),
+    Count::Does(Line::Kill("a")),
+    Count::Refuses(Line::Kill("a"), Refusal::DeadThread),
+    Count::Does(Line::Unfund(1)),
+    Count::Draws(4, (2, 4, 5), 0),
+];
+
 #[test]
 fn what_is_read(rt: HostRuntime) {
     count_all(&rt, rt.alloc(), SHARED);
@@ -191,7 +203,8 @@ fn what_is_read(rt: HostRuntime) {
     count_all(&rt, rt.alloc(), RESET);
     count_all(&rt, rt.alloc(), LISTED);
     count_all(&rt, rt.alloc(), TRAPPED);
-    count_all(&rt, rt.alloc(), REMOVED)
+    count_all(&rt, rt.alloc(), REMOVED);
+    count_all(&rt, rt.alloc(), KILLED)
 }
 
 /// A draw visits places of the tree of weights, 1 to 10.

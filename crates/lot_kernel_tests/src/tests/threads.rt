@@ -26,6 +26,7 @@ enum Step {
     Unfund(u32),
     /// A thread's status and compensation from now on.
     Change(u32, Status, Option<u32>),
+    End(u32),
     /// A thread may not have this status.
     Refuses(u32, Status),
     /// A thread becomes the owner of a mutex.
@@ -114,6 +115,14 @@ fn change(
     assert!(rt; threads.record(thread) == Some(next));
 }
 
+fn end(rt: &impl Abort, threads: &mut Threads, number: u32) {
+    assert!(rt; 0 < number && number as usize <= threads.records().len());
+    let thread = ThreadNumber { number };
+    let ended = record_with(rt, threads, thread, Status::Dead, None);
+    threads.end(thread);
+    assert!(rt; threads.record(thread) == Some(ended));
+}
+
 fn take(rt: &impl Abort, threads: &mut Threads, mutex: u32, owner: u32) {
     let graph = threads.graph();
     assert!(rt; 0 < mutex && mutex <= graph.mutexes() && graph.owner(mutex).is_none());
@@ -170,6 +179,7 @@ fn make_change(rt: &impl Abort, threads: &mut Threads, step: Step) {
         Step::Fund(amount, currency, target) => fund(rt, threads, amount, currency, target),
         Step::Unfund(ticket) => unfund(rt, threads, ticket),
         Step::Change(thread, status, used) => change(rt, threads, thread, status, used),
+        Step::End(thread) => end(rt, threads, thread),
         Step::Take(mutex, owner) => take(rt, threads, mutex, owner),
         Step::GiveUp(mutex) => give_up(rt, threads, mutex),
         Step::Move(mutex, owner, next) => move_mutex(rt, threads, mutex, owner, next),
@@ -277,6 +287,29 @@ const RUNNING: [Step; 17] = [
 #[test]
 fn threads_run(rt: HostRuntime) {
     play(&rt, rt.alloc(), small_limits(), &RUNNING)
+}
+
+const ENDED: [Step; 14] = [
+    Step::AddThread,
+    Step::AddThread,
+    Step::AddThread,
+    Step::Fund(10, 0, Target::Thread(1)),
+    Step::Fund(20, 0, Target::Thread(2)),
+    Step::Fund(5, 0, Target::Thread(3)),
+    Step::Change(1, FIRST, None),
+    Step::Change(2, Status::Ready, Some(50)),
+    Step::Wins(44, (3, 44, 45)),
+    Step::End(1),
+    Step::Runs(1, None),
+    Step::Worth(Node::Thread(1), 0),
+    Step::End(2),
+    Step::Wins(44, (3, 4, 5)),
+];
+
+// A thread that ends leaves its processor, and wins no draw, however small a part of its quantum it had used.
+#[test]
+fn threads_end(rt: HostRuntime) {
+    play(&rt, rt.alloc(), small_limits(), &ENDED)
 }
 
 const SERVED: [Step; 20] = [

@@ -25,7 +25,7 @@ pub struct BatonSeat {
 }
 
 impl Model for BatonSeat {
-    ghost use Rattle.std.specs.Prelude.{◌≡◌, ◌+◌, ◌≤◌, [], ◌∷◌};
+    ghost use Rattle.std.specs.Prelude.{◌≡◌, ◌+◌, ◌≤◌, false, [], ◌∷◌};
     ghost use Rattle.crossbeam_queue.specs.Passes.{view as pass_view};
     ghost use Rattle.lot_station.specs.BatonViews.{claim, resting};
     ghost use Rattle.lot_station.specs.BatonSeats.{Seat, seat, seen_in};
@@ -39,7 +39,8 @@ impl Model for BatonSeat {
         (s.pass.me.1 ≡ [])
         × (pass_view s.pass ≡ resting (claim s.actor (s.actor + 1) (seen_in (pass_view s.pass).claims) ∷ []))
         × (s.actor ≤ (seen_in (pass_view s.pass).claims).setting.program.limits.processors)
-        × (s.counts ≡ counts_in (seen_in (pass_view s.pass).claims) s.actor) };
+        × (s.counts ≡ counts_in (seen_in (pass_view s.pass).claims) s.actor)
+        × ((seen_in (pass_view s.pass).claims).setting.timer ≡ false) };
 }
 
 impl BatonSeat {

@@ -1,6 +1,6 @@
 //! The station, and the calls of its seats.
 ghost use Rattle.std.specs.Prelude.{◌≡◌, ℕ, ◌+◌, ◌<◌, ◌↔◌, false, [], ◌∷◌, All, EachIndex, Some, length, map};
-ghost use Rattle.std.specs.Prelude.{slice_get, IfOk, IfErr, IsTrue};
+ghost use Rattle.std.specs.Prelude.{slice_get, IfOk, IfErr, IfSome, IsTrue};
 ghost use Rattle.crossbeam_queue.specs.Passes.{view, IsPassOf, ruled_capacity};
 ghost use Rattle.lot_engine.specs.Seen.{Seen};
 ghost use Rattle.lot_engine.specs.Turns.{Faults, IsWorkOf};
@@ -51,7 +51,10 @@ pub struct SeatMissing {
 
 impl BatonStation {
     /// Puts the system into a queue, and deals a seat for each actor, in order. Drops the system if out of memory.
+    ///
+    /// The system has no timer, as in `Station::open`.
     pub fn open(alloc: Global, system: System) -> Result<(BatonStation, Vec<BatonSeat>), AllocError>
+        requires { system.setting.timer ≡ false }
         ensures processors { IfOk result (λ r. r.0.processors ≡ system.setting.program.limits.processors) }
         ensures seats { IfOk result (λ r. length r.1.items ≡ system.setting.program.limits.processors + 1) }
         ensures dealt { IfOk result (λ r. Dealt r.0.id system r.1.items) }
@@ -205,6 +208,7 @@ fn joined(queue: &Queue, mut seats: Vec<BatonSeat>) -> Token
     requires some { 0 < length seats.items }
     ensures pass { IsPassOf queue.now result }
     ensures view { view result ≡ resting (map claim_of seats.items) }
+    ensures timer { IfSome (slice_get seats.items 0) (λ s. s.seen.setting.timer ≡ false) }
 {
     let BatonSeat { mut pass, .. } = seats.remove(0);
     for seat in seats {

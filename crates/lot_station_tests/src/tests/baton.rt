@@ -119,7 +119,15 @@ fn closed_out_of_order<R: Wait>(
     ensures { IfSome result (λ again. All (IsSeatOf again.station) again.seats.items) }
 {
     back.seats.push(one).ok()?;
-    match back.station.close(rt, back.seats) {
+    unclosed(rt, back.station, back.seats)
+}
+
+/// The error of closing a station with these seats, or `None` if it was closed.
+fn unclosed<R: Wait>(rt: &R, station: BatonStation, seats: Vec<BatonSeat>) -> Option<SeatMissing>
+    requires { All (IsSeatOf station) seats.items }
+    ensures { IfSome result (λ again. All (IsSeatOf again.station) again.seats.items) }
+{
+    match station.close(rt, seats) {
         Ok(_) => None,
         Err(again) => Some(again),
     }

@@ -1,5 +1,5 @@
 //! A history that is full before all turns are made.
-ghost use Rattle.std.specs.Prelude.{◌≡◌, ◌+◌};
+ghost use Rattle.std.specs.Prelude.{◌≡◌, ◌+◌, false};
 
 use crate::tests::same::{check_same, check_same_at};
 use crate::tests::turnstile::Turnstile;
@@ -55,6 +55,7 @@ fn work<
     ticks: Blank,
 ) -> Result<Outcome, AllocError>
     requires setting { system.setting ≡ T.setting }
+    requires timer { system.setting.timer ≡ false }
     requires turns { (turns.name ≡ T.name) × (turns.parts ≡ T.parts)
         × (T.parts ≡ system.setting.program.limits.processors + 1) }
     requires quanta { (quanta.name ≡ Q.name) × (quanta.parts ≡ Q.parts)

@@ -28,7 +28,7 @@ fundx 10 base a spin
 ";
 
 /// The first processor in the history.
-fn first_processor(history: &[u8]) -> Option<u8> {
+fn first_processor(history: &[u16]) -> Option<u16> {
     history.iter().copied().find(|actor| *actor != 0)
 }
 

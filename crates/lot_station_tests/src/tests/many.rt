@@ -52,8 +52,8 @@ impl Gate for Meeting {
 }
 
 /// Whether each of 65 actors has had one turn.
-fn has_all(history: &[u8]) -> bool {
-    history.len() == 65 && (0..65u8).all(|actor| history.contains(&actor))
+fn has_all(history: &[u16]) -> bool {
+    history.len() == 65 && (0..65u16).all(|actor| history.contains(&actor))
 }
 
 /// Whether a worker gave up, and whether the history of a free run has all turns.

@@ -1,5 +1,5 @@
 //! Seats in threads of their own.
-ghost use Rattle.std.specs.Prelude.{◌≡◌, ◌+◌};
+ghost use Rattle.std.specs.Prelude.{◌≡◌, ◌+◌, false};
 
 use crate::tests::replaying::{Compared, Played, compared};
 use crate::tests::same::check_same;
@@ -70,6 +70,7 @@ fn race<
     ticks: Blank,
 ) -> Result<Option<Played>, AllocError>
     requires setting { system.setting ≡ T.setting }
+    requires timer { system.setting.timer ≡ false }
     requires turns { (turns.name ≡ T.name) × (turns.parts ≡ T.parts)
         × (T.parts ≡ system.setting.program.limits.processors + 1) }
     requires quanta { (quanta.name ≡ Q.name) × (quanta.parts ≡ Q.parts)

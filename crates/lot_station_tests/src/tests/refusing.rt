@@ -1,5 +1,5 @@
 //! Seats that aren't one for each actor, in order.
-ghost use Rattle.std.specs.Prelude.{◌≡◌, ◌+◌, IfSome};
+ghost use Rattle.std.specs.Prelude.{◌≡◌, ◌+◌, false, IfSome};
 
 use crate::tests::same::check_same;
 use crate::tests::{TWO_PROCESSORS, opened};
@@ -103,6 +103,7 @@ fn misplace<T: TurnLedger, Q: Ledger, K: Ledger>(
     ticks: Blank,
 ) -> Result<Option<(usize, usize, System)>, AllocError>
     requires setting { system.setting ≡ T.setting }
+    requires timer { system.setting.timer ≡ false }
     requires turns { (turns.name ≡ T.name) × (turns.parts ≡ T.parts)
         × (T.parts ≡ system.setting.program.limits.processors + 1) }
     requires quanta { (quanta.name ≡ Q.name) × (quanta.parts ≡ Q.parts)
@@ -119,7 +120,9 @@ fn misplaced(
     rt: &impl Wait,
     alloc: Global,
     system: System,
-) -> Result<Option<(usize, usize, System)>, AllocError> {
+) -> Result<Option<(usize, usize, System)>, AllocError>
+    requires { system.setting.timer ≡ false }
+{
     let parts = u64::from(system.processors()) + 1;
     misplace::<Brand, Brand, Brand>(
         rt,

@@ -42,7 +42,7 @@ fn keep(answers: &mut [Vec<Answer>], number: usize, answer: Answer) -> Option<()
 fn replay(
     program: &Program,
     system: &mut System,
-    history: &[u8],
+    history: &[u16],
     answers: &mut [Vec<Answer>],
 ) -> Option<()> {
     for actor in history {
@@ -54,7 +54,7 @@ fn replay(
 
 /// Another system of the program with room for this many turns that makes the turns of a history, and the results of
 /// each actor's.
-fn replayed(alloc: Global, program: &Program, room: u32, history: &[u8]) -> Option<Played> {
+fn replayed(alloc: Global, program: &Program, room: u32, history: &[u16]) -> Option<Played> {
     let mut system = System::open(alloc, program, room).ok()?;
     let mut answers = no_answers(alloc, system.processors() as usize + 1)?;
     replay(program, &mut system, history, &mut answers)?;

@@ -10,7 +10,7 @@ use std::test::*;
 use std::thread::Threads;
 
 /// The number of the actor's turns in the history.
-fn times(history: &[u8], actor: u8) -> usize {
+fn times(history: &[u16], actor: u16) -> usize {
     history.iter().filter(|other| **other == actor).count()
 }
 

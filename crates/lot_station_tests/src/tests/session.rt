@@ -1,5 +1,5 @@
 //! Turns by seats, one after another.
-ghost use Rattle.std.specs.Prelude.{◌≡◌, ◌+◌};
+ghost use Rattle.std.specs.Prelude.{◌≡◌, ◌+◌, false, IfOk, IfSome};
 
 use crate::tests::same::check_same;
 use crate::tests::seats::{Shares, shares_of};
@@ -65,12 +65,14 @@ fn play<T: TurnLedger, Q: Ledger, K: Ledger>(
     actors: &[usize],
 ) -> Result<(Session, Option<System>), AllocError>
     requires setting { system.setting ≡ T.setting }
+    requires timer { (system.setting.timer ≡ false) × (T.setting.timer ≡ false) }
     requires turns { (turns.name ≡ T.name) × (turns.parts ≡ T.parts)
         × (T.parts ≡ system.setting.program.limits.processors + 1) }
     requires quanta { (quanta.name ≡ Q.name) × (quanta.parts ≡ Q.parts)
         × (Q.parts ≡ system.setting.program.limits.processors + 1) }
     requires ticks { (ticks.name ≡ K.name) × (ticks.parts ≡ K.parts)
         × (K.parts ≡ system.setting.program.limits.processors + 1) }
+    ensures { IfOk result (λ r. IfSome r.1 (λ closed. closed.setting.timer ≡ false)) }
 {
     let (station, mut seats) = Station::<T, Q, K>::open(alloc, system, turns, quanta, ticks)?;
     let begun = all_shares(alloc, &seats)?;
@@ -84,7 +86,23 @@ fn play<T: TurnLedger, Q: Ledger, K: Ledger>(
         replies,
         ended,
     };
-    Ok((session, station.close(seats).ok()))
+    Ok((session, closed(station, seats)))
+}
+
+/// The system of a station that is closed with these seats, or `None` if they aren't its seats.
+fn closed<T: TurnLedger, Q: Ledger, K: Ledger>(
+    station: Station<T, Q, K>,
+    seats: Vec<Seat<T, Q, K>>,
+) -> Option<System>
+    requires parts { (T.parts ≡ station.program.limits.processors + 1)
+        × (Q.parts ≡ station.program.limits.processors + 1) × (K.parts ≡ station.program.limits.processors + 1) }
+    requires timer { station.timer ≡ false }
+    ensures { IfSome result (λ system. system.setting.timer ≡ false) }
+{
+    match station.close(seats) {
+        Ok(system) => Some(system),
+        Err(_) => None,
+    }
 }
 
 /// Turns of these actors in a station of the system, which has ledgers of its own.
@@ -94,7 +112,10 @@ fn session_of(
     program: &Program,
     system: System,
     actors: &[usize],
-) -> Result<(Session, Option<System>), AllocError> {
+) -> Result<(Session, Option<System>), AllocError>
+    requires { system.setting.timer ≡ false }
+    ensures { IfOk result (λ r. IfSome r.1 (λ closed. closed.setting.timer ≡ false)) }
+{
     let parts = u64::from(system.processors()) + 1;
     play::<Brand, Brand, Brand>(
         rt,
@@ -138,8 +159,25 @@ fn write_then_read(rt: HostRuntime) {
 /// A session in each of two stations, one after the other; the observations of the second.
 fn plays_in_two(rt: &impl Wait, alloc: Global) -> Option<Session> {
     let (program, system) = opened(alloc, TWO_PROCESSORS, 6)?;
-    let (_, closed) = session_of(rt, alloc, &program, system, &[0, 1, 2, 1]).ok()?;
-    let (session, again) = session_of(rt, alloc, &program, closed?, &[2, 0]).ok()?;
+    match session_of(rt, alloc, &program, system, &[0, 1, 2, 1]) {
+        Ok((_, closed)) => plays_on(rt, alloc, &program, closed),
+        Err(_) => None,
+    }
+}
+
+/// The observations of a session in another station of a closed system.
+fn plays_on(
+    rt: &impl Wait,
+    alloc: Global,
+    program: &Program,
+    closed: Option<System>,
+) -> Option<Session>
+    requires { IfSome closed (λ system. system.setting.timer ≡ false) }
+{
+    let Some(system) = closed else {
+        return None;
+    };
+    let (session, again) = session_of(rt, alloc, program, system, &[2, 0]).ok()?;
     again.map(|_system| session)
 }
 

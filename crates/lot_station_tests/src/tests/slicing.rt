@@ -1,5 +1,5 @@
 //! A slice twice.
-ghost use Rattle.std.specs.Prelude.{◌≡◌, ◌+◌};
+ghost use Rattle.std.specs.Prelude.{◌≡◌, ◌+◌, false};
 
 use crate::tests::opened;
 use crate::tests::same::check_same;
@@ -134,6 +134,7 @@ fn play<T: TurnLedger, Q: Ledger, K: Ledger>(
     ticks: Blank,
 ) -> Result<Option<(Twice, System)>, AllocError>
     requires setting { system.setting ≡ T.setting }
+    requires timer { system.setting.timer ≡ false }
     requires turns { (turns.name ≡ T.name) × (turns.parts ≡ T.parts)
         × (T.parts ≡ system.setting.program.limits.processors + 1) }
     requires quanta { (quanta.name ≡ Q.name) × (quanta.parts ≡ Q.parts)
@@ -155,7 +156,9 @@ fn played(
     alloc: Global,
     program: &Program,
     system: System,
-) -> Result<Option<(Twice, System)>, AllocError> {
+) -> Result<Option<(Twice, System)>, AllocError>
+    requires { system.setting.timer ≡ false }
+{
     let parts = u64::from(system.processors()) + 1;
     play::<Brand, Brand, Brand>(
         rt,

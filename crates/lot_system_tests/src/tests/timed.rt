@@ -20,6 +20,22 @@ at 2
 fundx 1 base a s
 ";
 
+/// Two threads that sleep at the same time. `b` goes to sleep first, and both wake at tick 15, while both processors
+/// wait. Then `a` sleeps to the last tick, and `b` past it.
+const SLEEPERS: &str = "lottery 3
+processors 2
+quantum 10
+for 30
+script long
+compute 4 sleep 10 compute 2 sleep 12
+endscript
+script short
+compute 1 sleep 13 compute 2 sleep 13
+endscript
+fundx 1 base a long
+fundx 1 base b short
+";
+
 /// The time of a turn, its actor, its thread, and the ticks that the thread ran.
 type Row = (u32, u32, u32, u32);
 
@@ -65,5 +81,43 @@ fn turns_in_time(rt: HostRuntime) -> Result<(), Fail> {
     check_turns(&rt, &program, &mut playback, &rows);
     let (system, _) = playback.into_parts();
     check_same(&rt, &system.history(), &[1, 0, 1, 1, 1, 1, 1].as_slice());
+    Ok(())
+}
+
+// With two processors, 3 is the timer as it wakes thread 1, and 4 as it wakes thread 2.
+#[test]
+fn sleepers_in_time(rt: HostRuntime) -> Result<(), Fail> {
+    let program = program_of(rt.alloc(), SLEEPERS)?;
+    let mut playback = Playback::open(rt.alloc(), &program)?;
+    let rows = [
+        Some((0, 0, 1, 0)),
+        Some((0, 0, 2, 0)),
+        Some((0, 1, 2, 0)),
+        Some((0, 2, 1, 0)),
+        Some((2, 1, 2, 2)),
+        Some((2, 1, 0, 0)),
+        Some((5, 2, 1, 5)),
+        Some((5, 1, 0, 0)),
+        Some((5, 2, 0, 0)),
+        Some((15, 3, 0, 0)),
+        Some((15, 4, 0, 0)),
+        Some((15, 1, 2, 0)),
+        Some((15, 2, 1, 0)),
+        Some((18, 1, 2, 3)),
+        Some((18, 1, 0, 0)),
+        Some((18, 2, 1, 3)),
+        Some((18, 1, 0, 0)),
+        Some((18, 2, 0, 0)),
+        Some((30, 3, 0, 0)),
+        Some((30, 1, 1, 0)),
+        Some((30, 2, 0, 0)),
+        None,
+    ];
+    check_turns(&rt, &program, &mut playback, &rows);
+    let (system, _) = playback.into_parts();
+    let made = [
+        0, 0, 1, 2, 1, 1, 2, 1, 2, 3, 4, 1, 2, 1, 1, 2, 1, 2, 3, 1, 2,
+    ];
+    check_same(&rt, &system.history(), &made.as_slice());
     Ok(())
 }

@@ -1,5 +1,5 @@
 //! Calls that allocate memory, at the least and the largest sizes.
-ghost use Rattle.std.specs.Prelude.{◌≡◌, ◌+◌};
+ghost use Rattle.std.specs.Prelude.{◌≡◌, ◌+◌, false};
 
 use super::same::{check_same, check_same_at};
 use lot_engine::System;
@@ -118,18 +118,18 @@ fn check_scripts(rt: &impl Abort, alloc: Global, program: &Program) {
 }
 
 /// A system of the program, which has its processors.
-fn checked_system(rt: &impl Abort, alloc: Global, program: &Program, room: u32) -> System {
+fn checked_system(rt: &impl Abort, alloc: Global, program: &Program, room: u32) -> System
+    ensures { result.setting.timer ≡ false }
+{
     let system = System::open(alloc, program, room).expect(rt, "memory");
     check_same(rt, &system.processors(), &program.limits().processors);
     system
 }
 
 /// The number of seats of a baton station of the system, and whether it is closed.
-fn baton_seats<R: Wait>(
-    rt: &R,
-    alloc: Global,
-    system: System,
-) -> Result<(usize, bool), AllocError> {
+fn baton_seats<R: Wait>(rt: &R, alloc: Global, system: System) -> Result<(usize, bool), AllocError>
+    requires { system.setting.timer ≡ false }
+{
     let (station, seats) = BatonStation::open(alloc, system)?;
     let count = seats.len();
     Ok((count, station.close(rt, seats).is_ok()))
@@ -167,6 +167,7 @@ fn seats_of<T: TurnLedger, Q: Ledger, K: Ledger>(
     ticks: Blank,
 ) -> Result<Option<usize>, AllocError>
     requires setting { system.setting ≡ T.setting }
+    requires timer { system.setting.timer ≡ false }
     requires turns { (turns.name ≡ T.name) × (turns.parts ≡ T.parts)
         × (T.parts ≡ system.setting.program.limits.processors + 1) }
     requires quanta { (quanta.name ≡ Q.name) × (quanta.parts ≡ Q.parts)

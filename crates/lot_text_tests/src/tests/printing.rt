@@ -161,7 +161,7 @@ fn check_trap(rt: &impl Abort, alloc: Global, printed: &PrintedTrap<'_>) {
     check_event(rt, alloc, 1, &event, reply, printed.line);
 }
 
-const TRAPS: [PrintedTrap<'_>; 15] = [
+const TRAPS: [PrintedTrap<'_>; 16] = [
     PrintedTrap {
         action: Action::Yield,
         outcome: Outcome::Yielded,
@@ -257,6 +257,12 @@ const TRAPS: [PrintedTrap<'_>; 15] = [
         line: "1 thread 1 ticks 2 exit\n",
     },
     PrintedTrap {
+        action: Action::Sleep,
+        outcome: Outcome::Slept,
+        ends: false,
+        line: "1 thread 1 ticks 2 sleep\n",
+    },
+    PrintedTrap {
         action: Action::Lock(4),
         outcome: Outcome::Refused(TrapRefusal::LockCycle),
         ends: true,
@@ -271,7 +277,7 @@ fn prints_traps(rt: HostRuntime) {
     }
 }
 
-const REFUSALS: [(Refusal, &str); 20] = [
+const REFUSALS: [(Refusal, &str); 21] = [
     (Refusal::BadName, "2 refused 1 BadName\n"),
     (Refusal::NameTaken, "2 refused 2 NameTaken\n"),
     (Refusal::NoCurrency, "2 refused 3 NoCurrency\n"),
@@ -292,6 +298,7 @@ const REFUSALS: [(Refusal, &str); 20] = [
     (Refusal::Busy, "2 refused 21 Busy\n"),
     (Refusal::NotRunning, "2 refused 22 NotRunning\n"),
     (Refusal::BadTicks, "2 refused 23 BadTicks\n"),
+    (Refusal::NotAsleep, "2 refused 24 NotAsleep\n"),
 ];
 
 #[test]
@@ -595,7 +602,7 @@ fn prints_currencies(rt: HostRuntime) {
     }
 }
 
-const STATUSES: [(Status, &str); 7] = [
+const STATUSES: [(Status, &str); 8] = [
     (Status::Ready, "ready"),
     (
         Status::Running {
@@ -608,6 +615,7 @@ const STATUSES: [(Status, &str); 7] = [
     (Status::Queued(1), "queued 1"),
     (Status::Served(3), "served 3"),
     (Status::Waiting(4), "waiting 4"),
+    (Status::Asleep, "asleep"),
     (Status::Dead, "dead"),
 ];
 
@@ -662,7 +670,7 @@ fn prints_listing_lines(rt: HostRuntime) {
     }
 }
 
-fn check_history(rt: &impl Abort, alloc: Global, format: Format, history: &[u8], wanted: &str) {
+fn check_history(rt: &impl Abort, alloc: Global, format: Format, history: &[u16], wanted: &str) {
     let mut writer = Watched::new(Vec::new(alloc));
     let ended = write_history(&mut writer, format, history);
     check(rt, writer, ended, wanted);
@@ -683,7 +691,7 @@ fn prints_histories(rt: HostRuntime) {
 }
 
 /// 65 turns of processor 1, and one of the console.
-fn long_history() -> [u8; 66] {
+fn long_history() -> [u16; 66] {
     let mut history = [1; 66];
     history[65] = 0;
     history
@@ -701,7 +709,7 @@ fn prints_long_histories(rt: HostRuntime) {
 }
 
 /// Processor 64 and the console in turn.
-fn mixed_history() -> [u8; 34] {
+fn mixed_history() -> [u16; 34] {
     let mut history = [0; 34];
     for place in 0..17 {
         history[2 * place] = 64;
@@ -731,9 +739,9 @@ fn prints_runs(rt: HostRuntime) {
 }
 
 /// 33 runs of two turns.
-fn history_of_pairs(rt: &impl Abort, alloc: Global) -> Vec<u8> {
+fn history_of_pairs(rt: &impl Abort, alloc: Global) -> Vec<u16> {
     let mut history = Vec::new(alloc);
-    for run in 0..33u8 {
+    for run in 0..33u16 {
         history.push(run).expect(rt, "memory");
         history.push(run).expect(rt, "memory");
     }
@@ -804,6 +812,15 @@ fn trapped(action: Action, outcome: Outcome, line: &str) -> TimedReply<'_> {
     }
 }
 
+/// The reply to the wake of thread 12.
+fn woken(reply: Reply, line: &str) -> TimedReply<'_> {
+    TimedReply {
+        event: Event::Wake { thread: 12 },
+        reply,
+        line,
+    }
+}
+
 /// The unlock of mutex 4, which passes it to thread 5.
 const PASSED: Outcome = Outcome::Passed {
     to: 5,
@@ -840,6 +857,20 @@ fn prints_what_is_behind_the_point(rt: HostRuntime) {
             Action::Serve(2, 9),
             WAITS,
             "120 1 thread 3 ticks 7 reply client 5 receive 2 waits\n",
+        ),
+    ];
+    for printed in &rows {
+        check_timed(&rt, rt.alloc(), printed);
+    }
+}
+
+#[test]
+fn prints_wakes(rt: HostRuntime) {
+    let rows = [
+        woken(Reply::Done, "120 1 wake thread 12\n"),
+        woken(
+            Reply::Refused(Refusal::NotAsleep),
+            "120 1 refused 24 NotAsleep\n",
         ),
     ];
     for printed in &rows {

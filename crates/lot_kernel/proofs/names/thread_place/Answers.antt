@@ -1,4 +1,4 @@
-use Rattle.std.proofs.Common.{◌∙◌, None, Option, length, rules, slice_get, sym, tests}
+use Rattle.std.proofs.Common.{◌∙◌, None, length, rules, slice_get, sym, tests}
 use Rattle.std.specs.Str.{bytes_eq}
 use Rattle.std.proofs.lemmas.Iterator.Adapters.{option_map_id}
 use Rattle.std.proofs.lemmas.Iterator.Consumers.{YieldsList-from_filter, YieldsList-from_first, min_from_yields_List}

@@ -1,19 +1,20 @@
 -- The turn is the one that is due, and the timekeeper has followed it.
-use Rattle.std.proofs.Common.{◌≡◌, ℕ, ◌+◌, ◌<◌, ◌^◌, ◌++◌, List, [], ◌∷◌, Some, false, length, refl, sym, ap, subst, arith, rules}
+use Rattle.std.proofs.Common.{◌≡◌, ℕ, ◌+◌, ◌<◌, ◌^◌, ◌++◌, List, [], ◌∷◌, Some, false, length, refl, sym, ◌∙◌, ap, subst, arith, rules, vec_len}
 use Rattle.lot_machine.specs.declared.event.Event.{Event}
 use Rattle.lot_machine.specs.declared.reply.Reply.{Reply}
 use Rattle.lot_simulation.specs.declared.timed.Due.{Due}
-use Rattle.lot_simulation.specs.Timed.{TimedTurn, clocks_after, is_idle_draw, timed_room, turn_due}
+use Rattle.lot_simulation.specs.Timed.{TimedTurn, alarms_after, clocks_after, is_idle_draw, timed_room, turn_due}
 use Rattle.lot_simulation.specs.World.{Program}
 use Rattle.lot_simulation.specs.World.Answer.{Answered}
-use Rattle.lot_simulation.proofs.TimedRuns.{due-there, room-small}
+use Rattle.lot_simulation.proofs.TimedRuns.{room-small}
 use Rattle.lot_engine.specs.Playing.{turn_in}
-use Rattle.lot_engine.specs.Seen.{Seen, after_turn}
+use Rattle.lot_engine.specs.Seen.{Seen, after_turn, world_of}
 use Rattle.lot_playback.specs.declared.timekeeper.Timekeeper.{Timekeeper}
 use Rattle.lot_playback.specs.declared.turn.NextTurn.{NextTurn}
-use Rattle.lot_playback.specs.InTime.{HasFollowed, HasRoomFor, IsDue, IsFollowed, due_turn, moment_in, next_turns, turns_done}
+use Rattle.lot_playback.specs.InTime.{AreAlarms, CanFollow, HasFollowed, HasRoomFor, IsDue, IsFollowed, alarms_in, due_turn, moment_in, next_turns, turns_done}
+use Rattle.lot_playback.specs.declared.turn.Turn.{Turn}
 use Rattle.lot_playback.specs.Orders.{IsAtTime}
-use Rattle.lot_playback.specs.Stages.{IsNext}
+use Rattle.lot_playback.specs.Stages.{IsNext, answer_in}
 use Rattle.lot_playback.proofs.ClockFacts.{time-due, time-made, time-more, time-there}
 use Rattle.lot_playback.proofs.FollowFacts.{answer-is, followed-more, one-next, within-room}
 use Rattle.lot_playback.proofs.making.make_in_time.Goals as goal
@@ -35,51 +36,36 @@ module _ (seen : Seen) (timekeeper : Timekeeper) (there : IsAtTime seen timekeep
   next-is = one-next program seen timekeeper there.followed due its.first room
 
   followed-then : (e : Event) (r : Reply) (now : Seen) → now ≡ after_turn seen next.actor → (turn_in seen next.actor).answer ≡ Answered e r → (then_following : Timekeeper) → then_following.clocks.time ≡ time
-      → then_following.clocks.processors.items ≡ clocks_after timekeeper.clocks.processors.items (record { time = time; actor = next.actor }) (is_idle_draw (Answered e r))
+      → then_following.clocks.processors.items ≡ clocks_after (world_of now).state timekeeper.clocks.processors.items (record { time = time; actor = next.actor }) (is_idle_draw (Answered e r))
+      → alarms_in then_following.alarms.threads.items ≡ alarms_after (moment_in seen timekeeper) time next.actor → AreAlarms seen.setting.program.limits.processors then_following.alarms
       → ((done : List TimedTurn) (n : ℕ) (turn : TimedTurn) → turn.time ≡ time → turn.turn.answer ≡ Answered e r → HasFollowed done n timekeeper → HasFollowed (done ++ turn ∷ []) (n + 1) then_following)
       → ((p : Program) → HasRoomFor p timekeeper → HasRoomFor p then_following) → IsFollowed program now then_following
-  followed-then e r now after answer then_following at clocks follows fits =
+  followed-then e r now after answer then_following at clocks alarms sleeping follows fits =
       let is_followed = there.followed in
       let turn = turn_due program (moment_in seen timekeeper) due in
-      let more = follows (turns_done program seen) (length seen.history) turn refl (answer-is program seen timekeeper is_followed due its.first room e r answer then_following at clocks) is_followed.followed in
-      subst (λ s. IsFollowed program s then_following) (sym after) (followed-more program seen timekeeper is_followed due its.first room e r answer then_following at clocks more (fits program is_followed.room))
+      let clocks_there : then_following.clocks.processors.items ≡ clocks_after (world_of (after_turn seen next.actor)).state timekeeper.clocks.processors.items (record { time = time; actor = next.actor }) (is_idle_draw (Answered e r)) =
+      clocks ∙ ap (λ (s : Seen). clocks_after (world_of s).state timekeeper.clocks.processors.items (record { time = time; actor = next.actor }) (is_idle_draw (Answered e r))) after in
+      let more = follows (turns_done program seen) (length seen.history) turn refl (answer-is program seen timekeeper is_followed due its.first room e r answer then_following at clocks_there alarms) is_followed.followed in
+      subst (λ s. IsFollowed program s then_following) (sym after) (followed-more program seen timekeeper is_followed due its.first room e r answer then_following at clocks_there alarms more (fits program is_followed.room) sleeping)
 
 pub unreachable-requires : goal.unreachable-requires
 unreachable-requires c = time-there c.args.system.now c.args.timekeeper.now c.requires.there c.args.next c.requires.next ⊥ c.in_default.is
 
-pub next_turn-requires-clause-there : goal.next_turn-requires-clause-there
-next_turn-requires-clause-there c =
-    let seen = c.args.system.now in
+pub make_due-sleeper-requires-clause-due : goal.make_due-sleeper-requires-clause-due
+make_due-sleeper-requires-clause-due c =
     let early : c.in-Some.time < 2 ^ 32 = search rules in
-    let first = its seen c.args.timekeeper.now c.requires.there c.args.next c.requires.next c.in-Some.time c.in-Some.is early in
-    let there = due-there seen.setting.program (moment_in seen c.args.timekeeper.now) (record { time = c.in-Some.time; actor = c.args.next.actor }) first.first in
-    omega (arith, there.0)
-
-pub next_turn-requires-clause-room : goal.next_turn-requires-clause-room
-next_turn-requires-clause-room c =
-    let early : c.in-Some.time < 2 ^ 32 = search rules in
-    let first = its c.args.system.now c.args.timekeeper.now c.requires.there c.args.next c.requires.next c.in-Some.time c.in-Some.is early in
-    first.room
-
-pub unreachable-requires-then-not-next_turn : goal.unreachable-requires-then-not-next_turn
-unreachable-requires-then-not-next_turn c =
-    let seen = c.args.system.now in
-    let early : c.in-Some.time < 2 ^ 32 = search rules in
-    let first = its seen c.args.timekeeper.now c.requires.there c.args.next c.requires.next c.in-Some.time c.in-Some.is early in
-    let there = due-there seen.setting.program (moment_in seen c.args.timekeeper.now) (record { time = c.in-Some.time; actor = c.args.next.actor }) first.first in
-    let ended = (c.next_turn.ensures.ended c.if-not-next_turn.true).0 in
-    omega (arith, there.1 ended.0, c.requires.there.followed.left, ap length ended.1)
+    (c.in-Some.time, its c.args.system.now c.args.timekeeper.now c.requires.there c.args.next c.requires.next c.in-Some.time c.in-Some.is early)
 
 pub follow-requires : goal.follow-requires
 follow-requires c =
     let seen = c.args.system.now in
     let timekeeper = c.args.timekeeper.now in
     let followed = c.requires.there.followed in
-    let early : c.in-Some.time < 2 ^ 32 = search rules in
-    let first = its seen timekeeper c.requires.there c.args.next c.requires.next c.in-Some.time c.in-Some.is early in
-    let there = due-there seen.setting.program (moment_in seen timekeeper) (record { time = c.in-Some.time; actor = c.args.next.actor }) first.first in
+    let processors : vec_len timekeeper.clocks.processors ≡ seen.setting.program.limits.processors = omega (arith, followed.room.clocks, timekeeper.clocks.processors.ok.0) in
     record {
-      there = omega (arith, there.0, followed.room.clocks, timekeeper.clocks.processors.ok.0);
+      processors = omega (arith, processors, followed.bounds.of_processors.1);
+      sleeping = subst (λ n. AreAlarms n timekeeper.alarms) (sym processors) followed.sleeping;
+      can = subst (λ n. CanFollow c.args.next.actor n (length timekeeper.alarms.threads.items) c.make_due-sleeper.result) (sym processors) c.make_due-sleeper.ensures.can;
       followed = (turns_done seen.setting.program seen, length seen.history, omega (arith, within-room seen.setting.program seen timekeeper followed, room-small), followed.followed);
     }
 
@@ -87,18 +73,29 @@ pub returns : goal.returns
 returns c =
     let seen = c.args.system.now in
     let timekeeper = c.args.timekeeper.now in
+    let followed_before = c.requires.there.followed in
     let time = c.in-Some.time in
     let early : time < 2 ^ 32 = search rules in
     let due : Due = record { time = time; actor = c.args.next.actor } in
-    let e = c.next_turn.new.event in
-    let r = c.next_turn.new.reply in
-    let now = c.next_turn.new.self in
-    let made = c.next_turn.ensures.made c.if-not-next_turn.false in
+    let e = c.make_due-sleeper.new.turn.event in
+    let r = c.make_due-sleeper.new.turn.reply in
+    let now = c.make_due-sleeper.new.system in
+    let made = c.make_due-sleeper.ensures.made in
     let then_following = c.follow.new.self in
-    let followed = followed-then seen timekeeper c.requires.there c.args.next c.requires.next time c.in-Some.is early e r now made.0 made.1 then_following c.follow.ensures.time c.follow.ensures.clocks c.follow.ensures.followed c.follow.ensures.room in
+    let processors : length timekeeper.clocks.processors.items ≡ seen.setting.program.limits.processors = followed_before.room.clocks in
+    let counted : vec_len timekeeper.clocks.processors ≡ seen.setting.program.limits.processors = omega (arith, processors, timekeeper.clocks.processors.ok.0) in
+    let alarms : alarms_in then_following.alarms.threads.items ≡ alarms_after (moment_in seen timekeeper) time c.args.next.actor =
+    c.follow.ensures.alarms (moment_in seen timekeeper) refl refl (λ some few. c.make_due-sleeper.ensures.sleeper some (omega (arith, few, processors))) in
+    let sleeping : AreAlarms seen.setting.program.limits.processors then_following.alarms = subst (λ n. AreAlarms n then_following.alarms) counted c.follow.ensures.sleeping in
+    let followed = followed-then seen timekeeper c.requires.there c.args.next c.requires.next time c.in-Some.is early e r now made.0 made.1 then_following c.follow.ensures.time c.follow.ensures.clocks alarms sleeping c.follow.ensures.followed c.follow.ensures.room in
     let first = next-is seen timekeeper c.requires.there c.args.next c.requires.next time c.in-Some.is early in
+    let turn = c.make_due-sleeper.new.turn in
     record {
       there = time-more seen timekeeper c.requires.there due e r first made.1 now made.0 then_following followed;
-      made = time-made seen timekeeper c.requires.there due e r first made.1 now made.0 then_following followed
-          (record { time = c.args.next.time; actor = c.args.next.actor; has_ended = false; event = e; reply = r }) (record { time = c.in-Some.is; actor = refl; answer = made.1 });
+      made = time-made seen timekeeper c.requires.there due e r first made.1 now made.0 then_following followed turn
+          (record {
+            time = ap (λ (t : Turn). t.time) c.make_due-sleeper.ensures.rest ∙ c.in-Some.is;
+            actor = ap (λ (t : Turn). t.actor) c.make_due-sleeper.ensures.rest;
+            answer = made.1 ∙ ap (λ (t : Turn). answer_in t.has_ended e r) (sym c.make_due-sleeper.ensures.rest);
+          });
     }

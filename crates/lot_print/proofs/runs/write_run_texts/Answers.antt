@@ -1,6 +1,5 @@
 use Rattle.std.proofs.Common.{◌≡◌, ◌+◌, ◌-◌, ℕ, List, ◌∷◌, length, take, drop, Err, rules, sym, ◌∙◌, ap}
 use Rattle.std.specs.List.{flat_map}
-use Rattle.std.proofs.lemmas.List.{take_rest}
 use Rattle.lot_simulation.specs.Grammar.{ActorRun}
 use Rattle.lot_simulation.specs.Report.{run_text, runs_in}
 use Rattle.lot_print.proofs.RunLemmas.{run_texts-first}
@@ -31,8 +30,8 @@ loop-pair-preserved g c =
     let xs = c.loop-pair.rest.now in
     let n = c.loop-pair._pair in
     let run : ActorRun = record { actor = c.in-Some.actor; count = c.in-Some.count } in
-    let others = take (length xs - run.count) (drop run.count xs) in
-    let first : runs_in xs ≡ run ∷ runs_in others = c.in-Some.ensures.run ∙ ap (λ (more : List ℕ). run ∷ runs_in more) (sym (take_rest xs run.count)) in
+    let others = c.after_turns-rest.result.now in
+    let first : runs_in xs ≡ run ∷ runs_in others = c.in-Some.ensures.run ∙ ap (λ (more : List ℕ). run ∷ runs_in more) (sym c.after_turns-rest.ensures) in
     record {
       working = told.0;
       bytes = parts-more (g.W.Write.contents c.args.writer.now.inner) (g.W.Write.contents c.loop-pair.writer.inner) (g.W.Write.contents c.write_run.new.writer.inner) i.bytes.0 (run_text run)

@@ -204,6 +204,46 @@ processor 1 quanta 3 idle 0 ticks 15 unused 0
 total turns 13 quanta 3 ticks 15 refused 3 left 0
 ";
 
+/// A thread that sleeps twice beside one that computes. Its second sleep would end after the end.
+const SLEEPER: &str = "lottery 3
+quantum 10
+for 20
+seed 2
+script nap
+compute 1 sleep 3 sleep 12
+endscript
+script work
+compute 30
+endscript
+fundx 1 base a nap
+fundx 1 base b work
+";
+
+/// Its explanation, computed by a small model of the rules. While the thread sleeps it takes part in no draw, and a
+/// wake explains nothing. Then it weighs five times as much, since it used a fifth of its quantum.
+const EXPLAINED_SLEEPER: &str = "0 0 funded 1 1
+0 0 funded 2 2
+0 1 lot thread 1 a weight 1 from 0 below 1 wins
+0 1 lot thread 2 b weight 1 from 1 below 2
+0 1 draw 0.042 of 2 thread 1
+2 1 thread 1 ticks 2 sleep
+2 1 lot thread 2 b weight 1 from 0 below 1 wins
+2 1 draw 0.726 of 1 thread 2
+5 2 wake thread 1
+12 1 thread 2 ticks 10 expire
+12 1 lot thread 1 a weight 5 from 0 below 5 wins
+12 1 lot thread 2 b weight 1 from 5 below 6
+12 1 draw 2.515 of 6 thread 1
+13 1 thread 1 ticks 1 sleep
+13 1 lot thread 2 b weight 1 from 0 below 1 wins
+13 1 draw 0.062 of 1 thread 2
+report
+thread 1 a quanta 2 ticks 3 share 23.076% value 0%
+thread 2 b quanta 2 ticks 10 share 76.923% value 100%
+processor 1 quanta 4 idle 0 ticks 13 unused 0
+total turns 10 quanta 4 ticks 13 refused 0 left 0
+";
+
 /// Explains the input, and compares the outcome and the output.
 fn check(rt: &impl Abort, alloc: Global, input: &str, played: Played, expected: &str) {
     let found = outcome(alloc, Shown::Explained, input, expected);
@@ -217,6 +257,7 @@ fn explains_inputs(rt: HostRuntime) {
     check(&rt, alloc, IN_TIME, Played::Done, EXPLAINED_IN_TIME);
     check(&rt, alloc, OTHER_AMOUNTS, Played::Done, EXPLAINED_AMOUNTS);
     check(&rt, alloc, REMOVAL, Played::Done, EXPLAINED_REMOVAL);
+    check(&rt, alloc, SLEEPER, Played::Done, EXPLAINED_SLEEPER);
     let refused = "refused line 1 50 BadHeader\n";
     check(&rt, alloc, "lottery 9\n", Played::Refused, refused);
 }

@@ -322,6 +322,63 @@ fn commands_of_one_format(rt: HostRuntime) {
             "lottery 3\nfor 5\nrmthr abcdefghijklmnopq\n",
             "line 3: 'abcdefghijklmnopq' has 17 bytes, and a name at most 16\n",
         ),
+        (
+            "lottery 2\nkill a\n",
+            "line 2: 'kill' is for 'lottery 3', whose turns come in the order of time\n",
+        ),
+        ("lottery 1\nkil a\n", "line 2: 'kil' is no body line\n"),
+        (
+            "lottery 3\nfor 5\nkil a\n",
+            "line 3: 'kil' is no body line; did you mean 'kill'?\n",
+        ),
+        (
+            "lottery 3\nfor 5\nkill\n",
+            "line 3: this line is written 'kill THREAD', and here are 1 words\n",
+        ),
+        (
+            "lottery 2\nscript s\nsleep 5\n",
+            "line 3: 'sleep' is for 'lottery 3', whose turns come in the order of time\n",
+        ),
+        (
+            "lottery 3\nfor 5\nscript s\nslep 5\n",
+            "line 4: 'slep' is no word of a script; did you mean 'sleep'?\n",
+        ),
+        (
+            "lottery 3\nfor 5\nscript s\nyield sleep\n",
+            "line 4: a word is missing at the end: 'sleep TICKS'\n",
+        ),
+        (
+            "lottery 3\nfor 5\nscript s\nsleep 0\n",
+            "line 4: '0' is no number from 1 to 4294967295\n",
+        ),
+    ] {
+        check(&rt, rt.alloc(), input.as_bytes(), expected);
+    }
+}
+
+#[test]
+fn sleeps(rt: HostRuntime) {
+    let of_one_format =
+        "line 3: 'sleep' is for 'lottery 3', whose turns come in the order of time\n";
+    for (input, expected) in [
+        ("lottery 1\nscript s\nsleep 5\n", of_one_format),
+        ("lottery 2\nscript s\nsleep\n", of_one_format),
+        (
+            "lottery 3\nfor 5\nscript s\nslep 5\n",
+            "line 4: 'slep' is no word of a script; did you mean 'sleep'?\n",
+        ),
+        (
+            "lottery 3\nfor 5\nscript s\nsleep 0\n",
+            "line 4: '0' is no number from 1 to 4294967295\n",
+        ),
+        (
+            "lottery 3\nfor 5\nscript s\nyield sleep 4294967296\n",
+            "line 4: '4294967296' is no number from 1 to 4294967295\n",
+        ),
+        (
+            "lottery 3\nfor 5\nscript s\nsleep\n",
+            "line 4: a word is missing at the end: 'sleep TICKS'\n",
+        ),
     ] {
         check(&rt, rt.alloc(), input.as_bytes(), expected);
     }

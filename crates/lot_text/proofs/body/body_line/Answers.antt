@@ -27,6 +27,9 @@ returns-in-Unfund c = rw c.in-Unfund.is (c.unfund.ensures c.args.number)
 pub returns-in-RemoveThread : goal.returns-in-RemoveThread
 returns-in-RemoveThread c = rw c.in-RemoveThread.is (c.remove_thread.ensures c.args.number)
 
+pub returns-in-Kill : goal.returns-in-Kill
+returns-in-Kill c = rw c.in-Kill.is (c.kill.ensures c.args.number)
+
 pub returns-in-SetTicket : goal.returns-in-SetTicket
 returns-in-SetTicket c = rw c.in-SetTicket.is (c.set_ticket.ensures c.args.number)
 

@@ -1,13 +1,14 @@
-use Rattle.std.proofs.Common.{[], ◌∷◌, ap, arith, length-append}
+use Rattle.std.proofs.Common.{[], ◌∷◌, ◌∙◌, ap, sym, arith, length-append}
 use Rattle.lot_curves.specs.declared.stretch.Stretch.{Stretch}
 use Rattle.lot_simulation.specs.World.{Program}
 use Rattle.lot_chart.proofs.Notes.{answered-noted, early-noted, ended-noted}
 use Rattle.lot_chart.proofs.gathering.StretchesObserver.after.Goals as goal
 
 pub end_of-requires : goal.end_of-requires
-end_of-requires c =
+end_of-requires c none =
     let just = c.requires.awaits.3 in
-    omega (arith, just.actor, just.reports.actor, ap (λ (p : Program). p.limits.processors) c.requires.program)
+    let there = just.actor (sym just.reports.time ∙ none) in
+    omega (arith, there, just.reports.actor, ap (λ (p : Program). p.limits.processors) c.requires.program)
 
 pub returns-then-turn-clause-ok : goal.returns-then-turn-clause-ok
 returns-then-turn-clause-ok c turns made first just noted =

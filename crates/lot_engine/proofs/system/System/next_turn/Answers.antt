@@ -1,4 +1,8 @@
-use Rattle.std.proofs.Common.{sym, subst}
+use Rattle.std.proofs.Common.{None, ap, sym, subst}
+use Rattle.lot_engine.specs.Turns.{IsWorkOf}
+use Rattle.std.specs.Prelude.{option_and_then}
+use Rattle.lot_simulation.specs.World.{slice_on, sleeper_by}
+use Rattle.lot_engine.specs.Seen.{world_of}
 use Rattle.lot_engine.specs.Playing.{IsPlayed}
 use Rattle.lot_engine.proofs.PlayingFacts.{played-after}
 use Rattle.lot_engine.proofs.system.System.next_turn.Goals as goal
@@ -14,3 +18,9 @@ returns-clause-played c =
     let old = c.args.self.now in
     let told = c.run_turn.ensures in
     subst (IsPlayed old c.args.actor) (sym told.seen) (played-after old c.args.actor c.run_turn.new.event c.run_turn.new.reply told.answer)
+
+pub returns-in_default-clause-sleeper : goal.returns-in_default-clause-sleeper
+returns-in_default-clause-sleeper c made some =
+    let none : IsWorkOf c.args.self.now c.args.actor None = subst (IsWorkOf c.args.self.now c.args.actor) c.in_default.is c.kept_work.ensures in
+    let nobody = none some in
+    sym (ap (option_and_then (λ t. sleeper_by t (slice_on (world_of c.args.self.now) c.args.actor t).trap)) nobody)

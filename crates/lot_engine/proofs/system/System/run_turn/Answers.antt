@@ -3,12 +3,12 @@ use Rattle.std.proofs.Common.{◌≡◌, length, ap, sym, ◌∙◌, subst, unwr
 use Rattle.std.specs.Prelude.{if◌then◌else◌}
 use Rattle.lot_machine.specs.Numbered.{at_number, set_number}
 use Rattle.lot_simulation.specs.Report.{turns_made}
-use Rattle.lot_simulation.specs.World.{number_from, seed_from, system_turn, system_run, takes_number}
+use Rattle.lot_simulation.specs.World.{number_from, seed_from, sleeper_by, sleeper_on, system_turn, system_run, takes_number}
 use Rattle.lot_simulation.specs.World.Answer.{Answered}
 use Rattle.lot_script.specs.Places.{Fits}
 use Rattle.lot_engine.specs.Seen.{Seen, world_of}
 use Rattle.lot_engine.specs.Steps.{place_of}
-use Rattle.lot_engine.proofs.RunFacts.{run-answer, run-held, run-names, thread-kept, work-kept}
+use Rattle.lot_engine.proofs.RunFacts.{run-answer, run-held, run-names, run-sleeper, thread-kept, work-kept}
 use Rattle.lot_engine.proofs.OneMore.{processor-more}
 use Rattle.lot_engine.proofs.system.System.run_turn.Goals as goal
 
@@ -63,7 +63,7 @@ invariant_of-self c =
     run-answer s.program (system_run s.program s.history.items) s.kernel.state s.places.items s.generators.items s.spent i.held c.args.actor c.args.running runs.0 runs.1.1 requires.actor
     c.script_numbered-script.result.now c.script_numbered-script.ensures.lines c.pass_slice-done.result c.pass_slice-done.new.places.items passed.slice passed.places passed.accumulator _ number
     c.next_event.new.event c.next_event.ensures.event c.answer.new.self.state c.answer.new.reply c.answer.ensures.state c.answer.ensures.reply in
-    rw c.remember.ensures.items (processor-more s.program s.room s.is_wide s.history.items s.kernel.state s.places.items s.generators.items _ s.spent s.counts.items _ s.total _ _ i c.args.actor requires.room c.next_event.new.event c.answer.new.reply answer
+    rw c.remember.ensures.items (processor-more s.program s.room s.is_wide s.has_timer s.history.items s.kernel.state s.places.items s.generators.items _ s.spent s.counts.items _ s.total _ _ i c.args.actor requires.room c.next_event.new.event c.answer.new.reply answer
     (omega (arith, requires.actor.0)) requires.actor.1 c.answer.new.self.state c.receive.new.places.items c.next_event.new.generators.items held _ c.next_event.ensures.count
     c.count_turn.new.counts.items (c.count_turn.ensures.exact (turns_made s.program s.history.items) (length s.history.items) c.next_event.new.event i.each_counted) _ c.count_turn.ensures.count
     _ c.add_turn.ensures.exact (c.add_turn.ensures.small (length s.history.items) i.total_counted.small) _ _ (c.receive.ensures.room ∙ c.pass_slice-done.ensures.room) c.remember.ensures.capacity)
@@ -79,3 +79,15 @@ returns-clause-answer c =
     (run-answer s.program (system_run s.program s.history.items) s.kernel.state s.places.items s.generators.items s.spent c.self.invariant.held c.args.actor c.args.running runs.0 runs.1.1 requires.actor
     c.script_numbered-script.result.now c.script_numbered-script.ensures.lines c.pass_slice-done.result c.pass_slice-done.new.places.items passed.slice passed.places passed.accumulator _ number
     c.next_event.new.event c.next_event.ensures.event c.answer.new.self.state c.answer.new.reply c.answer.ensures.state c.answer.ensures.reply)
+
+pub returns-clause-sleeper : goal.returns-clause-sleeper
+returns-clause-sleeper c =
+    let s = c.self.inside in
+    let requires = rw (← c.self.view_is) at c.requires in
+    let runs = requires.runs in
+    let number = ap (λ wide. number_from wide (unwrap_or (at_number s.generators.items c.args.actor) 0)) c.self.invariant.wide in
+    let passed = c.pass_slice-done.ensures in
+    c.sleeper_by.ensures ∙ sym (subst (λ (x : Seen). sleeper_on (world_of x) c.args.actor ≡ sleeper_by c.args.running.thread c.pass_slice-done.result.trap) c.self.view_is
+    (run-sleeper s.program (system_run s.program s.history.items) s.kernel.state s.places.items s.generators.items s.spent c.self.invariant.held c.args.actor c.args.running runs.0 runs.1.1 requires.actor
+    c.script_numbered-script.result.now c.script_numbered-script.ensures.lines c.pass_slice-done.result c.pass_slice-done.new.places.items passed.slice passed.places passed.accumulator _ number
+    c.next_event.new.event c.next_event.ensures.event c.answer.new.self.state c.answer.new.reply c.answer.ensures.state c.answer.ensures.reply))

@@ -1,4 +1,4 @@
-use Rattle.std.proofs.Common.{◌≡◌, ◌∙◌, ◌<◌, List, length, sym, ap, subst, arith}
+use Rattle.std.proofs.Common.{◌≡◌, ◌∙◌, ◌<◌, length, sym, ap, subst}
 use Rattle.lot_lists.specs.NodeLists.{NodeLists, with_pushed}
 use Rattle.lot_kernel.specs.Names.{IsIndexOf, bucket_of}
 use Rattle.lot_kernel.proofs.Indexed.{index-added}

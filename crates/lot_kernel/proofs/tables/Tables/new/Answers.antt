@@ -1,4 +1,4 @@
-use Rattle.std.proofs.Common.{Some, [], arith, codes, refl, rules, ◌∷◌, ◌≡◌}
+use Rattle.std.proofs.Common.{arith, refl, rules}
 use Rattle.lot_kernel.proofs.Opening.{opening-held}
 use Rattle.lot_machine.specs.State.{sizes_of}
 use Rattle.lot_kernel.proofs.tables.Tables.new.Goals as goal

@@ -1,4 +1,4 @@
-use Rattle.std.proofs.Common.{◌≡◌, ◌∙◌, ◌-◌, ℕ, List, None, Option, Some, ap, arith, inl, length, option_map, rules, slice_get, slice_set, subst, sym}
+use Rattle.std.proofs.Common.{◌∙◌, ◌-◌, ℕ, List, None, Option, Some, ap, arith, inl, option_map, rules, slice_get, slice_set, subst, sym}
 use Rattle.std.proofs.lemmas.List.{map-set}
 use Rattle.std.proofs.lemmas.Option.{slice_get_within}
 use Rattle.lot_machine.specs.declared.record.Thread.{Thread}

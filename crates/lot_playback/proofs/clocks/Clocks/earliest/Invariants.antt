@@ -1,11 +1,11 @@
 use Rattle.std.proofs.Common.{◌≡◌, ◌++◌}
 use Rattle.std.specs.List.{flat_map, range_with_len}
-use Rattle.lot_simulation.specs.Timed.{console_due, earliest, processor_due}
-use Rattle.lot_playback.specs.InTime.{moment_of}
+use Rattle.lot_simulation.specs.Timed.{console_due, earliest, processor_due, timer_due}
+use Rattle.lot_playback.specs.InTime.{alarms_in, moment_of}
 use Rattle.lot_playback.proofs.clocks.Clocks.earliest.Given as goal
 
--- it is the first of the console's turn and those of the processors passed so far
+-- it is the first of the console's turn, the timer's and those of the processors passed so far
 abbrev pub invariant-loop-place : goal.invariant-loop-place
 invariant-loop-place l =
-    let m = moment_of l.system l.self.time l.self.processors.items in
-    l.first ≡ earliest (console_due m ++ flat_map (processor_due m) (range_with_len 1 l.place))
+    let m = moment_of l.system l.self.time l.self.processors.items (alarms_in l.alarms.threads.items) in
+    l.first ≡ earliest ((console_due m ++ timer_due l.program m) ++ flat_map (processor_due m) (range_with_len 1 l.place))

@@ -6,8 +6,8 @@ use Rattle.lot_playback.proofs.timekeeper.Timekeeper.follow.Goals as goal
 pub returns-clause-followed : goal.returns-clause-followed
 returns-clause-followed c done n turn at answered was = record {
   idled = c.follow.ensures.idled n was.idled;
-  mutexes = c.follow-2.ensures.exact mutex_change done n turn at (ap mutex_change answered ∙ sym c.mutex_change.ensures) was.mutexes;
-  replies = c.follow-3.ensures.exact reply_change done n turn at (ap reply_change answered ∙ sym (c.reply_change.ensures c.args.event.now)) was.replies;
+  mutexes = c.follow-3.ensures.exact mutex_change done n turn at (ap mutex_change answered ∙ sym c.mutex_change.ensures) was.mutexes;
+  replies = c.follow-4.ensures.exact reply_change done n turn at (ap reply_change answered ∙ sym (c.reply_change.ensures c.args.event.now)) was.replies;
   refused = omega (arith, refusals-more done turn c.args.event.now c.args.reply answered, c.refusals_in.ensures.refusals, was.refused);
   few = omega (arith, was.few, c.refusals_in.ensures.few);
 }
@@ -15,6 +15,7 @@ returns-clause-followed c done n turn at answered was = record {
 pub returns-clause-room : goal.returns-clause-room
 returns-clause-room c program fits = record {
   clocks = omega (arith, fits.clocks, c.follow.ensures.count, c.args.self.now.clocks.processors.ok.0, c.follow.new.self.processors.ok.0);
-  mutexes = omega (arith, fits.mutexes, c.follow-2.ensures.count, c.args.self.now.mutexes.threads.ok.0, c.follow-2.new.self.threads.ok.0);
-  replies = omega (arith, fits.replies, c.follow-3.ensures.count, c.args.self.now.replies.threads.ok.0, c.follow-3.new.self.threads.ok.0);
+  mutexes = omega (arith, fits.mutexes, c.follow-3.ensures.count, c.args.self.now.mutexes.threads.ok.0, c.follow-3.new.self.threads.ok.0);
+  replies = omega (arith, fits.replies, c.follow-4.ensures.count, c.args.self.now.replies.threads.ok.0, c.follow-4.new.self.threads.ok.0);
+  alarms = omega (arith, fits.alarms, c.follow-2.ensures.count, c.args.self.now.alarms.threads.ok.0, c.follow-2.new.self.threads.ok.0);
 }

@@ -1,9 +1,10 @@
-use Rattle.std.proofs.Common.{refl, sym, subst, ap, ◌∙◌, arith, false}
+use Rattle.std.proofs.Common.{◌≡◌, None, refl, sym, subst, ap, ◌∙◌, arith, false}
 use Rattle.std.specs.Prelude.{replicate}
 use Rattle.lot_machine.specs.declared.sizes.Sizes.{Sizes}
 use Rattle.lot_simulation.specs.declared.timed.Clock.{Clock}
 use Rattle.lot_simulation.specs.TimedReport.{mutex_change, reply_change}
 use Rattle.lot_playback.specs.InTime.{HaveIdled}
+use Rattle.lot_playback.proofs.AlarmFacts.{none-sleeping}
 use Rattle.lot_playback.proofs.FollowFacts.{if-ok-none}
 use Rattle.lot_playback.proofs.TimeFacts.{none-idled}
 use Rattle.lot_playback.proofs.timekeeper.Timekeeper.open.Goals as goal
@@ -11,8 +12,8 @@ use Rattle.lot_playback.proofs.timekeeper.Timekeeper.open.Goals as goal
 pub returns-clause-followed : goal.returns-clause-followed
 returns-clause-followed c = record {
   idled = subst (HaveIdled 0) (sym (c.in_ok-open.ensures.clocks)) (none-idled c.limits-limits.result.processors);
-  mutexes = c.in_ok-open-2.ensures.none mutex_change;
-  replies = c.in_ok-open-3.ensures.none reply_change;
+  mutexes = c.in_ok-open-3.ensures.none mutex_change;
+  replies = c.in_ok-open-4.ensures.none reply_change;
   refused = refl;
   few = omega arith;
 }
@@ -26,12 +27,17 @@ open-requires-2 c = tt
 pub open-requires-3 : goal.open-requires-3
 open-requires-3 c = tt
 
+pub open-requires-4 : goal.open-requires-4
+open-requires-4 c = tt
+
 pub returns-in_err-open : goal.returns-in_err-open
 returns-in_err-open c =
     let failed = c.from_residual.ensures.0 in
     record {
       time = if-ok-none c.from_residual.result _ failed;
       clocks = if-ok-none c.from_residual.result _ failed;
+      alarms = if-ok-none c.from_residual.result _ failed;
+      sleeping = if-ok-none c.from_residual.result _ failed;
       room = if-ok-none c.from_residual.result _ failed;
       followed = if-ok-none c.from_residual.result _ failed;
       legal = c.limits-limits.ensures.legal;
@@ -43,6 +49,8 @@ returns-in_err-open-2 c =
     record {
       time = if-ok-none c.from_residual-in_err-open-2.result _ failed;
       clocks = if-ok-none c.from_residual-in_err-open-2.result _ failed;
+      alarms = if-ok-none c.from_residual-in_err-open-2.result _ failed;
+      sleeping = if-ok-none c.from_residual-in_err-open-2.result _ failed;
       room = if-ok-none c.from_residual-in_err-open-2.result _ failed;
       followed = if-ok-none c.from_residual-in_err-open-2.result _ failed;
       legal = c.limits-limits.ensures.legal;
@@ -54,8 +62,23 @@ returns-in_err-open-3 c =
     record {
       time = if-ok-none c.from_residual-in_err-open-3.result _ failed;
       clocks = if-ok-none c.from_residual-in_err-open-3.result _ failed;
+      alarms = if-ok-none c.from_residual-in_err-open-3.result _ failed;
+      sleeping = if-ok-none c.from_residual-in_err-open-3.result _ failed;
       room = if-ok-none c.from_residual-in_err-open-3.result _ failed;
       followed = if-ok-none c.from_residual-in_err-open-3.result _ failed;
+      legal = c.limits-limits.ensures.legal;
+    }
+
+pub returns-in_err-open-4 : goal.returns-in_err-open-4
+returns-in_err-open-4 c =
+    let failed = c.from_residual-in_err-open-4.ensures.0 in
+    record {
+      time = if-ok-none c.from_residual-in_err-open-4.result _ failed;
+      clocks = if-ok-none c.from_residual-in_err-open-4.result _ failed;
+      alarms = if-ok-none c.from_residual-in_err-open-4.result _ failed;
+      sleeping = if-ok-none c.from_residual-in_err-open-4.result _ failed;
+      room = if-ok-none c.from_residual-in_err-open-4.result _ failed;
+      followed = if-ok-none c.from_residual-in_err-open-4.result _ failed;
       legal = c.limits-limits.ensures.legal;
     }
 
@@ -69,3 +92,12 @@ returns-clause-clocks c =
 
 pub returns-clause-legal : goal.returns-clause-legal
 returns-clause-legal c = c.limits-limits.ensures.legal
+
+pub returns-clause-alarms : goal.returns-clause-alarms
+returns-clause-alarms c = c.in_ok-open-2.ensures.none ∙ ap (λ (s : Sizes). replicate s.threads None) c.limits-limits.ensures.limits
+
+pub returns-clause-sleeping : goal.returns-clause-sleeping
+returns-clause-sleeping c =
+    let opened = c.in_ok-open-2.ensures in
+    let threads : c.limits-limits.result.threads ≡ c.args.program.now.limits.threads = ap (λ (s : Sizes). s.threads) c.limits-limits.ensures.limits in
+    none-sleeping c.args.program.now.limits.processors c.in_ok-open-2.field-0 c.limits-limits.result.threads (omega (arith, threads, c.limits-limits.ensures.legal.limits.of_threads.1)) opened.none opened.highest opened.next

@@ -1,5 +1,5 @@
-use Rattle.std.proofs.Common.{rules, ◌∷◌, ◌++◌, length, map, arith, ap, sym, ◌∙◌}
-use Rattle.std.specs.Prelude.{slice_get}
+use Rattle.std.proofs.Common.{◌≡◌, List, rules, ◌∷◌, ◌++◌, false, length, map, arith, ap, sym, subst, ◌∙◌}
+use Rattle.std.specs.Prelude.{IfSome, slice_get}
 use Rattle.lot_station.specs.declared.baton.view.View.{View}
 use Rattle.lot_station.specs.BatonViews.{resting}
 use Rattle.lot_station.specs.BatonSeats.{Seat, claim_of}
@@ -17,7 +17,7 @@ loop-seat-init c =
       tt,
       (here, c.pass.invariant.0),
       gives.1 ∙ sym (ap length gives.0 ∙ search rules),
-      (first, all, own_claim _ _ _ _ _ _ c.pass.invariant.1 c.pass.view_is),
+      (first, all, own_claim _ _ _ _ _ _ c.pass.invariant.1 c.pass.view_is, sym (ap (λ (s : Seat). s.seen.setting.timer) c.pass.view_is) ∙ c.pass.invariant.4),
     )
 
 pub absorb-requires-clause-queue : goal.absorb-requires-clause-queue
@@ -46,6 +46,7 @@ loop-seat-preserved c =
         i.4.0,
         moves_on _ old _ _ c.in-Some.seat i.4.1 step.0,
         one_more _ _ _ old c.in-Some.seat i.4.2 (own_claim _ _ _ _ _ _ c.seat.invariant.1 c.seat.view_is) c.absorb.ensures.rule,
+        i.4.3,
       ),
     )
 
@@ -56,3 +57,8 @@ pub returns-clause-view : goal.returns-clause-view
 returns-clause-view c =
     let i = c.loop-seat.invariant in
     i.4.2 ∙ ap (λ l. resting (map claim_of l)) (sym (all_taken _ (i.4.0 ∷ c.loop-seat.yielded) c.loop-seat.seat-iterator.rest.items i.4.1 (sym i.3 ∙ c.in-None.ensures.steps.0)))
+
+pub returns-clause-timer : goal.returns-clause-timer
+returns-clause-timer c =
+    let i = c.loop-seat.invariant in
+    subst (λ (l : List Seat). IfSome (slice_get l 0) (λ s. s.seen.setting.timer ≡ false)) (sym i.4.1) i.4.3

@@ -1,4 +1,4 @@
-use Rattle.std.proofs.Common.{◌≡◌, ◌∷◌, ◌++◌, length, map}
+use Rattle.std.proofs.Common.{◌≡◌, ◌∷◌, ◌++◌, false, length, map}
 use Rattle.crossbeam_queue.specs.Passes.{view, IsPassOf}
 use Rattle.lot_station.specs.BatonViews.{resting}
 use Rattle.lot_station.specs.BatonSeats.{Seat, claim_of}
@@ -11,4 +11,5 @@ invariant-loop-seat l =
     × (l.seat-iterator.rest.len ≡ length l.seat-iterator.rest.items)
     × ((first : Seat)
     × (l.fn.seats.items ≡ (first ∷ l.yielded) ++ l.seat-iterator.rest.items)
-    × (view l.pass ≡ resting (map claim_of (first ∷ l.yielded))))
+    × (view l.pass ≡ resting (map claim_of (first ∷ l.yielded)))
+    × (first.seen.setting.timer ≡ false))

@@ -2,7 +2,7 @@ use Rattle.std.proofs.Common.{ℕ, List, refl, ap, subst}
 use Rattle.lot_station.specs.declared.baton.view.View.{View}
 use Rattle.lot_station.specs.BatonViews.{SeesAll}
 use Rattle.lot_station.specs.BatonSeats.{Seat, Baton, HasEachSeat}
-use Rattle.lot_station.proofs.BatonClosing.{each_all, shown, last_actor}
+use Rattle.lot_station.proofs.BatonClosing.{each_all, shown, last_actor, no_timer}
 use Rattle.lot_station.proofs.BatonCounting.{counts_add_up}
 use Rattle.lot_station.proofs.BatonSharing.{adds_up}
 use Rattle.lot_station.proofs.baton.station.BatonStation.close.Goals as goal
@@ -20,7 +20,12 @@ returns-clause-sums g c =
     let order = returns-clause-order g c in
     let shows = returns-clause-shows g c in
     let last = last_actor c.args.self c.take-system.result c.args.seats.items c.requires order shows in
-    adds_up c.take-system.result c.args.self.processors c.args.seats.items last order c.history.ensures.legal.actors shows
+    let timer = no_timer _ c.take-system.result c.args.seats.items order shows c.joined-pass.ensures.timer in
+    adds_up c.take-system.result c.args.self.processors c.args.seats.items last order (c.history.ensures.legal timer).actors shows
+
+pub returns-clause-legal : goal.returns-clause-legal
+returns-clause-legal g c =
+    c.history.ensures.legal (no_timer _ c.take-system.result c.args.seats.items (returns-clause-order g c) (returns-clause-shows g c) c.joined-pass.ensures.timer)
 
 pub returns-clause-counts : goal.returns-clause-counts
 returns-clause-counts g c = counts_add_up c.take-system.result c.args.seats.items (returns-clause-sums g c) (returns-clause-shows g c)

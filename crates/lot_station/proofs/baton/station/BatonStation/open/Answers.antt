@@ -42,4 +42,5 @@ invariant_of-seat c =
       theirs ∙ ap (λ (x : Seen). resting (claim c.loop-k.k (c.loop-k.k + 1) x ∷ [])) (sym seen),
       search rules,
       c.index.ensures ∙ own ∙ ap (λ (x : Seen). counts_in x c.loop-k.k) (sym seen),
+      ap (λ (x : Seen). x.setting.timer) seen ∙ c.requires,
     )

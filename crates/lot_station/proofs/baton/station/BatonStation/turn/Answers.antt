@@ -1,10 +1,11 @@
-use Rattle.std.proofs.Common.{IfOk, IfErr, ap, subst}
+use Rattle.std.proofs.Common.{rules, IfOk, IfErr, ◌∙◌, ap, subst}
+use Rattle.lot_engine.specs.Seen.{Setting}
 use Rattle.crossbeam_queue.specs.Passes.{view}
 use Rattle.lot_engine.specs.Turns.{Faults}
 use Rattle.lot_station.specs.declared.baton.view.View.{View}
 use Rattle.lot_station.specs.BatonViews.{SeesAll}
 use Rattle.lot_station.specs.BatonSeats.{seat, Looks, Turns, seen_in}
-use Rattle.lot_station.proofs.BatonTelling.{held_after, given_after, turned, refused}
+use Rattle.lot_station.proofs.BatonTelling.{held_after, given_after, next_turn, turned, refused}
 use Rattle.lot_station.proofs.baton.station.BatonStation.turn.Goals as goal
 
 pub returns-clause-ok : goal.returns-clause-ok
@@ -16,7 +17,7 @@ returns-clause-ok g c =
     let old = seat c.seat.inside.pass.table_id c.seat.inside.actor (seen_in (view c.seat.inside.pass).claims) c.seat.inside.stopped in
     let new = seat c.give.new.pass.table_id c.seat.inside.actor (seen_in (view c.give.new.pass).claims) c.seat.inside.stopped in
     subst (λ o. IfOk c.turn-answer.result (λ answer. Turns o c.args.slice answer new)) c.seat.view_is
-    (turned old new c.args.slice c.take-system.result c.turn-answer.new.self c.turn-answer.result (ap (λ (y : View). seen_in y.claims) given) sees c.turn-answer.ensures.legal c.turn-answer.ensures.ok)
+    (turned old new c.args.slice c.take-system.result c.turn-answer.new.self c.turn-answer.result (ap (λ (y : View). seen_in y.claims) given) sees (c.turn-answer.ensures.legal (ap (λ (s : Setting). s.timer) sees.0.0 ∙ i.4)) c.turn-answer.ensures.ok)
 
 pub returns-clause-err : goal.returns-clause-err
 returns-clause-err g c =
@@ -27,4 +28,13 @@ returns-clause-err g c =
     let old = seat c.seat.inside.pass.table_id c.seat.inside.actor (seen_in (view c.seat.inside.pass).claims) c.seat.inside.stopped in
     let new = seat c.give.new.pass.table_id c.seat.inside.actor (seen_in (view c.give.new.pass).claims) c.seat.inside.stopped in
     subst (λ o. IfErr c.turn-answer.result (λ fault. Looks o new × Faults new.seen o.actor c.args.slice fault)) c.seat.view_is
-    (refused old new c.args.slice c.take-system.result c.turn-answer.new.self c.turn-answer.result (ap (λ (y : View). seen_in y.claims) given) sees c.turn-answer.ensures.legal c.turn-answer.ensures.err)
+    (refused old new c.args.slice c.take-system.result c.turn-answer.new.self c.turn-answer.result (ap (λ (y : View). seen_in y.claims) given) sees (c.turn-answer.ensures.legal (ap (λ (s : Setting). s.timer) sees.0.0 ∙ i.4)) c.turn-answer.ensures.err)
+
+pub invariant_of-seat : goal.invariant_of-seat
+invariant_of-seat g c =
+    let i = c.seat.invariant in
+    let held = held_after _ _ _ _ _ i.1 c.take-system.ensures.holds in
+    let given = given_after _ _ _ _ _ _ held c.give.ensures.gave in
+    let sees = (subst (λ (y : View). SeesAll c.take-system.result y.claims) i.1 c.take-system.ensures.seen).0 in
+    let goes = next_turn c.seat.inside.actor c.args.slice c.take-system.result c.take-system.result c.turn-answer.new.self c.turn-answer.result c.turn-answer.ensures.ok c.turn-answer.ensures.err in
+    (search rules, search rules, search rules, search rules, ap (λ (y : View). (seen_in y.claims).setting.timer) given ∙ ap (λ (s : Setting). s.timer) (goes.0 ∙ sees.0.0) ∙ i.4)

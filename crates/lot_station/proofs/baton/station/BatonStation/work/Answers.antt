@@ -1,4 +1,5 @@
-use Rattle.std.proofs.Common.{rules, ap, subst}
+use Rattle.std.proofs.Common.{rules, ◌∙◌, ap, subst}
+use Rattle.lot_engine.specs.Seen.{Setting}
 use Rattle.crossbeam_queue.specs.Passes.{view}
 use Rattle.lot_station.specs.declared.baton.view.View.{View}
 use Rattle.lot_station.specs.BatonViews.{SeesAll}
@@ -15,7 +16,7 @@ returns-clause-seen g c =
     let old = seat c.seat.inside.pass.table_id c.seat.inside.actor (seen_in (view c.seat.inside.pass).claims) c.seat.inside.stopped in
     let new = seat c.give.new.pass.table_id c.seat.inside.actor (seen_in (view c.give.new.pass).claims) c.seat.inside.stopped in
     subst (λ o. Looks o new) c.seat.view_is
-    (looks old new c.take-system.result (ap (λ (y : View). seen_in y.claims) given) sees c.work-work.ensures.legal)
+    (looks old new c.take-system.result (ap (λ (y : View). seen_in y.claims) given) sees (c.work-work.ensures.legal (ap (λ (s : Setting). s.timer) sees.0.0 ∙ i.4)))
 
 pub invariant_of-seat : goal.invariant_of-seat
 invariant_of-seat g c =
@@ -23,4 +24,4 @@ invariant_of-seat g c =
     let held = held_after _ _ _ _ _ i.1 c.take-system.ensures.holds in
     let given = given_after _ _ _ _ _ _ held c.give.ensures.gave in
     let sees = (subst (λ (y : View). SeesAll c.take-system.result y.claims) i.1 c.take-system.ensures.seen).0 in
-    (search rules, search rules, search rules, still_counted _ _ _ c.take-system.result _ i.3 sees (ap (λ (y : View). seen_in y.claims) given))
+    (search rules, search rules, search rules, still_counted _ _ _ c.take-system.result _ i.3 sees (ap (λ (y : View). seen_in y.claims) given), ap (λ (y : View). (seen_in y.claims).setting.timer) given ∙ ap (λ (s : Setting). s.timer) sees.0.0 ∙ i.4)

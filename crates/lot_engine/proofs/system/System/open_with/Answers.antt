@@ -3,7 +3,7 @@ use Rattle.lot_machine.specs.State.{opening, sizes_of}
 use Rattle.lot_simulation.specs.Report.{turns_made}
 use Rattle.lot_engine.specs.Counted.{AreCounts, IsCount}
 use Rattle.lot_engine.proofs.Openings.{nothing-counted, opening-held}
-use Rattle.lot_engine.proofs.system.System.open.Goals as goal
+use Rattle.lot_engine.proofs.system.System.open_with.Goals as goal
 
 pub invariant_of-result : goal.invariant_of-result
 invariant_of-result c =
@@ -21,7 +21,8 @@ invariant_of-result c =
     let each = subst (λ h. AreCounts (turns_made program h) (length h) c.in_ok-no_counts.field-0.items) (sym none) c.in_ok-no_counts.ensures.none in
     record {
       program = search (rules, copied);
-      legal = search (rules, none);
+      legal = λ untimed. search (rules, none);
+      in_time = search (rules, none);
       held = opening-held program history state places generators none is c.in_ok-places_for.ensures.none seeded;
       wide = c.draws_wide_numbers.ensures ∙ c.format.ensures.timed ∙ ap (λ p. is_some p.duration) (sym copied);
       generators = c.in_ok-generators_of.ensures.count ∙ ap (λ p. p.limits.processors) (sym copied);

@@ -1,0 +1,48 @@
+-- The timer's turn leaves the threads' places and the counters of the others.
+use Rattle.std.proofs.Common.{◌≡◌, ℕ, ◌+◌, ◌++◌, List, [], ◌∷◌, length, ap, sym, ◌∙◌, subst, arith}
+use Rattle.lot_machine.specs.declared.event.Event.TheVariants as event
+use Rattle.lot_machine.specs.declared.sizes.Sizes.{Sizes}
+use Rattle.lot_machine.specs.State.{State}
+use Rattle.lot_machine.specs.Step.{step}
+use Rattle.lot_simulation.specs.World.{system_turn, system_run}
+use Rattle.lot_simulation.specs.World.Answer.{Answered}
+use Rattle.lot_engine.specs.Playing.{IsPlayed, turn_in}
+use Rattle.lot_engine.specs.Seen.{Seen, after_turn, timer_for, world_of}
+use Rattle.lot_engine.proofs.OneMore.{timer-more}
+use Rattle.lot_engine.proofs.PlayingFacts.{played-after}
+use Rattle.lot_engine.proofs.WakeFacts.{wake-answer}
+use Rattle.lot_engine.proofs.system.System.wake.Goals as goal
+
+pub invariant_of-self : goal.invariant_of-self
+invariant_of-self c =
+    let s = c.self.inside in
+    let i = c.self.invariant in
+    let requires = rw (← c.self.view_is) at c.requires in
+    let actor : c.limits.result.processors + c.args.thread ≡ s.program.limits.processors + c.args.thread = ap (λ (l : Sizes). l.processors + c.args.thread) c.limits.ensures.limits in
+    rw (c.remember.ensures.items, actor) (timer-more s.program s.room s.is_wide s.has_timer s.history.items s.kernel.state s.places.items s.generators.items _ s.spent s.counts.items _ s.total _ _ i c.args.thread (omega (arith, requires.there.0)) requires.timer requires.room (omega (arith, s.counts.ok.0))
+    c.answer.new.self.state c.answer.new.reply c.answer.ensures.state c.answer.ensures.reply
+    _ c.add_turn.ensures.exact (c.add_turn.ensures.small (length s.history.items) i.total_counted.small) _ c.remember.ensures.capacity)
+
+pub returns-clause-answer : goal.returns-clause-answer
+returns-clause-answer c =
+    let s = c.self.inside in
+    let requires = rw (← c.self.view_is) at c.requires in
+    let replies : c.answer.new.reply ≡ (step (system_run s.program s.history.items).state (event.Wake c.args.thread)).reply =
+    c.answer.ensures.reply ∙ ap (λ (x : State). (step x (event.Wake c.args.thread)).reply) c.self.invariant.held.state in
+    subst (λ (x : Seen). (turn_in x (timer_for x.setting c.args.thread)).answer ≡ Answered (event.Wake c.args.thread) c.answer.new.reply) c.self.view_is
+    (wake-answer s.program (system_run s.program s.history.items) c.args.thread (omega (arith, requires.there.0)) c.answer.new.reply replies)
+
+pub returns-clause-seen : goal.returns-clause-seen
+returns-clause-seen c =
+    let s = c.self.inside in
+    let actor : c.limits.result.processors + c.args.thread ≡ s.program.limits.processors + c.args.thread = ap (λ (l : Sizes). l.processors + c.args.thread) c.limits.ensures.limits in
+    let items : c.remember.new.history.items ≡ s.history.items ++ (s.program.limits.processors + c.args.thread) ∷ [] =
+    c.remember.ensures.items ∙ ap (λ n. s.history.items ++ n ∷ []) actor in
+    let after : List ℕ → Seen = λ h. record { setting = record { program = s.program; room = s.room; timer = s.has_timer }; history = h } in
+    ap after items ∙ ap (λ (x : Seen). after_turn x (timer_for x.setting c.args.thread)) c.self.view_is
+
+pub returns-clause-played : goal.returns-clause-played
+returns-clause-played c =
+    let old = c.args.self.now in
+    subst (IsPlayed old (timer_for old.setting c.args.thread)) (sym (returns-clause-seen c))
+    (played-after old (timer_for old.setting c.args.thread) (event.Wake c.args.thread) c.answer.new.reply (returns-clause-answer c))

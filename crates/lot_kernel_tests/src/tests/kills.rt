@@ -1,0 +1,315 @@
+//! Threads that are killed, in each status.
+use super::*;
+
+/// Takes the steps in a new kernel, after it got threads of these names with this much base each.
+fn play_funded(rt: &impl Abort, alloc: Global, threads: &[(u64, &str)], steps: &[Step<'_>]) {
+    let mut kernel = largest(rt, alloc, 1);
+    fund(rt, &mut kernel, threads);
+    take_all(rt, &mut kernel, steps)
+}
+
+/// Thread `a` runs and owns a mutex when it is killed: its processor is idle then, its ticket is inactive, and the
+/// mutex is free. What it ran before its last trap counts. It can be removed like any other dead thread.
+const RUNNING: [Step<'_>; 17] = [
+    Step::Wins(1, 0, (1, 0, 500), None),
+    Step::Works(1, 29, Action::Lock(1), 1, Outcome::Locked),
+    Step::Gives(Line::Kill("a"), Reply::Done),
+    Step::Pauses(Pause::Preempt(1, 0), Reply::Refused(Refusal::NotRunning)),
+    Step::Thread((1, "a", Status::Dead, 0, 0, 1, 30)),
+    Step::Ticket((1, 400, "base", "a", false, 0)),
+    Step::Gives(Line::Kill("a"), Reply::Refused(Refusal::DeadThread)),
+    Step::Gives(Line::Fund(1, "a"), Reply::Refused(Refusal::DeadThread)),
+    Step::Pauses(Pause::Wake(1), Reply::Refused(Refusal::NotAsleep)),
+    Step::Gives(Line::Rmthr("a"), Reply::Refused(Refusal::InUse)),
+    Step::Gives(Line::Unfund(1), Reply::Done),
+    Step::Gives(Line::Rmthr("a"), Reply::Done),
+    Step::NoThread(1),
+    Step::Gives(Line::Kill("a"), Reply::Refused(Refusal::NoThread)),
+    Step::Wins(1, 99, (2, 99, 100), None),
+    Step::Traps(1, Action::Lock(1), 2, Outcome::Locked),
+    Step::Idles(2, 0),
+];
+
+/// Of two threads that run one is killed: the other runs on, and wins the next draw.
+const ELSEWHERE: [Step<'_>; 7] = [
+    Step::Wins(1, 0, (1, 0, 500), None),
+    Step::Wins(2, 0, (2, 0, 100), None),
+    Step::Gives(Line::Kill("a"), Reply::Done),
+    Step::Traps(2, Action::Lock(2), 2, Outcome::Locked),
+    Step::Pauses(
+        Pause::Preempt(2, 49),
+        Reply::Expired {
+            thread: 2,
+            ticks: 49,
+        },
+    ),
+    Step::Thread((2, "b", Status::Ready, 100, 100, 1, 50)),
+    Step::Wins(1, 199, (2, 99, 100), None),
+];
+
+/// A Ready thread that is killed competes no more.
+const READY: [Step<'_>; 4] = [
+    Step::Gives(Line::Kill("a"), Reply::Done),
+    Step::Wins(1, 400, (2, 0, 100), None),
+    Step::Gives(Line::Kill("b"), Reply::Done),
+    Step::Idles(1, 0),
+];
+
+#[test]
+fn kills_of_runners(rt: HostRuntime) {
+    let threads = [(400, "a"), (100, "b")];
+    play_funded(&rt, rt.alloc(), &threads, &RUNNING);
+    play_funded(&rt, rt.alloc(), &threads, &ELSEWHERE);
+    play_funded(&rt, rt.alloc(), &threads, &READY)
+}
+
+/// A killed thread's ticket is inactive, so the other thread of its currency is worth all of it.
+const SHARED: [Step<'_>; 10] = [
+    Step::Gives(Line::Mkcur("g"), Reply::Currency(1)),
+    Step::Gives(Line::Mktkt(100, "base"), Reply::Ticket(1)),
+    Step::Gives(Line::Fund(1, "g"), Reply::Done),
+    Step::Gives(
+        Line::Fundx(1, "g", "a", 1),
+        Reply::Funded {
+            ticket: 2,
+            thread: 1,
+        },
+    ),
+    Step::Gives(
+        Line::Fundx(1, "g", "b", 1),
+        Reply::Funded {
+            ticket: 3,
+            thread: 2,
+        },
+    ),
+    Step::Value(1, 50),
+    Step::Gives(Line::Kill("a"), Reply::Done),
+    Step::Ticket((2, 1, "g", "a", false, 0)),
+    Step::Currency((1, "g", 1, 2, 1, 100)),
+    Step::Thread((2, "b", Status::Ready, 100, 100, 0, 0)),
+];
+
+#[test]
+fn kill_of_a_thread_of_a_currency(rt: HostRuntime) {
+    play(&rt, rt.alloc(), &SHARED)
+}
+
+/// Thread `s` is killed while it serves `c`, and `d` waits for it to receive: `c` is Ready, with nothing delivered, and
+/// receives the call of `d`.
+const SERVER: [Step<'_>; 12] = [
+    Step::Wins(1, 0, (1, 0, 60), None),
+    Step::Traps(1, Action::Receive(1), 1, Outcome::Waits),
+    Step::Wins(1, 0, (2, 0, 50), None),
+    Step::Traps(1, Action::Call(1, 5), 2, Outcome::ServedBy(1)),
+    Step::Wins(1, 3029, (3, 3029, 3030), None),
+    Step::Traps(1, Action::Call(1, 6), 3, Outcome::Queued),
+    Step::Gives(Line::Kill("s"), Reply::Done),
+    Step::Thread((1, "s", Status::Dead, 0, 0, 1, 1)),
+    Step::Thread((2, "c", Status::Ready, 20, 2000, 1, 1)),
+    Step::Thread((3, "d", Status::Queued(1), 0, 0, 1, 1)),
+    Step::Wins(1, 1999, (2, 1999, 2000), None),
+    Step::Traps(
+        1,
+        Action::Receive(1),
+        2,
+        Outcome::Received {
+            client: 3,
+            number: 6,
+        },
+    ),
+];
+
+/// Thread `c` is killed while `s` serves it: `s` is worth its own ticket alone, and has nobody to reply to.
+const CLIENT: [Step<'_>; 8] = [
+    Step::Wins(1, 0, (1, 0, 60), None),
+    Step::Traps(1, Action::Receive(1), 1, Outcome::Waits),
+    Step::Wins(1, 0, (2, 0, 50), None),
+    Step::Traps(1, Action::Call(1, 5), 2, Outcome::ServedBy(1)),
+    Step::Value(1, 30),
+    Step::Gives(Line::Kill("c"), Reply::Done),
+    Step::Wins(1, 999, (1, 999, 1030), Some(5)),
+    Step::Traps(
+        1,
+        Action::Reply(9),
+        1,
+        Outcome::Refused(TrapRefusal::NothingToReply),
+    ),
+];
+
+#[test]
+fn kills_of_servers_and_clients(rt: HostRuntime) {
+    let threads = [(10, "s"), (20, "c"), (30, "d")];
+    play_funded(&rt, rt.alloc(), &threads, &SERVER);
+    play_funded(&rt, rt.alloc(), &threads, &CLIENT)
+}
+
+/// Thread `a` is killed after its call was queued before that of `b`: `c` receives that of `b`.
+const CALLER: [Step<'_>; 8] = [
+    Step::Wins(1, 0, (1, 0, 60), None),
+    Step::Traps(1, Action::Call(1, 7), 1, Outcome::Queued),
+    Step::Wins(1, 0, (2, 0, 50), None),
+    Step::Traps(1, Action::Call(1, 8), 2, Outcome::Queued),
+    Step::Gives(Line::Kill("a"), Reply::Done),
+    Step::Wins(1, 0, (3, 0, 30), None),
+    Step::Traps(
+        1,
+        Action::Receive(1),
+        3,
+        Outcome::Received {
+            client: 2,
+            number: 8,
+        },
+    ),
+    Step::Idles(2, 0),
+];
+
+/// Threads `a` and `b` wait to receive, and `a` is killed: `b` serves the call.
+const RECEIVER: [Step<'_>; 8] = [
+    Step::Wins(1, 0, (1, 0, 60), None),
+    Step::Traps(1, Action::Receive(1), 1, Outcome::Waits),
+    Step::Wins(1, 0, (2, 0, 50), None),
+    Step::Traps(1, Action::Receive(1), 2, Outcome::Waits),
+    Step::Gives(Line::Kill("a"), Reply::Done),
+    Step::Wins(1, 0, (3, 0, 30), None),
+    Step::Traps(1, Action::Call(1, 5), 3, Outcome::ServedBy(2)),
+    Step::Wins(1, 4999, (2, 4999, 5000), Some(5)),
+];
+
+#[test]
+fn kills_at_ports(rt: HostRuntime) {
+    let threads = [(10, "a"), (20, "b"), (30, "c")];
+    play_funded(&rt, rt.alloc(), &threads, &CALLER);
+    play_funded(&rt, rt.alloc(), &threads, &RECEIVER)
+}
+
+/// Thread `o` owns a mutex, for which `w` waits, and then `x`.
+const ONE_MUTEX: [Step<'_>; 7] = [
+    Step::Wins(1, 0, (1, 0, 60), None),
+    Step::Traps(1, Action::Lock(1), 1, Outcome::Locked),
+    Step::Wins(2, 0, (2, 0, 50), None),
+    Step::Traps(2, Action::Lock(1), 2, Outcome::Waits),
+    Step::Wins(2, 0, (3, 0, 30), None),
+    Step::Traps(2, Action::Lock(1), 3, Outcome::Waits),
+    Step::Value(1, 60),
+];
+
+/// The owner is killed: `w` has waited longest, so it owns the mutex, and `x` lends to it.
+const OWNER: [Step<'_>; 6] = [
+    Step::Gives(Line::Kill("o"), Reply::Done),
+    Step::Thread((1, "o", Status::Dead, 0, 0, 1, 1)),
+    Step::Thread((2, "w", Status::Ready, 50, 5000, 1, 1)),
+    Step::Wins(1, 4999, (2, 4999, 5000), None),
+    Step::Traps(
+        1,
+        Action::Unlock(1, 7),
+        2,
+        Outcome::Passed {
+            to: 3,
+            draw: Some((7, 30)),
+        },
+    ),
+    Step::Value(3, 30),
+];
+
+/// A waiter is killed: it lends nothing any more, and isn't in the lottery of the unlock.
+const WAITER: [Step<'_>; 4] = [
+    Step::Gives(Line::Kill("w"), Reply::Done),
+    Step::Value(1, 40),
+    Step::Traps(
+        1,
+        Action::Unlock(1, 7),
+        1,
+        Outcome::Passed {
+            to: 3,
+            draw: Some((7, 30)),
+        },
+    ),
+    Step::Value(1, 10),
+];
+
+/// Takes the steps in a new kernel, in which `o` owns a mutex for which `w` and `x` wait.
+fn play_owned(rt: &impl Abort, alloc: Global, steps: &[Step<'_>]) {
+    let mut kernel = largest(rt, alloc, 1);
+    fund(rt, &mut kernel, &[(10, "o"), (20, "w"), (30, "x")]);
+    take_all(rt, &mut kernel, &ONE_MUTEX);
+    take_all(rt, &mut kernel, steps)
+}
+
+/// Thread `o` owns two mutexes, and `w` and `x` wait for one each: both are Ready when it is killed, as owners.
+const TWO_MUTEXES: [Step<'_>; 14] = [
+    Step::Wins(1, 0, (1, 0, 60), None),
+    Step::Traps(1, Action::Lock(1), 1, Outcome::Locked),
+    Step::Traps(1, Action::Lock(2), 1, Outcome::Locked),
+    Step::Wins(2, 0, (2, 0, 50), None),
+    Step::Traps(2, Action::Lock(1), 2, Outcome::Waits),
+    Step::Wins(2, 0, (3, 0, 30), None),
+    Step::Traps(2, Action::Lock(2), 3, Outcome::Waits),
+    Step::Gives(Line::Kill("o"), Reply::Done),
+    Step::Thread((2, "w", Status::Ready, 20, 2000, 1, 1)),
+    Step::Thread((3, "x", Status::Ready, 30, 3000, 1, 1)),
+    Step::Wins(1, 1999, (2, 1999, 5000), None),
+    Step::Wins(2, 0, (3, 0, 3000), None),
+    Step::Traps(1, Action::Unlock(1, 0), 2, Outcome::Freed),
+    Step::Traps(2, Action::Unlock(2, 0), 3, Outcome::Freed),
+];
+
+#[test]
+fn kills_of_owners_and_waiters(rt: HostRuntime) {
+    play_owned(&rt, rt.alloc(), &OWNER);
+    play_owned(&rt, rt.alloc(), &WAITER);
+    let threads = [(10, "o"), (20, "w"), (30, "x")];
+    play_funded(&rt, rt.alloc(), &threads, &TWO_MUTEXES)
+}
+
+/// A sleeper is killed, and isn't woken then.
+const SLEEPER: [Step<'_>; 6] = [
+    Step::Wins(1, 0, (1, 0, 30), None),
+    Step::Works(1, 19, Action::Sleep, 1, Outcome::Slept),
+    Step::Gives(Line::Kill("a"), Reply::Done),
+    Step::Pauses(Pause::Wake(1), Reply::Refused(Refusal::NotAsleep)),
+    Step::Thread((1, "a", Status::Dead, 0, 0, 1, 20)),
+    Step::Wins(1, 29, (2, 9, 20), None),
+];
+
+#[test]
+fn kill_of_a_sleeper(rt: HostRuntime) {
+    play_funded(&rt, rt.alloc(), &[(10, "a"), (20, "b")], &SLEEPER)
+}
+
+/// A thread has to be there, and alive. Neither base nor another currency is a thread.
+const REFUSED: [Step<'_>; 8] = [
+    Step::Gives(Line::Kill("a"), Reply::Refused(Refusal::NoThread)),
+    Step::Gives(Line::Kill("base"), Reply::Refused(Refusal::NoThread)),
+    Step::Gives(Line::Mkcur("g"), Reply::Currency(1)),
+    Step::Gives(Line::Kill("g"), Reply::Refused(Refusal::NoThread)),
+    Step::Gives(Line::Fundx(10, "base", "a", 1), FIRST_FUNDED),
+    Step::Wins(1, 0, (1, 0, 10), None),
+    Step::Traps(1, Action::Exit, 1, Outcome::Exited),
+    Step::Gives(Line::Kill("a"), Reply::Refused(Refusal::DeadThread)),
+];
+
+/// Numbers of threads to kill, with the replies, where there are two.
+const NUMBERED: [(u32, Reply); 5] = [
+    (0, Reply::Refused(Refusal::NoThread)),
+    (3, Reply::Refused(Refusal::NoThread)),
+    (2, Reply::Done),
+    (2, Reply::Refused(Refusal::DeadThread)),
+    (u32::MAX, Reply::Refused(Refusal::NoThread)),
+];
+
+/// Kills the thread with this number, and compares the reply.
+fn check_kill(rt: &impl Abort, kernel: &mut Kernel, number: u32, reply: Reply) {
+    let thread = ThreadRef::Numbered(number);
+    check_event(rt, kernel, Event::Command(Command::Kill { thread }), reply)
+}
+
+#[test]
+fn refused_kills(rt: HostRuntime) {
+    play(&rt, rt.alloc(), &REFUSED);
+    let mut kernel = largest(&rt, rt.alloc(), 1);
+    fund(&rt, &mut kernel, &[(10, "a"), (20, "b")]);
+    for (number, reply) in NUMBERED {
+        check_kill(&rt, &mut kernel, number, reply);
+    }
+    check_event(&rt, &mut kernel, Event::Draw(1, 29), won(1, 9, 10, None))
+}

@@ -1,0 +1,73 @@
+//! Kills, as laws of the machine: a killed thread is nowhere, and whoever waited for it goes on (4.6, 6.1).
+ghost use Rattle.std.specs.Prelude.{◌≡◌, ◌≢◌, ℕ, List, [], Contains, Some, None, drop, slice_get};
+ghost use Rattle.lot_machine.specs.declared.reference.ThreadRef.{ThreadRef as Reference};
+ghost use Rattle.lot_machine.specs.declared.record.Record.{Record as ARecord};
+ghost use Rattle.lot_machine.specs.declared.record.Status.TheVariants as status;
+ghost use Rattle.lot_machine.specs.Numbered.{at_number};
+ghost use Rattle.lot_machine.specs.Order.{IsInOrder};
+ghost use Rattle.lot_machine.specs.Ports.{clients_of};
+ghost use Rattle.lot_machine.specs.Lends.{borrower_of};
+ghost use Rattle.lot_machine.specs.State.{State, Mutex, funding_of, status_of};
+ghost use Rattle.lot_laws.specs.Kills.{Kills, Owns, WaitsForThread, after_kill};
+ghost use Rattle.lot_laws.specs.Reachable.{IsReachable};
+ghost use Rattle.lot_laws.specs.Removed.{StandsNowhere};
+
+/// A killed thread is dead without compensation, and keeps its quanta and its ticks. If the state is reachable, nothing
+/// but tickets refers to it then: it stands in no list, serves nobody and owns no mutex, and no thread lends to it.
+pub fn killed_threads_are_nowhere()
+    ensures record { (s : State) (thread : Reference) (t : ℕ) (r : ARecord) → Kills s thread t
+        → at_number s.records t ≡ Some r
+        → at_number (after_kill s thread).records t ≡ Some (record r { status = status.Dead; compensation = None }) }
+    ensures lists { (s : State) (thread : Reference) (t : ℕ) → IsReachable s → Kills s thread t
+        → StandsNowhere (after_kill s thread) t }
+    ensures serves { (s : State) (thread : Reference) (t : ℕ) (clients : List ℕ) → Kills s thread t
+        → at_number (after_kill s thread).clients t ≡ Some clients → clients ≡ [] }
+    ensures owns { (s : State) (thread : Reference) (t m : ℕ) (mutex : Mutex) → Kills s thread t
+        → at_number (after_kill s thread).mutexes m ≡ Some mutex → mutex.owner ≢ Some t }
+    ensures lends { (s : State) (thread : Reference) (t u : ℕ) → IsReachable s → Kills s thread t
+        → borrower_of (funding_of (after_kill s thread)) u ≢ Some t }
+{}
+
+/// Each client of a killed thread is Ready, and so is each thread that has waited longest for one of its mutexes:
+/// nothing is delivered to it, and its compensation, quanta and ticks stay. Such a mutex belongs to that thread then,
+/// and to nobody if none waits; the others go on waiting in order.
+pub fn kills_end_waits()
+    ensures released { (s : State) (thread : Reference) (t u : ℕ) (r : ARecord) → IsInOrder s → Kills s thread t
+        → WaitsForThread s t u → at_number s.records u ≡ Some r
+        → at_number (after_kill s thread).records u ≡ Some (record r { status = status.Ready }) }
+    ensures passed { (s : State) (thread : Reference) (t m : ℕ) (mutex : Mutex) → IsInOrder s → Kills s thread t
+        → Owns s t m mutex
+        → at_number (after_kill s thread).mutexes m
+        ≡ Some (record { owner = slice_get mutex.waiters 0; waiters = drop 1 mutex.waiters }) }
+{}
+
+/// In a reachable state each thread that is served is among the clients of its server, so a kill of the server
+/// releases it.
+pub fn served_threads_are_listed()
+    ensures { (s : State) (u server : ℕ) → IsReachable s → status_of s.records u ≡ Some (status.Served server)
+        → Contains (clients_of s.clients server) u }
+{}
+
+/// A kill leaves the rest of the state: the record of each thread that doesn't wait for the killed one, each port and
+/// mutex where that one neither waits nor is the owner, the clients of each thread that doesn't serve it, and all
+/// tickets, currencies, names and limits.
+pub fn kills_leave_the_rest()
+    ensures records { (s : State) (thread : Reference) (t u : ℕ) → IsInOrder s → Kills s thread t → u ≢ t
+        → ¬ WaitsForThread s t u → at_number (after_kill s thread).records u ≡ at_number s.records u }
+    ensures ports { (s : State) (thread : Reference) (t p : ℕ) → IsInOrder s → Kills s thread t
+        → status_of s.records t ≢ Some (status.Queued p) → status_of s.records t ≢ Some (status.Receiving p)
+        → at_number (after_kill s thread).ports p ≡ at_number s.ports p }
+    ensures mutexes { (s : State) (thread : Reference) (t m : ℕ) → IsInOrder s → Kills s thread t
+        → status_of s.records t ≢ Some (status.Waiting m) → ((mutex : Mutex) → ¬ Owns s t m mutex)
+        → at_number (after_kill s thread).mutexes m ≡ at_number s.mutexes m }
+    ensures clients { (s : State) (thread : Reference) (t server : ℕ) → IsInOrder s → Kills s thread t → server ≢ t
+        → status_of s.records t ≢ Some (status.Served server)
+        → at_number (after_kill s thread).clients server ≡ at_number s.clients server }
+    ensures others { (s : State) (thread : Reference)
+        → after_kill s thread ≡ record s {
+          records = (after_kill s thread).records;
+          clients = (after_kill s thread).clients;
+          ports = (after_kill s thread).ports;
+          mutexes = (after_kill s thread).mutexes;
+        } }
+{}

@@ -1,0 +1,9 @@
+use Rattle.std.proofs.Common.{◌≡◌}
+use Rattle.std.specs.List.{flat_map, range_with_len}
+use Rattle.lot_simulation.specs.Timed.{earliest}
+use Rattle.lot_playback.specs.InTime.{alarm_at, alarms_in}
+use Rattle.lot_playback.proofs.alarms.Alarms.earliest.Given as goal
+
+-- it is the first of the turns for the threads passed so far
+abbrev pub invariant-loop-place : goal.invariant-loop-place
+invariant-loop-place l = l.first ≡ earliest (flat_map (alarm_at l.processors (alarms_in l.self.threads.items)) (range_with_len 1 l.place))

@@ -1,0 +1,12 @@
+use Rattle.std.proofs.Common.{◌≡◌, arith, subst, sym}
+use Rattle.std.proofs.lemmas.Grind.{common_steps}
+use Rattle.std.specs.Prelude.{map}
+use Rattle.lot_simulation.specs.Script.{without_sleep}
+use Rattle.lot_script.specs.Drafts.{IsScript}
+use Rattle.lot_script.proofs.Awake.{awake-script}
+use Rattle.lot_script.proofs.script.Script.without_sleeps.Goals as goal
+
+pub invariant_of-result : goal.invariant_of-result
+invariant_of-result c =
+    let all : c.loop-line.lines.items ≡ map without_sleep c.lines-line-items.result.now = grind (arith, common_steps) in
+    subst IsScript (sym all) (awake-script c.lines-line-items.result.now c.lines-line-items.ensures.legal)
