@@ -44,6 +44,17 @@ impl Diagnostics {
     }
 }
 
+/// Writes why the file with this name can't be read. If out of memory, or if the errors fail, it reports nothing.
+pub(crate) fn say_unread<E: Write>(
+    alloc: Global,
+    (name, reason): (&str, io::Error),
+    errors: &mut Watched<E>,
+) {
+    let mut words = Vec::new(alloc);
+    let made = writeln!(words, "error: can't read '{name}': {reason}");
+    say(errors, made, &words);
+}
+
 /// Writes these words to the errors at once, unless out of memory.
 fn say<E: Write>(errors: &mut Watched<E>, made: io::Result<()>, words: &Vec<u8>) {
     if made.is_ok() && !words.is_empty() {

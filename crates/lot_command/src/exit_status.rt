@@ -1,8 +1,9 @@
 //! The exit status for the words, the input and the outputs.
 
-use crate::command_line::{Request, request_of};
-use crate::diagnostics::Diagnostics;
+use crate::command_line::{CommandLine, Request, command_line_of};
+use crate::diagnostics::{Diagnostics, say_unread};
 use crate::run::run;
+use crate::source::{Inputs, Source};
 use crate::view::show;
 use clap::Error;
 use clap::error::ErrorKind;
@@ -21,7 +22,7 @@ const DONE: u8 = 0;
 const REFUSED: u8 = 1;
 /// The command line was refused.
 const COMMAND_LINE: u8 = 2;
-/// Out of memory, a read or a write failed, or workers stopped early.
+/// Out of memory, the input can't be opened, a read or a write failed, or workers stopped early.
 const FAILED: u8 = 3;
 
 /// The text for a command line that isn't UTF-8.
@@ -35,15 +36,16 @@ const BUFFER: usize = 65536;
 /// - 0 on success, or if help was requested;
 /// - 1 if the input was refused;
 /// - 2 if the command line was refused;
-/// - 3 if out of memory, if `reader` or `output` failed, or if workers stopped early.
+/// - 3 if out of memory, if the input can't be opened or read, if `output` failed, or if workers stopped early.
 ///
-/// It writes the requested output to `output`, and diagnostics to `errors`, whose failure counts only for a refused
-/// command line: then the status is 3. It writes nothing more to an output after its first error. It may block.
-pub fn status<H: Threads + Wait + Sync, S: AsStr, R: Read + Drop, W: Write + Drop, E: Write + Drop>(
+/// It takes its input of `inputs`: the file that the words name, or standard input. It writes the requested output to
+/// `output`, and diagnostics to `errors`, whose failure counts only for a refused command line: then the status is 3.
+/// It writes nothing more to an output after its first error. It may block.
+pub fn status<H: Threads + Wait + Sync, S: AsStr, I: Inputs, W: Write + Drop, E: Write + Drop>(
     rt: &H,
     alloc: Global,
     words: &[S],
-    reader: R,
+    inputs: I,
     output: W,
     errors: E,
 ) -> u8 {
@@ -51,8 +53,8 @@ pub fn status<H: Threads + Wait + Sync, S: AsStr, R: Read + Drop, W: Write + Dro
     // retries.
     let output = Watched::new(output);
     let errors = Watched::new(errors);
-    match request_of(alloc, words) {
-        Ok(request) => request_status(rt, alloc, request, reader, output, errors),
+    match command_line_of(alloc, words) {
+        Ok(line) => line_status(rt, alloc, line, inputs, output, errors),
         Err(error) => say_error(&error, output, errors),
     }
 }
@@ -70,19 +72,42 @@ pub fn unread_status<E: Write + Drop>(error: &io::Error, errors: E) -> u8 {
     COMMAND_LINE
 }
 
-/// The exit status of the request.
+/// The exit status of the command line. It opens the input.
+fn line_status<H: Threads + Wait + Sync, I: Inputs, W: Write + Drop, E: Write + Drop>(
+    rt: &H,
+    alloc: Global,
+    line: CommandLine<'_>,
+    inputs: I,
+    output: Watched<W>,
+    mut errors: Watched<E>,
+) -> u8 {
+    let request = line.request;
+    let Some(name) = line.file else {
+        let source = Source::standard(inputs.standard());
+        return request_status(rt, alloc, request, source, output, errors);
+    };
+    match inputs.open(name) {
+        Ok(file) => request_status(rt, alloc, request, Source::file(name, file), output, errors),
+        Err(reason) => {
+            say_unread(alloc, (name, reason), &mut errors);
+            FAILED
+        }
+    }
+}
+
+/// The exit status of the request on this input.
 fn request_status<H: Threads + Wait + Sync, R: Read + Drop, W: Write + Drop, E: Write + Drop>(
     rt: &H,
     alloc: Global,
     request: Request<'_>,
-    reader: R,
+    source: Source<'_, R>,
     output: Watched<W>,
     mut errors: Watched<E>,
 ) -> u8 {
     let Ok(buffered) = BufWriter::with_capacity(alloc, BUFFER, output) else {
         return FAILED;
     };
-    let mut reader = Watched::new(reader);
+    let mut reader = Watched::new(source);
     let mut writer = Watched::new(buffered);
     let Ok(mut diagnostics) = Diagnostics::nothing(alloc) else {
         return FAILED;
@@ -110,7 +135,12 @@ fn request_status<H: Threads + Wait + Sync, R: Read + Drop, W: Write + Drop, E: 
             diagnostics.say_why(alloc, &mut errors);
             REFUSED
         }
-        None => FAILED,
+        None => {
+            if let Some(unread) = reader.into_inner().unread_file() {
+                say_unread(alloc, unread, &mut errors);
+            }
+            FAILED
+        }
     }
 }
 

@@ -1,12 +1,14 @@
-//! The program as a function of its words, its input and its outputs: the command line, the requests, diagnostics in
-//! words, and the exit status. `main` of `lot_sim` adds the terminal.
+//! The program as a function of its words, its inputs and its outputs: the command line, the requests, diagnostics in
+//! words, and the exit status. `main` of `lot_sim` adds the terminal and the files.
 #![tactic(auto)]
 
 mod command_line;
 mod diagnostics;
 mod exit_status;
 mod run;
+mod source;
 mod view;
 
 pub use exit_status::{status, unread_status};
 pub use run::{InputRunFault, run_bytes};
+pub use source::Inputs;

@@ -1,5 +1,7 @@
 //! Inputs with the whole outputs that `play` writes, command lines, and readers and writers that fail.
 
+mod files;
+mod inputs;
 mod outputs;
 mod runs;
 mod same;
@@ -7,7 +9,8 @@ mod shown;
 mod timed;
 mod told;
 
-use lot_command::{status, unread_status};
+use inputs::on_standard;
+use lot_command::{Inputs, status, unread_status};
 use lot_io::{IoFault, Watched};
 use lot_system::{Played, play};
 use same::{check_same, check_same_at};
@@ -58,12 +61,21 @@ struct Ended {
     errors: Vec<u8>,
 }
 
-/// Calls the program with these words and this input.
+/// Calls the program with these words and this input on standard input.
 fn ended_on<H: Threads + Wait + Sync>(rt: &H, alloc: Global, words: &[&str], input: &str) -> Ended {
+    ended_of(rt, alloc, words, on_standard(input.as_bytes()))
+}
+
+/// Calls the program with these words and these inputs.
+fn ended_of<H: Threads + Wait + Sync, I: Inputs>(
+    rt: &H,
+    alloc: Global,
+    words: &[&str],
+    inputs: I,
+) -> Ended {
     let mut output = Vec::new(alloc);
     let mut errors = Vec::new(alloc);
-    let reader = input.as_bytes();
-    let code = status(rt, alloc, words, reader, &mut output, &mut errors);
+    let code = status(rt, alloc, words, inputs, &mut output, &mut errors);
     Ended {
         code,
         output,
@@ -579,9 +591,9 @@ fn check_words<H: Abort + Threads + Wait + Sync>(
 fn command_lines(rt: HostRuntime) {
     check_words(&rt, rt.alloc(), &["lot_sim"], 2, false);
     check_words(&rt, rt.alloc(), &["lot_sim", "replay"], 2, false);
-    check_words(&rt, rt.alloc(), &["lot_sim", "play", "x"], 2, false);
+    check_words(&rt, rt.alloc(), &["lot_sim", "play", "x", "y"], 2, false);
     check_words(&rt, rt.alloc(), &["lot_sim", "play", "--seed"], 2, false);
-    check_words(&rt, rt.alloc(), &["lot_sim", "run", "x"], 2, false);
+    check_words(&rt, rt.alloc(), &["lot_sim", "run", "x", "y"], 2, false);
     check_words(&rt, rt.alloc(), &["lot_sim", "--help"], 0, true);
 }
 
@@ -634,24 +646,24 @@ impl Write for Failing {
 
 /// Plays what a reader gives before it fails, and returns the exit status and whether nothing was written.
 fn ended_by_reader<H: Threads + Wait + Sync>(rt: &H, alloc: Global, kind: ErrorKind) -> (u8, bool) {
-    let reader = Failing { given: false, kind };
+    let inputs = on_standard(Failing { given: false, kind });
     let mut output = Vec::new(alloc);
     let mut errors = Vec::new(alloc);
     let words = ["lot_sim", "play"];
-    let code = status(rt, alloc, &words, reader, &mut output, &mut errors);
+    let code = status(rt, alloc, &words, inputs, &mut output, &mut errors);
     (code, output.is_empty() && errors.is_empty())
 }
 
 /// Plays to a writer that fails, and returns the exit status and whether nothing was told.
 fn ended_by_writer<H: Threads + Wait + Sync>(rt: &H, alloc: Global) -> (u8, bool) {
-    let reader = "lottery 1".as_bytes();
+    let inputs = on_standard("lottery 1".as_bytes());
     let writer = Failing {
         given: false,
         kind: ErrorKind::Other,
     };
     let mut errors = Vec::new(alloc);
     let words = ["lot_sim", "play"];
-    let code = status(rt, alloc, &words, reader, writer, &mut errors);
+    let code = status(rt, alloc, &words, inputs, writer, &mut errors);
     (code, errors.is_empty())
 }
 

@@ -1,5 +1,6 @@
 //! Outputs that fail, and that are flushed. Nothing more is written to one after its first error.
 
+use super::inputs::on_standard;
 use super::same::{check_same, check_same_at};
 use super::{EMPTY_REPORT, FailingCall};
 use lot_command::status;
@@ -85,8 +86,8 @@ fn output_fails<H: Abort + Threads + Wait + Sync>(
     let mut output = failing(alloc, fails_at, kind);
     let mut errors = Vec::new(alloc);
     let words = ["lot_sim", word];
-    let reader = input.as_bytes();
-    let ended = status(rt, alloc, &words, reader, &mut output, &mut errors);
+    let inputs = on_standard(input.as_bytes());
+    let ended = status(rt, alloc, &words, inputs, &mut output, &mut errors);
     let whole = text.as_bytes();
     let written = output.written.as_slice();
     if ended == 3 {
@@ -154,7 +155,8 @@ fn ended_with<H: Abort + Threads + Wait + Sync>(
 ) -> (u8, FailingCall) {
     let mut output = failing(alloc, fails_at, kind);
     let mut errors = failing(alloc, fails_at, kind);
-    let ended = status(rt, alloc, words, "".as_bytes(), &mut output, &mut errors);
+    let inputs = on_standard("".as_bytes());
+    let ended = status(rt, alloc, words, inputs, &mut output, &mut errors);
     assert!(rt; output.calls == 0 || errors.calls == 0, "{words:?}");
     if errors.calls == 0 {
         (ended, output)

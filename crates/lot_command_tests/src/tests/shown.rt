@@ -42,7 +42,7 @@ fn tables(rt: HostRuntime) {
 #[test]
 fn options(rt: HostRuntime) {
     let alloc = rt.alloc();
-    check_words(&rt, alloc, &["lot_sim", "shares", "x"], 2, false);
+    check_words(&rt, alloc, &["lot_sim", "shares", "x", "y"], 2, false);
     check_words(&rt, alloc, &["lot_sim", "shares", "--title", "x"], 2, false);
     check_words(&rt, alloc, &["lot_sim", "chart", "--title"], 2, false);
     check_words(&rt, alloc, &["lot_sim", "play", "--quanta"], 2, false);
@@ -95,5 +95,5 @@ fn explained(rt: HostRuntime) {
     check_words_on(&rt, alloc, "explain", INPUT, 0, EXPLAINED);
     let refused = "refused line 1 50 BadHeader\n";
     check_words_on(&rt, alloc, "explain", "lottery 9\n", 1, refused);
-    check_words(&rt, alloc, &["lot_sim", "explain", "x"], 2, false);
+    check_words(&rt, alloc, &["lot_sim", "explain", "x", "y"], 2, false);
 }

@@ -1,5 +1,6 @@
 //! Diagnostics in words on standard error.
 
+use super::inputs::on_standard;
 use super::same::{check_same, check_same_at};
 use super::{EMPTY_REPORT, Failing, ended_on};
 use lot_command::status;
@@ -45,8 +46,8 @@ fn ended_untold<H: Threads + Wait + Sync>(
         kind: ErrorKind::Other,
     };
     let words = ["lot_sim", "play"];
-    let reader = input.as_bytes();
-    let code = status(rt, alloc, &words, reader, &mut output, errors);
+    let inputs = on_standard(input.as_bytes());
+    let code = status(rt, alloc, &words, inputs, &mut output, errors);
     (code, output.as_slice() == expected.as_bytes())
 }
 

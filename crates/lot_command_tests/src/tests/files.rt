@@ -1,0 +1,201 @@
+//! Inputs in files, and files that can't be read.
+
+use super::inputs::Fake;
+use super::same::{check_same, check_same_at};
+use super::{EMPTY_REPORT, Ended, Failing, ended_of, ended_on};
+use lot_command::status;
+use std::alloc::Global;
+use std::io::{ErrorKind, Read};
+use std::process::Abort;
+use std::sync::Wait;
+use std::thread::Threads;
+
+/// The input on standard input.
+const STANDARD: &str = "lottery 1\n";
+
+/// The input in the file `x.lot`.
+const FILED: &str = "lottery 1
+quantum 2
+script spin
+compute 9
+endscript
+fundx 1 base a spin
+schedule 0 1 1 1 1
+";
+
+const PLAYED: &str = "0 funded 1 1
+1 draw 0 of 1 thread 1
+1 thread 1 ticks 2 expire
+1 draw 0 of 1 thread 1
+1 thread 1 ticks 2 expire
+report
+thread 1 a quanta 2 ticks 4
+processor 1 quanta 2 idle 0 ticks 4
+total turns 5 quanta 2 ticks 4
+";
+
+const EXPLAINED: &str = "0 funded 1 1
+1 lot thread 1 a weight 1 from 0 below 1 wins
+1 draw 0 of 1 thread 1
+1 thread 1 ticks 2 expire
+1 lot thread 1 a weight 1 from 0 below 1 wins
+1 draw 0 of 1 thread 1
+1 thread 1 ticks 2 expire
+report
+thread 1 a quanta 2 ticks 4
+processor 1 quanta 2 idle 0 ticks 4
+total turns 5 quanta 2 ticks 4
+";
+
+/// The report and the history of a run, which makes the command alone.
+const RUN: &str = "report
+thread 1 a quanta 0 ticks 0
+processor 1 quanta 0 idle 0 ticks 0
+total turns 1 quanta 0 ticks 0
+schedule 0
+";
+
+const TICKS: &str = "tick,a\n0,0\n1,1\n2,2\n3,3\n4,4\n";
+
+const DRAWS: &str = "tick,a\n0,1\n1,1\n2,2\n3,2\n4,2\n";
+
+/// The words, and what the program writes.
+const ROWS: [(&[&str], &str); 11] = [
+    (&["lot_sim", "play", "x.lot"], PLAYED),
+    (&["lot_sim", "play", "--", "x.lot"], PLAYED),
+    (&["lot_sim", "explain", "x.lot"], EXPLAINED),
+    (&["lot_sim", "run", "x.lot"], RUN),
+    (&["lot_sim", "shares", "x.lot"], TICKS),
+    (&["lot_sim", "shares", "x.lot", "--quanta"], DRAWS),
+    (&["lot_sim", "shares", "--quanta", "x.lot"], DRAWS),
+    (&["lot_sim", "shares", "--quanta", "-"], "tick\n0\n"),
+    (&["lot_sim", "play"], EMPTY_REPORT),
+    (&["lot_sim", "play", "-"], EMPTY_REPORT),
+    (&["lot_sim", "play", "--", "-"], EMPTY_REPORT),
+];
+
+/// Calls the program with these words, and this reader of the file.
+fn ended_with<H: Threads + Wait + Sync, F: Read + Drop>(
+    rt: &H,
+    alloc: Global,
+    words: &[&str],
+    file: F,
+) -> Ended {
+    let inputs = Fake {
+        standard: STANDARD.as_bytes(),
+        name: "x.lot",
+        file,
+    };
+    ended_of(rt, alloc, words, inputs)
+}
+
+/// Calls the program with these words and a file that can be read, and compares what it writes.
+fn check_written<H: Abort + Threads + Wait + Sync>(
+    rt: &H,
+    alloc: Global,
+    words: &[&str],
+    expected: &str,
+) {
+    let ended = ended_with(rt, alloc, words, FILED.as_bytes());
+    let is_written = ended.output.as_slice() == expected.as_bytes();
+    check_same_at(
+        rt,
+        &words,
+        &(ended.code, is_written, ended.errors.is_empty()),
+        &(0, true, true),
+    );
+}
+
+#[test]
+fn named_inputs(rt: HostRuntime) {
+    for (words, expected) in ROWS {
+        check_written(&rt, rt.alloc(), words, expected);
+    }
+}
+
+// A picture's title may come before the file or after it.
+#[test]
+fn titled(rt: HostRuntime) {
+    let alloc = rt.alloc();
+    let wanted = ended_on(&rt, alloc, &["lot_sim", "chart", "--title", "One"], FILED);
+    let picture = str::from_utf8(wanted.output.as_slice()).unwrap_or("");
+    check_same(&rt, &picture.contains(">One</title>\n"), &true);
+    let before = ["lot_sim", "chart", "--title", "One", "x.lot"];
+    check_written(&rt, alloc, &before, picture);
+    let after = ["lot_sim", "chart", "x.lot", "--title", "One"];
+    check_written(&rt, alloc, &after, picture);
+}
+
+/// Has the program read the file of this name, which fails in this way, and compares the diagnostics.
+fn check_unread<H: Abort + Threads + Wait + Sync>(
+    rt: &H,
+    alloc: Global,
+    (word, name): (&str, &str),
+    file: Failing,
+    expected: &str,
+) {
+    let ended = ended_with(rt, alloc, &["lot_sim", word, name], file);
+    let told = str::from_utf8(ended.errors.as_slice()).unwrap_or("");
+    check_same_at(
+        rt,
+        &word,
+        &(ended.code, ended.output.is_empty(), told),
+        &(3, true, expected),
+    );
+}
+
+/// A directory, which can be opened and not be read.
+const DIRECTORY: Failing = Failing {
+    given: true,
+    kind: ErrorKind::IsADirectory,
+};
+
+/// A file that fails after a byte.
+const BROKEN: Failing = Failing {
+    given: false,
+    kind: ErrorKind::Interrupted,
+};
+
+#[test]
+fn unread_files(rt: HostRuntime) {
+    let missing = "error: can't read 'y.lot': no such file\n";
+    let directory = "error: can't read 'x.lot': is a directory\n";
+    let broken = "error: can't read 'x.lot': operation interrupted\n";
+    for word in ["play", "explain", "run", "shares", "chart"] {
+        check_unread(&rt, rt.alloc(), (word, "y.lot"), DIRECTORY, missing);
+        check_unread(&rt, rt.alloc(), (word, "x.lot"), DIRECTORY, directory);
+        check_unread(&rt, rt.alloc(), (word, "x.lot"), BROKEN, broken);
+    }
+}
+
+// The input of the file is refused as one of standard input.
+#[test]
+fn refused_file(rt: HostRuntime) {
+    let words = ["lot_sim", "play", "x.lot"];
+    let ended = ended_with(
+        &rt,
+        rt.alloc(),
+        &words,
+        "lottery 1\nmktk 5 base\n".as_bytes(),
+    );
+    let told = str::from_utf8(ended.errors.as_slice()).unwrap_or("");
+    let is_written = ended.output.as_slice() == "refused line 2 51 BadLine\n".as_bytes();
+    let expected = "line 2: 'mktk' is no body line; did you mean 'mktkt'?\n";
+    check_same(&rt, &(ended.code, is_written, told), &(1, true, expected));
+}
+
+// If the diagnostics can't be written either, the status is the same.
+#[test]
+fn failing_errors(rt: HostRuntime) {
+    for name in ["x.lot", "y.lot"] {
+        let mut output = Vec::new(rt.alloc());
+        let inputs = Fake {
+            standard: STANDARD.as_bytes(),
+            name: "x.lot",
+            file: DIRECTORY,
+        };
+        let words = ["lot_sim", "play", name];
+        let code = status(&rt, rt.alloc(), &words, inputs, &mut output, BROKEN);
+        check_same(&rt, &(code, output.is_empty()), &(3, true));
+    }
+}
