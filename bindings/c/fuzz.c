@@ -31,6 +31,7 @@
 #define _DEFAULT_SOURCE
 
 #include "lot.h"
+#include "test_random.h"
 
 #include <signal.h>
 #include <stdio.h>
@@ -71,7 +72,7 @@ static const size_t REPLY_BYTES = UP_TO(lot_reply, goes_on);
 
 // ---- what went wrong
 
-static uint64_t first_seed = 1, seed;
+static uint64_t first_seed = 1;
 static unsigned long steps;
 static lot_event given; // the last one that was handed in alone, or compared
 
@@ -97,25 +98,6 @@ static void say_fault(int number) {
 }
 
 // ---- random numbers
-
-static uint64_t random_bits(void) {
-    uint64_t z = (seed += UINT64_C(0x9e3779b97f4a7c15));
-    z = (z ^ (z >> 30)) * UINT64_C(0xbf58476d1ce4e5b9);
-    z = (z ^ (z >> 27)) * UINT64_C(0x94d049bb133111eb);
-    return z ^ (z >> 31);
-}
-
-static uint64_t below(uint64_t bound) {
-    return random_bits() % bound;
-}
-
-static uint32_t from_to(uint32_t least, uint32_t most) {
-    return least + (uint32_t)below((uint64_t)most - least + 1);
-}
-
-static bool one_in(uint64_t count) {
-    return below(count) == 0;
-}
 
 static void fill(void *at, size_t size) {
     for (size_t i = 0; i < size; i++) {

@@ -15,6 +15,7 @@
 // as the first one of a run with the seed that is printed.
 
 #include "model.h"
+#include "test_random.h"
 
 #include <stdio.h>
 #include <stdlib.h>
@@ -38,7 +39,7 @@ enum {
 
 // ---- what is going on
 
-static uint64_t events_wanted, first_seed = 1, kernel_seed, seed;
+static uint64_t events_wanted, first_seed = 1, kernel_seed;
 static lot_kernel kernel;
 
 // Of the kernel at hand.
@@ -63,25 +64,6 @@ static struct {
 } total;
 
 // ---- random numbers
-
-static uint64_t random_bits(void) {
-    uint64_t z = (seed += UINT64_C(0x9e3779b97f4a7c15));
-    z = (z ^ (z >> 30)) * UINT64_C(0xbf58476d1ce4e5b9);
-    z = (z ^ (z >> 27)) * UINT64_C(0x94d049bb133111eb);
-    return z ^ (z >> 31);
-}
-
-static uint64_t below(uint64_t bound) {
-    return random_bits() % bound;
-}
-
-static uint32_t from_to(uint32_t least, uint32_t most) {
-    return least + (uint32_t)below((uint64_t)most - least + 1);
-}
-
-static bool one_in(uint64_t count) {
-    return below(count) == 0;
-}
 
 // One of so many numbers from 1; 1 if there is none.
 static uint32_t one_of(uint32_t count) {
