@@ -18,6 +18,9 @@
 //   - A sleep, a wake, a preemption and an overrun have the reply that these rows lead to, and the thread's row
 //     follows. Each thread weighs what its value makes with the compensation that this file has kept for it.
 //   - Who waits at a port or for a mutex, and whom a thread serves, comes in the order in which this file has it.
+//   - What is made has the number that this file expects: the one behind all others, or that of what was removed last
+//     where the sizes have `reuse`. A thread with such a number has run nothing. Something is made unless as many exist
+//     as the sizes allow, or, without `reuse`, were ever made.
 //   - A kill leaves the thread dead and its processor idle. Its clients are ready, and so is the thread that has waited
 //     longest for each of its mutexes. No other row of a thread and no other processor has changed but for values.
 //
@@ -327,16 +330,25 @@ struct queue {
     size_t count;
 };
 
+// Numbers that were removed and are given again, the one left last at the end; and the next one if there is none.
+struct numbers {
+    uint32_t next, free[TICKETS];
+    size_t count;
+};
+
 // Who owns a mutex, and who waits for it; whose calls wait at a port, and who waits there for a call; whom a thread
 // serves; which number a thread is given when it next wins a draw, and which it sent with its call; how many ticks it
-// has used since it won, and its compensation, 0 for none; and its name, of length 0 if it isn't there.
+// has used since it won, and its compensation, 0 for none; its name and that of a currency, of length 0 if there is
+// none; and the numbers of what comes next.
 static struct {
     uint32_t owner[MUTEXES + 1];
     struct queue waiters[MUTEXES + 1], callers[PORTS + 1], receivers[PORTS + 1], clients[THREADS + 1];
     uint32_t delivered[THREADS + 1], sent[THREADS + 1];
     bool has_delivered[THREADS + 1];
     uint32_t used[THREADS + 1], compensation[THREADS + 1];
-    lot_name names[THREADS + 1];
+    lot_name names[THREADS + 1], currency_names[CURRENCIES + 1];
+    struct numbers tickets, currencies, threads;
+    bool reuse;
 } known;
 
 static void join(struct queue *queue, uint32_t thread) {
@@ -459,6 +471,46 @@ static bool is_equal(const lot_name *name, const lot_name *other) {
     return name->length == other->length && memcmp(name->bytes, other->bytes, other->length) == 0;
 }
 
+static unsigned long tickets_again, currencies_again, threads_again;
+
+// Something was made with this number.
+static void learn_number(struct numbers *numbers, uint32_t number, unsigned long *again) {
+    if (numbers->count != 0) {
+        CHECK(number == numbers->free[--numbers->count]);
+        ++*again;
+    } else {
+        CHECK(number == numbers->next++);
+    }
+}
+
+// What had this number was removed.
+static void learn_removal(struct numbers *numbers, uint32_t number) {
+    if (known.reuse) {
+        numbers->free[numbers->count++] = number;
+    }
+}
+
+// A thread was made. It has used nothing, and nothing is delivered to it.
+static void learn_thread(uint32_t thread, const lot_name *name) {
+    learn_number(&known.threads, thread, &threads_again);
+    known.names[thread] = *name;
+    known.used[thread] = known.compensation[thread] = 0;
+    known.has_delivered[thread] = false;
+}
+
+// Which currency a removal was of.
+static uint32_t known_currency(const lot_event *event) {
+    if (event->kind == LOT_REMOVE_CURRENCY_NUMBERED) {
+        return event->object;
+    }
+    uint32_t currency = CURRENCIES;
+    while (currency != 0 && !is_equal(&event->currency, &known.currency_names[currency])) {
+        currency--;
+    }
+    CHECK(currency != 0);
+    return currency;
+}
+
 // Which thread a removal or a kill was of. A run of events may have made it since rows were last read.
 static uint32_t known_thread(const lot_event *event) {
     if (event->kind == LOT_REMOVE_THREAD_NUMBERED || event->kind == LOT_KILL_NUMBERED) {
@@ -472,14 +524,36 @@ static uint32_t known_thread(const lot_event *event) {
     return thread;
 }
 
-// Threads that are made, removed and killed.
+static void learn_thread_removed(uint32_t thread) {
+    learn_removal(&known.threads, thread);
+    known.names[thread].length = 0;
+}
+
+static void learn_currency_removed(uint32_t currency) {
+    learn_removal(&known.currencies, currency);
+    known.currency_names[currency].length = 0;
+}
+
+// What is made, removed and killed.
 static void learn_command(const lot_event *event, const lot_reply *reply) {
     switch (event->kind) {
-    case LOT_MAKE_THREAD:
+    case LOT_MAKE_TICKET:
+    case LOT_MAKE_TICKET_IN: learn_number(&known.tickets, reply->ticket, &tickets_again); break;
+    case LOT_REMOVE_TICKET: learn_removal(&known.tickets, (uint32_t)event->ticket); break;
+    case LOT_MAKE_CURRENCY:
+        learn_number(&known.currencies, reply->currency, &currencies_again);
+        known.currency_names[reply->currency] = event->name;
+        break;
+    case LOT_REMOVE_CURRENCY:
+    case LOT_REMOVE_CURRENCY_NUMBERED: learn_currency_removed(known_currency(event)); break;
+    case LOT_MAKE_THREAD: learn_thread(reply->thread, &event->name); break;
     case LOT_MAKE_FUNDED:
-    case LOT_MAKE_FUNDED_IN: known.names[reply->thread] = event->name; break;
+    case LOT_MAKE_FUNDED_IN:
+        learn_number(&known.tickets, reply->ticket, &tickets_again);
+        learn_thread(reply->thread, &event->name);
+        break;
     case LOT_REMOVE_THREAD:
-    case LOT_REMOVE_THREAD_NUMBERED: known.names[known_thread(event)].length = 0; break;
+    case LOT_REMOVE_THREAD_NUMBERED: learn_thread_removed(known_thread(event)); break;
     case LOT_KILL:
     case LOT_KILL_NUMBERED: learn_kill(known_thread(event)); break;
     default: break;
@@ -1237,7 +1311,7 @@ static struct {
     lot_reply reply;
 } records[STEPS_OF_KERNEL * EVENTS_OF_STEP];
 static size_t record_count;
-static unsigned long failed, answered, kernels, replayed;
+static unsigned long failed, answered, kernels, replayed, full_again;
 static unsigned long outcomes[LOT_OUTCOME_SLEPT + 1], kinds[LOT_REPLY_REFUSED + 1];
 static unsigned long reasons[LOT_TRAP_REFUSAL_LOCK_CYCLE + 1];
 
@@ -1276,6 +1350,38 @@ static bool changes_nothing(const lot_reply *reply) {
            (reply->kind >= LOT_REPLY_LIST_TICKETS && reply->kind <= LOT_REPLY_LIST_THREADS);
 }
 
+// How many of a table count against its limit: those that are there, or all ever made if no number is given again.
+static size_t counted(const struct numbers *numbers, const bool *has, size_t places) {
+    size_t count = 0;
+    for (size_t i = 0; i < places; i++) {
+        count += has[i];
+    }
+    return known.reuse ? count : numbers->next - 1;
+}
+
+// Whether there is no room for what an event is to make, in what the kernel showed before. Base doesn't count.
+static bool is_full(uint32_t kind) {
+    bool has_all_tickets = counted(&known.tickets, now.has_ticket, TICKETS) >= sizes.tickets;
+    bool has_all_threads = counted(&known.threads, now.has_thread, THREADS) >= sizes.threads;
+    switch (kind) {
+    case LOT_MAKE_TICKET:
+    case LOT_MAKE_TICKET_IN: return has_all_tickets;
+    case LOT_MAKE_CURRENCY:
+        return counted(&known.currencies, now.has_currency + 1, CURRENCIES) >= sizes.currencies;
+    case LOT_MAKE_THREAD: return has_all_threads;
+    default: return has_all_tickets || has_all_threads;
+    }
+}
+
+// Something is made only where there is room, and refused for want of it only where there is none.
+static void compare_room(const lot_event *event, const lot_reply *reply) {
+    bool made = reply->kind == LOT_REPLY_TICKET || reply->kind == LOT_REPLY_CURRENCY ||
+                reply->kind == LOT_REPLY_THREAD || reply->kind == LOT_REPLY_FUNDED;
+    bool found_none = reply->kind == LOT_REPLY_REFUSED && reply->reason == LOT_REFUSAL_FULL;
+    CHECK((!made && !found_none) || is_full(event->kind) == found_none);
+    full_again += found_none && known.reuse;
+}
+
 // Compares the reply to an event with what the kernel showed before, where these rows and our own lottery say it all.
 static void compare(const lot_event *event, const lot_reply *reply) {
     lot_reply expected = *reply;
@@ -1296,6 +1402,7 @@ static void compare(const lot_event *event, const lot_reply *reply) {
     default: break;
     }
     CHECK(memcmp(reply, &expected, REPLY_BYTES) == 0);
+    compare_room(event, reply);
 }
 
 // What a thread ran, before an event.
@@ -1303,7 +1410,8 @@ static uint64_t ticks_before(uint32_t thread) {
     return thread != 0 && thread <= THREADS ? now.threads[thread - 1].ticks : 0;
 }
 
-// The row of a thread that lost its processor, slept or was woken. It was charged the ticks of the reply.
+// The row of a thread that lost its processor, slept or was woken. It was charged the ticks of the reply. One that was
+// made has run nothing, also if another had its number.
 static void check_row_follows(const lot_event *event, const lot_reply *reply, uint64_t before) {
     if (reply->kind == LOT_REPLY_EXPIRED || reply->kind == LOT_REPLY_TRAPPED) {
         const lot_thread_row *row = &now.threads[reply->thread - 1];
@@ -1314,6 +1422,10 @@ static void check_row_follows(const lot_event *event, const lot_reply *reply, ui
     }
     if (event->kind == LOT_WAKE && reply->kind == LOT_REPLY_DONE) {
         CHECK(now.threads[event->object - 1].status.kind == LOT_STATUS_READY);
+    }
+    if (reply->kind == LOT_REPLY_THREAD || reply->kind == LOT_REPLY_FUNDED) {
+        const lot_thread_row *row = &now.threads[reply->thread - 1];
+        CHECK(row->status.kind == LOT_STATUS_READY && row->quanta == 0 && row->ticks == 0);
     }
 }
 
@@ -1522,7 +1634,9 @@ static void step_counts(void) {
     CHECK(lot_kernel_currency_count(handle, count) == LOT_DONE && *count == now.currency_count);
     check_paint(&output);
     lot_sizes *limits = PUT_OUTPUT(&output, lot_sizes);
-    CHECK(lot_kernel_limits(handle, limits) == LOT_DONE && memcmp(limits, &sizes, sizeof sizes) == 0);
+    lot_sizes expected = sizes;
+    expected.reuse = sizes.reuse != 0;
+    CHECK(lot_kernel_limits(handle, limits) == LOT_DONE && memcmp(limits, &expected, sizeof expected) == 0);
     check_paint(&output);
     lot_meter *meter = PUT_OUTPUT(&output, lot_meter);
     CHECK(lot_kernel_meter(handle, meter) == LOT_DONE);
@@ -1582,7 +1696,8 @@ static lot_sizes some_sizes(void) {
                        .processors = from_to(1, PROCESSORS),
                        .scripts = one_in(16) ? 0 : from_to(1, SCRIPTS),
                        .quantum = quanta[below(8)],
-                       .unit = one_in(2) ? 1 : 256};
+                       .unit = one_in(2) ? 1 : 256,
+                       .reuse = one_in(2) ? 0 : (uint32_t)random_bits()};
 }
 
 // Sizes of any bytes, up to the largest, or such as above with one byte changed.
@@ -1590,7 +1705,8 @@ static lot_sizes any_sizes(void) {
     lot_sizes any = some_sizes();
     if (one_in(40)) {
         return (lot_sizes){from_to(1, 65535), from_to(1, 4096), from_to(1, 4096), from_to(0, 256), from_to(0, 256),
-                           from_to(1, 64),    from_to(0, 256),  from_to(1, 1000), one_in(2) ? 1 : 256};
+                           from_to(1, 64),    from_to(0, 256),  from_to(1, 1000), one_in(2) ? 1 : 256,
+                           (uint32_t)random_bits()};
     }
     if (one_in(2)) {
         fill(&any, sizeof any);
@@ -1792,6 +1908,8 @@ static void fuzz_kernel(unsigned long count) {
     kernel = lot_kernel_none();
     record_count = 0;
     memset(&known, 0, sizeof known);
+    known.tickets.next = known.currencies.next = known.threads.next = 1;
+    known.reuse = sizes.reuse != 0;
     fresh = 0x5a;
     CHECK(lot_kernel_new(&sizes, &kernel) == LOT_DONE && kernel.at != NULL);
     view_kernel(&kernel, &sizes, &now);
@@ -1829,6 +1947,7 @@ static void check_all_seen(void) {
         CHECK(kills[status] != 0 || status == LOT_STATUS_DEAD);
     }
     CHECK(inherited != 0 && released != 0);
+    CHECK(tickets_again != 0 && currencies_again != 0 && threads_again != 0 && full_again != 0);
 }
 
 int main(int argc, char **argv) {
@@ -1860,6 +1979,8 @@ int main(int argc, char **argv) {
            draws_held, unlocks_held, removals, replayed);
     printf("ok: fuzz: %lu sleeps, %lu wakes, %lu preemptions, %lu overruns, %lu commands by number\n", sleeps, wakes,
            preemptions, overruns, numbered);
+    printf("ok: fuzz: %lu tickets, %lu currencies and %lu threads with a number given again\n", tickets_again,
+           currencies_again, threads_again);
     unsigned long killed = 0;
     for (uint32_t status = 0; status <= LOT_STATUS_ASLEEP; status++) {
         killed += kills[status];

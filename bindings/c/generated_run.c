@@ -2,14 +2,19 @@
 //
 //     generated_run [EVENTS [SEED]]
 //
-// The first kernel has the largest sizes and gets an eighth of the events. The others are small, with a larger one now
-// and then, until there are EVENTS. Threads, tickets and currencies come and go all the time, and some events are
-// hostile. Compared with the model are
+// The first kernel has the largest sizes and gets an eighth of the events. The third is small, gives numbers again and
+// gets a third of the events: in it threads, tickets and currencies are born and die for as long as it lasts, far more
+// than it has room for at once. The fourth has the largest sizes and gives numbers again; it gets a hundredth of the
+// events, since it fills up with tickets that fund each other, and each draw then settles many. The others are small,
+// with a larger one now and then, until there are EVENTS. A third of them give numbers again. Threads, tickets and
+// currencies come and go all the time, and some events are hostile.
+// Compared with the model are
 //   - of each event the status and the reply. In a small kernel the model holds each lottery itself, over values that
 //     it computes from the tickets. In a larger one it holds one of many, and each in which the kernel finds nobody
 //     worth anything; of the others it takes the winner and the total from the kernel, if that winner may win;
 //   - of each kernel at its end, and of the one at hand after each million events, all rows, runners and counts;
 //   - after some events a single row.
+// And a kernel that gives numbers again is full only while as many exist as its sizes say.
 //
 // The events depend on the two arguments alone. The nth kernel has the seed SEED + n - 1, so one that fails comes again
 // as the first one of a run with the seed that is printed.
@@ -27,8 +32,11 @@ enum {
     EVENTS_OF_LINE = 1000000, // after as many there is a line, and all rows are compared
     EVENTS_OF_LARGER = 40000, // of a larger kernel
     LARGEST_IN = 4096,        // one kernel in as many has the largest sizes,
-    LARGEST_HAS = 8,          // and one event in as many
+    LARGEST_HAS = 8,          // and one event in as many;
+    LARGEST_AGAIN_HAS = 100,  // another gives numbers again, and has one event in as many
     LARGER_IN = 64,           // one in as many is larger than others
+    LASTING_HAS = 3,          // one event in as many is of the kernel that lasts
+    LIFE = 1000,              // in as many events its tables fill and empty
     STILL = 60,               // after as many idle draws in a row a kernel is given up
     KINDS = LOT_KILL_NUMBERED + 1,
     REASONS = LOT_TRAP_REFUSAL_LOCK_CYCLE + 1
@@ -45,6 +53,8 @@ static lot_kernel kernel;
 // Of the kernel at hand.
 static struct {
     uint64_t events, most;  // made so far, and to be made
+    uint64_t life;          // in as many events all that may be made is made, and most of it goes
+    bool is_flood;          // whether more is made than goes, where numbers are given again
     uint64_t still;         // idle draws in a row
     uint32_t rush;          // as many threads are made at once
     uint32_t density;       // so many tickets for a thread
@@ -60,6 +70,7 @@ static struct {
 static struct {
     uint64_t events, kernels, rows, no_events;
     uint64_t births, exits, kills, removals;
+    uint64_t full; // refusals where numbers are given again
     uint64_t kinds[KINDS], outcomes[LOT_OUTCOME_SLEPT + 1], reasons[REASONS];
 } total;
 
@@ -101,9 +112,9 @@ static void print_place(const char *what) {
            (unsigned long long)run.events, (unsigned long long)kernel_seed, (unsigned long long)events_wanted,
            (unsigned long long)kernel_seed);
     printf("sizes: %u tickets, %u currencies, %u threads, %u ports, %u mutexes, %u processors, %u scripts, quantum %u, "
-           "unit %u\n",
+           "unit %u, reuse %u\n",
            sizes->tickets, sizes->currencies, sizes->threads, sizes->ports, sizes->mutexes, sizes->processors,
-           sizes->scripts, sizes->quantum, sizes->unit);
+           sizes->scripts, sizes->quantum, sizes->unit, sizes->reuse);
 }
 
 static void fail_reply(const lot_event *event, uint32_t status, const lot_reply *got, uint32_t due,
@@ -180,9 +191,9 @@ static void compare_counts(void) {
     uint32_t tickets = 0, currencies = 0;
     lot_sizes sizes = {.tickets = 0};
     check(lot_kernel_limits(&kernel, &sizes) == LOT_DONE && memcmp(&sizes, &machine.sizes, sizeof sizes) == 0, "sizes");
-    check(lot_kernel_ticket_count(&kernel, &tickets) == LOT_DONE && tickets == machine.ticket_count, "tickets made");
+    check(lot_kernel_ticket_count(&kernel, &tickets) == LOT_DONE && tickets == machine.ticket_count, "ticket numbers");
     check(lot_kernel_currency_count(&kernel, &currencies) == LOT_DONE && currencies == machine.currency_count,
-          "currencies made");
+          "currency numbers");
 }
 
 // From the first number to the last one and the one behind it.
@@ -501,6 +512,16 @@ static lot_event undo_ticket(uint32_t ticket) {
     return is_funding ? lot_unfund(ticket) : lot_remove_ticket(ticket);
 }
 
+// The ticket goes, by two events if it has a target.
+static lot_event waste_ticket(uint32_t ticket) {
+    if (machine.tickets[ticket].target.kind == UNFUNDED) {
+        return lot_remove_ticket(ticket);
+    }
+    run.has_planned = true;
+    run.planned = lot_remove_ticket(ticket);
+    return lot_unfund(ticket);
+}
+
 // Where there are many tickets, one of them loses its target or goes.
 static lot_event undo_some_ticket(void) {
     uint32_t ticket = some_ticket(one_in(2));
@@ -565,7 +586,7 @@ static uint32_t upstream_of(uint32_t currency) {
 static lot_event try_cycle(void) {
     uint32_t currency = member(&machine.currencies_there, 0);
     run.has_planned = true;
-    run.planned = fund_currency(machine.ticket_count + 1, upstream_of(currency));
+    run.planned = fund_currency(next_ticket(), upstream_of(currency));
     return ticket_in(currency);
 }
 
@@ -659,8 +680,23 @@ static lot_event rush(void) {
     }
 }
 
+// Where numbers are given again there is always a way on: what is there makes room for a thread that is worth more
+// than nothing, since base issues its ticket.
+static lot_event make_way(void) {
+    switch (below(6)) {
+    case 0:
+    case 1: return bury_some_thread();
+    case 2: return kill_some_thread();
+    case 3: return waste_ticket(member(&machine.tickets_there, 1));
+    default: return lot_make_funded_in(up_to(2000), 0, some_name(), one_of(machine.sizes.scripts));
+    }
+}
+
 // What may help where nobody can run: all sleep, wait, are dead, or have no ticket that is worth something.
 static lot_event revive(void) {
+    if (machine.sizes.reuse != 0 && (one_in(2) || run.still > STILL / 2)) {
+        return make_way();
+    }
     switch (below(8)) {
     case 0: return make_some_thread();
     case 1: return make_some_ticket();
@@ -680,7 +716,7 @@ static lot_event next_event(void) {
     if (one_in(run.hostile_gap)) {
         return hostile();
     }
-    if (run.still > 1 && one_in(2)) {
+    if (run.still > 1 && (one_in(2) || run.still > STILL / 2)) {
         return revive();
     }
     bool rushes = machine.thread_count < run.rush && machine.ticket_count < machine.sizes.tickets / 2;
@@ -693,6 +729,27 @@ static void count_trap(const lot_reply *reply) {
     total.outcomes[reply->outcome]++;
     total.exits += reply->outcome == LOT_OUTCOME_EXITED;
     total.reasons[reply->reason] += reply->outcome == LOT_OUTCOME_REFUSED;
+}
+
+// Whether as many exist as the sizes say of what the command is to make. Base isn't counted.
+static bool is_full(uint32_t kind) {
+    bool has_all_tickets = machine.tickets_there.count == machine.sizes.tickets;
+    bool has_all_threads = machine.threads_there.count == machine.sizes.threads;
+    switch (kind) {
+    case LOT_MAKE_TICKET:
+    case LOT_MAKE_TICKET_IN: return has_all_tickets;
+    case LOT_MAKE_CURRENCY: return machine.currencies_there.count == machine.sizes.currencies + 1;
+    case LOT_MAKE_THREAD: return has_all_threads;
+    default: return has_all_tickets || has_all_threads;
+    }
+}
+
+static void check_full(const lot_event *event, const lot_reply *reply) {
+    bool says_full = reply->kind == LOT_REPLY_REFUSED && reply->reason == LOT_REFUSAL_FULL;
+    if (says_full && machine.sizes.reuse != 0) {
+        check(is_full(event->kind), "full means that as many exist");
+        total.full++;
+    }
 }
 
 static void count(const lot_event *event, const lot_reply *reply) {
@@ -722,6 +779,7 @@ static void make_event(void) {
         fail_reply(&event, status, &got, due, &wanted);
     }
     if (status == LOT_DONE) {
+        check_full(&event, &got);
         count(&event, &got);
     } else {
         total.no_events++;
@@ -740,7 +798,7 @@ static void say_so_far(void) {
 
 // ---- kernels
 
-static lot_sizes largest_sizes(void) {
+static lot_sizes largest_sizes(uint32_t reuse) {
     lot_sizes sizes = {.tickets = MOST_TICKETS, .currencies = MOST_CURRENCIES, .threads = MOST_THREADS};
     sizes.ports = MOST_PORTS;
     sizes.mutexes = MOST_MUTEXES;
@@ -748,6 +806,7 @@ static lot_sizes largest_sizes(void) {
     sizes.scripts = MOST_SCRIPTS;
     sizes.quantum = from_to(50, 1000);
     sizes.unit = one_in(2) ? 1 : 256;
+    sizes.reuse = reuse;
     return sizes;
 }
 
@@ -763,6 +822,17 @@ static lot_sizes small_sizes(uint32_t scale) {
     sizes.scripts = one_in(50) ? 0 : from_to(1, 4);
     sizes.quantum = up_to(1000);
     sizes.unit = one_in(2) ? 1 : 256;
+    sizes.reuse = one_in(3);
+    return sizes;
+}
+
+// Of the kernel that lasts.
+static lot_sizes lasting_sizes(void) {
+    lot_sizes sizes = {.tickets = 80, .currencies = 10, .threads = 24, .ports = 2, .mutexes = 3, .processors = 3};
+    sizes.scripts = 4;
+    sizes.quantum = 100;
+    sizes.unit = 256;
+    sizes.reuse = 1;
     return sizes;
 }
 
@@ -775,33 +845,41 @@ static uint32_t share_of(uint64_t made, uint64_t events) {
     return (uint32_t)least(made * 65536 / events + 1, 8000);
 }
 
-// All that may be made is made over the whole run of a kernel, and most of it goes.
+// All that may be made is made over so many events, and most of it goes. In a flood more is made.
 static void set_shares(const lot_sizes *sizes, uint64_t events) {
+    uint64_t flood = run.is_flood ? 4 : 1;
     shares[WAKES] = 1800;
-    shares[MAKES_TICKET] = share_of(sizes->tickets, events);
-    shares[FUNDS] = share_of(sizes->tickets * 3 / 2, events);
+    shares[MAKES_TICKET] = share_of(sizes->tickets * flood, events);
+    shares[FUNDS] = share_of(sizes->tickets * flood * 3 / 2, events);
     shares[UNFUNDS] = share_of(sizes->tickets / 8, events);
     shares[SETS_TICKET] = share_of(sizes->tickets / 4, events);
     shares[UNDOES_TICKET] = share_of(sizes->tickets * 3, events);
-    shares[MAKES_CURRENCY] = share_of(sizes->currencies, events);
+    shares[MAKES_CURRENCY] = share_of(sizes->currencies * flood, events);
     shares[WINDS_UP_CURRENCY] = share_of(sizes->currencies * 2, events);
-    shares[MAKES_THREAD] = share_of(sizes->threads * 2 / 3, events);
+    shares[MAKES_THREAD] = share_of(sizes->threads * flood * 2 / 3, events);
     shares[KILLS] = share_of(sizes->threads / 3, events);
     shares[BURIES] = share_of(sizes->threads * 3, events);
     shares[TRIES_CYCLE] = share_of(sizes->currencies / 4, events);
     shares[LISTS] = 20;
 }
 
+// Where numbers are given again there is a flood, and then an ebb, and so on.
+static void turn_tide(void) {
+    run.is_flood = !run.is_flood;
+    set_shares(&machine.sizes, run.life);
+}
+
 // A kernel that is to make so many events, unless the run ends before; the model holds one lottery in `every`.
-static void open_kernel(const lot_sizes *sizes, uint64_t events, uint64_t every) {
+static void open_kernel(const lot_sizes *sizes, uint64_t events, uint64_t life, uint64_t every) {
     memset(&run, 0, sizeof run);
     run.most = least(events, events_wanted - total.events);
+    run.life = life;
     run.rush = sizes->threads / 2;
     run.density = every == 1 ? from_to(2, 6) : 2;
-    run.exit_gap = 1 + events / (2 * sizes->threads);
+    run.exit_gap = 1 + life / (2 * sizes->threads);
     run.row_gap = 64 * every;
     run.hostile_gap = from_to(10, 100);
-    set_shares(sizes, events);
+    set_shares(sizes, life);
     kernel = lot_kernel_none();
     model_open(sizes, every);
     check(lot_kernel_new(sizes, &kernel) == LOT_DONE, "a kernel is made");
@@ -812,6 +890,9 @@ static void open_kernel(const lot_sizes *sizes, uint64_t events, uint64_t every)
 static void run_kernel(void) {
     while (run.events < run.most && run.still < STILL) {
         make_event();
+        if (machine.sizes.reuse != 0 && one_in(run.life)) {
+            turn_tide();
+        }
         if (total.events % EVENTS_OF_LINE == 0) {
             compare_all();
             say_so_far();
@@ -821,27 +902,55 @@ static void run_kernel(void) {
     check(lot_kernel_free(&kernel) == LOT_DONE, "a kernel is freed");
 }
 
+static void open_small(void) {
+    lot_sizes sizes = small_sizes(1);
+    uint64_t events = from_to(500, 6000);
+    open_kernel(&sizes, events, sizes.reuse == 0 ? events : 1 + events / from_to(1, 10), 1);
+}
+
+static void open_largest(uint32_t reuse, uint64_t part) {
+    lot_sizes sizes = largest_sizes(reuse);
+    uint64_t events = 1 + events_wanted / part;
+    open_kernel(&sizes, events, events, 1000);
+}
+
+static void open_lasting(void) {
+    lot_sizes sizes = lasting_sizes();
+    open_kernel(&sizes, 1 + events_wanted / LASTING_HAS, LIFE, 1);
+}
+
+static void open_larger(void) {
+    lot_sizes sizes = small_sizes(16);
+    open_kernel(&sizes, EVENTS_OF_LARGER, EVENTS_OF_LARGER, 50);
+}
+
 // The kernel's seed says which sizes it has.
 static void run_next(void) {
     seed = kernel_seed * UINT64_C(0xd1342543de82ef95);
-    lot_sizes sizes = largest_sizes();
-    if (kernel_seed % LARGEST_IN == 1) {
-        open_kernel(&sizes, 1 + events_wanted / LARGEST_HAS, 1000);
-    } else if (kernel_seed % LARGER_IN == 2) {
-        sizes = small_sizes(16);
-        open_kernel(&sizes, EVENTS_OF_LARGER, 50);
-    } else {
-        sizes = small_sizes(1);
-        open_kernel(&sizes, from_to(500, 6000), 1);
+    uint64_t place = kernel_seed % LARGEST_IN;
+    switch (place) {
+    case 1: open_largest(0, LARGEST_HAS); break;
+    case 3: open_lasting(); break;
+    case 4: open_largest(1, LARGEST_AGAIN_HAS); break;
+    default:
+        if (kernel_seed % LARGER_IN == 2) {
+            open_larger();
+        } else {
+            open_small();
+        }
     }
     run_kernel();
-    check(run.events == run.most || machine.sizes.threads < MOST_THREADS, "the largest kernel runs to its end");
+    bool must_end = place == 1 || place == 3 || place == 4;
+    check(run.events == run.most || !must_end, "the largest kernels and the one that lasts run to their ends");
     kernel_seed++;
 }
 
 // ---- the whole run
 
 static void say_reasons(void) {
+    printf("given again: %llu tickets, %llu currencies, %llu threads; full in spite of that: %llu\n",
+           (unsigned long long)machine.free_tickets.taken, (unsigned long long)machine.free_currencies.taken,
+           (unsigned long long)machine.free_threads.taken, (unsigned long long)total.full);
     printf("no event: %llu\n", (unsigned long long)total.no_events);
     for (uint32_t reason = 1; reason < REASONS; reason++) {
         if (total.reasons[reason] != 0) {
@@ -864,6 +973,8 @@ static void check_all_seen(void) {
     check(is_seen(total.reasons, LOT_REFUSAL_NAME_TAKEN, LOT_REFUSAL_ALIVE), "each refusal of a command came up");
     check(is_seen(total.reasons, LOT_REFUSAL_BAD_PROCESSOR, LOT_REFUSAL_NOT_ASLEEP), "each refusal came up");
     check(is_seen(total.reasons, LOT_TRAP_REFUSAL_NOTHING_TO_REPLY, REASONS - 1), "each refusal of a trap came up");
+    check(machine.free_tickets.taken != 0 && machine.free_currencies.taken != 0 && machine.free_threads.taken != 0 &&
+              total.full != 0, "numbers are given again, and kernels that do so are full");
 }
 
 int main(int argc, char **argv) {

@@ -49,12 +49,13 @@
 // event later.
 //
 // MEMORY. lot_kernel_new allocates all the memory that a kernel will ever use: 13 kilobytes for 16 threads, 5.6
-// megabytes at the largest sizes. lot_kernel_bytes gives the number of bytes for any sizes. Events, rows and counts
-// allocate nothing. lot_kernel_free frees the memory. No other call allocates.
+// megabytes at the largest sizes, and with `reuse` 4 bytes more for each ticket, currency and thread. lot_kernel_bytes
+// gives the number of bytes for any sizes. Events, rows and counts allocate nothing. lot_kernel_free frees the memory.
+// No other call allocates.
 //
 // STACK. Measured on x86-64 by bindings/c/stack_tests.c: an event takes at most 1.5 kilobytes of stack at any size of
-// the kernel, a row 0.3, lot_winner 0.2, lot_kernel_new 10.7, lot_kernel_free 4.5. The last two include glibc's malloc,
-// and the dynamic linker, which runs at malloc's first call. Without the linker they are 7.9 and 3.9.
+// the kernel, a row 0.3, lot_winner 0.2, lot_kernel_new 12.4, lot_kernel_free 5.2. The last two include glibc's malloc,
+// and the first the dynamic linker, which runs at malloc's first call. Without the linker it is 9.8.
 //
 // SYMBOLS. The archive's member lot_c.o calls memcpy and memset, __udivti3 and __umodti3 (divisions of 128 bits, in the
 // compiler's own library), and the three functions at the end of this header. Its member heap.o defines these three,
@@ -65,10 +66,17 @@
 // 0, which is base. Numbers follow the order of making. A removed number has no row, and is never used again. So a
 // number is a handle: keep the one in the reply to a making for as long as the made thing exists.
 //
+// REUSE. A program that never ends makes more threads than any sizes allow, though few exist at once. Set `reuse` of
+// lot_sizes: then the next ticket, currency or thread gets the number of the last one of its sort that was removed, if
+// that is still free, then that of the one removed before it, and so on; and a new number if none is free. The thing
+// begins as any new one does, and nothing in the kernel refers to the old one. But a number that your program still
+// holds for the old one now names the new one: forget it with the removal. A dead thread keeps its number until it is
+// removed.
+//
 // NAMES. Currencies and threads share one set of names. A dead thread keeps its name and its row until it is removed:
 // the kernel refuses to make a currency or another thread with that name, LOT_REFUSAL_NAME_TAKEN. LOT_REMOVE_THREAD
 // frees the name of a thread, and LOT_REMOVE_CURRENCY that of a currency. The limits of lot_sizes are on all that were
-// ever made, including removed ones.
+// ever made, including removed ones; with `reuse`, on what exists at once.
 //
 // BY NAME OR BY NUMBER. A command refers to a currency or a thread by its name or by its number. lot_fund takes the
 // name of either. lot_fund_currency and lot_fund_thread take a number, and so do lot_make_ticket_in,
@@ -129,8 +137,8 @@ extern "C" {
 
 // ---- the version
 
-// The version of this header, 0.1.0: major << 16 | minor << 8 | patch.
-#define LOT_VERSION 0x000100u
+// The version of this header, 0.2.0: major << 16 | minor << 8 | patch.
+#define LOT_VERSION 0x000200u
 
 // Returns the version of the library, to compare with LOT_VERSION.
 uint32_t lot_version(void);
@@ -231,7 +239,7 @@ static inline lot_kernel lot_kernel_none(void) {
 
 // The sizes of a kernel. It never grows.
 typedef struct lot_sizes {
-    uint32_t tickets;    // the largest number ever made, 1 to 65535
+    uint32_t tickets;    // the largest number ever made, 1 to 65535, unless `reuse` is set
     uint32_t currencies; // the largest number ever made, not counting base, 1 to 4096
     uint32_t threads;    // the largest number ever made, 1 to 4096
     uint32_t ports;      // at most 256
@@ -240,12 +248,15 @@ typedef struct lot_sizes {
     uint32_t scripts;    // at most 256; a thread's script is a number that the kernel keeps for you
     uint32_t quantum;    // in ticks, 1 to 1000
     uint32_t unit;       // the value of one of base: 1, or 256 for finer shares
+    uint32_t reuse;      // 0 if each number is given once. Otherwise the numbers of removed tickets, currencies and
+                         // threads are given again, the last removed first, and the first three sizes count what
+                         // exists at once. The kernel keeps it as 0 or 1
 } lot_sizes;
 
 // Returns sizes to begin with, for 16 threads: 64 tickets, 16 currencies, 2 ports, mutexes and processors, 1 script, a
-// quantum of 100 ticks and a unit of 1. Change any of them.
+// quantum of 100 ticks and a unit of 1; no number is given again. Change any of them.
 static inline lot_sizes lot_sizes_small(void) {
-    lot_sizes sizes = {64, 16, 16, 2, 2, 2, 1, 100, 1};
+    lot_sizes sizes = {64, 16, 16, 2, 2, 2, 1, 100, 1, 0};
     return sizes;
 }
 
@@ -256,7 +267,7 @@ uint32_t lot_kernel_new(const lot_sizes *sizes, lot_kernel *kernel);
 // LOT_KERNEL_BLOCKS blocks, and frees none of them before lot_kernel_free. So `*bytes + 16 * LOT_KERNEL_BLOCKS` bytes
 // are enough for a heap of your own that aligns each block to 16 bytes. LOT_BAD_LIMITS.
 uint32_t lot_kernel_bytes(const lot_sizes *sizes, uint64_t *bytes);
-#define LOT_KERNEL_BLOCKS 46
+#define LOT_KERNEL_BLOCKS 49
 
 // Frees the kernel, and sets the handle to LOT_KERNEL_NONE. Freeing a handle without a kernel is LOT_DONE too.
 uint32_t lot_kernel_free(lot_kernel *kernel);
@@ -354,7 +365,7 @@ static inline lot_event lot_set_ticket(uint64_t ticket, uint64_t amount) {
 }
 
 // Removes the dead thread with this name, which no ticket funds, and which has no client and owns no mutex. Its name
-// may be used again, its number isn't.
+// may be used again, its number is only with `reuse`.
 static inline lot_event lot_remove_thread(lot_name thread) {
     return LOT_EVENT(LOT_REMOVE_THREAD, 0, 0, 0, 0, 0, {0, 0}, 0, 0, {0, {0}}, thread);
 }
@@ -621,7 +632,7 @@ typedef enum lot_refusal LOT_OF_UINT32 {
     LOT_REFUSAL_CYCLE = 10,      // currencies would fund each other in a cycle
     LOT_REFUSAL_BASE_FIXED = 11, // base can't be removed or funded
     LOT_REFUSAL_DEAD_THREAD = 12,   // the thread to fund or to kill is dead
-    LOT_REFUSAL_FULL = 13,          // the limit of lot_sizes is reached
+    LOT_REFUSAL_FULL = 13,          // the limit of lot_sizes is reached, by all ever made or, with `reuse`, at once
     LOT_REFUSAL_NO_SCRIPT = 14,     // 0 or above the number of scripts
     LOT_REFUSAL_NO_THREAD = 15,     // no thread has the name or the number; a dead one has both until it is removed
     LOT_REFUSAL_ALIVE = 16,         // the thread isn't dead, though it may wait for good
@@ -777,9 +788,10 @@ uint32_t lot_kernel_runner(const lot_kernel *kernel, uint32_t processor, lot_run
 // Stores the thread's script, which was fixed when it was made. LOT_NO_KERNEL, LOT_NOT_THERE.
 uint32_t lot_kernel_script_of(const lot_kernel *kernel, uint32_t thread, uint32_t *script);
 
-// Store the number of tickets or currencies ever made, including removed ones. Ticket numbers go from 1 to this count,
-// currency numbers from 0 to one below it. Thread numbers go from 1 to that of the last LOT_REPLY_THREAD or
-// LOT_REPLY_FUNDED, which is at most `threads` of lot_sizes. Any of them without a row was removed. LOT_NO_KERNEL.
+// Store the number of tickets or currencies ever made, including removed ones; one that got a number again doesn't
+// count. Ticket numbers go from 1 to this count, currency numbers from 0 to one below it. Thread numbers go from 1 to
+// the greatest in a LOT_REPLY_THREAD or LOT_REPLY_FUNDED so far, which is at most `threads` of lot_sizes. Any of them
+// without a row was removed. LOT_NO_KERNEL.
 uint32_t lot_kernel_ticket_count(const lot_kernel *kernel, uint32_t *count);
 uint32_t lot_kernel_currency_count(const lot_kernel *kernel, uint32_t *count);
 

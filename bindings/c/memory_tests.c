@@ -64,24 +64,25 @@ static const lot_sizes SIZES = {.tickets = 8, .currencies = 2, .threads = 8, .po
                                 .processors = 1, .scripts = 1, .quantum = 100, .unit = 1};
 
 // Refuses each allocation of a new kernel in turn: no kernel is there then, and all memory is given back.
-static void new_kernels(void) {
+static void new_kernels(const lot_sizes *sizes) {
     lot_kernel kernel = LOT_KERNEL_NONE;
     uint32_t status = LOT_NO_MEMORY;
     unsigned long last = 0;
     while (status == LOT_NO_MEMORY) {
         asked = 0;
         refused_at = ++last;
-        status = lot_kernel_new(&SIZES, &kernel);
+        status = lot_kernel_new(sizes, &kernel);
         CHECK(status == LOT_DONE || (kernel.at == NULL && held == 0));
     }
     CHECK(status == LOT_DONE && kernel.at != NULL && asked + 1 == last);
     CHECK(lot_kernel_free(&kernel) == LOT_DONE && held == 0);
-    printf("ok: a kernel takes %lu blocks, and is not made where one is refused\n", last - 1);
+    printf("ok: a kernel with reuse %u takes %lu blocks, and is not made where one is refused\n",
+           (unsigned)sizes->reuse, last - 1);
 }
 
 // A kernel with these sizes takes as many bytes as lot_kernel_bytes says, in no more blocks than the header says, and
-// gives up none of them before it is freed.
-static void takes_what_it_says(const lot_sizes *sizes) {
+// gives up none of them before it is freed. Returns the bytes.
+static uint64_t takes_what_it_says(const lot_sizes *sizes) {
     lot_kernel kernel = LOT_KERNEL_NONE;
     uint64_t bytes = 0;
     CHECK(lot_kernel_bytes(sizes, &bytes) == LOT_DONE);
@@ -90,34 +91,45 @@ static void takes_what_it_says(const lot_sizes *sizes) {
     CHECK(lot_kernel_new(sizes, &kernel) == LOT_DONE);
     CHECK(asked_bytes == bytes && asked <= LOT_KERNEL_BLOCKS && held == asked);
     CHECK(lot_kernel_free(&kernel) == LOT_DONE && held == 0);
+    return bytes;
+}
+
+// To give numbers again takes 4 bytes for each ticket, currency and thread, and for base.
+static void takes_as_much(lot_sizes sizes) {
+    sizes.reuse = 0;
+    uint64_t once = takes_what_it_says(&sizes);
+    sizes.reuse = UINT32_MAX;
+    CHECK(takes_what_it_says(&sizes) == once + 4 * (sizes.tickets + sizes.currencies + sizes.threads + UINT64_C(1)));
 }
 
 // The smallest sizes, those of lot_sizes_small, some between and the largest; none for sizes out of their bounds.
 static void bytes_of_kernels(void) {
-    const lot_sizes least = {1, 1, 1, 0, 0, 1, 0, 1, 1}, small = lot_sizes_small();
-    const lot_sizes between = {3001, 77, 1023, 5, 19, 7, 256, 1000, 256};
-    const lot_sizes largest = {65535, 4096, 4096, 256, 256, 64, 256, 1000, 256};
+    const lot_sizes least = {1, 1, 1, 0, 0, 1, 0, 1, 1, 0}, small = lot_sizes_small();
+    const lot_sizes between = {3001, 77, 1023, 5, 19, 7, 256, 1000, 256, 0};
+    const lot_sizes largest = {65535, 4096, 4096, 256, 256, 64, 256, 1000, 256, 0};
     lot_sizes bad = small;
     uint64_t bytes = 77;
     bad.threads = 4097;
     CHECK(lot_kernel_bytes(&bad, &bytes) == LOT_BAD_LIMITS && bytes == 77);
-    takes_what_it_says(&least);
-    takes_what_it_says(&SIZES);
-    takes_what_it_says(&small);
-    takes_what_it_says(&between);
-    takes_what_it_says(&largest);
+    takes_as_much(least);
+    takes_as_much(SIZES);
+    takes_as_much(small);
+    takes_as_much(between);
+    takes_as_much(largest);
     puts("ok: a kernel takes as many bytes as it says");
 }
 
-// No event and no row takes memory, though all is refused.
+// No event and no row takes memory, though all is refused; neither do numbers that are given again.
 static void no_more(void) {
     lot_kernel kernel = LOT_KERNEL_NONE;
+    lot_sizes sizes = SIZES;
+    sizes.reuse = 1;
     lot_event event = lot_make_funded(3, lot_name_of("base"), lot_name_of("a"), 1);
     lot_reply reply;
     lot_thread_row row;
     size_t done;
     refused_at = 0;
-    CHECK(lot_kernel_new(&SIZES, &kernel) == LOT_DONE);
+    CHECK(lot_kernel_new(&sizes, &kernel) == LOT_DONE);
     unsigned long before = asked;
     CHECK(lot_kernel_event(&kernel, &event, &reply) == LOT_DONE && reply.kind == LOT_REPLY_FUNDED);
     event = lot_draw(1, lot_wide_of(1));
@@ -125,6 +137,11 @@ static void no_more(void) {
     event = lot_lock(1, 0, 1);
     CHECK(lot_kernel_event(&kernel, &event, &reply) == LOT_DONE && reply.outcome == LOT_OUTCOME_LOCKED);
     CHECK(lot_kernel_thread_row(&kernel, 1, &row) == LOT_DONE && row.value == 3);
+    const lot_event again[4] = {lot_make_ticket_in(5, 0), lot_remove_ticket(2), lot_make_ticket_in(5, 0),
+                                lot_remove_ticket(2)};
+    for (int i = 0; i < 1000; i++) {
+        CHECK(lot_kernel_event(&kernel, &again[i % 4], &reply) == LOT_DONE && reply.kind != LOT_REPLY_REFUSED);
+    }
     CHECK(asked == before);
     CHECK(lot_kernel_free(&kernel) == LOT_DONE && held == 0);
     puts("ok: nothing takes memory after the start");
@@ -181,7 +198,10 @@ static void winners(void) {
 }
 
 int main(void) {
-    new_kernels();
+    lot_sizes again = SIZES;
+    again.reuse = 1;
+    new_kernels(&SIZES);
+    new_kernels(&again);
     bytes_of_kernels();
     no_more();
     readers_write_nothing();

@@ -52,6 +52,30 @@ static void drop(struct set *set, uint32_t number) {
     set->places[last] = place;
 }
 
+// The number of one more: the free one left last, or that of a new place (Places.next_place).
+static uint32_t next_number(const struct stack *stack, uint32_t new_number) {
+    return stack->count != 0 ? stack->numbers[stack->count - 1] : new_number;
+}
+
+// Places.placed, in a table with so many places.
+static uint32_t give(struct stack *stack, uint32_t *places, uint32_t new_number) {
+    uint32_t number = next_number(stack, new_number);
+    if (stack->count != 0) {
+        stack->count--;
+        stack->taken++;
+    } else {
+        ++*places;
+    }
+    return number;
+}
+
+// State.given_again
+static void give_back(struct stack *stack, uint32_t number) {
+    if (machine.sizes.reuse != 0) {
+        stack->numbers[stack->count++] = number;
+    }
+}
+
 uint32_t next_issued(uint32_t ticket) {
     return issued_tickets[ticket].behind;
 }
@@ -411,16 +435,16 @@ static bool is_no_script(uint32_t script) {
 }
 
 static bool are_tickets_full(void) {
-    return machine.ticket_count >= machine.sizes.tickets;
+    return machine.free_tickets.count == 0 && machine.ticket_count >= machine.sizes.tickets;
 }
 
 static bool are_threads_full(void) {
-    return machine.thread_count >= machine.sizes.threads;
+    return machine.free_threads.count == 0 && machine.thread_count >= machine.sizes.threads;
 }
 
 // Base isn't counted.
 static bool are_currencies_full(void) {
-    return machine.currency_count > machine.sizes.currencies;
+    return machine.free_currencies.count == 0 && machine.currency_count > machine.sizes.currencies;
 }
 
 // Commands.currency_meant: its number, or NOTHING.
@@ -443,6 +467,10 @@ static uint32_t thread_numbered(uint32_t thread) {
     return is_thread(thread) ? thread : NOTHING;
 }
 
+uint32_t next_ticket(void) {
+    return next_number(&machine.free_tickets, machine.ticket_count + 1);
+}
+
 static struct list *backing_of(struct target target) {
     return target.kind == TO_THREAD ? &machine.threads[target.number].backing
                                     : &machine.currencies[target.number].backing;
@@ -454,7 +482,7 @@ static void set_target(uint32_t ticket, struct target target) {
 }
 
 static uint32_t new_ticket(uint64_t amount, uint32_t issuer) {
-    uint32_t ticket = ++machine.ticket_count;
+    uint32_t ticket = give(&machine.free_tickets, &machine.ticket_count, machine.ticket_count + 1);
     machine.tickets[ticket] = (struct ticket){true, (uint32_t)amount, issuer, {UNFUNDED, 0}};
     append(&machine.currencies[issuer].issued, issued_tickets, ticket);
     add(&machine.tickets_there, ticket);
@@ -462,7 +490,8 @@ static uint32_t new_ticket(uint64_t amount, uint32_t issuer) {
 }
 
 static uint32_t new_thread(const lot_name *name, uint32_t script) {
-    uint32_t thread = ++machine.thread_count, place = place_of(name);
+    uint32_t thread = give(&machine.free_threads, &machine.thread_count, machine.thread_count + 1);
+    uint32_t place = place_of(name);
     machine.threads[thread] =
         (struct thread){.exists = true, .name = place, .script = script, .status = LOT_STATUS_READY};
     machine.holders[place] = (struct target){TO_THREAD, thread};
@@ -471,7 +500,8 @@ static uint32_t new_thread(const lot_name *name, uint32_t script) {
 }
 
 static uint32_t new_currency(const lot_name *name) {
-    uint32_t currency = machine.currency_count++, place = place_of(name);
+    uint32_t currency = give(&machine.free_currencies, &machine.currency_count, machine.currency_count);
+    uint32_t place = place_of(name);
     machine.currencies[currency] = (struct currency){.exists = true, .name = place};
     machine.holders[place] = (struct target){TO_CURRENCY, currency};
     add(&machine.currencies_there, currency);
@@ -512,6 +542,7 @@ static uint32_t remove_ticket(const lot_event *event, lot_reply *reply) {
     it->exists = false;
     take_out(&machine.currencies[it->issuer].issued, issued_tickets, (uint32_t)event->ticket);
     drop(&machine.tickets_there, (uint32_t)event->ticket);
+    give_back(&machine.free_tickets, (uint32_t)event->ticket);
     reply->kind = LOT_REPLY_DONE;
     return 0;
 }
@@ -554,6 +585,7 @@ static uint32_t remove_currency_of(uint32_t currency, lot_reply *reply) {
     it->exists = false;
     machine.holders[it->name] = (struct target){UNFUNDED, 0};
     drop(&machine.currencies_there, currency);
+    give_back(&machine.free_currencies, currency);
     reply->kind = LOT_REPLY_DONE;
     return 0;
 }
@@ -710,6 +742,7 @@ static uint32_t remove_thread_of(uint32_t thread, lot_reply *reply) {
     machine.holders[it->name] = (struct target){UNFUNDED, 0};
     drop(&machine.threads_there, thread);
     drop(&machine.dead_there, thread);
+    give_back(&machine.free_threads, thread);
     reply->kind = LOT_REPLY_DONE;
     return 0;
 }
@@ -1256,6 +1289,7 @@ void model_open(const lot_sizes *sizes, uint64_t every) {
     machine.ticket_count = machine.thread_count = machine.currency_count = 0;
     machine.tickets_there.count = machine.currencies_there.count = 0;
     machine.threads_there.count = machine.dead_there.count = 0;
+    machine.free_tickets.count = machine.free_currencies.count = machine.free_threads.count = 0;
     memset(machine.ports, 0, (sizes->ports + 1) * sizeof *machine.ports);
     memset(machine.mutexes, 0, (sizes->mutexes + 1) * sizeof *machine.mutexes);
     memset(machine.runners, 0, sizeof machine.runners);

@@ -42,6 +42,14 @@ struct set {
     uint32_t members[MOST_TICKETS + 1], places[MOST_TICKETS + 1];
 };
 
+// Numbers that were given and are free, the one that was left last at the end; and how often one was taken from here,
+// in all kernels.
+struct stack {
+    uint32_t count;
+    uint32_t numbers[MOST_TICKETS];
+    uint64_t taken;
+};
+
 enum target_kind { UNFUNDED, TO_CURRENCY, TO_THREAD };
 
 struct target {
@@ -93,7 +101,7 @@ struct mutex {
 // Tables are numbered as the kernel numbers, base being currency 0.
 struct machine {
     lot_sizes sizes;
-    uint32_t ticket_count, currency_count, thread_count; // ever made, and base
+    uint32_t ticket_count, currency_count, thread_count; // the places of the tables, also of what was removed
     struct ticket tickets[MOST_TICKETS + 1];
     struct currency currencies[MOST_CURRENCIES + 1];
     struct thread threads[MOST_THREADS + 1];
@@ -103,6 +111,7 @@ struct machine {
     uint32_t name_count;                   // the names that this kernel's run uses
     struct target holders[MOST_NAMES];     // what has each name
     struct set tickets_there, currencies_there, threads_there, dead_there;
+    struct stack free_tickets, free_currencies, free_threads; // empty unless numbers are given again
     uint64_t lotteries, held; // of all kernels, and those that the model held itself
     uint64_t every;           // it holds one in as many itself
 };
@@ -129,6 +138,9 @@ bool model_thread_row(uint32_t thread, lot_thread_row *row);
 bool is_ticket(uint64_t ticket);
 bool is_currency(uint32_t currency);
 bool is_thread(uint32_t thread);
+
+// The number that the next ticket gets.
+uint32_t next_ticket(void);
 
 // The thread that this one lends to, 0 for none.
 uint32_t borrower_of(uint32_t thread);

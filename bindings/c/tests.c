@@ -243,6 +243,38 @@ static void numbered(void) {
     puts("ok: numbered");
 }
 
+// Sizes for two tickets, currencies and threads at once. The next one gets the number that was given up last.
+static void given_again(void) {
+    const lot_sizes sizes = {2, 2, 2, 0, 0, 1, 1, 100, 1, 1};
+    const lot_name c = lot_name_of("c"), d = lot_name_of("d");
+    lot_kernel kernel = made(&sizes);
+    CHECK(funded(&kernel, 10, "base", "a").thread == 1 && funded(&kernel, 5, "base", "b").thread == 2);
+    CHECK(has_won(drawn(&kernel, 1, 9), 1, 9, 15) && has_expired(answer(&kernel, lot_expire(1)), 1, 100));
+    // A thread that was killed keeps its number until it is removed.
+    CHECK(answer(&kernel, lot_kill_numbered(1)).kind == LOT_REPLY_DONE);
+    CHECK(is_refused(answer(&kernel, lot_make_thread(c, 1)), LOT_REFUSAL_FULL));
+    CHECK(answer(&kernel, lot_unfund(1)).kind == LOT_REPLY_DONE);
+    CHECK(answer(&kernel, lot_remove_thread_numbered(1)).kind == LOT_REPLY_DONE && is_gone(&kernel, 1));
+    CHECK(answer(&kernel, lot_make_thread(c, 1)).thread == 1);
+    CHECK(answer(&kernel, lot_fund_thread(1, 1)).kind == LOT_REPLY_DONE && is_worth(&kernel, 1, 10));
+    lot_thread_row row = row_of(&kernel, 1);
+    CHECK(row.status.kind == LOT_STATUS_READY && row.quanta == 0 && row.ticks == 0 && is_name(row.name, "c"));
+    CHECK(is_refused(answer(&kernel, lot_make_ticket_in(1, 0)), LOT_REFUSAL_FULL));
+    CHECK(answer(&kernel, lot_unfund(2)).kind == LOT_REPLY_DONE);
+    CHECK(answer(&kernel, lot_unfund(1)).kind == LOT_REPLY_DONE);
+    CHECK(answer(&kernel, lot_remove_ticket(1)).kind == LOT_REPLY_DONE);
+    CHECK(answer(&kernel, lot_remove_ticket(2)).kind == LOT_REPLY_DONE);
+    CHECK(answer(&kernel, lot_make_ticket_in(7, 0)).ticket == 2);
+    CHECK(answer(&kernel, lot_make_ticket_in(8, 0)).ticket == 1);
+    CHECK(answer(&kernel, lot_make_currency(lot_name_of("x"))).currency == 1);
+    CHECK(answer(&kernel, lot_make_currency(lot_name_of("y"))).currency == 2);
+    CHECK(is_refused(answer(&kernel, lot_make_currency(d)), LOT_REFUSAL_FULL));
+    CHECK(answer(&kernel, lot_remove_currency_numbered(1)).kind == LOT_REPLY_DONE);
+    CHECK(answer(&kernel, lot_make_currency(d)).currency == 1);
+    CHECK(lot_kernel_free(&kernel) == LOT_DONE);
+    puts("ok: given again");
+}
+
 // A dead thread with a client, or with a mutex, stays.
 static void removal_in_use(void) {
     lot_kernel kernel = made(&SMALL);
@@ -1074,7 +1106,8 @@ static void limits(void) {
             CHECK(lot_kernel_new(&sizes, &kernel) == LOT_BAD_LIMITS && kernel.at == NULL);
         }
     }
-    lot_sizes smallest, largest;
+    lot_sizes smallest = SMALL, largest = SMALL;
+    largest.reuse = 1;
     for (size_t i = 0; i < 9; i++) {
         *size_at(&smallest, i) = least[i];
         *size_at(&largest, i) = most[i];
@@ -1292,6 +1325,7 @@ int main(int argc, char **argv) {
     inflation();
     removal();
     numbered();
+    given_again();
     removal_in_use();
     killed_runner();
     killed_server();

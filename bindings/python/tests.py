@@ -158,6 +158,22 @@ class Worked(unittest.TestCase):
             self.assertEqual(kernel.make_thread("a"), Reply(ReplyKind.THREAD, thread=3))
             self.assertEqual([kernel.thread_row(thread).name for thread in (2, 3)], ["b", "a"])
 
+    def test_given_again(self):
+        """With `reuse`, the next thread gets the number of the last one removed; a dead one keeps its number."""
+        with lot.Kernel(tickets=2, threads=2, reuse=True) as kernel:
+            funded(kernel, ("a", 10), ("b", 5))
+            kernel.kill("a")
+            self.assertEqual(kernel.make_thread("c", check=False), refused_for(Refusal.FULL))
+            kernel.unfund(1)
+            kernel.remove_thread("a")
+            self.assertEqual(kernel.make_thread("c"), Reply(ReplyKind.THREAD, thread=1))
+            self.assertEqual([kernel.thread_row(thread).name for thread in (1, 2)], ["c", "b"])
+            kernel.remove_ticket(1)
+            self.assertEqual(kernel.make_ticket(7).ticket, 1)
+            self.assertIs(kernel.sizes().reuse, True)
+        self.assertIs(dataclasses.replace(lot.Sizes(1, 1, 1, 0, 0, 1, 0, 1, 1), reuse=2).reuse, True)
+        self.assertRaises(TypeError, lot.Kernel, reuse="yes")
+
     def test_numbered(self):
         """Commands by number, where 1 is a currency and a thread. 100 of base back alice, whose 40 are a's and b's."""
         done = Reply(ReplyKind.DONE)
@@ -666,7 +682,10 @@ class Taken(unittest.TestCase):
     def test_what_no_call_takes(self):
         self.assertEqual(self.status_of(lot.Kernel, threads=4097), Status.BAD_LIMITS)
         self.assertEqual(self.status_of(lot.Kernel.bytes_of, lot.Sizes(0, 1, 1, 0, 0, 1, 0, 1, 1)), Status.BAD_LIMITS)
-        self.assertLess(lot.Kernel.bytes_of(lot.Sizes(1, 1, 1, 0, 0, 1, 0, 1, 1)), 2048)
+        sizes = lot.Sizes(1, 1, 1, 0, 0, 1, 0, 1, 1)
+        self.assertLess(lot.Kernel.bytes_of(sizes), 2560)
+        again = dataclasses.replace(sizes, reuse=True)
+        self.assertEqual(lot.Kernel.bytes_of(again), lot.Kernel.bytes_of(sizes) + 16)
         self.assertEqual(self.status_of(lot.ParkMiller, 0), Status.BAD_SEED)
 
     def test_closed(self):

@@ -1,19 +1,19 @@
-// A daemon for many jobs: they come, work, sleep while their device does, wake, and end. Three users share one
+// A daemon for jobs without end: they come, work, sleep while their device does, wake, and end. Three users share one
 // processor by the tickets of their currencies, however many jobs each has.
 //
-// One burst in a hundred is stuck: it would go on for ever. The daemon kills its job once it has worked for 2050 ticks
+// A million jobs come, and at most 24 are there at once. The sizes have room for no more, and `reuse` lets the next job
+// have the numbers of one that was buried: of its ticket and its thread, which are removed. It has the name too.
+//
+// One burst in a hundred is stuck: it would go on for ever. The daemon kills its job once it has worked for 450 ticks
 // without sleep. At that time the job runs, in the middle of a quantum. So the daemon preempts it first, which charges
 // it for the 50 ticks of this quantum. A kill charges nothing, and leaves the processor idle for the next draw.
-//
-// A job that has ended is buried: its ticket and its thread are removed, and the next job takes its place and its name.
-// The sizes bound how many threads are ever made, so the daemon ends after 4096 jobs.
 
 #include "lot.h"
 
 #include <stdio.h>
 #include <stdlib.h>
 
-enum { USERS = 3, PLACES = 24, JOBS = 4096, QUANTUM = 100, PATIENCE = 2050 };
+enum { USERS = 3, PLACES = 24, JOBS = 1000000, QUANTUM = 100, PATIENCE = 450 };
 
 // Users have 3, 2 and 1 tickets of base, and 12, 8 and 4 of the places.
 static struct user {
@@ -33,7 +33,7 @@ static struct job {
 
 static lot_kernel kernel = LOT_KERNEL_NONE;
 static lot_generator generator;
-static struct job *job_of[JOBS + 1]; // by the thread's number
+static struct job *job_of[PLACES + 1]; // by the thread's number
 static uint64_t now;
 static uint32_t made;
 
@@ -71,7 +71,7 @@ static void make_user(struct user *user) {
 }
 
 static uint32_t burst(void) {
-    return from_to(1, 100) == 1 ? UINT32_MAX : from_to(10, 400);
+    return from_to(1, 100) == 1 ? UINT32_MAX : from_to(10, 150);
 }
 
 // Starts a job at a place, with the place's name.
@@ -79,7 +79,7 @@ static void start(struct job *job) {
     char name[sizeof "job-00"];
     snprintf(name, sizeof name, "job-%u", (unsigned)(job - jobs) % 100);
     lot_reply reply = answer(lot_make_funded_in(100, job->user->currency, lot_name_of(name), 1));
-    *job = (struct job){job->user, reply.thread, reply.ticket, from_to(1, 5), burst(), 0, 0};
+    *job = (struct job){job->user, reply.thread, reply.ticket, from_to(1, 2), burst(), 0, 0};
     job_of[job->thread] = job;
     job->user->jobs++;
     made++;
@@ -143,8 +143,8 @@ static void step(void) {
 }
 
 int main(void) {
-    lot_sizes sizes = {.tickets = JOBS + USERS, .currencies = USERS, .threads = JOBS, .processors = 1, .scripts = 1,
-                       .quantum = QUANTUM, .unit = 256};
+    lot_sizes sizes = {.tickets = PLACES + USERS, .currencies = USERS, .threads = PLACES, .processors = 1, .scripts = 1,
+                       .quantum = QUANTUM, .unit = 256, .reuse = 1};
     must(lot_generator_new(1, &generator));
     must(lot_kernel_new(&sizes, &kernel));
     for (int i = 0; i < USERS; i++) {

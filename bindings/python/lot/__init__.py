@@ -32,7 +32,7 @@ from .lottery import ParkMiller, weight, winner
 from .numbers import EventKind, Outcome, Refusal, ReplyKind, Status, ThreadState
 from .records import CurrencyRow, Drawn, Meter, Reply, Runner, Sizes, ThreadRow, ThreadStatus, TicketRow
 
-__version__ = "0.1.0"
+__version__ = "0.2.0"
 
 __all__ = [
     "CurrencyRow",

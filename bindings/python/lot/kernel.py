@@ -70,9 +70,10 @@ class Kernel:
         scripts: int = 1,
         quantum: int = 100,
         unit: int = 1,
+        reuse: bool = False,
         check: bool = True,
     ) -> None:
-        sizes = Sizes(tickets, currencies, threads, ports, mutexes, processors, scripts, quantum, unit)
+        sizes = Sizes(tickets, currencies, threads, ports, mutexes, processors, scripts, quantum, unit, reuse)
         self.check = check
         self._lock = threading.Lock()
         self._handle = library.Handle()
@@ -83,6 +84,8 @@ class Kernel:
     @staticmethod
     def bytes_of(sizes: Sizes) -> int:
         """The total of bytes that the library allocates for a kernel with these sizes, without Python's own objects.
+
+        With `reuse` it is 4 more for each ticket, currency and thread, and for base.
 
         Raises `LotError` with `Status.BAD_LIMITS` for sizes out of their bounds.
         """
@@ -228,7 +231,7 @@ class Kernel:
     def remove_thread(self, thread: Union[str, int], *, check: Optional[bool] = None) -> Reply:
         """Removes a dead thread that no ticket funds, and that has no client and owns no mutex.
 
-        Its name may be used again, its number isn't. Replies `DONE`. Refused: NO_THREAD, ALIVE, IN_USE.
+        Its name may be used again, its number only with `reuse`. Replies `DONE`. Refused: NO_THREAD, ALIVE, IN_USE.
 
         >>> with Kernel() as kernel:
         ...     replies = kernel.run([events.make_funded("job", 10), events.draw(1, 0), events.exit(1)])
@@ -457,13 +460,19 @@ class Kernel:
         return number.value if self._read(calls.lot_kernel_script_of, number, thread) else None
 
     def ticket_count(self) -> int:
-        """The number of tickets ever made, including removed ones. They are numbered from 1 to this number."""
+        """The number of tickets ever made, including removed ones. They are numbered from 1 to this number.
+
+        One that got a number again doesn't count.
+        """
         count = c_uint32()
         self._read(calls.lot_kernel_ticket_count, count)
         return count.value
 
     def currency_count(self) -> int:
-        """The number of currencies ever made, with base and removed ones. They are numbered from 0 to one below it."""
+        """The number of currencies ever made, with base and removed ones. They are numbered from 0 to one below it.
+
+        One that got a number again doesn't count.
+        """
         count = c_uint32()
         self._read(calls.lot_kernel_currency_count, count)
         return count.value

@@ -73,6 +73,7 @@ class RawSizes(Structure):
         ("scripts", c_uint32),
         ("quantum", c_uint32),
         ("unit", c_uint32),
+        ("reuse", c_uint32),
     ]
 
     def set(self, sizes: records.Sizes) -> None:
@@ -350,7 +351,7 @@ def library_version() -> str:
     """The version of the shared object.
 
     >>> library_version()
-    '0.1.0'
+    '0.2.0'
     """
     version = calls.lot_version()
     return f"{version >> 16}.{version >> 8 & 255}.{version & 255}"

@@ -16,7 +16,11 @@ def shown(record: Any) -> str:
 
 @dataclass(frozen=True)
 class Sizes:
-    """The sizes of a kernel. It never grows, and removed ones count for the limits.
+    """The sizes of a kernel. It never grows, and removed ones count for the limits, unless `reuse` is set.
+
+    With `reuse` the numbers of removed tickets, currencies and threads are given again, the last removed first, and the
+    limits count what exists at once. A number that was kept of what is removed then comes to mean another thing, so
+    forget it with the removal.
 
     Raises `TypeError` or `OverflowError` for a value that is no number of 32 bits. The kernel checks the bounds.
     """
@@ -30,9 +34,12 @@ class Sizes:
     scripts: int  # at most 256; a thread's script is a number that the kernel keeps for its caller
     quantum: int  # in ticks, 1 to 1000
     unit: int  # the value of one of base: 1, or 256 for finer shares
+    reuse: bool = False  # whether numbers are given again; any number but 0 counts as `True`
 
     def __post_init__(self) -> None:
-        for field in dataclasses.fields(self):
+        reuse = self.reuse if isinstance(self.reuse, bool) else checked(self.reuse, NARROW, "reuse") != 0
+        object.__setattr__(self, "reuse", reuse)
+        for field in dataclasses.fields(self)[:-1]:
             object.__setattr__(self, field.name, checked(getattr(self, field.name), NARROW, field.name))
 
 

@@ -31,8 +31,8 @@ pub enum Command {
         /// The currency that issues it.
         currency: CurrencyRef,
     },
-    /// Removes a ticket that funds nothing. Its number is never used again. Reply:
-    /// [`Reply::Done`](crate::Reply::Done).
+    /// Removes a ticket that funds nothing. Its number is used again only with `reuse` of [`Sizes`](crate::Sizes).
+    /// Reply: [`Reply::Done`](crate::Reply::Done).
     ///
     /// Refusals: `NoTicket`, `Funding`.
     RemoveTicket {
@@ -80,7 +80,8 @@ pub enum Command {
         amount: u64,
     },
     /// Removes a thread that has ended, that no ticket funds, and that has no client and owns no mutex. Its name may be
-    /// used again, its number isn't. Reply: [`Reply::Done`](crate::Reply::Done).
+    /// used again, its number only with `reuse` of [`Sizes`](crate::Sizes). Reply:
+    /// [`Reply::Done`](crate::Reply::Done).
     ///
     /// Refusals: `NoThread`, `Alive`, `InUse`.
     RemoveThread {

@@ -58,7 +58,8 @@ const _: () = {
 
 impl Kernel {
     /// Makes a kernel with base alone. This allocates all the memory that it will ever use: 13 kilobytes for 16
-    /// threads, 5.6 megabytes at the largest sizes. [`Kernel::bytes`] returns the number for any sizes.
+    /// threads, 5.6 megabytes at the largest sizes, and with `reuse` 4 bytes more for each ticket, currency and thread.
+    /// [`Kernel::bytes`] returns the number for any sizes.
     ///
     /// ```
     /// use lot::{Error, Kernel, Sizes};
@@ -79,7 +80,7 @@ impl Kernel {
         Ok(Kernel { handle: UnsafeCell::new(handle) })
     }
 
-    /// The total of bytes that [`Kernel::new`] requests from the system for these sizes, in at most 46 blocks.
+    /// The total of bytes that [`Kernel::new`] requests from the system for these sizes, in at most 49 blocks.
     ///
     /// ```
     /// use lot::{Error, Kernel, Sizes};
@@ -260,7 +261,8 @@ impl Kernel {
         ffi::if_there(status, script)
     }
 
-    /// The number of tickets ever made, including removed ones. They are numbered from 1 to this number.
+    /// The number of tickets ever made, including removed ones; one that got a number again doesn't count. They are
+    /// numbered from 1 to this number.
     #[must_use]
     pub fn ticket_count(&self) -> u32 {
         let mut count = 0;
@@ -269,8 +271,8 @@ impl Kernel {
         count
     }
 
-    /// The number of currencies ever made, including base and removed ones. They are numbered from 0 to one below this
-    /// number.
+    /// The number of currencies ever made, including base and removed ones; one that got a number again doesn't count.
+    /// They are numbered from 0 to one below this number.
     #[must_use]
     pub fn currency_count(&self) -> u32 {
         let mut count = 0;

@@ -30,7 +30,7 @@ pub use sizes::Sizes;
 /// The version of the archive: the major number times 65536, the minor times 256, and the patch.
 ///
 /// ```
-/// assert_eq!(lot::version(), 0x00_01_00); // 0.1.0
+/// assert_eq!(lot::version(), 0x00_02_00); // 0.2.0
 /// ```
 #[must_use]
 pub fn version() -> u32 {

@@ -3,7 +3,7 @@
 /// The sizes of a kernel. It never grows.
 ///
 /// The default is enough for a first try: 64 tickets, 16 currencies and 16 threads, 2 ports, 2 mutexes, 2 processors,
-/// 1 script, a quantum of 100 ticks and a unit of 1.
+/// 1 script, a quantum of 100 ticks and a unit of 1; no number is given again.
 ///
 /// ```
 /// use lot::Sizes;
@@ -14,11 +14,13 @@
 #[repr(C)]
 #[derive(Clone, Copy, Debug, PartialEq, Eq, Hash)]
 pub struct Sizes {
-    /// The largest number of tickets ever made, 1 to 65535. Removed ones count.
+    /// The largest number of tickets ever made, 1 to 65535. Removed ones count, unless `reuse` is set.
     pub tickets: u32,
-    /// The largest number of currencies ever made, not counting base, 1 to 4096. Removed ones count.
+    /// The largest number of currencies ever made, not counting base, 1 to 4096. Removed ones count, unless `reuse` is
+    /// set.
     pub currencies: u32,
-    /// The largest number of threads ever made, 1 to 4096. A thread that has ended counts, and keeps its name.
+    /// The largest number of threads ever made, 1 to 4096. A thread that has ended counts, and keeps its name. Removed
+    /// ones count, unless `reuse` is set.
     pub threads: u32,
     /// The number of ports, 0 to 256.
     pub ports: u32,
@@ -32,6 +34,23 @@ pub struct Sizes {
     pub quantum: u32,
     /// The value of one of base: 1, or 256 for finer shares.
     pub unit: u32,
+    /// 0 if each number is given once. Otherwise the numbers of removed tickets, currencies and threads are given
+    /// again, the last removed first, and the first three sizes count what exists at once. The kernel keeps it as 0 or
+    /// 1.
+    ///
+    /// A number that was kept of what is removed then comes to mean another thing, so forget it with the removal.
+    ///
+    /// ```
+    /// use lot::{Event, Kernel, Name, Reply, Sizes};
+    ///
+    /// let mut kernel = Kernel::new(Sizes { tickets: 1, reuse: 1, ..Sizes::default() })?;
+    /// for amount in 1..100_000 {
+    ///     assert_eq!(kernel.event(&Event::make_ticket(amount, Name::BASE)), Reply::Ticket(1));
+    ///     kernel.event(&Event::remove_ticket(1)).ok()?;
+    /// }
+    /// # Ok::<(), Box<dyn std::error::Error>>(())
+    /// ```
+    pub reuse: u32,
 }
 
 impl Sizes {
@@ -46,6 +65,7 @@ impl Sizes {
         scripts: 1,
         quantum: 100,
         unit: 1,
+        reuse: 0,
     };
 }
 

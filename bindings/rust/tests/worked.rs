@@ -166,6 +166,22 @@ fn by_number() {
     assert_eq!(targets, [(1, Name::BASE, Some(alice)), (2, alice, None), (3, alice, Some(b))]);
 }
 
+// With `reuse`, the next thread gets the number of the last one removed, and a dead thread keeps its number.
+#[test]
+fn given_again() {
+    let mut kernel = Kernel::new(Sizes { tickets: 2, threads: 2, reuse: 1, ..Sizes::SMALL }).expect("small");
+    fund_thread(&mut kernel, 10, "base", "a");
+    fund_thread(&mut kernel, 5, "base", "b");
+    let c = Event::make_thread(name("c"), 1);
+    assert_eq!(kill(&mut kernel, "a"), Reply::Done);
+    assert_eq!(kernel.event(&c), Reply::Refused(EventRefusal::Full));
+    assert_eq!(kernel.event(&Event::unfund(1)), Reply::Done);
+    assert_eq!(kernel.event(&Event::remove_thread(name("a"))), Reply::Done);
+    assert_eq!(kernel.event(&c), Reply::Thread(1));
+    assert_eq!(kernel.event(&Event::remove_ticket(1)), Reply::Done);
+    assert_eq!(kernel.event(&Event::make_ticket(7, Name::BASE)), Reply::Ticket(1));
+}
+
 fn trapped(thread: u32, ticks: u32, outcome: Outcome, goes_on: bool) -> Reply {
     Reply::Trapped { thread, ticks, outcome, ends: false, goes_on }
 }

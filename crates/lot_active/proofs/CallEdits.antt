@@ -20,7 +20,7 @@ use Rattle.lot_active.specs.declared.edge_ends.EdgeEnds.{EdgeEnds}
 use Rattle.lot_active.specs.Nets.{Net}
 use Rattle.lot_active.specs.Activity.{Activity, IsKept}
 use Rattle.lot_active.specs.Fundings.{AwakeAre, IsKeptFor, AddsEdge, graph_net, edge_between}
-use Rattle.lot_active.proofs.Edits.{HasMore, fund-adds, unfund-adds, lend-adds, unlend-adds, own-adds, disown-adds, issue-same, destroy-same, set_amount-same, thread-same}
+use Rattle.lot_active.proofs.Edits.{HasMore, fund-adds, unfund-adds, lend-adds, unlend-adds, own-adds, disown-adds, issue-same, again-same, destroy-same, set_amount-same, thread-same}
 use Rattle.lot_graph.specs.Changes.{with_currencies, with_lends, with_owners, with_tickets}
 
 -- ---- one edge
@@ -84,6 +84,9 @@ same-kept v w now live after kept sound fits layout net awake = record {
 module _ (v : Activity) (w now : LimitedFunding) (live : List Bool) (kept : IsKeptFor v w live) (sound : IsSound now.funding) (fits : FitsLimits now) where
   pub issue-kept : (amount issuer : ℕ) → now ≡ with_tickets w (with_new_ticket w.funding.tickets amount issuer target.Unfunded) → IsKeptFor v now live
   issue-kept amount issuer is = same-kept v w now live live kept sound fits (ap layout_of is) (ap graph_net is ∙ issue-same w.funding (layout_of w) amount issuer) kept.awake
+
+  pub again-kept : (n : ℕ) (ticket : Ticket) → at_number w.funding.tickets n ≡ Some None → ticket.target ≡ target.Unfunded → now ≡ with_tickets w (set_number w.funding.tickets n (Some ticket)) → IsKeptFor v now live
+  again-kept n ticket gap unfunded is = same-kept v w now live live kept sound fits (ap layout_of is) (ap graph_net is ∙ again-same w.funding (layout_of w) n ticket gap unfunded) kept.awake
 
   pub destroy-kept : (n : ℕ) (t : Ticket) → ticket_at w.funding n ≡ Some t → t.target ≡ target.Unfunded → now ≡ with_tickets w (without_ticket w.funding.tickets n) → IsKeptFor v now live
   destroy-kept n t here unfunded is = same-kept v w now live live kept sound fits (ap layout_of is) (ap graph_net is ∙ destroy-same w.funding (layout_of w) n t here unfunded) kept.awake

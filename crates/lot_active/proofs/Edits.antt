@@ -17,7 +17,7 @@ use Rattle.lot_machine.specs.Numbered.{at_number, set_number}
 use Rattle.lot_machine.specs.Funding.{Funding, ticket_at, ticket_in, owner_of, target_node, lend_node, ends_of, with_target, with_amount, with_new_ticket, without_ticket, retargeted, reissued}
 use Rattle.lot_machine.specs.Lends.{IsLive}
 use Rattle.lot_machine.proofs.Tickets.{at_number-suc, flatten-some, some-injective}
-use Rattle.lot_machine.proofs.Changes.{number-set, number-push}
+use Rattle.lot_machine.proofs.Changes.{number-set, number-push, number-there}
 use Rattle.lot_active.specs.declared.edge_ends.EdgeEnds.{EdgeEnds}
 use Rattle.lot_active.specs.declared.edge_ends.EdgePlaces.{EdgePlaces}
 use Rattle.lot_active.specs.Nets.{Net}
@@ -202,6 +202,21 @@ module _ (f : Funding) where
 
   pub issue-same : (l : Layout) (amount issuer : ℕ) → net_of l (record f { tickets = with_new_ticket f.tickets amount issuer target.Unfunded }) ≡ net_of l f
   issue-same l amount issuer = same-net l (record f { tickets = with_new_ticket f.tickets amount issuer target.Unfunded }) (issue-ends amount issuer)
+
+  pub again-ends : (n : ℕ) (ticket : Ticket) → at_number f.tickets n ≡ Some None → ticket.target ≡ target.Unfunded → (edge : Edge) → ends_of_edge (record f { tickets = set_number f.tickets n (Some ticket) }) edge ≡ ends_of_edge f edge
+  again-ends n ticket gap unfunded (OfTicket k) = by (number-set f.tickets n (Some ticket) k)
+    where
+      by : (at_number (set_number f.tickets n (Some ticket)) k ≡ at_number f.tickets k) ⊎ ((k ≡ suc (n - 1)) × (at_number (set_number f.tickets n (Some ticket)) k ≡ Some (Some ticket)))
+          → ticket_ends (option_flatten (at_number (set_number f.tickets n (Some ticket)) k)) ≡ ticket_ends (option_flatten (at_number f.tickets k))
+      by (inl is) = ap (λ o. ticket_ends (option_flatten o)) is
+      by (inr (at, is)) =
+          ap (λ o. ticket_ends (option_flatten o)) is ∙ ticket-none ticket (ap target_node unfunded)
+          ∙ sym (ap (λ j. ticket_ends (option_flatten (at_number f.tickets j))) (at ∙ number-there f.tickets n None gap) ∙ ap (λ o. ticket_ends (option_flatten o)) gap)
+  again-ends n ticket gap unfunded (OfLender t) = refl
+  again-ends n ticket gap unfunded (OfMutex m) = refl
+
+  pub again-same : (l : Layout) (n : ℕ) (ticket : Ticket) → at_number f.tickets n ≡ Some None → ticket.target ≡ target.Unfunded → net_of l (record f { tickets = set_number f.tickets n (Some ticket) }) ≡ net_of l f
+  again-same l n ticket gap unfunded = same-net l (record f { tickets = set_number f.tickets n (Some ticket) }) (again-ends n ticket gap unfunded)
 
   pub destroy-ends : (n : ℕ) (t : Ticket) → ticket_at f n ≡ Some t → t.target ≡ target.Unfunded → (edge : Edge) → ends_of_edge (record f { tickets = without_ticket f.tickets n }) edge ≡ ends_of_edge f edge
   destroy-ends n t here unfunded (OfTicket k) = by (number-set f.tickets n None k)

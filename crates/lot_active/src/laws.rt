@@ -54,6 +54,10 @@ pub fn others_keep()
     ensures issue { (v : Activity) (w now : LimitedFunding) (live : List Bool) (amount issuer : ℕ)
         → IsKeptFor v w live → IsSound now.funding → FitsLimits now
         → now ≡ with_tickets w (with_new_ticket w.funding.tickets amount issuer Unfunded) → IsKeptFor v now live }
+    ensures again { (v : Activity) (w now : LimitedFunding) (live : List Bool) (n : ℕ) (t : Ticket)
+        → IsKeptFor v w live → IsSound now.funding → FitsLimits now → at_number w.funding.tickets n ≡ Some None
+        → t.target ≡ Unfunded
+        → now ≡ with_tickets w (set_number w.funding.tickets n (Some t)) → IsKeptFor v now live }
     ensures destroy { (v : Activity) (w now : LimitedFunding) (live : List Bool) (n : ℕ) (t : Ticket)
         → IsKeptFor v w live → IsSound now.funding → FitsLimits now → ticket_at w.funding n ≡ Some t
         → t.target ≡ Unfunded

@@ -55,6 +55,7 @@ fn opened(alloc: Global) -> Option<Kernel> {
         scripts: 1,
         quantum: 100,
         unit: 1,
+        reuse: false,
     })?;
     let mut kernel = Kernel::new(alloc, limits).ok()?;
     make_user(&mut kernel, 1, "alice", 2000)?;

@@ -100,5 +100,6 @@ pub(crate) fn smallest_limits(workload: Workload) -> Option<Limits> {
         scripts: 1,
         quantum: 100,
         unit: 1,
+        reuse: false,
     })
 }

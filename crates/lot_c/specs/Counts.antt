@@ -1,4 +1,5 @@
 -- Sizes, counts and running threads, in plain fields.
+use Rattle.std.specs.Prelude.{◌==◌, not, if◌then◌else◌}
 use Rattle.lot_machine.specs.declared.sizes.Sizes.{Sizes}
 use Rattle.lot_threads.specs.declared.runners.Runner.{Runner}
 use Rattle.lot_value.specs.declared.meter.Meter.{Meter}
@@ -18,6 +19,7 @@ plain_sizes s = record {
   scripts = s.scripts;
   quantum = s.quantum;
   unit = s.unit;
+  reuse = if s.reuse then 1 else 0;
 }
 
 -- the sizes in these fields
@@ -32,6 +34,7 @@ sizes_meant s = record {
   scripts = s.scripts;
   quantum = s.quantum;
   unit = s.unit;
+  reuse = not (s.reuse == 0);
 }
 
 -- the counts of a kernel in plain fields

@@ -109,7 +109,7 @@ pub extern "C" fn lot_kernel_meter(kernel: &mut ReadHandle, meter: &mut PlainMet
     Status::Done.code()
 }
 
-/// Stores the number of tickets ever made, including removed ones.
+/// Stores how many numbers of tickets have been given, those of removed ones included.
 #[unsafe(no_mangle)]
 pub extern "C" fn lot_kernel_ticket_count(kernel: &mut ReadHandle, count: &mut u32) -> u32
     ensures handle { kernel.new ≡ kernel.old }
@@ -123,7 +123,7 @@ pub extern "C" fn lot_kernel_ticket_count(kernel: &mut ReadHandle, count: &mut u
     Status::Done.code()
 }
 
-/// Stores the number of currencies ever made, including base and removed ones.
+/// Stores how many numbers of currencies have been given, those of base and of removed ones included.
 #[unsafe(no_mangle)]
 pub extern "C" fn lot_kernel_currency_count(kernel: &mut ReadHandle, count: &mut u32) -> u32
     ensures handle { kernel.new ≡ kernel.old }

@@ -20,6 +20,8 @@ pub struct PlainSizes {
     pub scripts: u32,
     pub quantum: u32,
     pub unit: u32,
+    /// 0 if each number is given once, otherwise numbers are given again.
+    pub reuse: u32,
 }
 
 impl PlainSizes {
@@ -38,6 +40,7 @@ impl PlainSizes {
             scripts: self.scripts,
             quantum: self.quantum,
             unit: self.unit,
+            reuse: self.reuse != 0,
         })
     }
 
@@ -55,6 +58,7 @@ impl PlainSizes {
             scripts: limits.scripts,
             quantum: limits.quantum,
             unit: limits.unit,
+            reuse: u32::from(limits.reuse),
         }
     }
 }

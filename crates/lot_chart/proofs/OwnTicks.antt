@@ -1,5 +1,5 @@
 -- A thread's record has the ticks of the turns that name it.
-use Rattle.std.proofs.Common.{◌≡◌, ◌≢◌, ℕ, zero, suc, ◌+◌, ◌-◌, ◌*◌, ◌^◌, ◌<◌, ◌≤◌, ◌==◌, Bool, true, false, cond, Option, Some, None, is_none, List, [], ◌∷◌, ◌++◌, length, map, sum_by, get_or, slice_index, nat_lt, option_map, refl, sym, ◌∙◌, ap, subst, arith, if◌then◌else◌, set}
+use Rattle.std.proofs.Common.{◌≡◌, ◌≢◌, ℕ, zero, suc, ◌+◌, ◌-◌, ◌*◌, ◌^◌, ◌<◌, ◌≤◌, ◌==◌, Bool, true, false, cond, Option, Some, None, is_none, List, [], ◌∷◌, ◌++◌, length, map, sum_by, get_or, slice_index, nat_lt, option_map, refl, sym, ◌∙◌, ap, subst, arith, if◌then◌else◌, set, slice_set}
 use Rattle.std.specs.Prelude.{option_and_then}
 use Rattle.std.proofs.Math.Nat.{min-eq_left}
 use Rattle.std.proofs.lemmas.Bool.{eqb-false, eqb-true, ltb-false}
@@ -10,7 +10,7 @@ use Rattle.lot_machine.specs.declared.record.Status.{Status}
 use Rattle.lot_machine.specs.declared.record.Status.TheVariants as status
 use Rattle.lot_machine.specs.declared.action.Action.{Action}
 use Rattle.lot_machine.specs.declared.command.Command.{Command}
-use Rattle.lot_machine.specs.declared.command.Command.TheVariants.{MakeTicket, RemoveTicket, MakeCurrency, RemoveCurrency, Fund, Unfund, SetTicket, MakeThread, RemoveThread, Kill, MakeFunded, List as Listing}
+use Rattle.lot_machine.specs.declared.command.Command.TheVariants.{Kill}
 use Rattle.lot_machine.specs.declared.drawn.Drawn.{Drawn}
 use Rattle.lot_machine.specs.declared.event.Event.{Event}
 use Rattle.lot_machine.specs.declared.event.Event.TheVariants as event
@@ -20,10 +20,12 @@ use Rattle.lot_machine.specs.declared.reply.Reply.TheVariants.{Idle}
 use Rattle.lot_machine.specs.Bounds.{IsBetween, IsWithinBounds}
 use Rattle.lot_machine.specs.Numbered.{at_number, set_number}
 use Rattle.lot_machine.specs.Lottery.{winner}
-use Rattle.lot_machine.specs.State.{State, thread_on, change_record, ready_threads, weight_of, saturated}
-use Rattle.lot_machine.specs.Commands.{Step, command_step, unless_refused}
+use Rattle.lot_machine.specs.declared.sizes.Sizes.{Sizes}
+use Rattle.lot_machine.specs.Places.{placed}
+use Rattle.lot_machine.specs.State.{State, opening, free_threads, thread_on, change_record, ready_threads, weight_of, saturated}
+use Rattle.lot_machine.specs.Commands.{Step, newborn, command_step, unless_refused}
 use Rattle.lot_machine.specs.Traps.{after_trap, with_ticks}
-use Rattle.lot_machine.specs.Change.{NewThread, PutRecord, newborn}
+use Rattle.lot_machine.specs.Change.{NewThread, PutRecord}
 use Rattle.lot_machine.specs.Step.{is_bad_processor, started, draw, expire, trap, trap_refusal, trap_effect, checked_effect, thread_there, used_there, wake, event_effect, step}
 use Rattle.lot_machine.specs.Order.{IsInOrder}
 use Rattle.lot_machine.specs.Rows.{row_of_thread, thread_name, thread_row}
@@ -31,7 +33,7 @@ use Rattle.lot_machine.specs.declared.row.ThreadRow.{ThreadRow}
 use Rattle.lot_machine.proofs.OrderKept.{opening-order, step-order}
 use Rattle.lot_machine.proofs.CommandsKept.{all-pass}
 use Rattle.lot_machine.proofs.StepChanges.{Console, Keeps, kept, command-leads}
-use Rattle.lot_machine.proofs.StepSizes.{checked-sizes}
+use Rattle.lot_machine.proofs.StepSizes.{checked-sizes, step-limits}
 use Rattle.lot_simulation.specs.World.{Program, World, Turn, Answer, IsLegal, console_turn, processor_turn, actor_event, opening_world, system_turn, system_after, system_answers, system_run}
 use Rattle.lot_simulation.specs.World.Answer.{Answered}
 use Rattle.lot_simulation.specs.Timed.{TimedTurn, last_moment, timed_schedule, timed_turns}
@@ -40,7 +42,7 @@ use Rattle.lot_simulation.specs.Report.{ActorTurn, beside, turns_made, turns_of,
 use Rattle.lot_simulation.proofs.TimedRuns.{timed-made, timed-world}
 use Rattle.lot_simulation.proofs.DrawnThreads.{number-some}
 use Rattle.lot_simulation.proofs.ProcessorCounts.{command-silent}
-use Rattle.lot_simulation.proofs.RecordCounts.{IsMade, kill-even, actor-made, there-has, change-leaves, checked-even, after-even, there-numbered}
+use Rattle.lot_simulation.proofs.RecordCounts.{Comes, as-much, comes-same, comes-then, IsMade, kill-even, actor-made, there-has, change-leaves, checked-even, after-even, there-numbered}
 use Rattle.lot_curves.specs.declared.stretch.Stretch.{Stretch}
 use Rattle.lot_curves.specs.Curves.{stretches_made, timed_stretches}
 use Rattle.lot_curves.specs.declared.stretch.Measure.TheVariants.{Ticks}
@@ -101,14 +103,18 @@ module _ (records : List Record) (u n : ℕ) (change : Record → Record) (i : �
 
 -- the record at the place has what the reply says besides, if it names it; and that is no more than a quantum
 record Adds (s : State) (i : ℕ) (done : Step) : Type 0 where
-  pub own : own_ticks done.state.records i ≡ own_ticks s.records i + cond (charged_thread done.reply == suc i) (ticks_in done.reply) 0
+  pub own : Comes s (own_ticks done.state.records i) (own_ticks s.records i + cond (charged_thread done.reply == suc i) (ticks_in done.reply) 0)
   pub short : ticks_in done.reply ≤ s.limits.quantum
+
+-- the ticks come to as many, and the reply has none
+comes-silent : (s : State) (i : ℕ) (done : Step) → Comes s (own_ticks done.state.records i) (own_ticks s.records i) → ticks_in done.reply ≡ 0 → Adds s i done
+comes-silent s i done comes none =
+    let nothing : cond (charged_thread done.reply == suc i) (ticks_in done.reply) 0 ≡ 0 = ap (λ n. cond (charged_thread done.reply == suc i) n 0) none ∙ cond-none (charged_thread done.reply == suc i) in
+    record { own = (omega (arith, comes.0, nothing), λ once. omega (arith, comes.1 once, nothing)); short = omega (arith, none) }
 
 -- the ticks stay, and the reply has none
 stays : (s : State) (i : ℕ) (done : Step) → own_ticks done.state.records i ≡ own_ticks s.records i → ticks_in done.reply ≡ 0 → Adds s i done
-stays s i done same none =
-    let nothing : cond (charged_thread done.reply == suc i) (ticks_in done.reply) 0 ≡ 0 = ap (λ n. cond (charged_thread done.reply == suc i) n 0) none ∙ cond-none (charged_thread done.reply == suc i) in
-    record { own = omega (arith, same, nothing); short = omega (arith, none) }
+stays s i done same none = comes-silent s i done (as-much s _ _ same) none
 
 unless-adds : (s : State) (i : ℕ) (o : Option Refusal) (next : Step) → (o ≡ None → Adds s i next) → Adds s i (unless_refused s o next)
 unless-adds s i None next adds = adds refl
@@ -124,16 +130,33 @@ grown records i = ap (λ xs. get_or xs i 0) (map-append (λ (r : Record). r.tick
     zeros (x ∷ xs) zero = refl
     zeros (x ∷ xs) (suc k) = zeros xs k
 
+-- nor does one in the place of another have more
+placed-less : (records : List Record) (j i : ℕ) → own_ticks (slice_set records j newborn) i ≤ own_ticks records i
+placed-less [] zero i = omega arith
+placed-less [] (suc j) i = omega arith
+placed-less (r ∷ rs) zero zero = omega arith
+placed-less (r ∷ rs) zero (suc i) = omega arith
+placed-less (r ∷ rs) (suc j) zero = omega arith
+placed-less (r ∷ rs) (suc j) (suc i) = placed-less rs j i
+
+-- the same limits, and as many ticks
+abbrev OwnFrom : State → ℕ → State → Type 0
+OwnFrom s i a = (a.limits ≡ s.limits) × Comes s (own_ticks a.records i) (own_ticks s.records i)
+
 -- and a command changes no other
-change-own : (s : State) (i : ℕ) → Keeps Console s (λ a. own_ticks a.records i ≡ own_ticks s.records i)
-change-own s i a (NewThread t) allowed same = grown a.records i ∙ same
+change-own : (s : State) (i : ℕ) → Keeps Console s (OwnFrom s i)
+change-own s i a (NewThread t) allowed (limits, (most, exact)) = (limits, by-free (free_threads a) (λ once. ap (λ b. cond {A = List ℕ} b a.freed.threads []) (ap (λ (sizes : Sizes). sizes.reuse) limits ∙ once)))
+  where
+    by-free : (free : List ℕ) → (s.limits.reuse ≡ false → free ≡ []) → Comes s (own_ticks (placed a.records free newborn) i) (own_ticks s.records i)
+    by-free [] empty = let same : own_ticks (a.records ++ newborn ∷ []) i ≡ own_ticks a.records i = grown a.records i in (omega (arith, same, most), λ once. same ∙ exact once)
+    by-free (j ∷ free) empty = (omega (arith, placed-less a.records j i, most), λ once. let never : j ∷ free ≡ [] = empty once in cc)
 change-own s i a (PutRecord t r) allowed same = absurd (allowed.mover refl)
 change-own s i a other allowed same = same
 
 command-adds : (s : State) (i : ℕ) (c : Command) → Adds s i (command_step s c)
 command-adds s i (Kill thread) =
     stays s i (command_step s (Kill thread)) (ap (λ xs. get_or xs i 0) (kill-even (λ (r : Record). r.ticks) (λ r st compensation delivered. refl) s thread)) (command-silent s (Kill thread)).2
-command-adds s i c = stays s i (command_step s c) (kept (λ a. own_ticks a.records i ≡ own_ticks s.records i) (change-own s i) (command-leads s c) refl) (command-silent s c).2
+command-adds s i c = comes-silent s i (command_step s c) (kept (OwnFrom s i) (change-own s i) (command-leads s c) (refl, as-much s _ _ refl)).1 (command-silent s c).2
 
 draw-adds : (s : State) (i p d : ℕ) → Adds s i (draw s p d)
 draw-adds s i p d = at (winner (map (weight_of s) (ready_threads s.records)) d) refl
@@ -147,7 +170,7 @@ draw-adds s i p d = at (winner (map (weight_of s) (ready_threads s.records)) d) 
 expire-adds : (s : State) (i t used : ℕ) → IsBetween 1 (length s.records) t → own_ticks s.records i + s.limits.quantum < 2 ^ 64 → Adds s i (expire s t used)
 expire-adds s i t used named space =
     record {
-      own = ticks-added s.records t (s.limits.quantum - used) (λ x. record x { status = status.Ready; compensation = None }) i named (λ x. refl) (omega (arith, space));
+      own = as-much s _ _ (ticks-added s.records t (s.limits.quantum - used) (λ x. record x { status = status.Ready; compensation = None }) i named (λ x. refl) (omega (arith, space)));
       short = omega arith;
     }
 
@@ -161,7 +184,7 @@ trap-adds s i p t used ran action named enough space =
     let sizes = checked-sizes s t action (trap_refusal s t action) in
     let change : Record → Record = after_trap effect.after p (used + ran + 1) s.limits.quantum in
     record {
-      own = ticks-added effect.state.records t (ran + 1) change i (named.0, omega (arith, named.1, sizes.1)) (after-even (λ r. r.ticks) ticks_stay effect.after p (used + ran + 1) s.limits.quantum) (omega (arith, space, enough, same)) ∙ ap (λ n. n + cond (t == suc i) (ran + 1) 0) same;
+      own = as-much s _ _ (ticks-added effect.state.records t (ran + 1) change i (named.0, omega (arith, named.1, sizes.1)) (after-even (λ r. r.ticks) ticks_stay effect.after p (used + ran + 1) s.limits.quantum) (omega (arith, space, enough, same)) ∙ ap (λ n. n + cond (t == suc i) (ran + 1) 0) same);
       short = omega (arith, enough);
     }
 
@@ -175,7 +198,7 @@ step-adds s i (event.Wake t) made space =
     unless-adds s i _ (wake s t) (λ _.
     let ready : Record → Record = λ r. record r { status = status.Ready } in
     record {
-      own = ap (λ xs. get_or xs i 0) (change-leaves (λ r. r.ticks) s.records t ready (λ r. refl)) ∙ omega (arith, cond-none (0 == suc i));
+      own = as-much s _ _ (ap (λ xs. get_or xs i 0) (change-leaves (λ r. r.ticks) s.records t ready (λ r. refl)) ∙ omega (arith, cond-none (0 == suc i)));
       short = omega arith;
     })
 step-adds s i (event.Draw p d) made space = unless-adds s i _ (draw s p d) (λ _. draw-adds s i p d)
@@ -195,9 +218,10 @@ abbrev part_of : ℕ → Answer → ℕ
 part_of i answer = cond (count_in charged_thread answer == suc i) (count_in ticks_in answer) 0
 
 record AddsTurn (w : World) (i : ℕ) (turn : Turn) : Type 0 where
-  pub own : own_ticks turn.world.state.records i ≡ own_ticks w.state.records i + part_of i turn.answer
+  pub own : Comes w.state (own_ticks turn.world.state.records i) (own_ticks w.state.records i + part_of i turn.answer)
   pub short : count_in ticks_in turn.answer ≤ w.state.limits.quantum
   pub order : IsInOrder turn.world.state
+  pub limits : turn.world.state.limits ≡ w.state.limits
 
 part-short : (i : ℕ) (answer : Answer) → part_of i answer ≤ count_in ticks_in answer
 part-short i answer = at (count_in charged_thread answer == suc i)
@@ -214,13 +238,14 @@ module _ (program : Program) (i : ℕ) where
       of_step e turn made state answer =
           let adds = step-adds w.state i e made space in
           record {
-            own = ap (λ (s : State). own_ticks s.records i) state ∙ adds.own ∙ ap (λ a. own_ticks w.state.records i + part_of i a) (sym answer);
+            own = comes-same w.state (sym (ap (λ (s : State). own_ticks s.records i) state)) (ap (λ a. own_ticks w.state.records i + part_of i a) (sym answer)) adds.own;
             short = omega (arith, adds.short, ap (count_in ticks_in) answer);
             order = subst IsInOrder (sym state) (step-order w.state e order);
+            limits = ap (λ (s : State). s.limits) state ∙ step-limits w.state e;
           }
 
       console : (commands : List Command) → AddsTurn w i (console_turn program w commands)
-      console [] = record { own = omega (arith, cond-none (0 == suc i)); short = omega arith; order = order }
+      console [] = record { own = as-much w.state _ _ (omega (arith, cond-none (0 == suc i))); short = omega arith; order = order; limits = refl }
       console (c ∷ cs) = of_step (event.Command c) (console_turn program w (c ∷ cs)) tt refl refl
 
       at : (b : Bool) → AddsTurn w i (if b then console_turn program w w.commands else processor_turn w actor (actor_event program w actor))
@@ -228,16 +253,17 @@ module _ (program : Program) (i : ℕ) where
       at false = of_step (actor_event program w actor) (processor_turn w actor (actor_event program w actor)) (actor-made program w actor) refl refl
 
   run-adds : (w : World) (k : ℕ) (actors : List ℕ) → IsInOrder w.state → own_ticks w.state.records i ≤ k * 1000 → k + length actors < 2 ^ 32
-      → own_ticks (system_after program w actors).state.records i ≡ own_ticks w.state.records i + sum_by (λ (turn : ActorTurn). part_of i turn.answer) (beside actors (system_answers program w actors))
-  run-adds w k [] order small bounded = omega arith
+      → Comes w.state (own_ticks (system_after program w actors).state.records i) (own_ticks w.state.records i + sum_by (λ (turn : ActorTurn). part_of i turn.answer) (beside actors (system_answers program w actors)))
+  run-adds w k [] order small bounded = as-much w.state _ _ (omega arith)
   run-adds w k (actor ∷ actors) order small bounded =
       let most : w.state.limits.quantum ≤ 1000 = order.bounds.of_quantum.1 in
       let turn = system_turn program w actor in
       let adds = turn-adds w actor order (omega (arith, small, bounded, most)) in
-      let later = run-adds turn.world (k + 1) actors adds.order (omega (arith, adds.own, part-short i turn.answer, adds.short, most, small)) (omega (arith, bounded)) in
+      let later = run-adds turn.world (k + 1) actors adds.order (omega (arith, adds.own.0, part-short i turn.answer, adds.short, most, small)) (omega (arith, bounded)) in
       let others = beside actors (system_answers program turn.world actors) in
       let first : ActorTurn = record { actor = actor; answer = turn.answer } in
-      later ∙ omega (arith, adds.own, sum_by-cons (λ (t : ActorTurn). part_of i t.answer) first others)
+      comes-then w.state turn.world.state _ (own_ticks turn.world.state.records i) (own_ticks w.state.records i) (part_of i turn.answer) (sum_by (λ (t : ActorTurn). part_of i t.answer) others) _ adds.limits
+      (sum_by-cons (λ (t : ActorTurn). part_of i t.answer) first others) later adds.own
 
 -- ---- the stretches of one thread
 
@@ -266,17 +292,18 @@ timed-sum i (turn ∷ turns) =
     stretch-more i s (map timed_stretch turns) parts (s.thread == suc i) (timed-sum i turns) ∙ sym (sum_by-cons (λ (t : ActorTurn). part_of i t.answer) first (actor_turns turns))
 
 module _ (program : Program) (bounds : IsWithinBounds program.limits) (i : ℕ) where
-  own-ticks : (history : List ℕ) → length history < 2 ^ 32 → own_ticks (system_run program history).state.records i ≡ sum_by (λ (s : Stretch). s.ticks) (stretches_of (suc i) (stretches_made program history))
+  own-ticks : (history : List ℕ) → length history < 2 ^ 32
+      → Comes (opening program.limits) (own_ticks (system_run program history).state.records i) (sum_by (λ (s : Stretch). s.ticks) (stretches_of (suc i) (stretches_made program history)))
   own-ticks history bounded =
       let run = run-adds program i (opening_world program) 0 history (opening-order program.limits bounds) (omega arith) (omega (arith, bounded)) in
-      omega (arith, run, own-sum i [] (turns_made program history))
+      (omega (arith, run.0, own-sum i [] (turns_made program history)), λ once. omega (arith, run.1 once, own-sum i [] (turns_made program history)))
 
-  timed-ticks : own_ticks (system_run program (timed_schedule program)).state.records i ≡ sum_by (λ (s : Stretch). s.ticks) (stretches_of (suc i) (timed_stretches program))
+  timed-ticks : Comes (opening program.limits) (own_ticks (system_run program (timed_schedule program)).state.records i) (sum_by (λ (s : Stretch). s.ticks) (stretches_of (suc i) (timed_stretches program)))
   timed-ticks =
       let few : length (timed_schedule program) < 2 ^ 32 = omega (arith, length-map (timed_turns program) (λ (turn : TimedTurn). turn.actor), timed-few program) in
       let run = run-adds program i (opening_world program) 0 (timed_schedule program) (opening-order program.limits bounds) (omega arith) (omega (arith, few)) in
       let made = ap (sum_by (λ (turn : ActorTurn). part_of i turn.answer)) (timed-made program) in
-      omega (arith, run, timed-sum i (timed_turns program), made)
+      (omega (arith, run.0, timed-sum i (timed_turns program), made), λ once. omega (arith, run.1 once, timed-sum i (timed_turns program), made))
 
 -- ---- the report
 
@@ -301,22 +328,38 @@ row-ticks s (suc i) row is = by (thread_name s (suc i)) refl
             let place : suc i - 1 ≡ i = omega arith in
             (i, refl, sym (ap (λ (x : ThreadRow). x.ticks) shown) ∙ sym (there-has (λ (x : Record). x.ticks) s.records (suc i) r there) ∙ ap (λ n. get_or (all_ticks s.records) n 0) place)
 
--- a curve ends at what the record has
-ends-at : (s : State) (stretches : List Stretch) → ((i : ℕ) → own_ticks s.records i ≡ sum_by (λ (x : Stretch). x.ticks) (stretches_of (suc i) stretches)) → (t : ℕ) (row : ThreadRow) → thread_row s t ≡ Some row
-    → had_at Ticks (last_end stretches) (stretches_of t stretches) ≡ row.ticks
-ends-at s stretches own t row is =
+-- a curve ends at what the record has, or above it if numbers are given again
+ends-at : (s opened : State) (stretches : List Stretch) → ((i : ℕ) → Comes opened (own_ticks s.records i) (sum_by (λ (x : Stretch). x.ticks) (stretches_of (suc i) stretches))) → (t : ℕ) (row : ThreadRow) → thread_row s t ≡ Some row
+    → Comes opened row.ticks (had_at Ticks (last_end stretches) (stretches_of t stretches))
+ends-at s opened stretches own t row is =
     let found = row-ticks s t row is in
-    ticks-at_last (record { names = []; stretches = stretches }) t
-    ∙ ap (λ n. sum_by (λ (x : Stretch). x.ticks) (stretches_of n stretches)) found.1
-    ∙ sym (own found.0) ∙ sym found.2
+    let last : sum_by (λ (x : Stretch). x.ticks) (stretches_of (suc found.0) stretches) ≡ had_at Ticks (last_end stretches) (stretches_of t stretches) =
+    sym (ticks-at_last (record { names = []; stretches = stretches }) t ∙ ap (λ n. sum_by (λ (x : Stretch). x.ticks) (stretches_of n stretches)) found.1) in
+    comes-same opened (sym found.2) last (own found.0)
 
-pub ends-at_report : (program : Program) (room : ℕ) (history : List ℕ) (t : ℕ) (row : ThreadRow) → IsWithinBounds program.limits → IsLegal program room history → room < 2 ^ 32 → thread_row (system_run program history).state t ≡ Some row
-    → had_at Ticks (last_end (stretches_made program history)) (stretches_of t (stretches_made program history)) ≡ row.ticks
-ends-at_report program room history t row bounds legal small is =
-    ends-at (system_run program history).state (stretches_made program history) (λ i. own-ticks program bounds i history (omega (arith, legal.within_room, small))) t row is
+ends-report : (program : Program) (room : ℕ) (history : List ℕ) (t : ℕ) (row : ThreadRow) → IsWithinBounds program.limits → IsLegal program room history → room < 2 ^ 32 → thread_row (system_run program history).state t ≡ Some row
+    → Comes (opening program.limits) row.ticks (had_at Ticks (last_end (stretches_made program history)) (stretches_of t (stretches_made program history)))
+ends-report program room history t row bounds legal small is =
+    ends-at (system_run program history).state (opening program.limits) (stretches_made program history) (λ i. own-ticks program bounds i history (omega (arith, legal.within_room, small))) t row is
 
-pub timed-ends-at_report : (program : Program) (t : ℕ) (row : ThreadRow) → IsWithinBounds program.limits → thread_row (last_moment program).world.state t ≡ Some row
-    → had_at Ticks (last_end (timed_stretches program)) (stretches_of t (timed_stretches program)) ≡ row.ticks
-timed-ends-at_report program t row bounds is =
+pub ends-at_report : (program : Program) (room : ℕ) (history : List ℕ) (t : ℕ) (row : ThreadRow) → IsWithinBounds program.limits → IsLegal program room history → room < 2 ^ 32 → program.limits.reuse ≡ false
+    → thread_row (system_run program history).state t ≡ Some row → had_at Ticks (last_end (stretches_made program history)) (stretches_of t (stretches_made program history)) ≡ row.ticks
+ends-at_report program room history t row bounds legal small once is = sym ((ends-report program room history t row bounds legal small is).1 once)
+
+pub ends-within_report : (program : Program) (room : ℕ) (history : List ℕ) (t : ℕ) (row : ThreadRow) → IsWithinBounds program.limits → IsLegal program room history → room < 2 ^ 32
+    → thread_row (system_run program history).state t ≡ Some row → row.ticks ≤ had_at Ticks (last_end (stretches_made program history)) (stretches_of t (stretches_made program history))
+ends-within_report program room history t row bounds legal small is = (ends-report program room history t row bounds legal small is).0
+
+timed-ends-report : (program : Program) (t : ℕ) (row : ThreadRow) → IsWithinBounds program.limits → thread_row (last_moment program).world.state t ≡ Some row
+    → Comes (opening program.limits) row.ticks (had_at Ticks (last_end (timed_stretches program)) (stretches_of t (timed_stretches program)))
+timed-ends-report program t row bounds is =
     let there = ap (λ (w : World). thread_row w.state t) (sym (timed-world program)) ∙ is in
-    ends-at (system_run program (timed_schedule program)).state (timed_stretches program) (timed-ticks program bounds) t row there
+    ends-at (system_run program (timed_schedule program)).state (opening program.limits) (timed_stretches program) (timed-ticks program bounds) t row there
+
+pub timed-ends-at_report : (program : Program) (t : ℕ) (row : ThreadRow) → IsWithinBounds program.limits → program.limits.reuse ≡ false → thread_row (last_moment program).world.state t ≡ Some row
+    → had_at Ticks (last_end (timed_stretches program)) (stretches_of t (timed_stretches program)) ≡ row.ticks
+timed-ends-at_report program t row bounds once is = sym ((timed-ends-report program t row bounds is).1 once)
+
+pub timed-ends-within_report : (program : Program) (t : ℕ) (row : ThreadRow) → IsWithinBounds program.limits → thread_row (last_moment program).world.state t ≡ Some row
+    → row.ticks ≤ had_at Ticks (last_end (timed_stretches program)) (stretches_of t (timed_stretches program))
+timed-ends-within_report program t row bounds is = (timed-ends-report program t row bounds is).0

@@ -11,11 +11,11 @@ use Rattle.lot_curves.specs.Stretches.{last_end}
 abbrev pub next_field : List ℕ → List ℕ
 next_field text = codes "," ++ text
 
--- the first line: the word tick, and the threads' names
+-- the first line: the word tick, and the columns' names
 abbrev pub header_line : List (List ℕ) → List ℕ
 header_line names = codes "tick" ++ (flat_map next_field names ++ newline)
 
--- the line for a tick, with each thread's ticks or draws up to it
+-- the line for a tick, with each column's ticks or draws up to it
 abbrev pub row_line : ℕ → List ℕ → List ℕ
 row_line tick row = decimal tick ++ (flat_map (λ figure. next_field (decimal figure)) row ++ newline)
 

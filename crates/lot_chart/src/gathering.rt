@@ -99,7 +99,7 @@ fn note_turns(
     Ok(stretches)
 }
 
-/// The threads' names, including removed ones, in ascending order of number.
+/// The columns' names, in ascending order of number: each is that of the last thread with the number.
 fn names_of(alloc: Global, system: &mut System) -> Result<Vec<Name>, AllocError>
     ensures few { IfOk result (λ names. vec_len names < 2 ^ 32) }
     ensures names { IfOk result (λ names. names.items ≡ names_in (world_of system.old).state) }
@@ -112,7 +112,7 @@ fn names_of(alloc: Global, system: &mut System) -> Result<Vec<Name>, AllocError>
     Ok(names)
 }
 
-/// The name of the thread with this number, or its number if it was removed.
+/// The name of the last thread with this number, or the number itself if that thread was removed.
 fn name_of(system: &mut System, thread: u32) -> Name
     requires { IsBetween 1 (length (world_of system.old).state.records) thread }
     ensures same { system.new ≡ system.old }

@@ -1,6 +1,6 @@
 //! Bounds and order of pictures and tables, the curves of turns, and their ends: laws of the definitions, without
 //! executable code.
-ghost use Rattle.std.specs.Prelude.{◌≡◌, ◌==◌, ◌≤◌, ◌<◌, ◌+◌, ◌-◌, ◌*◌, ◌^◌, ℕ, [], ◌∷◌};
+ghost use Rattle.std.specs.Prelude.{◌≡◌, ◌==◌, ◌≤◌, ◌<◌, ◌+◌, ◌-◌, ◌*◌, ◌^◌, ℕ, [], ◌∷◌, false};
 ghost use Rattle.std.specs.Prelude.{All, AllPairs, List, filter, length, map, slice_index, Some};
 ghost use Rattle.lot_machine.specs.Bounds.{IsBetween, IsWithinBounds};
 ghost use Rattle.lot_curves.specs.declared.stretch.Measure.{Measure as Measured};
@@ -64,18 +64,25 @@ pub fn curves_are_those_of_the_turns()
 {}
 
 /// A thread's curve ends at its ticks in the report of a legal history, in a system with room for less than 2 ^ 32
-/// turns.
+/// turns. If numbers are given again it may end higher, since it is that of each thread with the number.
 pub fn curves_end_at_the_report()
-    ensures { (program : Program) (room : ℕ) (history : List ℕ) (t : ℕ) (row : ThreadRow)
-        → IsWithinBounds program.limits → IsLegal program room history → room < 2 ^ 32
+    ensures ends { (program : Program) (room : ℕ) (history : List ℕ) (t : ℕ) (row : ThreadRow)
+        → IsWithinBounds program.limits → IsLegal program room history → room < 2 ^ 32 → program.limits.reuse ≡ false
         → thread_row (system_run program history).state t ≡ Some row
         → had_at Ticks (last_end (stretches_made program history)) (stretches_of t (stretches_made program history))
         ≡ row.ticks }
+    ensures within { (program : Program) (room : ℕ) (history : List ℕ) (t : ℕ) (row : ThreadRow)
+        → IsWithinBounds program.limits → IsLegal program room history → room < 2 ^ 32
+        → thread_row (system_run program history).state t ≡ Some row → row.ticks
+        ≤ had_at Ticks (last_end (stretches_made program history)) (stretches_of t (stretches_made program history)) }
 {}
 
-/// For a timed program, a thread's curve ends at its ticks in the report.
+/// For a timed program, a thread's curve ends at its ticks in the report, or higher if numbers are given again.
 pub fn timed_curves_end_at_the_report()
-    ensures { (program : Program) (t : ℕ) (row : ThreadRow) → IsWithinBounds program.limits
-        → thread_row (last_moment program).world.state t ≡ Some row
+    ensures ends { (program : Program) (t : ℕ) (row : ThreadRow) → IsWithinBounds program.limits
+        → program.limits.reuse ≡ false → thread_row (last_moment program).world.state t ≡ Some row
         → had_at Ticks (last_end (timed_stretches program)) (stretches_of t (timed_stretches program)) ≡ row.ticks }
+    ensures within { (program : Program) (t : ℕ) (row : ThreadRow) → IsWithinBounds program.limits
+        → thread_row (last_moment program).world.state t ≡ Some row
+        → row.ticks ≤ had_at Ticks (last_end (timed_stretches program)) (stretches_of t (timed_stretches program)) }
 {}

@@ -1,5 +1,5 @@
 //! Shows an input: `shares` writes a table of each thread's ticks or draws over time, and `chart` a picture of the
-//! ticks.
+//! ticks. If numbers are given again, all threads that had one number share a column, and a line.
 #![tactic(auto)]
 
 mod axes;

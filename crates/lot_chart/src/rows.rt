@@ -32,3 +32,14 @@ pub fn removed()
         ≡ text (codes "tick,1,b,a" ∷ codes "0,0,0,0" ∷ codes "1,1,0,0" ∷ codes "2,2,0,0" ∷ codes "3,2,0,0"
         ∷ codes "4,2,0,1" ∷ codes "5,2,0,2" ∷ []) }
 {}
+
+/// With `reuse` the thread made at tick 3 gets the number of the one removed there. So both have one column, with the
+/// ticks of both and the name of the second.
+#[tactic(auto, unfolding(crate::specs::OnLiterals::outputs_on_literals))]
+pub fn numbers_again()
+    ensures { shares_output Ticks (text (codes "lottery 3" ∷ codes "quantum 10" ∷ codes "for 6" ∷ codes "reuse"
+        ∷ codes "script short" ∷ codes "compute 1" ∷ codes "endscript" ∷ codes "fundx 1 base a short" ∷ codes "at 3"
+        ∷ codes "unfund 1" ∷ codes "rmthr a" ∷ codes "rmtkt 1" ∷ codes "fundx 1 base b short" ∷ []))
+        ≡ text (codes "tick,b" ∷ codes "0,0" ∷ codes "1,1" ∷ codes "2,2" ∷ codes "3,2" ∷ codes "4,3" ∷ codes "5,4"
+        ∷ []) }
+{}

@@ -11,8 +11,8 @@ use lot_curves::{Curves, Measure};
 use lot_machine::Name;
 use std::alloc::{AllocError, Global};
 
-/// The table of the curves: a line with the threads' names, and one for each sample with each thread's ticks or draws
-/// up to its tick.
+/// The table of the curves: a line with the columns' names, and one for each sample with each column's ticks or draws
+/// up to its tick. There is a column for each number of a thread.
 pub fn table(alloc: Global, curves: &Curves, measure: Measure) -> Result<Vec<u8>, AllocError>
     ensures { IfOk result (λ text. text.items ≡ tables.table measure curves.now) }
 {
@@ -35,7 +35,7 @@ fn push_header(text: &mut Text, names: &[Name]) -> Result<(), AllocError>
     text.push("\n")
 }
 
-/// Adds the lines of all samples. The row has an element for each thread.
+/// Adds the lines of all samples. The row has an element for each column.
 fn push_rows(
     text: &mut Text,
     curves: &Curves,

@@ -1,5 +1,5 @@
 -- No two threads' columns have the same name.
-use Rattle.std.proofs.Common.{◌≡◌, ℕ, zero, suc, ◌+◌, ◌-◌, ◌^◌, ◌<◌, ◌≤◌, ◌==◌, Bool, true, false, cond, ◌⊎◌, inl, inr, Option, Some, None, is_none, List, [], ◌∷◌, ◌++◌, length, position, unwrap_or, option_map, get_or, slice_get, refl, sym, ◌∙◌, ap, subst, arith, length-append}
+use Rattle.std.proofs.Common.{◌≡◌, ℕ, zero, suc, ◌+◌, ◌-◌, ◌^◌, ◌<◌, ◌≤◌, ◌==◌, Bool, true, false, cond, ◌⊎◌, inl, inr, Option, Some, None, is_none, List, [], ◌∷◌, ◌++◌, length, position, unwrap_or, option_map, slice_get, refl, sym, ◌∙◌, ap, subst, arith}
 use Rattle.std.specs.Prelude.{not, ◌&&◌, ◌||◌, ◌%◌, nat_le, nat_lt}
 use Rattle.std.specs.Fmt.{decimal}
 use Rattle.std.specs.List.{list_all, position_or_len}
@@ -7,7 +7,6 @@ use Rattle.std.specs.Option.{option_flatten, option_or}
 use Rattle.std.specs.Str.{bytes_eq}
 use Rattle.std.proofs.lemmas.Bool.{leb-true, ltb-false}
 use Rattle.std.proofs.lemmas.Fmt.{decimal_by_steps, decimal_injective}
-use Rattle.std.proofs.lemmas.Option.{slice_get_cases}
 use Rattle.std.proofs.lemmas.Slice.Eq.{bytes_eq-Decides}
 use Rattle.lot_machine.specs.declared.command.Command.{Command}
 use Rattle.lot_machine.specs.declared.command.Command.TheVariants.{MakeThread, RemoveThread, MakeFunded}
@@ -19,10 +18,12 @@ use Rattle.lot_machine.specs.declared.ticket.Target.TheVariants as target
 use Rattle.lot_machine.specs.Change.{NewThread, DropThread}
 use Rattle.lot_machine.specs.Commands.{are_threads_full, are_tickets_full, command_effect, command_refusal, currency_meant, currency_named, is_bad_amount, is_good_name, is_letter, is_name_byte, is_no_script, is_taken, thread_meant, thread_named}
 use Rattle.lot_machine.specs.Numbered.{at_number, set_number, option_any}
-use Rattle.lot_machine.specs.State.{State, thread_at}
+use Rattle.lot_machine.specs.Places.{next_place, placed}
+use Rattle.lot_machine.specs.State.{State, free_threads, thread_at}
 use Rattle.lot_machine.specs.Step.{step}
-use Rattle.lot_machine.proofs.Changes.{number-push, number-set}
+use Rattle.lot_machine.proofs.Changes.{number-set}
 use Rattle.lot_machine.proofs.CommandsKept.{all-pass, unrefused}
+use Rattle.lot_machine.proofs.Places.{number-next}
 use Rattle.lot_machine.proofs.StepChanges.{By, Console, Keeps, by_event, kept, step-leads}
 use Rattle.lot_machine.proofs.Tickets.{at_number-suc, some-injective}
 use Rattle.lot_simulation.specs.World.{Program, Turn, World, console_turn, opening_world, actor_event, processor_turn, system_after, system_run, system_turn}
@@ -52,42 +53,35 @@ none-named = record {
   own = λ t u x y is other same. absurd (none-there t x is);
 }
 
--- one more
-module _ (threads : List (Option Thread)) (new : Thread) (named : AreNamed threads) (is_good : is_good_name new.name ≡ true) (free : IsFree threads new.name) where
-  last-number : (t : ℕ) → at_number threads t ≡ None → at_number (threads ++ Some new ∷ []) t ≡ Some (Some new) → t ≡ length threads + 1
-  last-number zero none is = cc
-  last-number (suc i) none is = from (slice_get_cases threads i).1 (slice_get_cases (threads ++ Some new ∷ []) i).1
-    where
-      from : ((x : Option Thread) × (i < length threads) × (slice_get threads i ≡ Some x) × (get_or threads i x ≡ x)) ⊎ ((length threads ≤ i) × (slice_get threads i ≡ None))
-          → ((x : Option Thread) × (i < length (threads ++ Some new ∷ [])) × (slice_get (threads ++ Some new ∷ []) i ≡ Some x) × (get_or (threads ++ Some new ∷ []) i x ≡ x)) ⊎ ((length (threads ++ Some new ∷ []) ≤ i) × (slice_get (threads ++ Some new ∷ []) i ≡ None))
-          → suc i ≡ length threads + 1
-      from (inl (x, below, here, same)) other = let never : Some x ≡ None = sym here ∙ sym (at_number-suc threads i) ∙ none in cc
-      from (inr past) (inl (x, below, here, same)) = omega (arith, past.0, below, length-append threads (Some new ∷ []))
-      from (inr past) (inr beyond) = let never : None ≡ Some (Some new) = sym beyond.1 ∙ sym (at_number-suc (threads ++ Some new ∷ []) i) ∙ is in cc
+-- one more, in a place that is free or at the end
+module _ (threads : List (Option Thread)) (places : List ℕ) (new : Thread) (named : AreNamed threads) (is_good : is_good_name new.name ≡ true) (free : IsFree threads new.name) where
+  abbrev last : ℕ
+  last = next_place threads places + 1
 
-  old-or-new : (t : ℕ) (x : Thread) → thread_at (threads ++ Some new ∷ []) t ≡ Some x → (thread_at threads t ≡ Some x) ⊎ ((t ≡ length threads + 1) × (new ≡ x))
-  old-or-new t x is = from (number-push threads (Some new) t)
+  old-or-new : (t : ℕ) (x : Thread) → thread_at (placed threads places (Some new)) t ≡ Some x → (thread_at threads t ≡ Some x) ⊎ ((t ≡ last) × (new ≡ x))
+  old-or-new t x is = from (number-next threads places (Some new) t)
     where
-      from : (at_number (threads ++ Some new ∷ []) t ≡ at_number threads t) ⊎ ((at_number threads t ≡ None) × (at_number (threads ++ Some new ∷ []) t ≡ Some (Some new)))
-          → (thread_at threads t ≡ Some x) ⊎ ((t ≡ length threads + 1) × (new ≡ x))
+      from : (at_number (placed threads places (Some new)) t ≡ at_number threads t)
+          ⊎ ((t ≡ last) × (at_number (placed threads places (Some new)) t ≡ Some (Some new)) × ((at_number threads t ≡ None) ⊎ (slice_get places 0 ≡ Some (t - 1))))
+          → (thread_at threads t ≡ Some x) ⊎ ((t ≡ last) × (new ≡ x))
       from (inl same) = inl (sym (ap option_flatten same) ∙ is)
-      from (inr (none, here)) = inr (last-number t none here, some-injective new x (sym (ap option_flatten here) ∙ is))
+      from (inr (at, here, before)) = inr (at, some-injective new x (sym (ap option_flatten here) ∙ is))
 
-  more-named : AreNamed (threads ++ Some new ∷ [])
+  more-named : AreNamed (placed threads places (Some new))
   more-named = record {
     good = λ t x is. good-in t x (old-or-new t x is);
     own = λ t u x y is other same. own-in t u x y (old-or-new t x is) (old-or-new u y other) same;
   }
     where
-      good-in : (t : ℕ) (x : Thread) → (thread_at threads t ≡ Some x) ⊎ ((t ≡ length threads + 1) × (new ≡ x)) → is_good_name x.name ≡ true
+      good-in : (t : ℕ) (x : Thread) → (thread_at threads t ≡ Some x) ⊎ ((t ≡ last) × (new ≡ x)) → is_good_name x.name ≡ true
       good-in t x (inl old) = named.good t x old
-      good-in t x (inr (last, same)) = subst (λ (z : Thread). is_good_name z.name ≡ true) same is_good
+      good-in t x (inr (at, same)) = subst (λ (z : Thread). is_good_name z.name ≡ true) same is_good
 
-      own-in : (t u : ℕ) (x y : Thread) → (thread_at threads t ≡ Some x) ⊎ ((t ≡ length threads + 1) × (new ≡ x)) → (thread_at threads u ≡ Some y) ⊎ ((u ≡ length threads + 1) × (new ≡ y)) → x.name ≡ y.name → t ≡ u
+      own-in : (t u : ℕ) (x y : Thread) → (thread_at threads t ≡ Some x) ⊎ ((t ≡ last) × (new ≡ x)) → (thread_at threads u ≡ Some y) ⊎ ((u ≡ last) × (new ≡ y)) → x.name ≡ y.name → t ≡ u
       own-in t u x y (inl old) (inl other) same = named.own t u x y old other same
-      own-in t u x y (inl old) (inr (last, is)) same = absurd (free t x old (ap (λ (z : Thread). z.name) is ∙ sym same))
-      own-in t u x y (inr (last, is)) (inl other) same = absurd (free u y other (ap (λ (z : Thread). z.name) is ∙ same))
-      own-in t u x y (inr (last, is)) (inr (end, also)) same = last ∙ sym end
+      own-in t u x y (inl old) (inr (at, is)) same = absurd (free t x old (ap (λ (z : Thread). z.name) is ∙ sym same))
+      own-in t u x y (inr (at, is)) (inl other) same = absurd (free u y other (ap (λ (z : Thread). z.name) is ∙ same))
+      own-in t u x y (inr (at, is)) (inr (end, also)) same = at ∙ sym end
 
 -- one that is removed
 fewer-named : (threads : List (Option Thread)) (n : ℕ) → AreNamed threads → AreNamed (set_number threads n None)
@@ -160,17 +154,17 @@ free-name s name free t x here same = by t here
 effect-named : (s : State) (c : Command) → command_refusal s c ≡ None → AreNamed s.threads → AreNamed (command_effect s c).state.threads
 effect-named s (MakeThread name script) e named =
     let passed = all-pass ((not (is_good_name name), BadName) ∷ (is_taken s name, NameTaken) ∷ (is_no_script s script, NoScript) ∷ (are_threads_full s, Full) ∷ []) e in
-    more-named s.threads (record { name = name; script = script }) named (holds (is_good_name name) passed.0) (free-name s name passed.1.0)
+    more-named s.threads (free_threads s) (record { name = name; script = script }) named (holds (is_good_name name) passed.0) (free-name s name passed.1.0)
 effect-named s (MakeFunded amount currency name script) e named =
     let passed = all-pass ((is_bad_amount amount, BadAmount) ∷ (is_none (currency_meant s currency), NoCurrency) ∷ (not (is_good_name name), BadName)
     ∷ (is_taken s name, NameTaken) ∷ (is_no_script s script, NoScript) ∷ (are_tickets_full s || are_threads_full s, Full) ∷ []) e in
-    more-named s.threads (record { name = name; script = script }) named (holds (is_good_name name) passed.1.1.0) (free-name s name passed.1.1.1.0)
+    more-named s.threads (free_threads s) (record { name = name; script = script }) named (holds (is_good_name name) passed.1.1.0) (free-name s name passed.1.1.1.0)
 effect-named s (RemoveThread thread) e named = fewer-named s.threads (unwrap_or (thread_meant s thread) 0) named
 effect-named s c e named = named
 
 -- nobody but the console makes and removes threads
 change-threads : (by : By) (s : State) → ¬ (by ≡ Console) → Keeps by s (λ a. a.threads ≡ s.threads)
-change-threads by s other a (NewThread t) allowed same = absurd (other allowed)
+change-threads by s other a (NewThread t) allowed same = absurd (other allowed.0)
 change-threads by s other a (DropThread t) allowed same = absurd (other allowed.0)
 change-threads by s other a c allowed same = same
 

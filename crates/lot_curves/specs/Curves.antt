@@ -12,16 +12,17 @@ use Rattle.lot_curves.specs.declared.stretch.Stretch.{Stretch}
 use Rattle.lot_curves.specs.OwnTimes.{own_turns}
 use Rattle.lot_curves.specs.Stretches.{had_at, stretch_of, stretches_of}
 
--- the threads' names in ascending order of number, and the stretches of the turns
+-- The names of the columns, one for each number of a thread in ascending order, and the stretches of the turns. If
+-- numbers are given again, a column counts the turns of each thread that had its number.
 pub record Curves : Type 0 where
   pub names : List (List ℕ)
   pub stretches : List Stretch
 
--- the thread's name, or its number if it was removed
+-- the name of the last thread with this number, or the number itself if that thread was removed
 abbrev pub name_in : State → ℕ → List ℕ
 name_in s thread = unwrap_or (thread_name s thread) (decimal thread)
 
--- the names of a state's threads, including removed ones, in ascending order of number
+-- the columns' names in a state, in ascending order of number: those of the last thread with each number
 abbrev pub names_in : State → List (List ℕ)
 names_in s = map (name_in s) (numbers s.records)
 
@@ -33,7 +34,8 @@ stretches_made program history = map stretch_of (own_turns program history)
 abbrev pub timed_stretches : Program → List Stretch
 timed_stretches program = map (λ done. stretch_of (record { time = done.time; answer = done.turn.answer })) (timed_turns program)
 
--- the curves of the threads in a world, with the stretches of the program's run with its history
+-- The curves in a world, with the stretches of the program's run with its history. A column has the name of the last
+-- thread with its number, and the stretches of all of them.
 abbrev pub curves_in : Program → World → Curves
 curves_in program w = record { names = names_in w.state; stretches = stretches_made program w.history }
 
@@ -53,11 +55,11 @@ curves_of program = by program.duration
     by None = scheduled_curves program
     by (Some ticks) = timed_curves program
 
--- the thread's ticks or draws up to this tick
+-- the ticks or draws up to this tick of the threads that had this number: of one thread, unless numbers are given again
 abbrev pub share_at : Measure → Curves → ℕ → ℕ → ℕ
 share_at measure curves tick thread = had_at measure tick (stretches_of thread curves.stretches)
 
--- each thread's ticks or draws up to this tick, in ascending order of number
+-- each column's ticks or draws up to this tick, in ascending order of number
 abbrev pub row_at : Measure → Curves → ℕ → List ℕ
 row_at measure curves tick = map (share_at measure curves tick) (numbers curves.names)
 

@@ -29,7 +29,7 @@ part_at Draws tick s = if nat_le s.end tick then s.draws else 0
 abbrev pub had_at : Measure → ℕ → List Stretch → ℕ
 had_at measure tick stretches = sum_by (part_at measure tick) stretches
 
--- the stretches of one thread
+-- the stretches of the threads that had this number
 abbrev pub stretches_of : ℕ → List Stretch → List Stretch
 stretches_of thread stretches = filter (λ s. s.thread == thread) stretches
 

@@ -1,4 +1,5 @@
-//! The ticks and the draws of each thread over time.
+//! The ticks and the draws of each thread over time: a column for each number of a thread. If numbers are given again,
+//! a column counts the turns of each thread that had its number, and has the name of the last.
 ghost use Rattle.std.specs.Prelude.{◌≡◌, ℕ, ◌+◌, ◌<◌, ◌≤◌, ◌^◌, ◌==◌, All, if◌then◌else◌, length, slice_index, vec_len};
 ghost use Rattle.lot_curves.specs.Curves as curves;
 ghost use Rattle.lot_curves.specs.Curves.{row_at};
@@ -11,7 +12,7 @@ use std::marker::Model;
 /// The largest number of samples after tick 0.
 const SAMPLES: u64 = 200;
 
-/// The threads' names, and a stretch for each turn.
+/// The columns' names, and a stretch for each turn.
 #[derive(Debug, Drop)]
 pub struct Curves {
     names: Vec<Name>,
@@ -38,7 +39,7 @@ impl Model for Curves {
 }
 
 impl Curves {
-    /// The curves of threads with these names, from the stretches of their turns.
+    /// The curves of columns with these names, from the stretches of the turns.
     pub fn new(names: Vec<Name>, stretches: Vec<Stretch>) -> Curves
         requires threads { vec_len names < 2 ^ 32 }
         requires turns { vec_len stretches < 2 ^ 32 }
@@ -53,7 +54,8 @@ impl Curves {
         }
     }
 
-    /// The threads' names, in ascending order of number.
+    /// The columns' names, in ascending order of number: each is that of the last thread with the number, or the number
+    /// itself if that thread was removed.
     pub fn names(&self) -> &[Name]
         ensures names { result.now ≡ self.now.names }
         ensures few { length self.now.names < 2 ^ 32 }
@@ -94,7 +96,7 @@ impl Curves {
         sample * self.last / self.sample_count().max(1)
     }
 
-    /// Fills the row with each thread's ticks or draws up to this tick, in ascending order of number.
+    /// Fills the row with each column's ticks or draws up to this tick, in ascending order of number.
     pub fn fill_row(&self, measure: Measure, tick: u64, row: &mut [u64])
         requires { length row.old ≡ length self.now.names }
         ensures { row.new ≡ row_at measure self.now tick }

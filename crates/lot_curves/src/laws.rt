@@ -14,7 +14,8 @@ pub fn samples_reach_the_last()
     ensures last { (last : ℕ) → sample_tick last (sample_count last) ≡ last }
 {}
 
-/// At the last tick a thread's curve is the sum over all of its turns.
+/// At the last tick a curve is the sum over all turns of the thread with its number, or of each thread that had it if
+/// numbers are given again.
 pub fn curves_end_at_all()
     ensures ticks { (curves : curves.Curves) (t : ℕ)
         → share_at Ticks curves (last_end curves.stretches) t
@@ -30,7 +31,7 @@ pub fn curves_rise()
         → had_at measure earlier stretches ≤ had_at measure later stretches }
 {}
 
-/// No two threads' curves have one name, removed threads included. Numbers of threads have at most 32 bits.
+/// No two curves have one name, those of removed threads included. Numbers of threads have at most 32 bits.
 pub fn names_are_different()
     ensures { (program : Program) (history : List ℕ) (t u : ℕ) → t < 2 ^ 32 → u < 2 ^ 32
         → name_in (system_run program history).state t ≡ name_in (system_run program history).state u → t ≡ u }

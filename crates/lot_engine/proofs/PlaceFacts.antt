@@ -1,24 +1,25 @@
 -- Where the threads are in their scripts, one of them changed or one more.
-use Rattle.std.proofs.Common.{◌≡◌, ℕ, zero, suc, ◌⊎◌, inl, inr, Option, ◌+◌, ◌-◌, ◌<◌, ◌≤◌, Some, None, List, [], ◌∷◌, ◌++◌, length, get_or, map, drop, option_map, refl, sym, ◌∙◌, ap, subst, arith}
-use Rattle.std.specs.Prelude.{IfSome, option_and_then}
-use Rattle.std.proofs.Math.Seq.{drop-append_seam}
-use Rattle.std.proofs.Math.ListN.{drop_of_length-le}
+use Rattle.std.proofs.Common.{◌≡◌, ℕ, zero, suc, ◌⊎◌, inl, inr, Option, ◌+◌, ◌-◌, ◌<◌, ◌≤◌, Some, None, List, [], ◌∷◌, ◌++◌, length, get_or, option_map, refl, sym, ◌∙◌, ap, subst, arith}
+use Rattle.std.specs.Prelude.{IfSome}
+use Rattle.std.proofs.lemmas.Option.{slice_get-get_or}
 use Rattle.std.specs.List.{slice_get, slice_set}
 use Rattle.std.specs.Option.{unwrap_or, option_flatten}
-use Rattle.std.proofs.lemmas.List.{append-nil, get_or-set_same, length-set, set-set, set-get_or}
+use Rattle.std.proofs.lemmas.List.{length-append, get_or-set_same, length-set, set-set, set-get_or}
 use Rattle.std.proofs.lemmas.Option.{unwrap_or-slice_get}
 use Rattle.lot_machine.specs.declared.record.Thread.{Thread}
 use Rattle.lot_simulation.specs.Script.{Context, start}
 use Rattle.lot_simulation.specs.World.{Program}
-use Rattle.lot_machine.specs.State.{State, thread_at}
+use Rattle.lot_machine.specs.Places.{placed}
+use Rattle.lot_machine.specs.State.{State, free_threads, thread_at}
 use Rattle.lot_machine.specs.Bounds.{IsBetween}
 use Rattle.lot_machine.specs.Numbered.{at_number, set_number}
-use Rattle.lot_simulation.specs.World.{delivered_to, new_contexts}
+use Rattle.lot_simulation.specs.World.{delivered_to, new_context}
+use Rattle.lot_machine.proofs.Changes.{place-set_same}
 use Rattle.lot_machine.proofs.Tickets.{at_number-suc, some-injective}
 use Rattle.lot_simulation.proofs.DrawnThreads.{number-some}
 use Rattle.lot_script.specs.Places.{Place, first_place}
 use Rattle.lot_engine.specs.Held.{script_lines, IsAt, AreAt}
-use Rattle.lot_engine.specs.Steps.{MakesNone, OneMore, delivered_to_place, place_of}
+use Rattle.lot_engine.specs.Steps.{MakesNone, IsNext, OneMore, contexts_with, script_in, delivered_to_place, place_of}
 
 -- the element with a number stands at the place before it
 pub number-or : {A : Type 0} (xs : List A) (n : ℕ) (d : A) → 1 ≤ n → unwrap_or (at_number xs n) d ≡ get_or xs (n - 1) d
@@ -66,6 +67,22 @@ module _ (program : Program) where
   at-more (u ∷ us) [] ds t p c at more = absurd at
   at-more (u ∷ us) (q ∷ qs) [] t p c at more = absurd at
   at-more (u ∷ us) (q ∷ qs) (d ∷ ds) t p c at more = (at.0, at-more us qs ds t p c at.1 more)
+
+  -- one more of each, in the place of what was there before
+  at-again : (threads : List (Option Thread)) (places : List Place) (contexts : List Context) (i : ℕ) (t : Thread) (p : Place) (c : Context) → AreAt program threads places contexts → IsAt program t p c
+      → AreAt program (slice_set threads i (Some t)) (slice_set places i p) (slice_set contexts i c)
+  at-again [] [] [] i t p c at now = tt
+  at-again [] [] (d ∷ ds) i t p c at now = absurd at
+  at-again [] (q ∷ qs) ds i t p c at now = absurd at
+  at-again (u ∷ us) [] ds i t p c at now = absurd at
+  at-again (u ∷ us) (q ∷ qs) [] i t p c at now = absurd at
+  at-again (u ∷ us) (q ∷ qs) (d ∷ ds) zero t p c at now = (now, at.1)
+  at-again (u ∷ us) (q ∷ qs) (d ∷ ds) (suc i) t p c at now = (at.0, at-again us qs ds i t p c at.1 now)
+
+  pub at-placed : (threads : List (Option Thread)) (places : List Place) (contexts : List Context) (free : List ℕ) (t : Thread) (p : Place) (c : Context) → AreAt program threads places contexts → IsAt program t p c
+      → AreAt program (placed threads free (Some t)) (placed places free p) (placed contexts free c)
+  at-placed threads places contexts [] t p c at now = at-more threads places contexts t p c at now
+  at-placed threads places contexts (i ∷ free) t p c at now = at-again threads places contexts i t p c at now
 
   -- what is known of the thread at a place
   pub at-place : (threads : List (Option Thread)) (places : List Place) (contexts : List Context) (i : ℕ) (p : Place) (c : Context) → AreAt program threads places contexts → i < length threads
@@ -125,44 +142,55 @@ number-last threads t =
     last [] = refl
     last (u ∷ us) = last us
 
+-- one more thread has the next number
+pub number-placed : (threads : List (Option Thread)) (free : List ℕ) (n : ℕ) (t : Thread) → IsNext threads free n → thread_at (placed threads free (Some t)) n ≡ Some t
+number-placed threads [] n t next = ap (thread_at (threads ++ Some t ∷ [])) next.number ∙ number-last threads t
+number-placed threads (i ∷ free) n t next =
+    let number : n ≡ suc i = omega (arith, next.number) in
+    let there : slice_get threads i ≡ Some (get_or threads i None) = slice_get-get_or threads i None (next.within i refl) in
+    ap (thread_at (slice_set threads i (Some t))) number ∙ ap option_flatten (at_number-suc (slice_set threads i (Some t)) i ∙ place-set_same threads i (Some t) (get_or threads i None) there)
+
 -- the thread that was made is there
 pub made-there : (s after : State) (n : ℕ) (more : OneMore s after n) → thread_at after.threads n ≡ Some more.thread
-made-there s after n more = ap (λ ts. thread_at ts n) more.threads ∙ ap (thread_at (s.threads ++ Some more.thread ∷ [])) more.number ∙ number-last s.threads more.thread
+made-there s after n more = ap (λ ts. thread_at ts n) more.threads ∙ number-placed s.threads (free_threads s) n more.thread more.next
 
--- where a new thread is in its script
-begun : Program → Option Thread → Context
-begun program t = start (unwrap_or (option_and_then (λ (made : Thread). at_number program.scripts made.script) t) [])
+-- the same number is next in a list as long
+pub next-same : {A B : Type 0} (xs : List A) (ys : List B) (free : List ℕ) (n : ℕ) → length ys ≡ length xs → IsNext xs free n → IsNext ys free n
+next-same xs ys [] n same next = record { number = next.number ∙ ap (λ k. k + 1) (sym same); within = λ place first. cc }
+next-same xs ys (i ∷ free) n same next = record { number = next.number; within = λ place first. omega (arith, next.within place first, same) }
+
+-- the next number is at most one above the count
+pub next-few : {A : Type 0} (xs : List A) (free : List ℕ) (n : ℕ) → IsNext xs free n → IsBetween 1 (length xs + 1) n
+next-few xs [] n next = (omega (arith, next.number), omega (arith, next.number))
+next-few xs (i ∷ free) n next = (omega (arith, next.number), omega (arith, next.number, next.within i refl))
+
+-- and is within the count, if a place is free
+pub next-within : {A : Type 0} (xs : List A) (free : List ℕ) (n room : ℕ) → IsNext xs free n → length xs ≤ room → (free ≡ [] → length xs + 1 ≤ room) → n ≤ room
+next-within xs [] n room next few last = omega (arith, next.number, last refl)
+next-within xs (i ∷ free) n room next few last = omega (arith, next.number, next.within i refl, few)
+
+-- lists as long stay so with one more element each
+pub placed-lengths : {A B : Type 0} (xs : List A) (ys : List B) (free : List ℕ) (x : A) (y : B) → length xs ≡ length ys → length (placed xs free x) ≡ length (placed ys free y)
+placed-lengths xs ys [] x y same = length-append xs (x ∷ []) ∙ ap (λ n. n + 1) same ∙ sym (length-append ys (y ∷ []))
+placed-lengths xs ys (i ∷ free) x y same = length-set xs i x ∙ same ∙ sym (length-set ys i y)
 
 -- a thread that was made is where its script begins
 pub new-at : (program : Program) (s after : State) (n script : ℕ) (places : List Place) (before : List Context) (place : Place) → OneMore s after n → AreAt program s.threads places before
     → Some script ≡ option_map (λ (t : Thread). t.script) (thread_at after.threads n) → ((t : Thread) → t.script ≡ script → IsAt program t place (start (script_lines program script)))
-    → AreAt program after.threads (places ++ place ∷ []) (before ++ new_contexts program s after)
-unfolding begun
+    → AreAt program after.threads (placed places (free_threads s) place) (contexts_with program s after before (Some n))
 new-at program s after n script places before place more at is begins =
-    let same : Some script ≡ Some more.thread.script = is ∙ ap (option_map (λ (t : Thread). t.script)) (made-there s after n more) in
+    let there = made-there s after n more in
+    let same : Some script ≡ Some more.thread.script = is ∙ ap (option_map (λ (t : Thread). t.script)) there in
     let number : more.thread.script ≡ script = cc in
-    let added : new_contexts program s after ≡ start (script_lines program more.thread.script) ∷ [] =
-    ap (λ ts. map (begun program) (drop (length s.threads) ts)) more.threads ∙ ap (map (begun program)) (drop-append_seam s.threads (Some more.thread ∷ [])) in
-    let context : IsAt program more.thread place (start (script_lines program more.thread.script)) =
-    subst (λ k. IsAt program more.thread place (start (script_lines program k))) (sym number) (begins more.thread number) in
-    let longer : AreAt program (s.threads ++ Some more.thread ∷ []) (places ++ place ∷ []) (before ++ start (script_lines program more.thread.script) ∷ []) =
-    at-more program s.threads places before more.thread place (start (script_lines program more.thread.script)) at context in
-    subst (λ ts. AreAt program ts (places ++ place ∷ []) (before ++ new_contexts program s after)) (sym more.threads)
-    (subst (λ cs. AreAt program (s.threads ++ Some more.thread ∷ []) (places ++ place ∷ []) (before ++ cs)) (sym added) longer)
+    let known : script_in after n ≡ script = ap (λ o. unwrap_or (option_map (λ (t : Thread). t.script) o) 0) there ∙ number in
+    subst (λ ts. AreAt program ts (placed places (free_threads s) place) (contexts_with program s after before (Some n))) (sym more.threads)
+    (subst (λ k. AreAt program (placed s.threads (free_threads s) (Some more.thread)) (placed places (free_threads s) place) (placed before (free_threads s) (new_context program k))) (sym known)
+    (at-placed program s.threads places before (free_threads s) more.thread place (start (script_lines program script)) at (begins more.thread number)))
 
 -- no thread is made, so each is where it was
-pub none-at : (program : Program) (s after : State) (places : List Place) (before : List Context) → MakesNone s after → AreAt program s.threads places before → AreAt program after.threads places (before ++ new_contexts program s after)
-unfolding begun
+pub none-at : (program : Program) (s after : State) (places : List Place) (before : List Context) → MakesNone s after → AreAt program s.threads places before → AreAt program after.threads places before
 none-at program s after places before none at = by none.threads
   where
-    nothing : (ts : List (Option Thread)) → length ts ≡ length s.threads → drop (length s.threads) ts ≡ []
-    nothing ts same = drop_of_length-le ts (omega (arith, same))
-
-    from : (ts : List (Option Thread)) → after.threads ≡ ts → length ts ≡ length s.threads → AreAt program ts places before → AreAt program after.threads places (before ++ new_contexts program s after)
-    from ts is same there =
-        let added : new_contexts program s after ≡ [] = ap (λ x. map (begun program) (drop (length s.threads) x)) is ∙ ap (map (begun program)) (nothing ts same) in
-        subst (λ x. AreAt program x places (before ++ new_contexts program s after)) (sym is) (subst (λ cs. AreAt program ts places (before ++ cs)) (sym added) (subst (AreAt program ts places) (sym (append-nil before)) there))
-
-    by : (after.threads ≡ s.threads) ⊎ ((t : ℕ) × (after.threads ≡ set_number s.threads t None)) → AreAt program after.threads places (before ++ new_contexts program s after)
-    by (inl same) = from s.threads same refl at
-    by (inr (t, is)) = from (set_number s.threads t None) is (length-set s.threads (t - 1) None) (at-gone program s.threads places before (t - 1) at)
+    by : (after.threads ≡ s.threads) ⊎ ((t : ℕ) × (after.threads ≡ set_number s.threads t None)) → AreAt program after.threads places before
+    by (inl same) = subst (λ ts. AreAt program ts places before) (sym same) at
+    by (inr (t, is)) = subst (λ ts. AreAt program ts places before) (sym is) (at-gone program s.threads places before (t - 1) at)

@@ -1,8 +1,9 @@
 -- Whom a reply names.
-use Rattle.std.proofs.Common.{◌≡◌, ℕ, zero, suc, ◌+◌, ◌==◌, false, not, ◌||◌, Option, Some, None, inl, inr, is_none, unwrap_or, List, [], ◌∷◌, length, map, option_map, nat_lt, refl, sym, ◌∙◌, ap, arith, length-append}
+use Rattle.std.proofs.Common.{◌≡◌, ℕ, zero, suc, ◌+◌, ◌<◌, ◌==◌, Bool, true, false, not, ◌&&◌, ◌||◌, cond, Option, Some, None, inl, inr, is_none, unwrap_or, List, [], ◌∷◌, length, map, option_map, nat_lt, nat_le, refl, sym, ◌∙◌, ap, arith, length-append}
 use Rattle.std.specs.List.{slice_get}
 use Rattle.std.proofs.lemmas.Bool.{ltb-false, leb-false, or_parts, eqb-false}
 use Rattle.std.proofs.lemmas.Option.{slice_get_within}
+use Rattle.std.proofs.Math.ListN.{length-set}
 use Rattle.lot_machine.specs.declared.record.Record.{Record}
 use Rattle.lot_machine.specs.declared.record.Status.{Status}
 use Rattle.lot_machine.specs.declared.action.Action.{Action}
@@ -14,30 +15,57 @@ use Rattle.lot_machine.specs.declared.refusal.Refusal.TheVariants.{BadName, Name
 use Rattle.lot_machine.specs.declared.drawn.Drawn.{Drawn}
 use Rattle.lot_machine.specs.Bounds.{IsBetween}
 use Rattle.lot_machine.specs.Lottery.{winner}
-use Rattle.lot_machine.specs.State.{State, status_of, ready_threads, weight_of}
-use Rattle.lot_machine.specs.Commands.{Step, is_bad_amount, is_good_name, is_taken, is_no_script, are_tickets_full, are_threads_full, currency_meant, thread_meant, with_thread, command_refusal, command_effect, command_step, unless_refused}
+use Rattle.lot_machine.specs.Order.{IsInOrder}
+use Rattle.lot_machine.specs.Places.{is_none_free, placed}
+use Rattle.lot_machine.specs.declared.record.Thread.{Thread}
+use Rattle.lot_machine.specs.State.{State, free_threads, next_thread, status_of, thread_at, ready_threads, weight_of}
+use Rattle.lot_machine.specs.Commands.{Step, is_bad_amount, is_good_name, is_taken, is_no_script, are_tickets_full, are_threads_full, currency_meant, thread_meant, newborn, with_thread, command_refusal, command_effect, command_step, unless_refused}
 use Rattle.lot_machine.specs.Step.{draw, thread_there, event_refusal, event_effect, step}
 use Rattle.lot_machine.proofs.CommandsKept.{all-pass}
+use Rattle.lot_machine.proofs.EachOnce.{contains-at}
 use Rattle.lot_machine.proofs.StepSizes.{killed-length}
 use Rattle.lot_machine.proofs.Tickets.{at_number-suc}
 use Rattle.lot_simulation.proofs.DrawnThreads.{drawn-numbered}
-use Rattle.lot_engine.specs.Steps.{MakesNone, OneMore, MakesThread, OfDraw, OfRun}
+use Rattle.lot_simulation.specs.World.{Program, World, contexts_after_command, new_context}
+use Rattle.lot_engine.specs.Steps.{MakesNone, OneMore, MakesThread, OfDraw, OfRun, contexts_with, made_thread, script_in}
+use Rattle.lot_engine.proofs.PlaceFacts.{number-placed}
 
 -- ---- commands
 
-with_thread-more : (s : State) (name : List ℕ) (script : ℕ) → is_no_script s script ≡ false → are_threads_full s ≡ false → OneMore s (with_thread s name script) (length s.threads + 1)
-with_thread-more s name script known room =
+-- the first free place, if there is one, is one of the threads'
+free-within : (s : State) → IsInOrder s → (place : ℕ) → slice_get (free_threads s) 0 ≡ Some place → place < length s.threads
+free-within s order place = by s.limits.reuse refl
+  where
+    by : (reuse : Bool) → s.limits.reuse ≡ reuse → slice_get (cond {A = List ℕ} reuse s.freed.threads []) 0 ≡ Some place → place < length s.threads
+    by false is first = cc
+    by true is first = slice_get_within s.threads place None ((order.gaps is).threads.each place (contains-at s.freed.threads 0 place first))
+
+with_thread-more : (s : State) (name : List ℕ) (script : ℕ) → IsInOrder s → is_no_script s script ≡ false → are_threads_full s ≡ false → OneMore s (with_thread s name script) (next_thread s)
+with_thread-more s name script order known room =
     let parts = or_parts (script == 0) (nat_lt s.limits.scripts script) known in
-    let free = leb-false s.limits.threads (length s.threads) room in
+    let few : free_threads s ≡ [] → nat_le s.limits.threads (length s.threads) ≡ false = λ none. sym (ap (λ places. is_none_free places && nat_le s.limits.threads (length s.threads)) none) ∙ room in
     record {
-      number = refl;
+      next = record { number = refl; within = free-within s order };
       thread = record { name = name; script = script };
       threads = refl;
-      records = length-append s.records _;
+      records = λ r. same-length s.records (free_threads s) newborn r;
       script = (omega (arith, eqb-false script 0 parts.0), ltb-false s.limits.scripts script parts.1);
       limits = refl;
-      count = omega (arith, free);
+      room = λ none. omega (arith, leb-false s.limits.threads (length s.threads) (few none));
     }
+  where
+    same-length : (records : List Record) (free : List ℕ) (x y : Record) → length (placed records free x) ≡ length (placed records free y)
+    same-length records [] x y = length-append records (x ∷ []) ∙ sym (length-append records (y ∷ []))
+    same-length records (place ∷ free) x y = length-set records place x ∙ sym (length-set records place y)
+
+-- a new thread's script is its own, so its context is that of a thread with this script
+made-context : (program : Program) (w : World) (name : List ℕ) (script : ℕ) → IsInOrder w.state
+    → placed w.contexts (free_threads w.state) (new_context program (script_in (with_thread w.state name script) (next_thread w.state))) ≡ placed w.contexts (free_threads w.state) (new_context program script)
+made-context program w name script order =
+    let made : Thread = record { name = name; script = script } in
+    let there : thread_at (with_thread w.state name script).threads (next_thread w.state) ≡ Some made =
+    number-placed w.state.threads (free_threads w.state) (next_thread w.state) made (record { number = refl; within = free-within w.state order }) in
+    ap (λ k. placed w.contexts (free_threads w.state) (new_context program k)) (ap (λ o. unwrap_or (option_map (λ (t : Thread). t.script) o) 0) there)
 
 kept-same : (s : State) (c : Command) (o : Option Refusal) (next : Step) → MakesNone s s → ((o ≡ None) → MakesThread s next.state next.reply) → MakesThread s (unless_refused s o next).state (unless_refused s o next).reply
 kept-same s c None next none made = made refl
@@ -46,21 +74,46 @@ kept-same s c (Some refusal) next none made = none
 unchanged : (s : State) → MakesNone s s
 unchanged s = record { threads = inl refl; records = refl; limits = refl }
 
-pub command-makes : (s : State) (c : Command) → MakesThread s (command_step s c).state (command_step s c).reply
-command-makes s (MakeThread name script) =
+pub command-makes : (s : State) (c : Command) → IsInOrder s → MakesThread s (command_step s c).state (command_step s c).reply
+command-makes s (MakeThread name script) order =
     kept-same s (MakeThread name script) _ (command_effect s (MakeThread name script)) (unchanged s) (λ e.
     let passed = all-pass ((not (is_good_name name), BadName) ∷ (is_taken s name, NameTaken) ∷ (is_no_script s script, NoScript) ∷ (are_threads_full s, Full) ∷ []) e in
-    with_thread-more s name script passed.1.1.0 passed.1.1.1.0)
-command-makes s (MakeFunded amount currency name script) =
+    with_thread-more s name script order passed.1.1.0 passed.1.1.1.0)
+command-makes s (MakeFunded amount currency name script) order =
     kept-same s (MakeFunded amount currency name script) _ (command_effect s (MakeFunded amount currency name script)) (unchanged s) (λ e.
     let passed = all-pass ((is_bad_amount amount, BadAmount) ∷ (is_none (currency_meant s currency), NoCurrency) ∷ (not (is_good_name name), BadName) ∷ (is_taken s name, NameTaken) ∷ (is_no_script s script, NoScript) ∷ (are_tickets_full s || are_threads_full s, Full) ∷ []) e in
-    let more = with_thread-more s name script passed.1.1.1.1.0 (or_parts (are_tickets_full s) (are_threads_full s) passed.1.1.1.1.1.0).1 in
-    record { number = more.number; thread = more.thread; threads = more.threads; records = more.records; script = more.script; limits = more.limits; count = more.count })
-command-makes s (RemoveThread thread) =
+    let more = with_thread-more s name script order passed.1.1.1.1.0 (or_parts (are_tickets_full s) (are_threads_full s) passed.1.1.1.1.1.0).1 in
+    record { next = more.next; thread = more.thread; threads = more.threads; records = more.records; script = more.script; limits = more.limits; room = more.room })
+command-makes s (RemoveThread thread) order =
     kept-same s (RemoveThread thread) _ (command_effect s (RemoveThread thread)) (unchanged s) (λ _. record { threads = inr (unwrap_or (thread_meant s thread) 0, refl); records = refl; limits = refl })
-command-makes s (Kill thread) =
+command-makes s (Kill thread) order =
     kept-same s (Kill thread) _ (command_effect s (Kill thread)) (unchanged s) (λ _. record { threads = inl refl; records = killed-length s (unwrap_or (thread_meant s thread) 0); limits = refl })
-command-makes s other = kept-same s other (command_refusal s other) (command_effect s other) (unchanged s) (λ _. record { threads = inl refl; records = refl; limits = refl })
+command-makes s other order = kept-same s other (command_refusal s other) (command_effect s other) (unchanged s) (λ _. record { threads = inl refl; records = refl; limits = refl })
+
+-- the contexts after a command are those of the threads before it, and of the thread that it makes
+pub command-contexts : (program : Program) (w : World) (c : Command) → IsInOrder w.state
+    → contexts_with program w.state (command_step w.state c).state w.contexts (made_thread (command_step w.state c).reply) ≡ contexts_after_command program w c (command_step w.state c).reply
+command-contexts program w (MakeThread name script) order = at (command_refusal w.state (MakeThread name script)) refl
+  where
+    at : (o : Option Refusal) → command_refusal w.state (MakeThread name script) ≡ o
+        → contexts_with program w.state (unless_refused w.state o (command_effect w.state (MakeThread name script))).state w.contexts (made_thread (unless_refused w.state o (command_effect w.state (MakeThread name script))).reply)
+        ≡ contexts_after_command program w (MakeThread name script) (unless_refused w.state o (command_effect w.state (MakeThread name script))).reply
+    at None is = made-context program w name script order
+    at (Some why) is = refl
+command-contexts program w (MakeFunded amount currency name script) order = at (command_refusal w.state (MakeFunded amount currency name script)) refl
+  where
+    at : (o : Option Refusal) → command_refusal w.state (MakeFunded amount currency name script) ≡ o
+        → contexts_with program w.state (unless_refused w.state o (command_effect w.state (MakeFunded amount currency name script))).state w.contexts
+        (made_thread (unless_refused w.state o (command_effect w.state (MakeFunded amount currency name script))).reply)
+        ≡ contexts_after_command program w (MakeFunded amount currency name script) (unless_refused w.state o (command_effect w.state (MakeFunded amount currency name script))).reply
+    at None is = made-context program w name script order
+    at (Some why) is = refl
+command-contexts program w c order = at (command_refusal w.state c) refl
+  where
+    at : (o : Option Refusal) → command_refusal w.state c ≡ o → contexts_with program w.state (unless_refused w.state o (command_effect w.state c)).state w.contexts (made_thread (unless_refused w.state o (command_effect w.state c)).reply)
+        ≡ contexts_after_command program w c (unless_refused w.state o (command_effect w.state c)).reply
+    at None is = refl
+    at (Some why) is = refl
 
 -- ---- draws
 

@@ -21,10 +21,13 @@ use Rattle.lot_machine.specs.declared.reply.Reply.TheVariants as reply
 use Rattle.lot_machine.specs.Bounds.{IsBetween, IsWithinBounds}
 use Rattle.lot_machine.specs.Numbered.{at_number, set_number}
 use Rattle.lot_simulation.specs.Script.{Context, slice}
-use Rattle.lot_machine.specs.State.{State, status_of, thread_at, thread_on, used_by}
+use Rattle.lot_machine.specs.declared.sizes.Sizes.{Sizes}
+use Rattle.lot_machine.specs.Places.{placed}
+use Rattle.lot_machine.specs.Commands.{command_step, newborn}
+use Rattle.lot_machine.specs.State.{State, free_threads, status_of, thread_at, thread_on, used_by}
 use Rattle.lot_machine.specs.Order.{IsInOrder}
 use Rattle.lot_machine.specs.Step.{step, thread_there, used_there}
-use Rattle.lot_simulation.specs.World.{Program, World, action_of, event_of_slice, generator_of, number_from, seed_from, number_of, context_of, slice_on, processor_event, takes_number, delivered_to, number_delivered, contexts_after, new_contexts, console_turn, processor_turn, system_turn, system_run, IsLegal, IsLegalInTime}
+use Rattle.lot_simulation.specs.World.{Program, World, action_of, event_of_slice, generator_of, number_from, seed_from, number_of, context_of, slice_on, processor_event, takes_number, delivered_to, number_delivered, contexts_after, contexts_after_command, console_turn, processor_turn, system_turn, system_run, IsLegal, IsLegalInTime}
 use Rattle.lot_simulation.specs.World.Answer.{Answered}
 use Rattle.lot_machine.proofs.RecordsKept.{found-runs}
 use Rattle.lot_script.specs.Drafts.{IsScript}
@@ -32,13 +35,14 @@ use Rattle.lot_script.specs.Places.{Place, context_at, first_place}
 use Rattle.lot_script.specs.Slices.{Parts, IsSlice}
 use Rattle.lot_engine.specs.declared.turn.Work.{Work}
 use Rattle.lot_engine.specs.Held.{script_lines, IsAt, AreAt, IsKept, IsHeld}
-use Rattle.lot_engine.specs.Steps.{KeepsThreads, MakesIn, MakesThread, made_thread, OfDraw, OfRun, OfGiven, done_of, event_given, delivered_to_place, place_of, places_after}
+use Rattle.lot_engine.specs.Steps.{KeepsThreads, MakesIn, MakesThread, contexts_with, made_thread, OfDraw, OfRun, OfGiven, done_of, event_given, delivered_to_place, place_of, places_after}
 use Rattle.lot_engine.specs.Turns.{IsWork, IsWorkIn, IsSliceOf, Matches}
 use Rattle.lot_engine.proofs.StepFacts.{draws-same, expires-same, traps-same}
 use Rattle.lot_engine.proofs.InOrder.{run-in-order}
-use Rattle.lot_engine.proofs.ReplyFacts.{command-makes, numbered, draw-names, expire-names, trap-names}
+use Rattle.lot_engine.proofs.ReplyFacts.{command-contexts, command-makes, numbered, draw-names, expire-names, trap-names}
 use Rattle.lot_simulation.proofs.DrawnThreads.{number-some}
-use Rattle.lot_engine.proofs.PlaceFacts.{number-or, if-delivered_to, scripted, at-lengths, at-number, at-place, at-set}
+use Rattle.lot_machine.proofs.Places.{length-placed}
+use Rattle.lot_engine.proofs.PlaceFacts.{placed-lengths, number-or, if-delivered_to, scripted, at-lengths, at-number, at-place, at-set}
 
 -- ---- what is kept
 
@@ -52,10 +56,14 @@ kept-in program s after None kept is =
     as-long (inl same) = ap length same
     as-long (inr (t, one_less)) = ap length one_less ∙ length-set s.threads (t - 1) None
 kept-in program s after (Some n) kept is =
-    let longer = length-append s.threads (Some is.thread ∷ []) in
-    let threads : length after.threads ≡ length s.threads + 1 = ap length is.threads ∙ longer in
-    let room : length s.threads + 1 ≤ after.limits.threads = rw is.limits is.count in
-    record { limits = is.limits ∙ kept.limits; records = is.records ∙ ap (λ n. n + 1) kept.records ∙ sym threads; count = rw threads room }
+    let records : length after.records ≡ length after.threads =
+    is.records newborn ∙ placed-lengths s.records s.threads (free_threads s) newborn (Some is.thread) kept.records ∙ sym (ap length is.threads) in
+    record { limits = is.limits ∙ kept.limits; records = records; count = few (length-placed s.threads (free_threads s) (Some is.thread)) }
+  where
+    few : ((free_threads s ≡ []) × (length (placed s.threads (free_threads s) (Some is.thread)) ≡ length s.threads + 1)) ⊎ (length (placed s.threads (free_threads s) (Some is.thread)) ≡ length s.threads)
+        → length after.threads ≤ after.limits.threads
+    few (inl (none, longer)) = omega (arith, ap length is.threads, longer, is.room none, ap (λ (sizes : Sizes). sizes.threads) is.limits)
+    few (inr same) = omega (arith, ap length is.threads, same, kept.count, ap (λ (sizes : Sizes). sizes.threads) is.limits)
 
 pub kept-made : (program : Program) (s after : State) (r : Reply) → IsKept program s → MakesThread s after r → IsKept program after
 kept-made program s after r kept makes = kept-in program s after (made_thread r) kept makes
@@ -94,20 +102,23 @@ module _ (program : Program) (w : World) (s : State) (places : List Place) (seed
       sym held.commands ∙ drop-cons program.commands spent d below ∙ ap (λ (x : Command). x ∷ drop (suc spent) program.commands) (sym first) ∙ ap (λ n. c ∷ drop n program.commands) (sym next)
 
   module _ (c : Command) (cs : List Command) (is : w.commands ≡ c ∷ cs) (after : State) (r : Reply) (state : after ≡ (step s (event.Command c)).state) (replied : r ≡ (step s (event.Command c)).reply) where
-    pub command-made : MakesThread s after r
-    command-made = rw (state, replied) (command-makes s c)
+    pub command-made : IsInOrder s → MakesThread s after r
+    command-made order = rw (state, replied) (command-makes s c order)
 
     pub command-answer : (system_turn program w 0).answer ≡ Answered (event.Command c) r
     command-answer = let world : system_turn program w 0 ≡ console_turn program w (c ∷ cs) = rw is refl in rw (world, replied, held.state) refl
 
-    pub command-held : cs ≡ drop (spent + 1) program.commands → (now : List Place) → AreAt program after.threads now (w.contexts ++ new_contexts program s after) → IsHeld program (system_turn program w 0).world after now seeds (spent + 1)
-    command-held left now at =
+    pub command-held : IsInOrder s → cs ≡ drop (spent + 1) program.commands → (now : List Place) → AreAt program after.threads now (contexts_with program s after w.contexts (made_thread r))
+        → IsHeld program (system_turn program w 0).world after now seeds (spent + 1)
+    command-held order left now at =
         let world : system_turn program w 0 ≡ console_turn program w (c ∷ cs) = rw is refl in
         let ends : after ≡ (step w.state (event.Command c)).state = state ∙ ap (λ (x : State). (step x (event.Command c)).state) held.state in
+        let same : contexts_with program s after w.contexts (made_thread r) ≡ contexts_after_command program w c (command_step w.state c).reply =
+        rw (state, replied, held.state) (command-contexts program w c (subst IsInOrder held.state order)) in
         rw world (record {
           state = ends;
-          kept = kept-made program s after r held.kept command-made;
-          places_at = subst (λ (x : State). AreAt program after.threads now (w.contexts ++ new_contexts program w.state x)) ends (subst (λ (x : State). AreAt program after.threads now (w.contexts ++ new_contexts program x after)) held.state at);
+          kept = kept-made program s after r held.kept (command-made order);
+          places_at = subst (AreAt program after.threads now) same at;
           seeds = held.seeds;
           wide = held.wide;
           commands = sym left;

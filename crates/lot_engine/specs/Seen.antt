@@ -33,7 +33,7 @@ timer_for setting t = setting.program.limits.processors + t
 abbrev pub after_turn : Seen → ℕ → Seen
 after_turn seen actor = record { setting = seen.setting; history = seen.history ++ actor ∷ [] }
 
--- the number of tickets, currencies or threads ever made
+-- how many numbers of tickets, currencies or threads have been given
 abbrev pub given_count : State → Kind → ℕ
 given_count s Tickets = length s.tickets
 given_count s Currencies = length s.currencies

@@ -1,7 +1,8 @@
 -- The threads after an event, and the thread that its reply names.
-use Rattle.std.specs.Prelude.{◌≡◌, ◌⊎◌, ℕ, ◌+◌, ◌≤◌, ⊤, Bool, true, false, Option, Some, None, List, [], ◌∷◌, ◌++◌, length, unwrap_or}
+use Rattle.std.specs.Prelude.{◌≡◌, ◌⊎◌, ℕ, ◌+◌, ◌<◌, ◌≤◌, ⊤, Bool, true, false, Option, Some, None, List, [], length, slice_get, option_map, unwrap_or}
 use Rattle.lot_machine.specs.declared.event.Event.{Event}
 use Rattle.lot_machine.specs.declared.event.Event.TheVariants as event
+use Rattle.lot_machine.specs.declared.record.Record.{Record}
 use Rattle.lot_machine.specs.declared.record.Thread.{Thread}
 use Rattle.lot_machine.specs.declared.reply.Reply.{Reply}
 use Rattle.lot_machine.specs.declared.reply.Reply.TheVariants as reply
@@ -11,9 +12,10 @@ use Rattle.lot_simulation.specs.declared.script.Line.{Line}
 use Rattle.lot_simulation.specs.declared.script.ScriptTrap.{ScriptTrap}
 use Rattle.lot_simulation.specs.declared.script.ScriptTrap.TheVariants as script_trap
 use Rattle.lot_simulation.specs.declared.script.MutexTrap.TheVariants.{Unlock}
-use Rattle.lot_simulation.specs.Script.{Slice}
-use Rattle.lot_machine.specs.State.{State}
-use Rattle.lot_simulation.specs.World.{event_of_slice, number_delivered}
+use Rattle.lot_simulation.specs.Script.{Context, Slice}
+use Rattle.lot_machine.specs.Places.{next_place, placed}
+use Rattle.lot_machine.specs.State.{State, free_threads, thread_at}
+use Rattle.lot_simulation.specs.World.{Program, event_of_slice, new_context, number_delivered}
 use Rattle.lot_script.specs.Places.{Place, first_place, context_at}
 use Rattle.lot_script.specs.Slices.{Parts}
 use Rattle.lot_engine.specs.declared.turn.Done.{Done}
@@ -32,15 +34,21 @@ pub record MakesNone (s after : State) : Type 0 where
   pub records : length after.records ≡ length s.records
   pub limits : after.limits ≡ s.limits
 
+-- one more element of the list has this number: that of the first of these free places, each of which is within the
+-- list, or the next one
+pub record IsNext {A : Type 0} (xs : List A) (free : List ℕ) (n : ℕ) : Type 0 where
+  pub number : n ≡ next_place xs free + 1
+  pub within : (place : ℕ) → slice_get free 0 ≡ Some place → place < length xs
+
 -- one more thread, which has this number and one of the scripts
 pub record OneMore (s after : State) (n : ℕ) : Type 0 where
-  pub number : n ≡ length s.threads + 1
+  pub next : IsNext s.threads (free_threads s) n
   pub thread : Thread
-  pub threads : after.threads ≡ s.threads ++ Some thread ∷ []
-  pub records : length after.records ≡ length s.records + 1
+  pub threads : after.threads ≡ placed s.threads (free_threads s) (Some thread)
+  pub records : (r : Record) → length after.records ≡ length (placed s.records (free_threads s) r)
   pub script : IsBetween 1 s.limits.scripts thread.script
   pub limits : after.limits ≡ s.limits
-  pub count : length s.threads + 1 ≤ s.limits.threads
+  pub room : free_threads s ≡ [] → length s.threads + 1 ≤ s.limits.threads
 
 -- the number of the new thread, if the reply names one
 abbrev pub made_thread : Reply → Option ℕ
@@ -56,6 +64,15 @@ MakesIn s after (Some n) = OneMore s after n
 -- the reply to a command names the new thread, if there is one
 abbrev pub MakesThread : State → State → Reply → Type 0
 MakesThread s after r = MakesIn s after (made_thread r)
+
+-- the script of the thread with this number, if it is there
+abbrev pub script_in : State → ℕ → ℕ
+script_in s n = unwrap_or (option_map (λ t. t.script) (thread_at s.threads n)) 0
+
+-- the contexts of the threads of one state in another: a new thread's takes the place of its number
+abbrev pub contexts_with : Program → State → State → List Context → Option ℕ → List Context
+contexts_with program s after contexts None = contexts
+contexts_with program s after contexts (Some n) = placed contexts (free_threads s) (new_context program (script_in after n))
 
 -- the reply to a draw names one of this many threads, if any
 abbrev pub OfDraw : ℕ → Reply → Type 0

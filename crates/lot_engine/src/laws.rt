@@ -1,5 +1,5 @@
 //! The sums in the reports, and an actor's work: laws of the definitions, without executable code.
-ghost use Rattle.std.specs.Prelude.{◌≡◌, ◌<◌, ◌^◌, ℕ, List, Option, sum_by};
+ghost use Rattle.std.specs.Prelude.{◌≡◌, ◌<◌, ◌≤◌, ◌^◌, false, ℕ, List, Option, sum_by};
 ghost use Rattle.std.specs.List.{range_with_len};
 ghost use Rattle.lot_machine.specs.Bounds.{IsWithinBounds};
 ghost use Rattle.lot_simulation.specs.Report.{idles_in, quanta_in, ticks_in, total_of, turns_made, turns_of};
@@ -11,16 +11,25 @@ ghost use Rattle.lot_engine.specs.Seen.{Seen};
 ghost use Rattle.lot_engine.specs.Turns.{Faults, IsFresh, IsWorkOf, Matches};
 
 /// The threads' quanta and ticks in the world after a legal history add up to those counted over its turns. Those of
-/// a thread saturate at the largest u64, which no history of fewer than 2 ^ 32 turns reaches.
+/// a thread saturate at the largest u64, which no history of fewer than 2 ^ 32 turns reaches. If numbers are given
+/// again they may be less: a thread with the number of a removed one begins anew.
 pub fn threads_add_up()
     ensures quanta { (program : Program) (room : ℕ) (history : List ℕ) → IsWithinBounds program.limits
-        → IsLegal program room history → room < 2 ^ 32
+        → IsLegal program room history → room < 2 ^ 32 → program.limits.reuse ≡ false
         → sum_by (λ r. r.quanta) (system_run program history).state.records
         ≡ total_of quanta_in (turns_made program history) }
     ensures ticks { (program : Program) (room : ℕ) (history : List ℕ) → IsWithinBounds program.limits
-        → IsLegal program room history → room < 2 ^ 32
+        → IsLegal program room history → room < 2 ^ 32 → program.limits.reuse ≡ false
         → sum_by (λ r. r.ticks) (system_run program history).state.records
         ≡ total_of ticks_in (turns_made program history) }
+    ensures quanta_within { (program : Program) (room : ℕ) (history : List ℕ) → IsWithinBounds program.limits
+        → IsLegal program room history → room < 2 ^ 32
+        → sum_by (λ r. r.quanta) (system_run program history).state.records
+        ≤ total_of quanta_in (turns_made program history) }
+    ensures ticks_within { (program : Program) (room : ℕ) (history : List ℕ) → IsWithinBounds program.limits
+        → IsLegal program room history → room < 2 ^ 32
+        → sum_by (λ r. r.ticks) (system_run program history).state.records
+        ≤ total_of ticks_in (turns_made program history) }
 {}
 
 /// The report's numbers of the processors add up to the counters over all turns of a legal history: the console wins

@@ -1,5 +1,5 @@
 //! The threads' places in their scripts.
-ghost use Rattle.std.specs.Prelude.{◌≡◌, ◌+◌, ◌≤◌, ◌++◌, ℕ, List, [], Some, None, IfOk, length, vec_capacity};
+ghost use Rattle.std.specs.Prelude.{◌≡◌, ◌+◌, ◌≤◌, ℕ, List, [], Some, None, IfOk, length, vec_capacity};
 ghost use Rattle.lot_machine.specs.declared.record.Thread.{Thread};
 ghost use Rattle.lot_machine.specs.Bounds.{IsBetween};
 ghost use Rattle.lot_machine.specs.Numbered.{set_number};
@@ -7,10 +7,12 @@ ghost use Rattle.lot_script.specs.Places.{Fits};
 ghost use Rattle.lot_script.specs.Slices.{IsSlice};
 ghost use Rattle.lot_simulation.specs.Script.{Context, start};
 ghost use Rattle.lot_machine.specs.State.{State};
-ghost use Rattle.lot_simulation.specs.World.{new_contexts, number_delivered as number_delivered_in};
+ghost use Rattle.lot_machine.specs.Places.{placed};
+ghost use Rattle.lot_simulation.specs.World.{number_delivered as number_delivered_in};
 ghost use Rattle.lot_engine.specs.Held.{AreAt, IsAt, script_lines};
 ghost use Rattle.lot_engine.specs.Steps as steps;
-ghost use Rattle.lot_engine.specs.Steps.{MakesThread, OfDraw, OfRun, OfGiven, delivered_to_place, place_of};
+ghost use Rattle.lot_engine.specs.Steps.{IsNext, MakesThread, OfDraw, OfRun, OfGiven, contexts_with};
+ghost use Rattle.lot_engine.specs.Steps.{delivered_to_place, place_of};
 ghost use Rattle.lot_engine.specs.Steps.{places_after, places_received, slice_between};
 
 use crate::turn::Done;
@@ -36,17 +38,34 @@ pub(crate) fn follow_command(
     reply: Reply,
 )
     requires made { (s : State) × (before : List Context) × MakesThread s kernel.now.state reply
-        × AreAt program.now s.threads places.old.items before × (s.limits.scripts ≡ length program.now.scripts) }
+        × AreAt program.now s.threads places.old.items before × (s.limits.scripts ≡ length program.now.scripts)
+        × (length s.threads ≤ s.limits.threads) }
     requires room { kernel.now.state.limits.threads ≤ vec_capacity places.old }
     ensures at { (s : State) (before : List Context) → MakesThread s kernel.now.state reply
         → AreAt program.now s.threads places.old.items before
         → AreAt program.now kernel.now.state.threads places.new.items
-        (before ++ new_contexts program.now s kernel.now.state) }
+        (contexts_with program.now s kernel.now.state before (steps.made_thread reply)) }
     ensures room { vec_capacity places.new ≡ vec_capacity places.old }
 {
     if let Some(thread) = made_thread(reply) {
         let script = kernel.script_of(ThreadNumber { number: thread }).unwrap();
-        places.push_reserved(begin(program, script));
+        put_place(places, thread, begin(program, script));
+    }
+}
+
+/// Puts a new thread's place where its number says: at the end, or in the place of a removed thread.
+fn put_place(places: &mut Vec<Place>, thread: u32, place: Place)
+    requires next { IsBetween 1 (length places.old.items + 1) thread }
+    requires room { thread ≤ vec_capacity places.old }
+    ensures put { (free : List ℕ) → IsNext places.old.items free thread
+        → places.new.items ≡ placed places.old.items free place }
+    ensures room { vec_capacity places.new ≡ vec_capacity places.old }
+{
+    let index = thread as usize - 1;
+    if index < places.len() {
+        places[index] = place;
+    } else {
+        places.push_reserved(place);
     }
 }
 

@@ -82,7 +82,8 @@ impl Drop for System {
 }
 
 impl Model for System {
-    ghost use Rattle.std.specs.Prelude.{◌≡◌, ◌==◌, ◌+◌, ◌≤◌, false, All, count_by, is_some, length, vec_len, vec_capacity};
+    ghost use Rattle.std.specs.Prelude.{◌≡◌, ◌==◌, ◌+◌, ◌≤◌, false, All, count_by, is_some, length};
+    ghost use Rattle.std.specs.Prelude.{vec_len, vec_capacity};
     ghost use Rattle.lot_simulation.specs.Report.{turns_made};
     ghost use Rattle.lot_simulation.specs.World.{IsLegal, IsLegalInTime, system_run};
     ghost use Rattle.lot_text.specs.Programs.{IsProgram};
@@ -476,7 +477,7 @@ impl System {
         self.program.limits().unit
     }
 
-    /// The number of tickets, currencies or threads ever made.
+    /// How many numbers of tickets, currencies or threads have been given.
     pub fn given_count(&self, kind: Kind) -> u32
         ensures { result ≡ given_count (world_of self.now).state kind }
     {
@@ -502,7 +503,7 @@ impl System {
         all.saturating_sub(self.spent)
     }
 
-    /// The number of threads ever made, including removed ones.
+    /// How many numbers of threads have been given, those of removed ones included.
     pub fn thread_count(&self) -> u32
         ensures count { result ≡ length (world_of self.now).state.records }
         ensures within { result ≤ self.now.setting.program.limits.threads }

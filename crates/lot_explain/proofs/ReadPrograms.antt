@@ -169,6 +169,7 @@ module _ (r : Reading) (kept : IsRead r) where
       let old = kept.0 in
       resized r.processors r.quantum tickets currencies threads r.duration
       (record { of_processors = old.of_processors; of_quantum = old.of_quantum; of_tickets = of_tickets; of_currencies = of_currencies; of_threads = of_threads; of_unit = old.of_unit; time = old.time }))))
+  header-kept header.Reuse [] = if-passes IsRead ((not r.is_timed, BadLine) ∷ []) (record r { reuse = true }) (λ _. kept)
   header-kept word tokens = refuses IsRead BadLine
 
   -- if it comes in order

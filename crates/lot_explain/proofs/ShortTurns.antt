@@ -1,5 +1,5 @@
 -- A turn writes few lines of lots, and leaves names short.
-use Rattle.std.proofs.Common.{◌≡◌, ℕ, ◌+◌, ◌-◌, ◌*◌, ◌^◌, ◌≤◌, ◌==◌, nat_lt, nat_le, Bool, true, false, not, ◌||◌, cond, Option, Some, None, is_some, is_none, unwrap_or, List, [], ◌∷◌, ◌++◌, length, refl, sym, ◌∙◌, ap, subst, arith}
+use Rattle.std.proofs.Common.{◌≡◌, ℕ, ◌+◌, ◌-◌, ◌*◌, ◌^◌, ◌≤◌, ◌==◌, nat_lt, nat_le, Bool, true, false, not, ◌&&◌, ◌||◌, cond, Option, Some, None, is_some, is_none, unwrap_or, List, [], ◌∷◌, ◌++◌, length, refl, sym, ◌∙◌, ap, subst, arith}
 use Rattle.std.specs.Prelude.{All}
 use Rattle.std.proofs.lemmas.Bool.{leb-false, ltb-false, or_parts}
 use Rattle.std.proofs.lemmas.List.{length-append, length-set}
@@ -19,7 +19,8 @@ use Rattle.lot_machine.specs.Bounds.{IsWithinBounds}
 use Rattle.lot_machine.specs.Commands.{are_threads_full, are_tickets_full, command_effect, command_refusal, command_step, currency_meant, is_bad_amount, is_good_name, is_no_script, is_taken, thread_meant, unless_refused}
 use Rattle.lot_machine.specs.Named.{processor_of}
 use Rattle.lot_machine.specs.Order.{IsInOrder}
-use Rattle.lot_machine.specs.State.{State, thread_on}
+use Rattle.lot_machine.specs.Places.{is_none_free, placed}
+use Rattle.lot_machine.specs.State.{State, free_threads, thread_on}
 use Rattle.lot_machine.specs.Step.{event_effect, event_refusal, is_bad_processor, step, used_there}
 use Rattle.lot_machine.proofs.CommandsKept.{all-pass, unrefused}
 use Rattle.lot_machine.proofs.OrderKept.{opening-order, step-order}
@@ -107,10 +108,15 @@ module _ (style : LineStyle) (timely : HasShortTime style) (s : State) (short : 
 abbrev HasRoom : State → State → Type 0
 HasRoom s after = All IsShortPlace after.threads × (length after.threads ≤ s.limits.threads)
 
--- one thread more
-thread-more : (s : State) (thread : Thread) → IsShortThread thread → are_threads_full s ≡ false → All IsShortPlace s.threads → All IsShortPlace (s.threads ++ Some thread ∷ []) × (length (s.threads ++ Some thread ∷ []) ≤ s.limits.threads)
-thread-more s thread short free names =
-    (All-push IsShortPlace s.threads (Some thread) names short, omega (arith, length-append s.threads (Some thread ∷ []), leb-false s.limits.threads (length s.threads) free))
+-- one thread more, at the end or in a free place
+thread-more : (s : State) (thread : Thread) → IsShortThread thread → are_threads_full s ≡ false → All IsShortPlace s.threads → length s.threads ≤ s.limits.threads
+    → All IsShortPlace (placed s.threads (free_threads s) (Some thread)) × (length (placed s.threads (free_threads s) (Some thread)) ≤ s.limits.threads)
+thread-more s thread short left names room = at (free_threads s) left
+  where
+    at : (free : List ℕ) → (is_none_free free && nat_le s.limits.threads (length s.threads)) ≡ false
+        → All IsShortPlace (placed s.threads free (Some thread)) × (length (placed s.threads free (Some thread)) ≤ s.limits.threads)
+    at [] none = (All-push IsShortPlace s.threads (Some thread) names short, omega (arith, length-append s.threads (Some thread ∷ []), leb-false s.limits.threads (length s.threads) none))
+    at (place ∷ free) some = (All-set IsShortPlace s.threads place (Some thread) short names, omega (arith, length-set s.threads place (Some thread), room))
 
 -- a command makes a thread only if there is room for it, and one that is removed leaves its place
 command-threads : (s : State) (c : Command) → HasShortName c → All IsShortPlace s.threads → length s.threads ≤ s.limits.threads → HasRoom s (command_step s c).state
@@ -118,7 +124,7 @@ command-threads s (MakeThread name script) short names room =
     let c = MakeThread name script in
     unrefused (HasRoom s) s (command_refusal s c) (command_effect s c) (names, room) (λ passes.
     let checks = all-pass ((not (is_good_name name), BadName) ∷ (is_taken s name, NameTaken) ∷ (is_no_script s script, NoScript) ∷ (are_threads_full s, Full) ∷ []) passes in
-    thread-more s (record { name = name; script = script }) short checks.1.1.1.0 names)
+    thread-more s (record { name = name; script = script }) short checks.1.1.1.0 names room)
 command-threads s (RemoveThread thread) short names room =
     let c = RemoveThread thread in
     let place = unwrap_or (thread_meant s thread) 0 - 1 in
@@ -129,7 +135,7 @@ command-threads s (MakeFunded amount currency name script) short names room =
     unrefused (HasRoom s) s (command_refusal s c) (command_effect s c) (names, room) (λ passes.
     let checks = all-pass ((is_bad_amount amount, BadAmount) ∷ (is_none (currency_meant s currency), NoCurrency) ∷ (not (is_good_name name), BadName)
     ∷ (is_taken s name, NameTaken) ∷ (is_no_script s script, NoScript) ∷ (are_tickets_full s || are_threads_full s, Full) ∷ []) passes in
-    thread-more s (record { name = name; script = script }) short (or_parts (are_tickets_full s) (are_threads_full s) checks.1.1.1.1.1.0).1 names)
+    thread-more s (record { name = name; script = script }) short (or_parts (are_tickets_full s) (are_threads_full s) checks.1.1.1.1.1.0).1 names room)
 command-threads s c short names room = unrefused (HasRoom s) s (command_refusal s c) (command_effect s c) (names, room) (λ _. (names, room))
 
 -- ---- a turn

@@ -4,23 +4,30 @@ use Rattle.std.specs.Prelude.{IsTrue}
 use Rattle.std.proofs.Math.Seq.{set-append_seam}
 use Rattle.std.specs.List.{Contains}
 use Rattle.std.specs.Option.{option_flatten}
-use Rattle.std.proofs.lemmas.List.{length-map, map-append}
+use Rattle.std.proofs.lemmas.List.{length-map}
 use Rattle.std.proofs.lemmas.Option.{slice_get_within}
 use Rattle.lot_machine.specs.declared.funding.Edge.{Edge}
 use Rattle.lot_machine.specs.declared.funding.Edge.TheVariants.{OfTicket, OfLender, OfMutex}
 use Rattle.lot_machine.specs.declared.funding.Lend.{Lend}
+use Rattle.lot_machine.specs.declared.funding.Lend.TheVariants.{Nobody}
+use Rattle.lot_machine.specs.declared.record.Status.TheVariants.{Dead}
 use Rattle.lot_machine.specs.declared.funding.Node.{Node}
 use Rattle.lot_machine.specs.declared.funding.Node.TheVariants as node
 use Rattle.lot_machine.specs.declared.record.Record.{Record}
 use Rattle.lot_machine.specs.declared.ticket.Target.{Target}
 use Rattle.lot_machine.specs.declared.ticket.Target.TheVariants.{Unfunded, Currency, Thread}
 use Rattle.lot_machine.specs.declared.ticket.Ticket.{Ticket}
-use Rattle.lot_machine.specs.Commands.{is_bad_amount, is_cycle, with_thread}
-use Rattle.lot_machine.specs.Funding.{Funding, WouldCycle, weighed_of, is_currency, issuer_of, retargeted, target_node, target_of, ticket_at, ticket_in, with_new_ticket, with_target, would_cycle}
+use Rattle.lot_machine.specs.Commands.{is_bad_amount, is_cycle, newborn, with_ticket, with_thread}
+use Rattle.lot_machine.specs.Places.{next_place, placed}
+use Rattle.lot_machine.specs.Funding.{Funding, WouldCycle, weighed_of, is_currency, issuer_of, retargeted, target_node, target_of, ticket_at, ticket_in, with_target, would_cycle}
 use Rattle.lot_machine.specs.Numbered.{at_number, option_any, set_number}
 use Rattle.lot_machine.specs.Order.{IsInOrder}
-use Rattle.lot_machine.specs.State.{State, funding_of, lend_of, live_in}
-use Rattle.lot_machine.proofs.Changes.{number-push}
+use Rattle.lot_machine.specs.State.{State, free_tickets, free_threads, funding_of, lend_of, live_in}
+use Rattle.lot_machine.proofs.Changes.{place-set_same, place-kept}
+use Rattle.lot_machine.proofs.Places.{number-next, map-placed}
+use Rattle.lot_machine.proofs.StepChanges.{free-dead}
+use Rattle.lot_machine.proofs.TrapCycles.{lend-at}
+use Rattle.lot_kernel.proofs.Freeing.{ticket-gap}
 use Rattle.lot_machine.proofs.TicketDepth.{would_cycle-exact}
 use Rattle.lot_machine.proofs.Tickets.{at_number-suc, some-injective}
 use Rattle.lot_machine.proofs.TwoSteps.{edges-between, live-between}
@@ -97,47 +104,86 @@ last-place (y ∷ ys) x = last-place ys x
 pub last-number : {A : Type 0} (xs : List A) (x : A) → at_number (xs ++ x ∷ []) (length xs + 1) ≡ Some x
 last-number xs x = let next : length xs + 1 ≡ suc (length xs) = omega arith in ap (at_number (xs ++ x ∷ [])) next ∙ at_number-suc (xs ++ x ∷ []) (length xs) ∙ last-place xs x
 
--- what was made fund nothing, and then funds the target
-pub funded-new : (tickets : List (Option Ticket)) (amount issuer : ℕ) (to : Target) → with_target (with_new_ticket tickets amount issuer Unfunded) (length tickets + 1) to ≡ with_new_ticket tickets amount issuer to
-funded-new tickets amount issuer to =
-    let new : Ticket = record { amount = amount; issuer = issuer; target = Unfunded } in
-    let last = last-number tickets (Some new) in
-    ap (λ o. set_number (tickets ++ Some new ∷ []) (length tickets + 1) (option_map (retargeted to) (option_flatten o))) last
-    ∙ ap (λ i. slice_set (tickets ++ Some new ∷ []) i (Some (retargeted to new))) (before-last (length tickets)) ∙ set-append_seam tickets (Some new) [] (Some (retargeted to new))
+-- the place of a gap has what is put there
+set-there : {A : Type 0} (xs : List A) (i : ℕ) (x y : A) → slice_get xs i ≡ Some y → at_number (slice_set xs i x) (i + 1) ≡ Some x
+set-there xs i x y is = let next : i + 1 ≡ suc i = omega arith in ap (at_number (slice_set xs i x)) next ∙ at_number-suc (slice_set xs i x) i ∙ place-set_same xs i x y is
+
+set-twice : {A : Type 0} (xs : List A) (i : ℕ) (x y : A) → slice_set (slice_set xs i x) i y ≡ slice_set xs i y
+set-twice [] zero x y = refl
+set-twice [] (suc i) x y = refl
+set-twice (z ∷ zs) zero x y = refl
+set-twice (z ∷ zs) (suc i) x y = ap (λ ws. z ∷ ws) (set-twice zs i x y)
+
+-- the number of the next one has it
+pub next-there : {A : Type 0} (xs : List (Option A)) (free : List ℕ) (x : A) → ((place : ℕ) → slice_get free 0 ≡ Some place → slice_get xs place ≡ Some None) → at_number (placed xs free (Some x)) (next_place xs free + 1) ≡ Some (Some x)
+next-there xs [] x gap = last-number xs (Some x)
+next-there xs (i ∷ free) x gap = set-there xs i (Some x) None (gap i refl)
+
+-- what was made funds nothing, and then the target
+pub funded-placed : (tickets : List (Option Ticket)) (free : List ℕ) (new : Ticket) (to : Target) → ((place : ℕ) → slice_get free 0 ≡ Some place → slice_get tickets place ≡ Some None)
+    → with_target (placed tickets free (Some new)) (next_place tickets free + 1) to ≡ placed tickets free (Some (retargeted to new))
+funded-placed tickets free new to gap =
+    ap (λ o. set_number (placed tickets free (Some new)) (next_place tickets free + 1) (option_map (retargeted to) (option_flatten o))) (next-there tickets free new gap) ∙ by free
   where
     before-last : (n : ℕ) → n + 1 - 1 ≡ n
     before-last n = omega arith
 
+    by : (places : List ℕ) → set_number (placed tickets places (Some new)) (next_place tickets places + 1) (Some (retargeted to new)) ≡ placed tickets places (Some (retargeted to new))
+    by [] = ap (λ i. slice_set (tickets ++ Some new ∷ []) i (Some (retargeted to new))) (before-last (length tickets)) ∙ set-append_seam tickets (Some new) [] (Some (retargeted to new))
+    by (i ∷ places) = ap (λ j. slice_set (slice_set tickets i (Some new)) j (Some (retargeted to new))) (before-last i) ∙ set-twice tickets i (Some new) (Some (retargeted to new))
+
 -- an unfunded ticket more adds no edge
-pub unfunded-edges : (f : Funding) (amount issuer : ℕ) (edge : Edge) → weighed_of (record f { tickets = with_new_ticket f.tickets amount issuer Unfunded }) edge ≡ weighed_of f edge
-unfunded-edges f amount issuer (OfLender t) = refl
-unfunded-edges f amount issuer (OfMutex m) = refl
-unfunded-edges f amount issuer (OfTicket n) = by (number-push f.tickets (Some (record { amount = amount; issuer = issuer; target = Unfunded })) n)
+pub unfunded-edges : (f : Funding) (free : List ℕ) (new : Ticket) → new.target ≡ Unfunded → ((place : ℕ) → slice_get free 0 ≡ Some place → slice_get f.tickets place ≡ Some None)
+    → (edge : Edge) → weighed_of (record f { tickets = placed f.tickets free (Some new) }) edge ≡ weighed_of f edge
+unfunded-edges f free new unfunded gap (OfLender t) = refl
+unfunded-edges f free new unfunded gap (OfMutex m) = refl
+unfunded-edges f free new unfunded gap (OfTicket n) = by (number-next f.tickets free (Some new) n)
   where
     seen : Option (Option Ticket) → Option (Node × Node × ℕ)
     seen o = option_and_then (λ t. option_map (λ to. (node.Currency t.issuer, to, t.amount)) (target_node t.target)) (option_flatten o)
 
-    by : (at_number (with_new_ticket f.tickets amount issuer Unfunded) n ≡ at_number f.tickets n) ⊎ ((at_number f.tickets n ≡ None) × (at_number (with_new_ticket f.tickets amount issuer Unfunded) n ≡ Some (Some (record { amount = amount; issuer = issuer; target = Unfunded }))))
-        → seen (at_number (with_new_ticket f.tickets amount issuer Unfunded) n) ≡ seen (at_number f.tickets n)
+    nothing : seen (Some (Some new)) ≡ None
+    nothing = ap (λ to. option_map (λ (x : Node). let y : Node × Node × ℕ = (node.Currency new.issuer, x, new.amount) in y) (target_node to)) unfunded
+
+    none : (at_number f.tickets n ≡ None) ⊎ (slice_get free 0 ≡ Some (n - 1)) → n ≡ next_place f.tickets free + 1 → seen (at_number f.tickets n) ≡ None
+    none (inl past) number = ap seen past
+    none (inr first) number =
+        let next : n ≡ suc (n - 1) = omega (arith, number) in
+        ap (λ m. seen (at_number f.tickets m)) next ∙ ap seen (at_number-suc f.tickets (n - 1) ∙ gap (n - 1) first)
+
+    by : (at_number (placed f.tickets free (Some new)) n ≡ at_number f.tickets n)
+        ⊎ ((n ≡ next_place f.tickets free + 1) × (at_number (placed f.tickets free (Some new)) n ≡ Some (Some new)) × ((at_number f.tickets n ≡ None) ⊎ (slice_get free 0 ≡ Some (n - 1))))
+        → seen (at_number (placed f.tickets free (Some new)) n) ≡ seen (at_number f.tickets n)
     by (inl same) = ap seen same
-    by (inr (none, new)) = ap seen new ∙ sym (ap seen none)
+    by (inr (number, now, was)) = ap seen now ∙ nothing ∙ sym (none was number)
+
+-- a thread more adds none either, if the thread of its place was dead
+pub placed-edges : (f : Funding) (free : List ℕ) → ((place : ℕ) → slice_get free 0 ≡ Some place → slice_get f.lends place ≡ Some Nobody) → (edge : Edge) → weighed_of (record f { lends = placed f.lends free Nobody }) edge ≡ weighed_of f edge
+placed-edges f [] nobody edge = newborn-edges f edge
+placed-edges f (i ∷ free) nobody edge = ap (λ (ls : List Lend). weighed_of (record f { lends = ls }) edge) (place-kept f.lends i Nobody (nobody i refl))
 
 -- what a ticket, a thread and what the one funds of the other make stale together
-module _ (old issued added funded : Snapshot) (amount issuer script n t : ℕ) (name : List ℕ)
-    (first : issued ≡ record old { state = record old.state { tickets = with_new_ticket old.state.tickets amount issuer Unfunded } })
+module _ (old issued added funded : Snapshot) (new : Ticket) (script n t : ℕ) (name : List ℕ) (unfunded : new.target ≡ Unfunded) (order : IsInOrder old.state)
+    (first : issued ≡ record old { state = with_ticket old.state new })
     (second : added.state ≡ with_thread issued.state name script)
     (third : funded.state ≡ record added.state { tickets = with_target added.state.tickets n (Thread t) }) where
   abbrev graph-of : Snapshot → Funding
   graph-of x = funding_of x.state
 
   issued-edges : (edge : Edge) → weighed_of (graph-of issued) edge ≡ weighed_of (graph-of old) edge
-  issued-edges edge = ap (λ (x : Snapshot). weighed_of (graph-of x) edge) first ∙ unfunded-edges (graph-of old) amount issuer edge
+  issued-edges edge = ap (λ (x : Snapshot). weighed_of (graph-of x) edge) first ∙ unfunded-edges (graph-of old) (free_tickets old.state) new unfunded (ticket-gap old.state order) edge
+
+  nobody : (place : ℕ) → slice_get (free_threads old.state) 0 ≡ Some place → slice_get (graph-of old).lends place ≡ Some Nobody
+  nobody place is =
+      let dead = free-dead old.state order.gaps order.removed place is in
+      sym (at_number-suc (graph-of old).lends place) ∙ lend-at old.state.records (suc place) Dead dead
 
   added-edges : (edge : Edge) → weighed_of (graph-of added) edge ≡ weighed_of (graph-of old) edge
   added-edges edge =
-      ap (λ (x : State). weighed_of (funding_of x) edge) second
-      ∙ ap (λ (ls : List Lend). weighed_of (record (graph-of issued) { lends = ls }) edge) (map-append (λ (r : Record). lend_of r.status) issued.state.records _)
-      ∙ newborn-edges (graph-of issued) edge ∙ issued-edges edge
+      ap (λ (x : State). weighed_of (funding_of x) edge) (second ∙ ap (λ (x : Snapshot). with_thread x.state name script) first)
+      ∙ unfunded-edges (funding_of (with_thread old.state name script)) (free_tickets old.state) new unfunded (ticket-gap old.state order) edge
+      ∙ ap (λ (ls : List Lend). weighed_of (record (graph-of old) { lends = ls }) edge) (map-placed (λ (r : Record). lend_of r.status) old.state.records (free_threads old.state) newborn)
+      ∙ placed-edges (graph-of old) (free_threads old.state) nobody edge
 
   pub makes-funded : MakesStale issued added → MakesStale added funded → MakesStale old funded
   makes-funded makes_added makes_funded =

@@ -15,7 +15,7 @@ use Rattle.lot_machine.specs.Commands.{thread_meant}
 use Rattle.lot_machine.specs.State.{State, thread_at}
 use Rattle.lot_machine.specs.declared.reference.ThreadRef.{ThreadRef}
 use Rattle.lot_machine.specs.declared.reference.ThreadRef.TheVariants as thread_ref
-use Rattle.lot_machine.proofs.Changes.{place-set_other}
+use Rattle.lot_machine.proofs.Changes.{place-set_other, place-set_same}
 use Rattle.lot_machine.proofs.Tickets.{at_number-suc, flatten-some, some-injective}
 use Rattle.lot_machine.proofs.EachOnce.{contains-filter, contains-nothing, filter-contains}
 use Rattle.lot_lists.specs.NodeLists.{NodeLists, node_at, nodes_of, IsFree, IsListed, IsConsistent, HasSameSize, with_pushed, with_removed}
@@ -49,6 +49,13 @@ module _ (v : NodeLists) (names : List (Option (List ℕ))) (index : IsIndexOf v
   pub next-free : IsFree v (length names)
   next-free = mirror-free index (length names) next-none
 
+  gap-none : (place : ℕ) → slice_get names place ≡ Some None → bucket_at (length v.lists) names place ≡ None
+  gap-none place gap = ap (λ (o : Option (Option (List ℕ))). option_map (bucket_of (length v.lists)) (option_flatten o)) gap
+
+  -- nor is a place whose name was removed
+  pub gap-free : (place : ℕ) → slice_get names place ≡ Some None → IsFree v place
+  gap-free place gap = mirror-free index place (gap-none place gap)
+
   module _ (w : NodeLists) (size : HasSameSize v w) (consistent : IsConsistent w) where
     -- where the same stands, the bucket is the same
     same-bucket : (table : List (Option (List ℕ))) (place : ℕ) → slice_get table place ≡ slice_get names place → bucket_at (length w.lists) table place ≡ bucket_at (length v.lists) names place
@@ -63,6 +70,14 @@ module _ (v : NodeLists) (names : List (Option (List ℕ))) (index : IsIndexOf v
       where
         here : bucket_at (length w.lists) (names ++ Some name ∷ []) (length names) ≡ Some (bucket_of (length v.lists) name)
         here = ap (λ (o : Option (Option (List ℕ))). option_map (bucket_of (length w.lists)) (option_flatten o)) (push-here names (Some name)) ∙ ap (λ n. Some (bucket_of n name)) size.1
+
+    pub index-again : (name : List ℕ) (place : ℕ) → slice_get names place ≡ Some None → bucket_of (length v.lists) name < length v.lists → w ≡ with_pushed v (bucket_of (length v.lists) name) place → IsIndexOf w (slice_set names place (Some name))
+    index-again name place gap low is =
+        mirror-push index (bucket_at (length w.lists) (slice_set names place (Some name))) (bucket_of (length v.lists) name) place
+        (λ other off. same-bucket (slice_set names place (Some name)) other (place-set_other names place (Some name) other off)) w consistent low (gap-none place gap) here is
+      where
+        here : bucket_at (length w.lists) (slice_set names place (Some name)) place ≡ Some (bucket_of (length v.lists) name)
+        here = ap (λ (o : Option (Option (List ℕ))). option_map (bucket_of (length w.lists)) (option_flatten o)) (place-set_same names place (Some name) None gap) ∙ ap (λ n. Some (bucket_of n name)) size.1
 
     pub index-removed : (place : ℕ) → IsListed v place → IsFree w place → ((k p : ℕ) → node_at v k p ≡ Some place → w ≡ with_removed v k p) → IsIndexOf w (slice_set names place None)
     index-removed place listed free is =

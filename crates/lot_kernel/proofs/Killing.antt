@@ -10,7 +10,7 @@ use Rattle.lot_machine.specs.Kill.{without, port_without, is_owned_by, passed_on
 use Rattle.lot_machine.specs.Numbered.{at_number, set_number}
 use Rattle.lot_machine.specs.Order.{IsInOrder}
 use Rattle.lot_machine.specs.Ports.{clients_of}
-use Rattle.lot_machine.specs.State.{State, Mutex, change_record, change_each}
+use Rattle.lot_machine.specs.State.{State, Freed, Mutex, change_record, change_each}
 use Rattle.lot_machine.proofs.Changes.{number-set}
 use Rattle.lot_machine.proofs.EachOnce.{contains-nothing}
 use Rattle.lot_machine.proofs.Killed.{mapped-from, without-other, without-absent, record-other, each-record_other, each-append, each-between, heir-of}
@@ -85,21 +85,21 @@ records-same s q t order clients mutexes =
 abbrev pub queues_killed : QueueLists → ℕ → QueueLists
 queues_killed q t = record q { clients = set_number (map (without t) q.clients) t []; ports = map (port_without t) q.ports; mutexes = map (passed_from t) (waiters_without q.mutexes t) }
 
-module _ (sizes : Sizes) (names : List (Option (List ℕ))) (v : Threaded) (q : QueueLists) (t : ℕ) (was : IsHeld sizes names v q) (new : Threaded) (left : QueueLists)
+module _ (sizes : Sizes) (freed : Freed) (names : List (Option (List ℕ))) (v : Threaded) (q : QueueLists) (t : ℕ) (was : IsHeld sizes freed names v q) (new : Threaded) (left : QueueLists)
     (threads : new ≡ record (with_records v (records_killed q v.records t) new.stale) { owners = owners_of (map (passed_from t) (waiters_without q.mutexes t)) }) (queues : left ≡ queues_killed q t) where
   -- the threads are those of the state
-  pub held-killed : IsHeld sizes names new left
+  pub held-killed : IsHeld sizes freed names new left
   held-killed =
-      subst (λ (l : QueueLists). IsHeld sizes names new l) (sym queues)
-      (subst (λ n. IsHeld sizes names n (queues_killed q t)) (sym threads)
+      subst (λ (l : QueueLists). IsHeld sizes freed names new l) (sym queues)
+      (subst (λ n. IsHeld sizes freed names n (queues_killed q t)) (sym threads)
       (ap (λ (w : Threaded). record (with_records w (records_killed q w.records t) new.stale) { owners = owners_of (map (passed_from t) (waiters_without q.mutexes t)) }) was))
 
-  pub state-killed : IsInOrder (held sizes names v q) → held sizes names new left ≡ killed (held sizes names v q) t
+  pub state-killed : IsInOrder (held sizes freed names v q) → held sizes freed names new left ≡ killed (held sizes freed names v q) t
   state-killed order =
-      ap (λ (w : Threaded). held sizes names w left) threads ∙ ap (λ (l : QueueLists). held sizes names (record (with_records v (records_killed q v.records t) new.stale) { owners = owners_of (map (passed_from t) (waiters_without q.mutexes t)) }) l) queues
-      ∙ ap (λ (rs : List Record). record (held sizes names v q) { records = rs; clients = set_number (map (without t) q.clients) t []; ports = map (port_without t) q.ports; mutexes = map (passed_from t) (waiters_without q.mutexes t) })
-      (records-same (held sizes names v q) q t order refl refl)
-      ∙ ap (λ (ms : List Mutex). record (held sizes names v q) { records = (killed (held sizes names v q) t).records; clients = set_number (map (without t) q.clients) t []; ports = map (port_without t) q.ports; mutexes = ms }) (mutexes-killed t q.mutexes)
+      ap (λ (w : Threaded). held sizes freed names w left) threads ∙ ap (λ (l : QueueLists). held sizes freed names (record (with_records v (records_killed q v.records t) new.stale) { owners = owners_of (map (passed_from t) (waiters_without q.mutexes t)) }) l) queues
+      ∙ ap (λ (rs : List Record). record (held sizes freed names v q) { records = rs; clients = set_number (map (without t) q.clients) t []; ports = map (port_without t) q.ports; mutexes = map (passed_from t) (waiters_without q.mutexes t) })
+      (records-same (held sizes freed names v q) q t order refl refl)
+      ∙ ap (λ (ms : List Mutex). record (held sizes freed names v q) { records = (killed (held sizes freed names v q) t).records; clients = set_number (map (without t) q.clients) t []; ports = map (port_without t) q.ports; mutexes = ms }) (mutexes-killed t q.mutexes)
 
   pub records-count : length new.records ≡ length v.records
   records-count =

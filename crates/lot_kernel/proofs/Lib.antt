@@ -13,3 +13,8 @@ pub mod Counting
 pub mod Rows
 pub mod Opening
 pub mod Killing
+pub mod Freeing
+pub mod Stacks
+pub mod Reusing
+pub mod ThreadsAgain
+pub mod TicketsAgain

@@ -4,6 +4,7 @@ use Rattle.lot_machine.specs.declared.after.After.{After}
 use Rattle.lot_machine.specs.declared.funding.Node.{Node}
 use Rattle.lot_machine.specs.declared.reply.Outcome.{Outcome}
 use Rattle.lot_machine.specs.declared.sizes.Sizes.{Sizes}
+use Rattle.lot_machine.specs.State.{Freed}
 use Rattle.lot_machine.specs.Order.{IsInOrder}
 use Rattle.lot_machine.specs.Ports.{PortTrap}
 use Rattle.lot_machine.specs.Step.{Effect, of_ports}
@@ -25,26 +26,26 @@ pub record Shows (old new : Snapshot) (effect : Effect) (said : Outcome) (then :
   pub kept : KeepsStale old new
   pub meter : new.meter ≡ old.meter
 
-module _ (sizes : Sizes) (names : List (Option (List ℕ))) (v : Threaded) (q : QueueLists) where
+module _ (sizes : Sizes) (freed : Freed) (names : List (Option (List ℕ))) (v : Threaded) (q : QueueLists) where
   -- a thread that runs, as the tables are seen, waits nowhere
-  pub runner-nowhere : (now : Snapshot) (t : ℕ) → snapshot_of sizes names q v ≡ now → IsInOrder now.state → IsRunning now.state.records t → IsNowhere q t
+  pub runner-nowhere : (now : Snapshot) (t : ℕ) → snapshot_of sizes freed names q v ≡ now → IsInOrder now.state → IsRunning now.state.records t → IsNowhere q t
   runner-nowhere now t view order runs =
-      running-nowhere sizes names v q t (subst (λ (s : Snapshot). IsInOrder s.state) (sym view) order) (subst (λ (s : Snapshot). IsRunning s.state.records t) (sym view) runs)
+      running-nowhere sizes freed names v q t (subst (λ (s : Snapshot). IsInOrder s.state) (sym view) order) (subst (λ (s : Snapshot). IsRunning s.state.records t) (sym view) runs)
 
   -- a trap leaves the threads those of the state, and as many records and clients as before
-  pub port-leaves : (new : Threaded) (left : QueueLists) (trap : PortTrap) → IsHeld sizes names v q → Keeps v.records q.clients trap → new ≡ with_records v trap.records new.stale → left ≡ with_ports q trap
-      → IsHeld sizes names new left × (length new.records ≡ length v.records) × (length left.clients ≡ length q.clients)
+  pub port-leaves : (new : Threaded) (left : QueueLists) (trap : PortTrap) → IsHeld sizes freed names v q → Keeps v.records q.clients trap → new ≡ with_records v trap.records new.stale → left ≡ with_ports q trap
+      → IsHeld sizes freed names new left × (length new.records ≡ length v.records) × (length left.clients ≡ length q.clients)
   port-leaves new left trap was keeps is left_is =
-      (ports-held sizes names v new q left was trap is left_is, ap (λ (w : Threaded). length w.records) is ∙ keeps.records, ap (λ (l : QueueLists). length l.clients) left_is ∙ keeps.clients)
+      (ports-held sizes freed names v new q left was trap is left_is, ap (λ (w : Threaded). length w.records) is ∙ keeps.records, ap (λ (l : QueueLists). length l.clients) left_is ∙ keeps.clients)
 
   -- a trap that isn't refused shows its effect
-  pub port-shows : (new : Threaded) (left : QueueLists) (trap : PortTrap) (effect : Effect) (said : Outcome) (then : After) → IsHeld sizes names v q → effect ≡ of_ports (held sizes names v q) trap → said ≡ trap.outcome → then ≡ trap.after
-      → new ≡ with_records v trap.records new.stale → left ≡ with_ports q trap → MakesStaleIn v new → ((x : Node) → Contains v.stale x → Contains new.stale x) → Shows (snapshot_of sizes names q v) (snapshot_of sizes names left new) effect said then
+  pub port-shows : (new : Threaded) (left : QueueLists) (trap : PortTrap) (effect : Effect) (said : Outcome) (then : After) → IsHeld sizes freed names v q → effect ≡ of_ports (held sizes freed names v q) trap → said ≡ trap.outcome → then ≡ trap.after
+      → new ≡ with_records v trap.records new.stale → left ≡ with_ports q trap → MakesStaleIn v new → ((x : Node) → Contains v.stale x → Contains new.stale x) → Shows (snapshot_of sizes freed names q v) (snapshot_of sizes freed names left new) effect said then
   port-shows new left trap effect said then was done outcome after is left_is makes kept = record {
     outcome = outcome ∙ sym (ap (λ (e : Effect). e.outcome) done);
     after = after ∙ sym (ap (λ (e : Effect). e.after) done);
-    state = ports-state sizes names v new q left was trap is left_is ∙ sym (ap (λ (e : Effect). e.state) done);
-    stale = makes-held sizes names names v new q left was (ports-held sizes names v new q left was trap is left_is) makes;
+    state = ports-state sizes freed names v new q left was trap is left_is ∙ sym (ap (λ (e : Effect). e.state) done);
+    stale = makes-held sizes freed names names v new q left was (ports-held sizes freed names v new q left was trap is left_is) makes;
     kept = kept;
     meter = ap (λ (w : Threaded). w.meter) is;
   }

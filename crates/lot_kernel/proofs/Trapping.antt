@@ -20,7 +20,7 @@ use Rattle.lot_machine.specs.Mutexes.{MutexTrap, mutex_at, lock, unlock}
 use Rattle.lot_machine.specs.Numbered.{at_number, option_any}
 use Rattle.lot_machine.specs.Order.{IsInOrder}
 use Rattle.lot_machine.specs.Ports.{PortTrap, call, receive, reply, serve, first_client, port_at}
-use Rattle.lot_machine.specs.State.{State, Mutex, Port, QueuedCall, change_record, funding_of, status_of, value_of}
+use Rattle.lot_machine.specs.State.{Freed, State, Mutex, Port, QueuedCall, change_record, funding_of, status_of, value_of}
 use Rattle.lot_machine.specs.Step.{of_mutexes, of_ports, owns, trap_refusal}
 use Rattle.lot_machine.proofs.LendDepth.{lends_lead-exact}
 use Rattle.lot_machine.proofs.Queues.{record-of}
@@ -67,8 +67,8 @@ status-there records t now is = let r = record-of records t now is in number-wit
 pub running-there : (records : List Record) (t : ℕ) → IsRunning records t → IsThere records t
 running-there records t (processor, (used, runs)) = status-there records t (Running processor used) runs
 
-pub running-nowhere : (sizes : Sizes) (names : List (Option (List ℕ))) (v : Threaded) (q : QueueLists) (t : ℕ) → IsInOrder (held sizes names v q) → IsRunning v.records t → IsNowhere q t
-running-nowhere sizes names v q t order (processor, (used, runs)) = nowhere-running v.records q t processor used order.queues runs
+pub running-nowhere : (sizes : Sizes) (freed : Freed) (names : List (Option (List ℕ))) (v : Threaded) (q : QueueLists) (t : ℕ) → IsInOrder (held sizes freed names v q) → IsRunning v.records t → IsNowhere q t
+running-nowhere sizes freed names v q t order (processor, (used, runs)) = nowhere-running v.records q t processor used order.queues runs
 
 -- ---- what isn't refused
 
@@ -164,23 +164,23 @@ unlock-count records mutexes value m d = by (mutex_at mutexes m).waiters refl
     by [] is = rw is refl
     by (w ∷ ws) is = rw is (change-count _ records _)
 
-module _ (sizes : Sizes) (names : List (Option (List ℕ))) (v new : Threaded) (q left : QueueLists) (was : IsHeld sizes names v q) where
-  pub ports-held : (trap : PortTrap) → new ≡ with_records v trap.records new.stale → left ≡ with_ports q trap → IsHeld sizes names new left
-  ports-held trap is left_is = subst (λ (l : QueueLists). IsHeld sizes names new l) (sym left_is) (held-records sizes names v new q was trap.records is)
+module _ (sizes : Sizes) (freed : Freed) (names : List (Option (List ℕ))) (v new : Threaded) (q left : QueueLists) (was : IsHeld sizes freed names v q) where
+  pub ports-held : (trap : PortTrap) → new ≡ with_records v trap.records new.stale → left ≡ with_ports q trap → IsHeld sizes freed names new left
+  ports-held trap is left_is = subst (λ (l : QueueLists). IsHeld sizes freed names new l) (sym left_is) (held-records sizes freed names v new q was trap.records is)
 
-  pub ports-state : (trap : PortTrap) → new ≡ with_records v trap.records new.stale → left ≡ with_ports q trap → held sizes names new left ≡ (of_ports (held sizes names v q) trap).state
+  pub ports-state : (trap : PortTrap) → new ≡ with_records v trap.records new.stale → left ≡ with_ports q trap → held sizes freed names new left ≡ (of_ports (held sizes freed names v q) trap).state
   ports-state trap is left_is =
-      subst (λ n. held sizes names n left ≡ (of_ports (held sizes names v q) trap).state) (sym is) (ap (λ (l : QueueLists). held sizes names (with_records v trap.records new.stale) l) left_is)
+      subst (λ n. held sizes freed names n left ≡ (of_ports (held sizes freed names v q) trap).state) (sym is) (ap (λ (l : QueueLists). held sizes freed names (with_records v trap.records new.stale) l) left_is)
 
-  pub mutexes-state : (trap : MutexTrap) (meter : Meter) → new ≡ record (with_mutexes v trap new.stale) { meter = meter } → left ≡ record q { mutexes = trap.mutexes } → held sizes names new left ≡ (of_mutexes (held sizes names v q) trap).state
+  pub mutexes-state : (trap : MutexTrap) (meter : Meter) → new ≡ record (with_mutexes v trap new.stale) { meter = meter } → left ≡ record q { mutexes = trap.mutexes } → held sizes freed names new left ≡ (of_mutexes (held sizes freed names v q) trap).state
   mutexes-state trap meter is left_is =
-      subst (λ n. held sizes names n left ≡ (of_mutexes (held sizes names v q) trap).state) (sym is) (ap (λ (l : QueueLists). held sizes names (record (with_mutexes v trap new.stale) { meter = meter }) l) left_is)
+      subst (λ n. held sizes freed names n left ≡ (of_mutexes (held sizes freed names v q) trap).state) (sym is) (ap (λ (l : QueueLists). held sizes freed names (record (with_mutexes v trap new.stale) { meter = meter }) l) left_is)
 
 -- ---- locks and unlocks
 
 -- an unlock by what waiters are worth is one by what they are worth in the state
-pub unlock-same : (sizes : Sizes) (names : List (Option (List ℕ))) (v : Threaded) (q : QueueLists) → IsHeld sizes names v q → (m d : ℕ) → unlock v.records q.mutexes (worth_in v) m d ≡ unlock v.records q.mutexes (value_of (held sizes names v q)) m d
-unlock-same sizes names v q was m d = ap (λ (w : Threaded). unlock v.records q.mutexes (worth_in w) m d) was
+pub unlock-same : (sizes : Sizes) (freed : Freed) (names : List (Option (List ℕ))) (v : Threaded) (q : QueueLists) → IsHeld sizes freed names v q → (m d : ℕ) → unlock v.records q.mutexes (worth_in v) m d ≡ unlock v.records q.mutexes (value_of (held sizes freed names v q)) m d
+unlock-same sizes freed names v q was m d = ap (λ (w : Threaded). unlock v.records q.mutexes (worth_in w) m d) was
 
 -- whether a thread's lends lead on to another is whether it reaches it
 module _ (f : Funding) (no_cycle : HasNoCycle f) (t u : ℕ) (other : t ≢ u) where

@@ -4,7 +4,7 @@ use Rattle.lot_machine.specs.declared.funding.Node.{Node}
 use Rattle.lot_machine.specs.declared.sizes.Sizes.{Sizes}
 use Rattle.lot_machine.specs.declared.ticket.Target.{Target}
 use Rattle.lot_machine.specs.declared.ticket.Target.TheVariants.{Unfunded, Currency, Thread}
-use Rattle.lot_machine.specs.State.{State, Mutex, funding_of, opening}
+use Rattle.lot_machine.specs.State.{State, Freed, Mutex, funding_of, opening}
 use Rattle.lot_machine.specs.Touched.{PathLeads, Touches}
 use Rattle.lot_queues.specs.QueueLists.{QueueLists, IsThere}
 use Rattle.lot_value.specs.declared.meter.Meter.{Meter}
@@ -44,9 +44,9 @@ threads_of s stale meter = record {
   meter = meter;
 }
 
--- the state made up of these names of currencies, threads and queues
-abbrev pub held : Sizes → List (Option (List ℕ)) → Threaded → QueueLists → State
-held sizes currencies threads queues = record {
+-- the state made up of these free places, names of currencies, threads and queues
+abbrev pub held : Sizes → Freed → List (Option (List ℕ)) → Threaded → QueueLists → State
+held sizes freed currencies threads queues = record {
   currencies = currencies;
   tickets = threads.tickets;
   threads = threads.threads;
@@ -55,6 +55,7 @@ held sizes currencies threads queues = record {
   ports = queues.ports;
   mutexes = queues.mutexes;
   limits = sizes;
+  freed = freed;
 }
 
 -- the target exists: it is a currency, base included, or a thread

@@ -1,5 +1,5 @@
 //! The kernel and its events.
-ghost use Rattle.std.specs.Prelude.{◌≡◌, ◌<◌, ◌≤◌, All, None, Some, IfNone, IfOk, IfSome, MatchOption, length};
+ghost use Rattle.std.specs.Prelude.{◌≡◌, ◌<◌, ◌≤◌, ◌^◌, All, None, Some, IfNone, IfOk, IfSome, MatchOption, length};
 ghost use Rattle.std.specs.Prelude.{option_map, vec_len, vec_capacity};
 ghost use Rattle.lot_machine.specs.Bounds.{IsBetween};
 ghost use Rattle.lot_machine.specs.Mutexes.{mutex_at};
@@ -65,7 +65,8 @@ impl Kernel {
     /// The total of bytes that `new` requests from the allocator, for a host that gives the kernel a fixed region of
     /// memory. Tests compare it with the bytes that `new` requests.
     pub fn bytes(limits: &Limits) -> u64
-        ensures { result ≡ bytes_of (sizes_of limits.now) }
+        ensures bytes { result ≡ bytes_of (sizes_of limits.now) }
+        ensures few { result < 2 ^ 32 }
     {
         Tables::bytes(limits)
     }
@@ -92,14 +93,14 @@ impl Kernel {
         self.tables.meter()
     }
 
-    /// The number of tickets ever made, including removed ones. They are numbered from 1.
+    /// How many numbers of tickets have been given, those of removed ones included. They begin at 1.
     pub fn ticket_count(&self) -> u32
         ensures { result ≡ length self.now.state.tickets }
     {
         self.tables.ticket_count()
     }
 
-    /// The number of currencies ever made, including base and removed ones. They are numbered from 0.
+    /// How many numbers of currencies have been given, those of removed ones included. They begin at 0, which is base.
     pub fn currency_count(&self) -> u32
         ensures { result ≡ length self.now.state.currencies }
     {

@@ -4,6 +4,8 @@
 
 mod counts;
 mod ending;
+mod free_places;
+mod freed;
 mod kernel;
 mod names;
 mod tables;

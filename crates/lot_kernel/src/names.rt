@@ -51,12 +51,14 @@ impl NameIndex {
         Lists::bytes(places as usize, places as usize)
     }
 
-    /// Adds the name of the table's next place.
+    /// Adds the name of the table's next place, or of one whose name was removed.
     pub(crate) fn add(&mut self, place: usize, name: &Name)
         requires place { place < self.old.nodes }
         requires free { IsFree self.old place }
         ensures added { (names : List (Option (List ℕ))) → IsIndexOf self.old names → length names ≡ place
             → IsIndexOf self.new (names ++ Some name.now ∷ []) }
+        ensures again { (names : List (Option (List ℕ))) → IsIndexOf self.old names → slice_get names place ≡ Some None
+            → IsIndexOf self.new (slice_set names place (Some name.now)) }
         ensures places { self.new.nodes ≡ self.old.nodes }
     {
         let bucket = self.bucket_of(name);

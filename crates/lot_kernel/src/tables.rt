@@ -1,5 +1,5 @@
 //! The kernel's tables, which hold the machine's state.
-ghost use Rattle.std.specs.Prelude.{◌≡◌, ◌<◌, ◌≤◌, ◌∷◌, [], IfOk, Some, codes, length, vec_len, vec_capacity};
+ghost use Rattle.std.specs.Prelude.{◌≡◌, ◌<◌, ◌≤◌, ◌^◌, ◌∷◌, [], IfOk, Some, codes, length, vec_len, vec_capacity};
 ghost use Rattle.lot_machine.specs.Mutexes.{mutex_at};
 ghost use Rattle.lot_machine.specs.Order.{IsInOrder};
 ghost use Rattle.lot_machine.specs.State.{sizes_of};
@@ -16,6 +16,7 @@ mod rows;
 mod stops;
 mod traps;
 
+use crate::freed::Freed;
 use crate::names::NameIndex;
 use lot_machine::{Event, Limits, MutexNumber, Name, Processor, Reply, ThreadNumber};
 use lot_mutex::Lottery;
@@ -38,6 +39,8 @@ pub(crate) struct Tables {
     limits: Limits,
     /// The name of each currency, base first; `None` for a removed one.
     currencies: Vec<Option<Name>>,
+    /// The free places, if numbers are given again.
+    freed: Freed,
     threads: Threads,
     queues: Queues,
     currency_index: NameIndex,
@@ -47,22 +50,24 @@ pub(crate) struct Tables {
 }
 
 impl Model for Tables {
-    ghost use Rattle.std.specs.Prelude.{◌≡◌, ◌+◌, ◌≤◌, length, vec_len, vec_capacity};
+    ghost use Rattle.std.specs.Prelude.{◌≡◌, ◌+◌, ◌≤◌, false, length, vec_len, vec_capacity};
     ghost use Rattle.lot_machine.specs.State.{sizes_of};
+    ghost use Rattle.lot_kernel.specs.FreePlaces.{none_free, freed_in, HasRoomFor};
     ghost use Rattle.lot_kernel.specs.Names.{IsIndexOf, names_of};
     ghost use Rattle.lot_kernel.specs.Snapshots.{Snapshot, held, threads_of};
 
     ghost Value = { Snapshot };
 
     ghost view = { λ k. record {
-      state = held (sizes_of k.limits) k.currencies.items k.threads k.queues;
+      state = held (sizes_of k.limits) (freed_in k.freed) k.currencies.items k.threads k.queues;
       stale = k.threads.stale;
       meter = k.threads.meter;
     } };
 
     ghost invariant = { λ k. record {
       threads : k.threads
-          ≡ threads_of (held (sizes_of k.limits) k.currencies.items k.threads k.queues) k.threads.stale k.threads.meter;
+          ≡ threads_of (held (sizes_of k.limits) (freed_in k.freed) k.currencies.items k.threads k.queues)
+          k.threads.stale k.threads.meter;
       count : length k.threads.threads ≡ length k.threads.records;
       few : length k.threads.records ≤ k.limits.threads;
       clients : length k.queues.clients ≡ length k.threads.records;
@@ -74,6 +79,8 @@ impl Model for Tables {
       thread_places : k.thread_index.nodes ≡ k.limits.threads;
       queue_room : k.queues.room ≡ k.limits.threads;
       lottery_room : k.lottery.room ≡ k.limits.threads;
+      freed_room : HasRoomFor (sizes_of k.limits) k.freed;
+      none_freed : k.limits.reuse ≡ false → freed_in k.freed ≡ none_free;
     } };
 }
 
@@ -92,12 +99,14 @@ impl Tables {
             currency_index,
             thread_index: NameIndex::new(alloc, limits.threads)?,
             lottery: Lottery::new(alloc, limits.threads)?,
+            freed: Freed::new(alloc, &limits)?,
         })
     }
 
     /// The total of bytes that `new` requests from the allocator.
     pub(crate) fn bytes(limits: &Limits) -> u64
-        ensures { result ≡ bytes_of (sizes_of limits.now) }
+        ensures bytes { result ≡ bytes_of (sizes_of limits.now) }
+        ensures few { result < 2 ^ 32 }
     {
         NAME_BYTES * (limits.currencies as u64 + 1)
             + Threads::bytes(limits)
@@ -105,6 +114,7 @@ impl Tables {
             + NameIndex::bytes(limits.currencies + 1)
             + NameIndex::bytes(limits.threads)
             + Lottery::bytes(limits.threads)
+            + Freed::bytes(limits)
     }
 
     pub(crate) fn limits(&self) -> Limits

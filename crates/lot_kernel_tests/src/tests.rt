@@ -325,6 +325,7 @@ fn largest_limits(quantum: u32, unit: u32) -> Option<Limits> {
         scripts: 1,
         quantum,
         unit,
+        reuse: false,
     })
 }
 

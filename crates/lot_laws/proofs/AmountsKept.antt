@@ -1,17 +1,19 @@
 -- Only `settkt` of a ticket gives it another amount; and each run leaves what it doesn't affect.
-use Rattle.std.proofs.Common.{◌≡◌, ℕ, ◌+◌, ◌-◌, ◌⊎◌, ◌≤◌, inl, inr, zero, suc, length, unwrap_or, subst, arith, Option, Some, None, List, [], ◌∷◌, ◌++◌, option_map, refl, sym, ◌∙◌, ap, ◌≢◌, All, is_none, false}
+use Rattle.std.proofs.Common.{◌≡◌, ℕ, ◌-◌, ◌⊎◌, ◌≤◌, inl, inr, zero, suc, length, unwrap_or, subst, arith, Option, Some, None, List, [], ◌∷◌, ◌++◌, option_map, refl, sym, ◌∙◌, ap, ◌≢◌, All, is_none, Bool, false, true, not, cond, slice_get}
 use Rattle.std.proofs.lemmas.List.{length-map}
+use Rattle.std.proofs.lemmas.Bool.{cases_eq}
 use Rattle.std.specs.Option.{option_flatten}
 use Rattle.lot_machine.specs.declared.ticket.Ticket.{Ticket}
 use Rattle.lot_machine.specs.declared.ticket.Target.{Target}
 use Rattle.lot_machine.specs.declared.ticket.Target.TheVariants as target
 use Rattle.lot_machine.specs.declared.command.Command.{Command}
-use Rattle.lot_machine.specs.declared.command.Command.TheVariants.{MakeTicket, RemoveTicket, Fund, Unfund, MakeFunded, SetTicket}
+use Rattle.lot_machine.specs.declared.command.Command.TheVariants.{MakeTicket, RemoveTicket, MakeCurrency, RemoveCurrency, Fund, Unfund, MakeThread, RemoveThread, Kill, MakeFunded, SetTicket, List as Listing}
 use Rattle.lot_machine.specs.declared.event.Event.{Event}
 use Rattle.lot_machine.specs.declared.event.Event.TheVariants as event
-use Rattle.lot_machine.specs.Numbered.{at_number, set_number}
-use Rattle.lot_machine.specs.Funding.{ticket_in, with_new_ticket, without_ticket, with_target, retargeted, ticket_at, with_amount, reissued}
-use Rattle.lot_laws.specs.Insulation.{Affects, worth_in, KeepsAmount, SetsAmountOf}
+use Rattle.lot_machine.specs.Numbered.{at_number, set_number, option_any}
+use Rattle.lot_machine.specs.Places.{placed}
+use Rattle.lot_machine.specs.Funding.{is_currency, ticket_in, with_new_ticket, without_ticket, with_target, retargeted, ticket_at, with_amount, reissued}
+use Rattle.lot_laws.specs.Insulation.{Affects, worth_in, KeepsAmount, SetsAmountOf, RemovesTicket}
 use Rattle.lot_machine.specs.Value.{node_value}
 use Rattle.lot_machine.specs.Equations.{HasEquation}
 use Rattle.lot_machine.specs.Order.{IsInOrder}
@@ -19,18 +21,20 @@ use Rattle.lot_machine.specs.declared.record.Record.{Record}
 use Rattle.lot_machine.specs.declared.sizes.Sizes.{Sizes}
 use Rattle.lot_machine.specs.declared.funding.Node.{Node}
 use Rattle.lot_machine.specs.declared.funding.Node.TheVariants.{Currency, Thread, Mutex}
-use Rattle.lot_machine.specs.State.{State, funding_of, live_of, lend_of}
-use Rattle.lot_machine.specs.Commands.{command_refusal, command_effect, command_step, currency_or_base, target_meant, Step, unless_refused, is_bad_amount}
+use Rattle.lot_machine.specs.State.{State, free_tickets, next_thread, funding_of, live_of, lend_of}
+use Rattle.lot_machine.specs.Commands.{is_funding, is_dead_thread, is_cycle, command_refusal, command_effect, command_step, currency_or_base, target_meant, Step, unless_refused, is_bad_amount}
 use Rattle.lot_machine.specs.Step.{step, state_after}
 use Rattle.lot_machine.proofs.Changes.{number-push, number-set, number-there}
-use Rattle.lot_machine.proofs.CommandsKept.{unrefused, all-pass}
+use Rattle.lot_machine.proofs.CommandsKept.{IsThere, unrefused, all-pass, some-of}
+use Rattle.lot_machine.proofs.Places.{number-stays}
+use Rattle.lot_machine.proofs.EachOnce.{contains-at}
 use Rattle.lot_machine.proofs.StepChanges.{Console, by_event}
 use Rattle.lot_machine.proofs.StepSizes.{other-tickets, step-grown, step-limits}
-use Rattle.lot_machine.proofs.OrderKept.{run-order, order-sound}
+use Rattle.lot_machine.proofs.OrderKept.{run-order, step-order, order-sound}
 use Rattle.lot_laws.proofs.Insulated.{insulated}
-use Rattle.lot_machine.proofs.Tickets.{some-injective, flatten-some}
+use Rattle.lot_machine.proofs.Tickets.{some-injective, flatten-some, place_of}
 use Rattle.lot_machine.specs.declared.refusal.Refusal.{Refusal}
-use Rattle.lot_machine.specs.declared.refusal.Refusal.TheVariants.{BadAmount, NoTicket}
+use Rattle.lot_machine.specs.declared.refusal.Refusal.TheVariants.{BadAmount, NoTicket, NoTarget, Funding as IsFunding, NotFunding, Cycle, BaseFixed, DeadThread}
 use Rattle.lot_machine.specs.declared.reply.Reply.TheVariants.{Done}
 use Rattle.lot_machine.proofs.Queues.{number-set_same}
 use Rattle.std.proofs.lemmas.List.Elements.{All-head, All-tail}
@@ -107,38 +111,43 @@ set-elsewhere n xs (suc i) amount other =
 abbrev KeepsIn : ℕ → State → State → Type 0
 KeepsIn n s after = ComesOf n s.tickets after.tickets
 
-command-tickets : (n : ℕ) (s : State) (c : Command) → ¬ SetsAmountOf n (event.Command c) → KeepsIn n s (command_step s c).state
-command-tickets n s (MakeTicket amount currency) elsewhere =
-    unrefused (KeepsIn n s) s _ (command_effect s (MakeTicket amount currency)) (as-they-were n s.tickets) (λ _. one-more n s.tickets amount (currency_or_base s currency) target.Unfunded)
-command-tickets n s (RemoveTicket m) elsewhere = unrefused (KeepsIn n s) s _ (command_effect s (RemoveTicket m)) (as-they-were n s.tickets) (λ _. removed n s.tickets m)
-command-tickets n s (Fund m to) elsewhere =
+-- with one more ticket, where numbers are given once
+one-placed : (n : ℕ) (s : State) (ticket : Ticket) → s.limits.reuse ≡ false → ComesOf n s.tickets (placed s.tickets (free_tickets s) (Some ticket))
+one-placed n s ticket once =
+    subst (λ free. ComesOf n s.tickets (placed s.tickets free (Some ticket))) (sym (ap (λ b. cond {A = List ℕ} b s.freed.tickets []) once)) (one-more n s.tickets ticket.amount ticket.issuer ticket.target)
+
+command-tickets : (n : ℕ) (s : State) (c : Command) → s.limits.reuse ≡ false → ¬ SetsAmountOf n (event.Command c) → KeepsIn n s (command_step s c).state
+command-tickets n s (MakeTicket amount currency) once elsewhere =
+    unrefused (KeepsIn n s) s _ (command_effect s (MakeTicket amount currency)) (as-they-were n s.tickets) (λ _. one-placed n s (record { amount = amount; issuer = currency_or_base s currency; target = target.Unfunded }) once)
+command-tickets n s (RemoveTicket m) once elsewhere = unrefused (KeepsIn n s) s _ (command_effect s (RemoveTicket m)) (as-they-were n s.tickets) (λ _. removed n s.tickets m)
+command-tickets n s (Fund m to) once elsewhere =
     unrefused (KeepsIn n s) s _ (command_effect s (Fund m to)) (as-they-were n s.tickets) (λ _. aimed n s.tickets m (unwrap_or (target_meant s to) target.Unfunded))
-command-tickets n s (Unfund m) elsewhere = unrefused (KeepsIn n s) s _ (command_effect s (Unfund m)) (as-they-were n s.tickets) (λ _. aimed n s.tickets m target.Unfunded)
-command-tickets n s (SetTicket m amount) elsewhere =
+command-tickets n s (Unfund m) once elsewhere = unrefused (KeepsIn n s) s _ (command_effect s (Unfund m)) (as-they-were n s.tickets) (λ _. aimed n s.tickets m target.Unfunded)
+command-tickets n s (SetTicket m amount) once elsewhere =
     unrefused (KeepsIn n s) s _ (command_effect s (SetTicket m amount)) (as-they-were n s.tickets) (λ _.
     set-elsewhere n s.tickets m amount (λ same. elsewhere (amount, ap (λ k. event.Command (SetTicket k amount)) same)))
-command-tickets n s (MakeFunded amount currency name script) elsewhere =
+command-tickets n s (MakeFunded amount currency name script) once elsewhere =
     unrefused (KeepsIn n s) s _ (command_effect s (MakeFunded amount currency name script)) (as-they-were n s.tickets) (λ _.
-    one-more n s.tickets amount (currency_or_base s currency) (target.Thread (length s.threads + 1)))
-command-tickets n s other elsewhere = unrefused (KeepsIn n s) s (command_refusal s other) (command_effect s other) (as-they-were n s.tickets) (λ _. as-they-were n s.tickets)
+    one-placed n s (record { amount = amount; issuer = currency_or_base s currency; target = target.Thread (next_thread s) }) once)
+command-tickets n s other once elsewhere = unrefused (KeepsIn n s) s (command_refusal s other) (command_effect s other) (as-they-were n s.tickets) (λ _. as-they-were n s.tickets)
 
 unchanged : (n : ℕ) (s : State) (e : Event) → ¬ (by_event s e ≡ Console) → KeepsIn n s (step s e).state
 unchanged n s e other = subst (ComesOf n s.tickets) (sym (other-tickets s e other)) (as-they-were n s.tickets)
 
-event-tickets : (n : ℕ) (s : State) (e : Event) → ¬ SetsAmountOf n e → KeepsIn n s (step s e).state
-event-tickets n s (event.Command command) elsewhere = command-tickets n s command elsewhere
-event-tickets n s (event.Draw p d) elsewhere = unchanged n s (event.Draw p d) (λ e. cc)
-event-tickets n s (event.Expire p) elsewhere = unchanged n s (event.Expire p) (λ e. cc)
-event-tickets n s (event.Trap p ran action) elsewhere = unchanged n s (event.Trap p ran action) (λ e. cc)
-event-tickets n s (event.Preempt p ticks) elsewhere = unchanged n s (event.Preempt p ticks) (λ e. cc)
-event-tickets n s (event.Overrun p ticks) elsewhere = unchanged n s (event.Overrun p ticks) (λ e. cc)
-event-tickets n s (event.Wake t) elsewhere = unchanged n s (event.Wake t) (λ e. cc)
+event-tickets : (n : ℕ) (s : State) (e : Event) → s.limits.reuse ≡ false → ¬ SetsAmountOf n e → KeepsIn n s (step s e).state
+event-tickets n s (event.Command command) once elsewhere = command-tickets n s command once elsewhere
+event-tickets n s (event.Draw p d) once elsewhere = unchanged n s (event.Draw p d) (λ e. cc)
+event-tickets n s (event.Expire p) once elsewhere = unchanged n s (event.Expire p) (λ e. cc)
+event-tickets n s (event.Trap p ran action) once elsewhere = unchanged n s (event.Trap p ran action) (λ e. cc)
+event-tickets n s (event.Preempt p ticks) once elsewhere = unchanged n s (event.Preempt p ticks) (λ e. cc)
+event-tickets n s (event.Overrun p ticks) once elsewhere = unchanged n s (event.Overrun p ticks) (λ e. cc)
+event-tickets n s (event.Wake t) once elsewhere = unchanged n s (event.Wake t) (λ e. cc)
 
-run-tickets : (n : ℕ) (s : State) (events : List Event) → All (λ e. ¬ SetsAmountOf n e) events → KeepsIn n s (state_after s events)
-run-tickets n s [] elsewhere = as-they-were n s.tickets
-run-tickets n s (e ∷ events) elsewhere =
-    then n s.tickets (step s e).state.tickets (state_after (step s e).state events).tickets (event-tickets n s e (All-head (λ x. ¬ SetsAmountOf n x) e events elsewhere))
-    (run-tickets n (step s e).state events (All-tail (λ x. ¬ SetsAmountOf n x) e events elsewhere))
+run-tickets : (n : ℕ) (s : State) (events : List Event) → s.limits.reuse ≡ false → All (λ e. ¬ SetsAmountOf n e) events → KeepsIn n s (state_after s events)
+run-tickets n s [] once elsewhere = as-they-were n s.tickets
+run-tickets n s (e ∷ events) once elsewhere =
+    then n s.tickets (step s e).state.tickets (state_after (step s e).state events).tickets (event-tickets n s e once (All-head (λ x. ¬ SetsAmountOf n x) e events elsewhere))
+    (run-tickets n (step s e).state events (ap (λ (limits : Sizes). limits.reuse) (step-limits s e) ∙ once) (All-tail (λ x. ¬ SetsAmountOf n x) e events elsewhere))
 
 amount-kept : (n : ℕ) (s after : State) → KeepsIn n s after → KeepsAmount (funding_of s) (funding_of after) n
 amount-kept n s after comes t u first second = by (comes.keeps u second)
@@ -147,11 +156,149 @@ amount-kept n s after comes t u first second = by (comes.keeps u second)
     by (inl none) = let never : None ≡ Some t = sym (ap option_flatten none) ∙ first in cc
     by (inr (v, at, same)) = ap (λ (x : Ticket). x.amount) (some-injective t v (sym first ∙ at)) ∙ same
 
-pub event-amount : (s : State) (e : Event) (n : ℕ) → ¬ SetsAmountOf n e → KeepsAmount (funding_of s) (funding_of (step s e).state) n
-event-amount s e n elsewhere = amount-kept n s (step s e).state (event-tickets n s e elsewhere)
+-- ---- a ticket that stays
 
-pub run-amount : (s : State) (events : List Event) (n : ℕ) → All (λ e. ¬ SetsAmountOf n e) events → KeepsAmount (funding_of s) (funding_of (state_after s events)) n
-run-amount s events n elsewhere = amount-kept n s (state_after s events) (run-tickets n s events elsewhere)
+-- a ticket that has the number keeps its amount, and isn't removed
+abbrev Stays : ℕ → State → State → Type 0
+Stays n s after = (t : Ticket) → ticket_in s.tickets n ≡ Some t → (u : Ticket) × (ticket_in after.tickets n ≡ Some u) × (t.amount ≡ u.amount)
+
+-- one more ticket has another number
+stays-placed : (n : ℕ) (s : State) (ticket : Ticket) → s.limits.reuse ≡ true → IsInOrder s → (t : Ticket) → ticket_in s.tickets n ≡ Some t
+    → (u : Ticket) × (ticket_in (placed s.tickets (free_tickets s) (Some ticket)) n ≡ Some u) × (t.amount ≡ u.amount)
+stays-placed n s ticket on order t is =
+    (t, ap option_flatten (number-stays s.tickets (free_tickets s) (Some ticket) (Some t) n another (flatten-some (at_number s.tickets n) t is)), refl)
+  where
+    another : ¬ (slice_get (free_tickets s) 0 ≡ Some (n - 1))
+    another first =
+        let (i, number, here) = place_of s.tickets n t is in
+        let free : slice_get s.freed.tickets 0 ≡ Some (n - 1) = sym (ap (λ b. slice_get (cond {A = List ℕ} b s.freed.tickets []) 0) on) ∙ first in
+        let gap = (order.gaps on).tickets.each (n - 1) (contains-at s.freed.tickets 0 (n - 1) free) in
+        let place : n - 1 ≡ i = omega (arith, number) in
+        let never : Some (Some t) ≡ Some None = sym here ∙ ap (slice_get s.tickets) (sym place) ∙ gap in
+        cc
+
+-- a ticket that is put in the place of another is the other's, or has the amount
+stays-put : (n : ℕ) (xs : List (Option Ticket)) (m : ℕ) (x : Option Ticket) → ((t : Ticket) → n ≡ m → ticket_in xs n ≡ Some t → (u : Ticket) × (x ≡ Some u) × (t.amount ≡ u.amount)) → (there : IsThere (ticket_in xs m))
+    → (t : Ticket) → ticket_in xs n ≡ Some t → (u : Ticket) × (ticket_in (set_number xs m x) n ≡ Some u) × (t.amount ≡ u.amount)
+stays-put n xs m x was (old, there) t is = by (number-set xs m x n)
+  where
+    by : (at_number (set_number xs m x) n ≡ at_number xs n) ⊎ ((n ≡ suc (m - 1)) × (at_number (set_number xs m x) n ≡ Some x)) → (u : Ticket) × (ticket_in (set_number xs m x) n ≡ Some u) × (t.amount ≡ u.amount)
+    by (inl same) = (t, ap option_flatten same ∙ is, refl)
+    by (inr (place, now)) =
+        let at : n ≡ m = place ∙ number-there xs m (Some old) (flatten-some (at_number xs m) old there) in
+        let (u, new, amount) = was t at is in (u, ap option_flatten now ∙ new, amount)
+
+command-stays : (n : ℕ) (s : State) (c : Command) → s.limits.reuse ≡ true → IsInOrder s → ¬ SetsAmountOf n (event.Command c) → ¬ RemovesTicket n (event.Command c) → Stays n s (command_step s c).state
+command-stays n s (MakeTicket amount currency) on order elsewhere left =
+    unrefused (Stays n s) s _ (command_effect s (MakeTicket amount currency)) (λ t is. (t, is, refl)) (λ _. stays-placed n s (record { amount = amount; issuer = currency_or_base s currency; target = target.Unfunded }) on order)
+command-stays n s (RemoveTicket m) on order elsewhere left =
+    unrefused (Stays n s) s _ (command_effect s (RemoveTicket m)) (λ t is. (t, is, refl)) (λ e.
+    let passed = all-pass ((is_none (ticket_in s.tickets m), NoTicket) ∷ (option_any is_funding (ticket_in s.tickets m), IsFunding) ∷ []) e in
+    stays-put n s.tickets m None (λ t at is. absurd (left (ap (λ k. event.Command (RemoveTicket k)) (sym at)))) (some-of (ticket_in s.tickets m) passed.0))
+command-stays n s (Fund m to) on order elsewhere left =
+    unrefused (Stays n s) s _ (command_effect s (Fund m to)) (λ t is. (t, is, refl)) (λ e.
+    let passed = all-pass ((is_none (ticket_in s.tickets m), NoTicket) ∷ (is_none (target_meant s to), NoTarget)
+    ∷ (option_any (is_currency 0) (target_meant s to), BaseFixed) ∷ (option_any (is_dead_thread s) (target_meant s to), DeadThread)
+    ∷ (option_any is_funding (ticket_in s.tickets m), IsFunding) ∷ (option_any (is_cycle s m) (target_meant s to), Cycle) ∷ []) e in
+    let goal = unwrap_or (target_meant s to) target.Unfunded in
+    stays-put n s.tickets m (option_map (retargeted goal) (ticket_in s.tickets m)) (λ t at is. (retargeted goal t, ap (option_map (retargeted goal)) (ap (ticket_in s.tickets) (sym at) ∙ is), refl)) (some-of (ticket_in s.tickets m) passed.0))
+command-stays n s (Unfund m) on order elsewhere left =
+    unrefused (Stays n s) s _ (command_effect s (Unfund m)) (λ t is. (t, is, refl)) (λ e.
+    let passed = all-pass ((is_none (ticket_in s.tickets m), NoTicket) ∷ (not (option_any is_funding (ticket_in s.tickets m)), NotFunding) ∷ []) e in
+    stays-put n s.tickets m (option_map (retargeted target.Unfunded) (ticket_in s.tickets m))
+    (λ t at is. (retargeted target.Unfunded t, ap (option_map (retargeted target.Unfunded)) (ap (ticket_in s.tickets) (sym at) ∙ is), refl)) (some-of (ticket_in s.tickets m) passed.0))
+command-stays n s (SetTicket m amount) on order elsewhere left =
+    unrefused (Stays n s) s _ (command_effect s (SetTicket m amount)) (λ t is. (t, is, refl)) (λ e.
+    let passed = all-pass ((is_bad_amount amount, BadAmount) ∷ (is_none (ticket_in s.tickets m), NoTicket) ∷ []) e in
+    stays-put n s.tickets m (option_map (reissued amount) (ticket_in s.tickets m))
+    (λ t at is. absurd (elsewhere (amount, ap (λ k. event.Command (SetTicket k amount)) (sym at)))) (some-of (ticket_in s.tickets m) passed.1.0))
+command-stays n s (MakeFunded amount currency name script) on order elsewhere left =
+    unrefused (Stays n s) s _ (command_effect s (MakeFunded amount currency name script)) (λ t is. (t, is, refl)) (λ _.
+    stays-placed n s (record { amount = amount; issuer = currency_or_base s currency; target = target.Thread (next_thread s) }) on order)
+command-stays n s other on order elsewhere left = unrefused (Stays n s) s (command_refusal s other) (command_effect s other) (λ t is. (t, is, refl)) (λ _ t is. (t, is, refl))
+
+other-stays : (n : ℕ) (s : State) (e : Event) → ¬ (by_event s e ≡ Console) → Stays n s (step s e).state
+other-stays n s e other t is = (t, ap (λ (tickets : List (Option Ticket)). ticket_in tickets n) (other-tickets s e other) ∙ is, refl)
+
+event-stays : (n : ℕ) (s : State) (e : Event) → s.limits.reuse ≡ true → IsInOrder s → ¬ SetsAmountOf n e → ¬ RemovesTicket n e → Stays n s (step s e).state
+event-stays n s (event.Command command) on order elsewhere left = command-stays n s command on order elsewhere left
+event-stays n s (event.Draw p d) on order elsewhere left = other-stays n s (event.Draw p d) (λ e. cc)
+event-stays n s (event.Expire p) on order elsewhere left = other-stays n s (event.Expire p) (λ e. cc)
+event-stays n s (event.Trap p ran action) on order elsewhere left = other-stays n s (event.Trap p ran action) (λ e. cc)
+event-stays n s (event.Preempt p ticks) on order elsewhere left = other-stays n s (event.Preempt p ticks) (λ e. cc)
+event-stays n s (event.Overrun p ticks) on order elsewhere left = other-stays n s (event.Overrun p ticks) (λ e. cc)
+event-stays n s (event.Wake t) on order elsewhere left = other-stays n s (event.Wake t) (λ e. cc)
+
+run-stays : (n : ℕ) (s : State) (events : List Event) → s.limits.reuse ≡ true → IsInOrder s → All (λ e. ¬ SetsAmountOf n e) events → All (λ e. ¬ RemovesTicket n e) events → Stays n s (state_after s events)
+run-stays n s [] on order elsewhere left t is = (t, is, refl)
+run-stays n s (e ∷ events) on order elsewhere left t is =
+    let (u, there, same) = event-stays n s e on order (All-head (λ x. ¬ SetsAmountOf n x) e events elsewhere) (All-head (λ x. ¬ RemovesTicket n x) e events left) t is in
+    let (v, at, also) = run-stays n (step s e).state events (ap (λ (limits : Sizes). limits.reuse) (step-limits s e) ∙ on) (step-order s e order)
+    (All-tail (λ x. ¬ SetsAmountOf n x) e events elsewhere) (All-tail (λ x. ¬ RemovesTicket n x) e events left) u there in
+    (v, at, same ∙ also)
+
+stays-amount : (n : ℕ) (s after : State) → Stays n s after → KeepsAmount (funding_of s) (funding_of after) n
+stays-amount n s after stays t u first second = let (v, at, same) = stays t first in same ∙ ap (λ (x : Ticket). x.amount) (some-injective v u (sym at ∙ second))
+
+-- ---- amounts
+
+-- an event that removes the ticket leaves none to compare
+removed-amount : (n : ℕ) (s : State) → KeepsAmount (funding_of s) (funding_of (step s (event.Command (RemoveTicket n))).state) n
+removed-amount n s t u first second = by (command_refusal s (RemoveTicket n)) second
+  where
+    gone : ticket_in (without_ticket s.tickets n) n ≡ None
+    gone = ap option_flatten (number-set_same s.tickets n None (Some t) (flatten-some (at_number s.tickets n) t first))
+
+    by : (o : Option Refusal) → ticket_in (unless_refused s o (command_effect s (RemoveTicket n))).state.tickets n ≡ Some u → t.amount ≡ u.amount
+    by (Some refusal) is = ap (λ (x : Ticket). x.amount) (some-injective t u (sym first ∙ is))
+    by None is = let never : None ≡ Some u = sym gone ∙ is in cc
+
+-- the event removes the ticket, or doesn't
+removes : (n : ℕ) (e : Event) → RemovesTicket n e ⊎ (¬ RemovesTicket n e)
+removes n (event.Command (RemoveTicket m)) = by (cases_eq m n)
+  where
+    same-number : event.Command (RemoveTicket m) ≡ event.Command (RemoveTicket n) → m ≡ n
+    same-number e = cc
+
+    by : (m ≡ n) ⊎ (m ≡ n → ⊥) → RemovesTicket n (event.Command (RemoveTicket m)) ⊎ (¬ RemovesTicket n (event.Command (RemoveTicket m)))
+    by (inl same) = inl (ap (λ k. event.Command (RemoveTicket k)) same)
+    by (inr other) = inr (λ e. other (same-number e))
+removes n (event.Command (MakeTicket amount currency)) = inr (λ e. cc)
+removes n (event.Command (MakeCurrency name)) = inr (λ e. cc)
+removes n (event.Command (RemoveCurrency currency)) = inr (λ e. cc)
+removes n (event.Command (Fund m to)) = inr (λ e. cc)
+removes n (event.Command (Unfund m)) = inr (λ e. cc)
+removes n (event.Command (SetTicket m amount)) = inr (λ e. cc)
+removes n (event.Command (MakeThread name script)) = inr (λ e. cc)
+removes n (event.Command (RemoveThread thread)) = inr (λ e. cc)
+removes n (event.Command (Kill thread)) = inr (λ e. cc)
+removes n (event.Command (MakeFunded amount currency name script)) = inr (λ e. cc)
+removes n (event.Command (Listing kind)) = inr (λ e. cc)
+removes n (event.Draw p d) = inr (λ e. cc)
+removes n (event.Expire p) = inr (λ e. cc)
+removes n (event.Trap p ran action) = inr (λ e. cc)
+removes n (event.Preempt p ticks) = inr (λ e. cc)
+removes n (event.Overrun p ticks) = inr (λ e. cc)
+removes n (event.Wake t) = inr (λ e. cc)
+
+pub event-amount : (s : State) (e : Event) (n : ℕ) → ¬ SetsAmountOf n e → (s.limits.reuse ≡ true → IsInOrder s) → KeepsAmount (funding_of s) (funding_of (step s e).state) n
+event-amount s e n elsewhere order = at s.limits.reuse refl
+  where
+    by : s.limits.reuse ≡ true → RemovesTicket n e ⊎ (¬ RemovesTicket n e) → KeepsAmount (funding_of s) (funding_of (step s e).state) n
+    by on (inl is) = subst (λ x. KeepsAmount (funding_of s) (funding_of (step s x).state) n) (sym is) (removed-amount n s)
+    by on (inr left) = stays-amount n s (step s e).state (event-stays n s e on (order on) elsewhere left)
+
+    at : (reuse : Bool) → s.limits.reuse ≡ reuse → KeepsAmount (funding_of s) (funding_of (step s e).state) n
+    at false once = amount-kept n s (step s e).state (event-tickets n s e once elsewhere)
+    at true on = by on (removes n e)
+
+pub run-amount : (s : State) (events : List Event) (n : ℕ) → All (λ e. ¬ SetsAmountOf n e) events → (s.limits.reuse ≡ true → IsInOrder s × All (λ e. ¬ RemovesTicket n e) events)
+    → KeepsAmount (funding_of s) (funding_of (state_after s events)) n
+run-amount s events n elsewhere stays = at s.limits.reuse refl
+  where
+    at : (reuse : Bool) → s.limits.reuse ≡ reuse → KeepsAmount (funding_of s) (funding_of (state_after s events)) n
+    at false once = amount-kept n s (state_after s events) (run-tickets n s events once elsewhere)
+    at true on = let (order, left) = stays on in stays-amount n s (state_after s events) (run-stays n s events on order elsewhere left)
 
 -- ---- an amount that is set
 

@@ -1,6 +1,6 @@
 -- What holds of each ticket that a command makes or aims holds of each ticket in a reachable state: no amount is 0,
 -- and none funds base.
-use Rattle.std.proofs.Common.{◌≡◌, ◌≢◌, ℕ, ◌+◌, ◌<◌, ◌==◌, ◌⊎◌, inl, inr, zero, suc, ◌||◌, not, ◌-◌, true, false, length, nat_lt, is_none, unwrap_or, Option, Some, None, List, [], ◌∷◌, ◌++◌, option_map, refl, sym, ◌∙◌, ap, subst, arith}
+use Rattle.std.proofs.Common.{◌≡◌, ◌≢◌, ℕ, ◌<◌, ◌==◌, ◌⊎◌, inl, inr, zero, suc, ◌||◌, not, ◌-◌, true, false, nat_lt, is_none, unwrap_or, Option, Some, None, List, [], ◌∷◌, ◌++◌, option_map, refl, sym, ◌∙◌, ap, subst, arith}
 use Rattle.std.specs.Option.{option_flatten}
 use Rattle.std.proofs.lemmas.Bool.{or_parts, eqb-false}
 use Rattle.lot_machine.specs.declared.ticket.Ticket.{Ticket}
@@ -13,13 +13,15 @@ use Rattle.lot_machine.specs.declared.event.Event.TheVariants as event
 use Rattle.lot_machine.specs.declared.refusal.Refusal.TheVariants.{BadName, NameTaken, NoCurrency, NoTicket, NoTarget, BadAmount, Funding, Cycle, BaseFixed, DeadThread, Full, NoScript}
 use Rattle.lot_machine.specs.declared.sizes.Sizes.{Sizes}
 use Rattle.lot_machine.specs.Numbered.{at_number, set_number, option_any}
-use Rattle.lot_machine.specs.Funding.{ticket_in, with_new_ticket, without_ticket, with_target, retargeted, with_amount, reissued, is_currency}
-use Rattle.lot_machine.specs.State.{State, opening, funding_of}
+use Rattle.lot_machine.specs.Places.{placed}
+use Rattle.lot_machine.specs.Funding.{ticket_in, without_ticket, with_target, retargeted, with_amount, reissued, is_currency}
+use Rattle.lot_machine.specs.State.{State, free_tickets, next_thread, opening, funding_of}
 use Rattle.lot_machine.specs.Commands.{currency_meant, is_good_name, is_taken, is_bad_amount, is_no_script, are_tickets_full, are_threads_full, is_dead_thread, is_funding, is_cycle, command_refusal, command_effect, command_step, currency_or_base, target_meant}
 use Rattle.lot_machine.specs.Order.{IsInOrder}
 use Rattle.lot_machine.specs.Step.{step, state_after}
 use Rattle.lot_machine.proofs.Tickets.{some-injective, ticket_in-suc}
-use Rattle.lot_machine.proofs.Changes.{number-push, number-set}
+use Rattle.lot_machine.proofs.Changes.{number-set}
+use Rattle.lot_machine.proofs.Places.{number-placed}
 use Rattle.lot_machine.proofs.CommandsKept.{unrefused, all-pass}
 use Rattle.lot_machine.proofs.OrderKept.{reached-order}
 use Rattle.lot_laws.specs.Conservation.{HasAmounts}
@@ -42,15 +44,16 @@ module _ (IsSo : Ticket → Type 0)
   abbrev Each : List (Option Ticket) → Type 0
   Each xs = (n : ℕ) (t : Ticket) → ticket_in xs n ≡ Some t → IsSo t
 
-  one-more : (xs : List (Option Ticket)) (amount issuer : ℕ) (to : Target) → is_bad_amount amount ≡ false → to ≢ target.Currency 0 → Each xs → Each (with_new_ticket xs amount issuer to)
-  one-more xs amount issuer to good user each n t at = by (number-push xs (Some new) n)
+  one-more : (xs : List (Option Ticket)) (free : List ℕ) (amount issuer : ℕ) (to : Target) → is_bad_amount amount ≡ false → to ≢ target.Currency 0 → Each xs
+      → Each (placed xs free (Some (record { amount = amount; issuer = issuer; target = to })))
+  one-more xs free amount issuer to good user each n t at = by (number-placed xs free (Some new) n)
     where
       new : Ticket
       new = record { amount = amount; issuer = issuer; target = to }
 
-      by : (at_number (xs ++ Some new ∷ []) n ≡ at_number xs n) ⊎ ((at_number xs n ≡ None) × (at_number (xs ++ Some new ∷ []) n ≡ Some (Some new))) → IsSo t
+      by : (at_number (placed xs free (Some new)) n ≡ at_number xs n) ⊎ (at_number (placed xs free (Some new)) n ≡ Some (Some new)) → IsSo t
       by (inl same) = each n t (sym (ap option_flatten same) ∙ at)
-      by (inr (none, is)) = subst IsSo (some-injective new t (sym (ap option_flatten is) ∙ at)) (made amount issuer to good user)
+      by (inr is) = subst IsSo (some-injective new t (sym (ap option_flatten is) ∙ at)) (made amount issuer to good user)
 
   one-changed : (xs : List (Option Ticket)) (m : ℕ) (x : Option Ticket) → ((t : Ticket) → x ≡ Some t → IsSo t) → Each xs → Each (set_number xs m x)
   one-changed xs m x new each n t at = by (number-set xs m x n)
@@ -85,7 +88,7 @@ module _ (IsSo : Ticket → Type 0)
   command-each s (MakeTicket amount currency) each =
       unrefused EachIn s _ (command_effect s (MakeTicket amount currency)) each (λ e.
       let passed = all-pass ((is_bad_amount amount, BadAmount) ∷ (is_none (currency_meant s currency), NoCurrency) ∷ (are_tickets_full s, Full) ∷ []) e in
-      one-more s.tickets amount (currency_or_base s currency) target.Unfunded passed.0 (λ same. cc) each)
+      one-more s.tickets (free_tickets s) amount (currency_or_base s currency) target.Unfunded passed.0 (λ same. cc) each)
   command-each s (RemoveTicket n) each = unrefused EachIn s _ (command_effect s (RemoveTicket n)) each (λ _. removed s.tickets n each)
   command-each s (Fund n to) each =
       unrefused EachIn s _ (command_effect s (Fund n to)) each (λ e.
@@ -101,7 +104,7 @@ module _ (IsSo : Ticket → Type 0)
       unrefused EachIn s _ (command_effect s (MakeFunded amount currency name script)) each (λ e.
       let passed = all-pass ((is_bad_amount amount, BadAmount) ∷ (is_none (currency_meant s currency), NoCurrency) ∷ (not (is_good_name name), BadName)
       ∷ (is_taken s name, NameTaken) ∷ (is_no_script s script, NoScript) ∷ (are_tickets_full s || are_threads_full s, Full) ∷ []) e in
-      one-more s.tickets amount (currency_or_base s currency) (target.Thread (length s.threads + 1)) passed.0 (λ same. cc) each)
+      one-more s.tickets (free_tickets s) amount (currency_or_base s currency) (target.Thread (next_thread s)) passed.0 (λ same. cc) each)
   command-each s other each = unrefused EachIn s (command_refusal s other) (command_effect s other) each (λ _. each)
 
   unchanged : (s : State) (e : Event) → ¬ (by_event s e ≡ Console) → EachIn s → EachIn (step s e).state

@@ -1,8 +1,6 @@
 -- A ticket more inside a currency, or one with another amount: all that changes is inside it, and it stays active.
-use Rattle.std.proofs.Common.{◌≡◌, ◌≢◌, ℕ, zero, suc, ◌+◌, ◌-◌, ◌<◌, ◌≤◌, ◌⊎◌, inl, inr, not, Bool, true, false, is_none, Option, Some, None, List, [], ◌∷◌, ◌++◌, length, map, option_map, option_and_then, unwrap_or, slice_get, get_or, refl, sym, ◌∙◌, ap, subst, arith}
+use Rattle.std.proofs.Common.{◌≡◌, cond, ◌≢◌, ℕ, zero, suc, ◌+◌, ◌-◌, ◌<◌, ◌≤◌, ◌⊎◌, inl, inr, not, Bool, true, false, is_none, Option, Some, None, List, [], ◌∷◌, length, map, option_map, option_and_then, unwrap_or, slice_get, refl, sym, ◌∙◌, ap, subst, arith}
 use Rattle.std.specs.Option.{option_flatten}
-use Rattle.std.proofs.lemmas.List.{length-append}
-use Rattle.std.proofs.lemmas.Option.{slice_get_within, slice_get_cases}
 use Rattle.lot_machine.specs.declared.ticket.Ticket.{Ticket}
 use Rattle.lot_machine.specs.declared.ticket.Target.{Target}
 use Rattle.lot_machine.specs.declared.ticket.Target.TheVariants as target
@@ -12,6 +10,7 @@ use Rattle.lot_machine.specs.declared.funding.Edge.{Edge}
 use Rattle.lot_machine.specs.declared.funding.Edge.TheVariants.{OfTicket, OfLender, OfMutex}
 use Rattle.lot_machine.specs.declared.funding.Lend.{Lend}
 use Rattle.lot_machine.specs.declared.record.Record.{Record}
+use Rattle.lot_machine.specs.declared.record.Status.{Status}
 use Rattle.lot_machine.specs.declared.record.Status.TheVariants as status
 use Rattle.lot_machine.specs.declared.command.Command.TheVariants.{Fund, MakeFunded, SetTicket}
 use Rattle.lot_machine.specs.declared.reference.CurrencyRef.{CurrencyRef}
@@ -21,19 +20,24 @@ use Rattle.lot_machine.specs.declared.event.Event.TheVariants as event
 use Rattle.lot_machine.specs.declared.refusal.Refusal.{Refusal}
 use Rattle.lot_machine.specs.declared.refusal.Refusal.TheVariants.{NoTicket, NoTarget, Funding as IsFunding, Cycle, BaseFixed, DeadThread}
 use Rattle.lot_machine.specs.Numbered.{at_number, option_any}
-use Rattle.lot_machine.specs.Funding.{Funding, ticket_at, ticket_in, with_new_ticket, with_target, retargeted, target_node, lend_node, issuer_of, is_currency, ends_of, IsEdge, weighed_of, with_amount, reissued}
+use Rattle.lot_machine.specs.Places.{next_place, placed}
+use Rattle.lot_machine.specs.Funding.{Funding, ticket_at, ticket_in, with_target, retargeted, target_node, lend_node, issuer_of, is_currency, ends_of, IsEdge, weighed_of, with_amount, reissued}
 use Rattle.lot_machine.specs.Lends.{IsLive}
 use Rattle.lot_machine.specs.Activity.{IsActive, is_active, active_amount}
 use Rattle.lot_machine.specs.Facts.{HasNoCycle, FundsThere}
 use Rattle.lot_machine.specs.Equations.{HasEquation}
 use Rattle.lot_machine.specs.Touched.{IsChangedEdge, IsChangedLife}
-use Rattle.lot_machine.specs.State.{State, opening, funding_of, live_of, lend_of, is_live_status}
-use Rattle.lot_machine.specs.Commands.{currency_meant, target_meant, currency_or_base, is_dead_thread, is_funding, is_unfunded, is_cycle, command_refusal, command_effect, unless_refused, with_thread}
+use Rattle.lot_machine.specs.Order.{IsInOrder}
+use Rattle.lot_machine.specs.State.{State, free_tickets, free_threads, next_thread, status_of, opening, funding_of, live_of, lend_of, is_live_status}
+use Rattle.lot_machine.specs.Commands.{currency_meant, target_meant, currency_or_base, is_dead_thread, is_funding, is_unfunded, is_cycle, command_refusal, command_effect, unless_refused, with_ticket, with_thread}
 use Rattle.lot_machine.specs.Step.{step, state_after}
 use Rattle.lot_machine.proofs.Tickets.{at_number-suc, some-injective, issuer-of, ticket-of, flatten-some}
 use Rattle.lot_machine.proofs.TicketDepth.{is_active-exact}
 use Rattle.lot_machine.proofs.NodeBounds.{issuer-amount}
-use Rattle.lot_machine.proofs.Changes.{number-set, number-push, number-there}
+use Rattle.lot_machine.proofs.Changes.{number-set, number-there}
+use Rattle.lot_machine.proofs.Places.{number-next}
+use Rattle.lot_machine.proofs.EachOnce.{contains-at}
+use Rattle.lot_machine.proofs.StepChanges.{free-dead}
 use Rattle.lot_machine.proofs.CommandsKept.{all-pass}
 use Rattle.lot_machine.proofs.TrapCycles.{at_number-map}
 use Rattle.lot_machine.proofs.StepSizes.{step-grown}
@@ -43,6 +47,7 @@ use Rattle.lot_laws.specs.Reachable.{IsReachable, IsWellFormed}
 use Rattle.lot_laws.proofs.KeptPaths.{ends-ticket, ticket-ends, chain-aims, active-same, ends-kept}
 use Rattle.lot_laws.proofs.KeptValues.{ends, weighed}
 use Rattle.lot_laws.proofs.Enclosed.{active-found}
+use Rattle.lot_laws.proofs.EachTicket.{reachable-order}
 use Rattle.lot_laws.proofs.StaysInside.{well-formed, reachable-run, run-inside}
 use Rattle.lot_machine.proofs.Weighed.{there-weighed, weighed-there}
 
@@ -343,97 +348,144 @@ run-many s (e ∷ events) same = run-many (step s e).state events (step-many s e
 reachable-many : (s : State) → IsReachable s → length s.threads ≡ length s.records
 reachable-many s (limits, events, bounds, is) = subst (λ x. length x.threads ≡ length x.records) (sym is) (run-many (opening limits) events refl)
 
--- the number of what is added at the end
-new-number : {A : Type 0} (xs : List A) (x : A) (n : ℕ) → at_number xs n ≡ None → at_number (xs ++ x ∷ []) n ≡ Some x → n ≡ length xs + 1
-new-number {A = A} xs x zero none is = cc
-new-number {A = A} xs x (suc i) none is = by (slice_get_cases xs i).1
-  where
-    low : i < length xs + 1
-    low = let within = slice_get_within (xs ++ x ∷ []) i x (sym (at_number-suc (xs ++ x ∷ []) i) ∙ is) in omega (arith, within, length-append xs (x ∷ []))
-
-    by : ((y : A) × (i < length xs) × (slice_get xs i ≡ Some y) × (get_or xs i y ≡ y)) ⊎ ((length xs ≤ i) × (slice_get xs i ≡ None)) → suc i ≡ length xs + 1
-    by (inl found) = let never : None ≡ Some found.0 = sym none ∙ at_number-suc xs i ∙ found.2 in cc
-    by (inr past) = omega (arith, low, past.0)
+-- who is made has the same number in both tables
+next-same : {A B : Type 0} (xs : List A) (ys : List B) (free : List ℕ) → length xs ≡ length ys → next_place xs free ≡ next_place ys free
+next-same xs ys [] many = many
+next-same xs ys (place ∷ free) many = refl
 
 -- ---- a new thread with a ticket of the currency
 
 module _ (s : State) (amount c : ℕ) (currency : CurrencyRef) (name : List ℕ) (script : ℕ) (inside : Node → Bool) (issued : currency_meant s currency ≡ Some c)
-    (new : inside (Thread (length s.threads + 1)) ≡ true) (many : length s.threads ≡ length s.records) where
+    (new : inside (Thread (next_thread s)) ≡ true) (many : length s.threads ≡ length s.records) (order : IsInOrder s) where
   abbrev fresh : Record
   fresh = record { status = status.Ready; compensation = None; delivered = None; quanta = 0; ticks = 0 }
 
   abbrev its-ticket : Ticket
-  its-ticket = record { amount = amount; issuer = currency_or_base s currency; target = target.Thread (length s.threads + 1) }
+  its-ticket = record { amount = amount; issuer = currency_or_base s currency; target = target.Thread (next_thread s) }
 
   abbrev made : State
-  made = record (with_thread s name script) { tickets = with_new_ticket s.tickets amount (currency_or_base s currency) (target.Thread (length s.threads + 1)) }
+  made = with_ticket (with_thread s name script) its-ticket
 
-  -- the edge of a thread with this record
-  abbrev lend-edge : ℕ → Option Record → Option (Node × Node)
-  lend-edge t o = option_and_then (λ (lend : Lend). option_map (λ (to : Node). (Thread t, to)) (lend_node lend)) (option_map (λ (r : Record). lend_of r.status) o)
+  -- a record stays, or it is the new thread's; before, the number was nobody's, or a dead thread's
+  abbrev RecordAt : ℕ → Type 0
+  RecordAt t = (at_number (placed s.records (free_threads s) fresh) t ≡ at_number s.records t)
+      ⊎ ((t ≡ next_thread s) × (at_number (placed s.records (free_threads s) fresh) t ≡ Some fresh) × ((status_of s.records t ≡ None) ⊎ (status_of s.records t ≡ Some status.Dead)))
 
-  lender-is : (records : List Record) (t : ℕ) → option_and_then (λ (lend : Lend). option_map (λ (to : Node). (Thread t, to)) (lend_node lend)) (at_number (map (λ (r : Record). lend_of r.status) records) t) ≡ lend-edge t (at_number records t)
-  lender-is records t = ap (option_and_then (λ (lend : Lend). option_map (λ (to : Node). (Thread t, to)) (lend_node lend))) (at_number-map (λ (r : Record). lend_of r.status) records t)
+  record-at : (t : ℕ) → RecordAt t
+  record-at t = from (number-next s.records (free_threads s) fresh t)
+    where
+      before : (at_number s.records t ≡ None) ⊎ (slice_get (free_threads s) 0 ≡ Some (t - 1)) → suc (t - 1) ≡ t → (status_of s.records t ≡ None) ⊎ (status_of s.records t ≡ Some status.Dead)
+      before (inl none) number = inl (ap (option_map (λ (r : Record). r.status)) none)
+      before (inr first) number = inr (ap (status_of s.records) (sym number) ∙ free-dead s order.gaps order.removed (t - 1) first)
+
+      from : (at_number (placed s.records (free_threads s) fresh) t ≡ at_number s.records t)
+          ⊎ ((t ≡ next_place s.records (free_threads s) + 1) × (at_number (placed s.records (free_threads s) fresh) t ≡ Some fresh) × ((at_number s.records t ≡ None) ⊎ (slice_get (free_threads s) 0 ≡ Some (t - 1)))) → RecordAt t
+      from (inl same) = inl same
+      from (inr (number, now, was)) = inr (number ∙ ap (λ n. n + 1) (sym (next-same s.threads s.records (free_threads s) many)), now, before was (omega (arith, number)))
+
+  -- a ticket stays, or it is the new one; before, there was none
+  ticket-at_new : (m : ℕ) → (at_number (placed s.tickets (free_tickets s) (Some its-ticket)) m ≡ at_number s.tickets m)
+      ⊎ ((ticket_in s.tickets m ≡ None) × (at_number (placed s.tickets (free_tickets s) (Some its-ticket)) m ≡ Some (Some its-ticket)))
+  ticket-at_new m = from (number-next s.tickets (free_tickets s) (Some its-ticket) m)
+    where
+      gap : (reuse : Bool) → s.limits.reuse ≡ reuse → slice_get (cond {A = List ℕ} reuse s.freed.tickets []) 0 ≡ Some (m - 1) → suc (m - 1) ≡ m → ticket_in s.tickets m ≡ None
+      gap false is first number = cc
+      gap true is first number =
+          ap (ticket_in s.tickets) (sym number) ∙ ap option_flatten (at_number-suc s.tickets (m - 1) ∙ (order.gaps is).tickets.each (m - 1) (contains-at s.freed.tickets 0 (m - 1) first))
+
+      before : (at_number s.tickets m ≡ None) ⊎ (slice_get (free_tickets s) 0 ≡ Some (m - 1)) → suc (m - 1) ≡ m → ticket_in s.tickets m ≡ None
+      before (inl none) number = ap option_flatten none
+      before (inr first) number = gap s.limits.reuse refl first number
+
+      from : (at_number (placed s.tickets (free_tickets s) (Some its-ticket)) m ≡ at_number s.tickets m)
+          ⊎ ((m ≡ next_place s.tickets (free_tickets s) + 1) × (at_number (placed s.tickets (free_tickets s) (Some its-ticket)) m ≡ Some (Some its-ticket)) × ((at_number s.tickets m ≡ None) ⊎ (slice_get (free_tickets s) 0 ≡ Some (m - 1))))
+          → (at_number (placed s.tickets (free_tickets s) (Some its-ticket)) m ≡ at_number s.tickets m)
+          ⊎ ((ticket_in s.tickets m ≡ None) × (at_number (placed s.tickets (free_tickets s) (Some its-ticket)) m ≡ Some (Some its-ticket)))
+      from (inl same) = inl same
+      from (inr (number, now, was)) = inr (before was (omega (arith, number)), now)
+
+  -- the edge of a thread with this status
+  abbrev lend-edge : ℕ → Option Status → Option (Node × Node)
+  lend-edge t o = option_and_then (λ (lend : Lend). option_map (λ (to : Node). (Thread t, to)) (lend_node lend)) (option_map lend_of o)
+
+  lender-is : (records : List Record) (t : ℕ) → option_and_then (λ (lend : Lend). option_map (λ (to : Node). (Thread t, to)) (lend_node lend)) (at_number (map (λ (r : Record). lend_of r.status) records) t) ≡ lend-edge t (status_of records t)
+  lender-is records t = ap (option_and_then (λ (lend : Lend). option_map (λ (to : Node). (Thread t, to)) (lend_node lend))) (at_number-map (λ (r : Record). lend_of r.status) records t ∙ twice (at_number records t))
+    where
+      twice : (o : Option Record) → option_map (λ (r : Record). lend_of r.status) o ≡ option_map lend_of (option_map (λ (r : Record). r.status) o)
+      twice None = refl
+      twice (Some r) = refl
+
+  -- nobody lends nothing, nor does a dead thread
+  no-edge : (t : ℕ) → (status_of s.records t ≡ None) ⊎ (status_of s.records t ≡ Some status.Dead) → lend-edge t (status_of s.records t) ≡ None
+  no-edge t (inl none) = ap (lend-edge t) none
+  no-edge t (inr dead) = ap (lend-edge t) dead
+
+  lend-same : (t : ℕ) → ends_of (funding_of made) (OfLender t) ≡ ends_of (funding_of s) (OfLender t)
+  lend-same t = by (record-at t)
+    where
+      by : RecordAt t → ends_of (funding_of made) (OfLender t) ≡ ends_of (funding_of s) (OfLender t)
+      by (inl same) = lender-is (placed s.records (free_threads s) fresh) t ∙ ap (λ o. lend-edge t (option_map (λ (r : Record). r.status) o)) same ∙ sym (lender-is s.records t)
+      by (inr (number, now, was)) = lender-is (placed s.records (free_threads s) fresh) t ∙ ap (λ o. lend-edge t (option_map (λ (r : Record). r.status) o)) now ∙ sym (no-edge t was) ∙ sym (lender-is s.records t)
 
   lend-on : (t : ℕ) (from to : Node) → ends_of (funding_of s) (OfLender t) ≡ ends from to → ends_of (funding_of made) (OfLender t) ≡ ends from to
-  lend-on t from to is = lender-is (s.records ++ fresh ∷ []) t ∙ by (number-push s.records fresh t)
-    where
-      by : (at_number (s.records ++ fresh ∷ []) t ≡ at_number s.records t) ⊎ ((at_number s.records t ≡ None) × (at_number (s.records ++ fresh ∷ []) t ≡ Some fresh)) → lend-edge t (at_number (s.records ++ fresh ∷ []) t) ≡ ends from to
-      by (inl same) = ap (lend-edge t) same ∙ sym (lender-is s.records t) ∙ is
-      by (inr (none, now)) = let never : None ≡ ends from to = sym (ap (lend-edge t) none) ∙ sym (lender-is s.records t) ∙ is in cc
+  lend-on t from to is = lend-same t ∙ is
 
   lend-back : (t : ℕ) (from to : Node) → ends_of (funding_of made) (OfLender t) ≡ ends from to → ends_of (funding_of s) (OfLender t) ≡ ends from to
-  lend-back t from to is = by (number-push s.records fresh t)
-    where
-      by : (at_number (s.records ++ fresh ∷ []) t ≡ at_number s.records t) ⊎ ((at_number s.records t ≡ None) × (at_number (s.records ++ fresh ∷ []) t ≡ Some fresh)) → ends_of (funding_of s) (OfLender t) ≡ ends from to
-      by (inl same) = lender-is s.records t ∙ sym (ap (lend-edge t) same) ∙ sym (lender-is (s.records ++ fresh ∷ []) t) ∙ is
-      by (inr (none, now)) = let never : None ≡ ends from to = sym (ap (lend-edge t) now) ∙ sym (lender-is (s.records ++ fresh ∷ []) t) ∙ is in cc
+  lend-back t from to is = sym (lend-same t) ∙ is
 
   make-on : (edge : Edge) (from to : Node) (weight : ℕ) → weighed_of (funding_of s) edge ≡ weighed from to weight → weighed_of (funding_of made) edge ≡ weighed from to weight
-  make-on (OfTicket m) from to weight is = by (number-push s.tickets (Some its-ticket) m)
+  make-on (OfTicket m) from to weight is = by (ticket-at_new m)
     where
-      by : (at_number (s.tickets ++ Some its-ticket ∷ []) m ≡ at_number s.tickets m) ⊎ ((at_number s.tickets m ≡ None) × (at_number (s.tickets ++ Some its-ticket ∷ []) m ≡ Some (Some its-ticket)))
-          → edge-of (ticket_in (s.tickets ++ Some its-ticket ∷ []) m) ≡ weighed from to weight
+      by : (at_number (placed s.tickets (free_tickets s) (Some its-ticket)) m ≡ at_number s.tickets m) ⊎ ((ticket_in s.tickets m ≡ None) × (at_number (placed s.tickets (free_tickets s) (Some its-ticket)) m ≡ Some (Some its-ticket)))
+          → edge-of (ticket_in (placed s.tickets (free_tickets s) (Some its-ticket)) m) ≡ weighed from to weight
       by (inl same) = ap edge-of (ap option_flatten same) ∙ is
-      by (inr (none, now)) = let never : None ≡ weighed from to weight = sym (ap edge-of (ap option_flatten none)) ∙ is in cc
+      by (inr (none, now)) = let never : None ≡ weighed from to weight = sym (ap edge-of none) ∙ is in cc
   make-on (OfLender t) from to weight is = lender-kept (funding_of s) (funding_of made) t from to weight (lend-on t from to) is
   make-on (OfMutex m) from to weight is = is
 
   make-back : (edge : Edge) (from to : Node) (weight : ℕ) → weighed_of (funding_of made) edge ≡ weighed from to weight → (weighed_of (funding_of s) edge ≡ weighed from to weight) ⊎ LeadsInside c inside from to
-  make-back (OfTicket m) from to weight is = by (number-push s.tickets (Some its-ticket) m)
+  make-back (OfTicket m) from to weight is = by (ticket-at_new m)
     where
-      by : (at_number (s.tickets ++ Some its-ticket ∷ []) m ≡ at_number s.tickets m) ⊎ ((at_number s.tickets m ≡ None) × (at_number (s.tickets ++ Some its-ticket ∷ []) m ≡ Some (Some its-ticket)))
+      by : (at_number (placed s.tickets (free_tickets s) (Some its-ticket)) m ≡ at_number s.tickets m) ⊎ ((ticket_in s.tickets m ≡ None) × (at_number (placed s.tickets (free_tickets s) (Some its-ticket)) m ≡ Some (Some its-ticket)))
           → (edge-of (ticket_in s.tickets m) ≡ weighed from to weight) ⊎ LeadsInside c inside from to
       by (inl same) = inl (sym (ap edge-of (ap option_flatten same)) ∙ is)
       by (inr (none, now)) =
           let (from_is, to_is) = edge-is its-ticket from to weight (sym (ap edge-of (ap option_flatten now)) ∙ is) in
-          let to_thread : Thread (length s.threads + 1) ≡ to = some-injective (Thread (length s.threads + 1)) to to_is in
+          let to_thread : Thread (next_thread s) ≡ to = some-injective (Thread (next_thread s)) to to_is in
           inr (inl (from_is ∙ ap (λ (o : Option ℕ). Currency (unwrap_or o 0)) issued), subst (λ x. inside x ≡ true) to_thread new)
   make-back (OfLender t) from to weight is = inl (lender-kept (funding_of made) (funding_of s) t from to weight (lend-back t from to) is)
   make-back (OfMutex m) from to weight is = inl is
 
-  -- whether the thread with this record lives
-  abbrev lives-by : Option Record → Option Bool
-  lives-by o = option_map (λ (r : Record). is_live_status r.status) o
+  life-is : (records : List Record) (t : ℕ) → at_number (map (λ (r : Record). is_live_status r.status) records) t ≡ option_map is_live_status (status_of records t)
+  life-is records t = at_number-map (λ (r : Record). is_live_status r.status) records t ∙ twice (at_number records t)
+    where
+      twice : (o : Option Record) → option_map (λ (r : Record). is_live_status r.status) o ≡ option_map is_live_status (option_map (λ (r : Record). r.status) o)
+      twice None = refl
+      twice (Some r) = refl
 
-  life-is : (records : List Record) (t : ℕ) → at_number (map (λ (r : Record). is_live_status r.status) records) t ≡ lives-by (at_number records t)
-  life-is records t = at_number-map (λ (r : Record). is_live_status r.status) records t
+  -- nobody lives, nor does a dead thread
+  lifeless : (t : ℕ) → (status_of s.records t ≡ None) ⊎ (status_of s.records t ≡ Some status.Dead) → ¬ IsLive (live_of s) t
+  lifeless t (inl none) alive = let never : None ≡ Some true = sym (ap (option_map is_live_status) none) ∙ sym (life-is s.records t) ∙ alive in cc
+  lifeless t (inr dead) alive = let never : Some false ≡ Some true = sym (ap (option_map is_live_status) dead) ∙ sym (life-is s.records t) ∙ alive in cc
+
+  -- the statuses of who was there
+  status-same : (t : ℕ) → at_number (placed s.records (free_threads s) fresh) t ≡ at_number s.records t → option_map is_live_status (status_of (placed s.records (free_threads s) fresh) t) ≡ option_map is_live_status (status_of s.records t)
+  status-same t same = ap (λ o. option_map is_live_status (option_map (λ (r : Record). r.status) o)) same
 
   make-life : (t : ℕ) → IsLive (live_of s) t → IsLive (live_of made) t
-  make-life t alive = life-is (s.records ++ fresh ∷ []) t ∙ by (number-push s.records fresh t)
+  make-life t alive = by (record-at t)
     where
-      by : (at_number (s.records ++ fresh ∷ []) t ≡ at_number s.records t) ⊎ ((at_number s.records t ≡ None) × (at_number (s.records ++ fresh ∷ []) t ≡ Some fresh)) → lives-by (at_number (s.records ++ fresh ∷ []) t) ≡ Some true
-      by (inl same) = ap lives-by same ∙ sym (life-is s.records t) ∙ alive
-      by (inr (none, now)) = let never : None ≡ Some true = sym (ap lives-by none) ∙ sym (life-is s.records t) ∙ alive in cc
+      by : RecordAt t → IsLive (live_of made) t
+      by (inl same) = life-is (placed s.records (free_threads s) fresh) t ∙ status-same t same ∙ sym (life-is s.records t) ∙ alive
+      by (inr (number, now, was)) = absurd (lifeless t was alive)
 
   make-lives : (t : ℕ) → IsChangedLife (live_of s) (live_of made) t → inside (Thread t) ≡ true
   make-lives t (inl (alive, ended)) = absurd (ended (make-life t alive))
-  make-lives t (inr (alive, none)) = by (number-push s.records fresh t)
+  make-lives t (inr (alive, none)) = by (record-at t)
     where
-      by : (at_number (s.records ++ fresh ∷ []) t ≡ at_number s.records t) ⊎ ((at_number s.records t ≡ None) × (at_number (s.records ++ fresh ∷ []) t ≡ Some fresh)) → inside (Thread t) ≡ true
-      by (inl same) = absurd (none (life-is s.records t ∙ sym (ap lives-by same) ∙ sym (life-is (s.records ++ fresh ∷ []) t) ∙ alive))
-      by (inr (was, now)) =
-          let number : length s.threads + 1 ≡ t = ap (λ n. n + 1) many ∙ sym (new-number s.records fresh t was now) in subst (λ x. inside (Thread x) ≡ true) number new
+      by : RecordAt t → inside (Thread t) ≡ true
+      by (inl same) = absurd (none (life-is s.records t ∙ sym (status-same t same) ∙ sym (life-is (placed s.records (free_threads s) fresh) t) ∙ alive))
+      by (inr (number, now, was)) = subst (λ x. inside (Thread x) ≡ true) (sym number) new
 
   pub make-kept : Encloses (funding_of s) c inside → IsReachable s → (e : Event) → (step s e).state ≡ made → 0 < amount_in s c → (node : Node) → inside node ≡ false → HasEquation (funding_of s) node
       → worth_in (step s e).state node ≡ worth_in s node
@@ -446,12 +498,12 @@ module _ (s : State) (amount c : ℕ) (currency : CurrencyRef) (name : List ℕ)
       run-inside s (e ∷ []) c inside reachable (subst (λ x. ChangesInside s x c inside) (sym is) change) (λ _. subst (λ x. 0 < amount_in x c) (sym is) active) (λ _. some)
 
 pub make-local : (s : State) (amount c : ℕ) (currency : CurrencyRef) (name : List ℕ) (script : ℕ) (inside : Node → Bool) → IsReachable s → Encloses (funding_of s) c inside → currency_meant s currency ≡ Some c
-    → inside (Thread (length s.threads + 1)) ≡ true → 0 < amount_in s c → (node : Node) → inside node ≡ false → HasEquation (funding_of s) node
+    → inside (Thread (next_thread s)) ≡ true → 0 < amount_in s c → (node : Node) → inside node ≡ false → HasEquation (funding_of s) node
     → worth_in (step s (event.Command (MakeFunded amount currency name script))).state node ≡ worth_in s node
 make-local s amount c currency name script inside reachable encloses issued new some node out has = by (command_refusal s (MakeFunded amount currency name script)) refl
   where
     by : (o : Option Refusal) → command_refusal s (MakeFunded amount currency name script) ≡ o → worth_in (step s (event.Command (MakeFunded amount currency name script))).state node ≡ worth_in s node
     by (Some refusal) is = ap (λ x. worth_in x node) (ap (λ o. (unless_refused s o (command_effect s (MakeFunded amount currency name script))).state) is)
     by None is =
-        make-kept s amount c currency name script inside issued new (reachable-many s reachable) encloses reachable (event.Command (MakeFunded amount currency name script))
+        make-kept s amount c currency name script inside issued new (reachable-many s reachable) (reachable-order s reachable) encloses reachable (event.Command (MakeFunded amount currency name script))
         (ap (λ o. (unless_refused s o (command_effect s (MakeFunded amount currency name script))).state) is) some node out has

@@ -21,6 +21,8 @@ pub mod StaysInside
 pub mod Inflated
 pub mod Served
 pub mod StayOut
+pub mod FullRefused
 pub mod Sleepers
 pub mod Listed
 pub mod Killed
+pub mod Issuers

@@ -1,5 +1,5 @@
 -- In a reachable state each thread that is served is among the clients of its server.
-use Rattle.std.proofs.Common.{◌≡◌, ℕ, zero, suc, ◌+◌, ◌-◌, ◌^◌, ◌<◌, ◌≤◌, ◌==◌, cond, Bool, true, false, not, ◌⊎◌, inl, inr, Option, Some, None, is_some, is_none, List, [], ◌∷◌, ◌++◌, length, map, drop, refl, sym, ◌∙◌, ap, subst, arith, nat_lt, nat_le, option_map, unwrap_or, get_or, slice_get, slice_index}
+use Rattle.std.proofs.Common.{◌≡◌, ℕ, zero, suc, ◌+◌, ◌-◌, ◌^◌, ◌<◌, ◌≤◌, ◌==◌, cond, Bool, true, false, not, ◌⊎◌, inl, inr, Option, Some, None, is_none, List, [], ◌∷◌, ◌++◌, length, map, drop, refl, sym, ◌∙◌, ap, subst, arith, nat_lt, option_map, unwrap_or, get_or, slice_get, slice_index}
 use Rattle.std.proofs.lemmas.Bool.{eqb-true}
 use Rattle.std.proofs.lemmas.List.{length-append}
 use Rattle.std.proofs.lemmas.Option.{slice_get_cases}
@@ -10,32 +10,34 @@ use Rattle.lot_machine.specs.declared.record.Status.TheVariants as status
 use Rattle.lot_machine.specs.declared.action.Action.{Action}
 use Rattle.lot_machine.specs.declared.action.Action.TheVariants.{Yield, Call, Receive, Reply as ReplyTo, Serve, Lock, Unlock, Sleep, Exit}
 use Rattle.lot_machine.specs.declared.command.Command.{Command}
-use Rattle.lot_machine.specs.declared.command.Command.TheVariants.{MakeTicket, RemoveTicket, MakeCurrency, RemoveCurrency, Fund, Unfund, SetTicket, MakeThread, RemoveThread, Kill, MakeFunded, List as Listing}
+use Rattle.lot_machine.specs.declared.command.Command.TheVariants.{MakeThread, Kill, MakeFunded}
 use Rattle.lot_machine.specs.declared.event.Event.{Event}
 use Rattle.lot_machine.specs.declared.event.Event.TheVariants as event
 use Rattle.lot_machine.specs.declared.refusal.Refusal.TheVariants.{NoThread, DeadThread, BadProcessor, NotRunning, BadTicks}
 use Rattle.lot_machine.specs.declared.refusal.TrapRefusal.{TrapRefusal}
 use Rattle.lot_machine.specs.declared.refusal.TrapRefusal.TheVariants.{NoPort, NothingToReply}
 use Rattle.lot_machine.specs.declared.drawn.Drawn.{Drawn}
-use Rattle.lot_machine.specs.declared.sizes.Sizes.{Sizes}
 use Rattle.lot_machine.specs.declared.after.After.{After}
 use Rattle.lot_machine.specs.declared.after.After.TheVariants.{GoesOn, Leaves, Ends}
-use Rattle.lot_machine.specs.Change.{NewThread, PutRecord, PutClients, newborn}
+use Rattle.lot_machine.specs.Change.{NewThread, PutRecord, PutClients}
 use Rattle.lot_machine.specs.Numbered.{at_number, set_number, option_any}
 use Rattle.lot_machine.specs.Lottery.{winner}
-use Rattle.lot_machine.specs.State.{State, Port, Mutex, QueuedCall, opening, status_of, thread_on, ready_threads, change_record, change_each, value_of, weight_of}
-use Rattle.lot_machine.specs.Commands.{thread_meant, is_dead_in, command_refusal, command_effect, command_step, with_thread}
+use Rattle.lot_machine.specs.Places.{next_place, placed}
+use Rattle.lot_machine.specs.State.{State, Port, QueuedCall, opening, free_threads, status_of, thread_on, ready_threads, change_record, change_each, value_of, weight_of}
+use Rattle.lot_machine.specs.Commands.{thread_meant, is_dead_in, command_refusal, command_effect, command_step, newborn}
 use Rattle.lot_machine.specs.Traps.{after_trap, with_ticks}
 use Rattle.lot_machine.specs.Ports.{clients_of, port_at, first_client, call, receive, reply}
 use Rattle.lot_machine.specs.Mutexes.{mutex_at, lock, unlock}
 use Rattle.lot_machine.specs.Kill.{without, released_by, released, ended, killed}
-use Rattle.lot_machine.specs.Step.{Effect, of_ports, of_mutexes, is_bad_processor, started, draw, stopped, trap, wake, trap_refusal, trap_effect, checked_effect, thread_there, used_there, event_effect, step, state_after}
-use Rattle.lot_machine.specs.Order.{IsQueue, IsInOrder}
+use Rattle.lot_machine.specs.Step.{Effect, of_ports, of_mutexes, is_bad_processor, started, draw, stopped, trap, trap_refusal, trap_effect, checked_effect, thread_there, used_there, event_effect, step, state_after}
+use Rattle.lot_machine.specs.Order.{IsInOrder}
 use Rattle.lot_machine.proofs.Tickets.{at_number-suc, some-injective}
-use Rattle.lot_machine.proofs.Changes.{number-push, number-set, number-there}
+use Rattle.lot_machine.proofs.Changes.{number-set, number-there}
+use Rattle.lot_machine.proofs.Places.{number-placed, number-next}
+use Rattle.lot_machine.proofs.EachOnce.{contains-at}
 use Rattle.lot_machine.proofs.CommandsKept.{unrefused, all-pass}
 use Rattle.lot_machine.proofs.RecordsKept.{status-changed, numbered}
-use Rattle.lot_machine.proofs.Queues.{number-set_same, record-of, status-now, status-other}
+use Rattle.lot_machine.proofs.Queues.{number-set_same, status-now, status-other}
 use Rattle.lot_machine.proofs.TrapCycles.{at_number-map}
 use Rattle.lot_machine.proofs.Idle.{there-runs}
 use Rattle.lot_machine.proofs.OrderKept.{step-order, opening-order, meant-number}
@@ -55,7 +57,11 @@ served-same : (m n : ℕ) → status.Served m ≡ status.Served n → m ≡ n
 served-same m n e = cc
 
 change-lists : (by : By) (s : State) → Keeps by s HasLists
-change-lists by s a (NewThread t) allowed same = length-append a.clients ([] ∷ []) ∙ ap (λ n. n + 1) same ∙ sym (length-append a.records (newborn ∷ []))
+change-lists by s a (NewThread t) allowed same = by-free (free_threads a)
+  where
+    by-free : (free : List ℕ) → length (placed a.clients free []) ≡ length (placed a.records free newborn)
+    by-free [] = length-append a.clients ([] ∷ []) ∙ ap (λ n. n + 1) same ∙ sym (length-append a.records (newborn ∷ []))
+    by-free (i ∷ free) = length-set a.clients i [] ∙ same ∙ sym (length-set a.records i newborn)
 change-lists by s a (PutRecord t r) allowed same = same ∙ sym (length-set a.records (t - 1) r)
 change-lists by s a (PutClients t clients) allowed same = length-set a.clients (t - 1) clients ∙ same
 change-lists by s a other allowed same = same
@@ -249,20 +255,38 @@ module _ (finish : After → Record → Record) (leaves : (now : Status) (r : Re
 
 -- ---- commands
 
--- one thread more, which is Ready and serves nobody
-keep-thread : (records : List Record) (clients : List (List ℕ)) → AreListed records clients → AreListed (records ++ newborn ∷ []) (clients ++ [] ∷ [])
-keep-thread records clients listed u v is = from (number-push records newborn u)
-  where
-    more : IsAmong (clients_of clients v) u → (at_number (clients ++ [] ∷ []) v ≡ at_number clients v) ⊎ ((at_number clients v ≡ None) × (at_number (clients ++ [] ∷ []) v ≡ Some [])) → IsAmong (clients_of (clients ++ [] ∷ []) v) u
-    more among (inl same) = subst (λ (o : Option (List ℕ)). IsAmong (unwrap_or o []) u) (sym same) among
-    more among (inr (none, new)) = let empty : IsAmong [] u = subst (λ (o : Option (List ℕ)). IsAmong (unwrap_or o []) u) none among in absurd (nothing empty)
-      where
-        nothing : IsAmong [] u → ⊥
-        nothing (place, e) = cc
+-- the thread of the first free place, if there is one, serves nobody
+abbrev FirstIsIdle : List (List ℕ) → List ℕ → Type 0
+FirstIsIdle clients free = (place : ℕ) → slice_get free 0 ≡ Some place → clients_of clients (suc place) ≡ []
 
-    from : (at_number (records ++ newborn ∷ []) u ≡ at_number records u) ⊎ ((at_number records u ≡ None) × (at_number (records ++ newborn ∷ []) u ≡ Some newborn)) → IsAmong (clients_of (clients ++ [] ∷ []) v) u
-    from (inl same) = more (listed u v (ap (option_map (λ (r : Record). r.status)) (sym same) ∙ is)) (number-push clients [] v)
-    from (inr (none, new)) = let never : Some status.Ready ≡ Some (status.Served v) = sym (ap (option_map (λ (r : Record). r.status)) new) ∙ is in cc
+-- a thread that leaves a free place serves nobody
+free-idle : (s : State) → IsInOrder s → FirstIsIdle s.clients (free_threads s)
+free-idle s order place = by s.limits.reuse refl
+  where
+    by : (reuse : Bool) → s.limits.reuse ≡ reuse → slice_get (cond {A = List ℕ} reuse s.freed.threads []) 0 ≡ Some place → clients_of s.clients (suc place) ≡ []
+    by false is first = cc
+    by true is first = order.idle (suc place) (at_number-suc s.threads place ∙ (order.gaps is).threads.each place (contains-at s.freed.threads 0 place first))
+
+-- one thread more, which is Ready and serves nobody
+keep-thread : (records : List Record) (clients : List (List ℕ)) (free : List ℕ) → FirstIsIdle clients free → AreListed records clients → AreListed (placed records free newborn) (placed clients free [])
+keep-thread records clients free idle listed u v is = from (number-placed records free newborn u)
+  where
+    nothing : IsAmong [] u → ⊥
+    nothing (place, e) = cc
+
+    more : IsAmong (clients_of clients v) u
+        → (at_number (placed clients free []) v ≡ at_number clients v) ⊎ ((v ≡ next_place clients free + 1) × (at_number (placed clients free []) v ≡ Some []) × ((at_number clients v ≡ None) ⊎ (slice_get free 0 ≡ Some (v - 1))))
+        → IsAmong (clients_of (placed clients free []) v) u
+    more among (inl same) = subst (λ (o : Option (List ℕ)). IsAmong (unwrap_or o []) u) (sym same) among
+    more among (inr (next, new, inl none)) = let empty : IsAmong [] u = subst (λ (o : Option (List ℕ)). IsAmong (unwrap_or o []) u) none among in absurd (nothing empty)
+    more among (inr (next, new, inr first)) =
+        let number : suc (v - 1) ≡ v = omega (arith, next) in
+        let none : clients_of clients v ≡ [] = ap (clients_of clients) (sym number) ∙ idle (v - 1) first in
+        let empty : IsAmong [] u = subst (λ (xs : List ℕ). IsAmong xs u) none among in absurd (nothing empty)
+
+    from : (at_number (placed records free newborn) u ≡ at_number records u) ⊎ (at_number (placed records free newborn) u ≡ Some newborn) → IsAmong (clients_of (placed clients free []) v) u
+    from (inl same) = more (listed u v (ap (option_map (λ (r : Record). r.status)) (sym same) ∙ is)) (number-next clients free [] v)
+    from (inr new) = let never : Some status.Ready ≡ Some (status.Served v) = sym (ap (option_map (λ (r : Record). r.status)) new) ∙ is in cc
 
 -- a kill
 keep-kill : (s : State) (t : ℕ) → suc (t - 1) ≡ t → AreListed s.records s.clients → AreListed (killed s t).records (killed s t).clients
@@ -322,10 +346,12 @@ keep-kill s t number listed u v is = from (killed-either s t u)
 abbrev ListedIn : State → Type 0
 ListedIn s = AreListed s.records s.clients
 
-command-listed : (s : State) (c : Command) → ListedIn s → ListedIn (command_step s c).state
-command-listed s (MakeThread name script) listed = unrefused ListedIn s _ (command_effect s (MakeThread name script)) listed (λ _. keep-thread s.records s.clients listed)
-command-listed s (MakeFunded amount currency name script) listed = unrefused ListedIn s _ (command_effect s (MakeFunded amount currency name script)) listed (λ _. keep-thread s.records s.clients listed)
-command-listed s (Kill thread) listed =
+command-listed : (s : State) (c : Command) → IsInOrder s → ListedIn s → ListedIn (command_step s c).state
+command-listed s (MakeThread name script) order listed =
+    unrefused ListedIn s _ (command_effect s (MakeThread name script)) listed (λ _. keep-thread s.records s.clients (free_threads s) (free-idle s order) listed)
+command-listed s (MakeFunded amount currency name script) order listed =
+    unrefused ListedIn s _ (command_effect s (MakeFunded amount currency name script)) listed (λ _. keep-thread s.records s.clients (free_threads s) (free-idle s order) listed)
+command-listed s (Kill thread) order listed =
     unrefused ListedIn s _ (command_effect s (Kill thread)) listed (λ e.
     let passed = all-pass ((is_none (thread_meant s thread), NoThread) ∷ (option_any (is_dead_in s) (thread_meant s thread), DeadThread) ∷ []) e in
     at (thread_meant s thread) refl passed.0)
@@ -333,7 +359,7 @@ command-listed s (Kill thread) listed =
     at : (o : Option ℕ) → thread_meant s thread ≡ o → is_none o ≡ false → ListedIn (killed s (unwrap_or o 0))
     at None meant named = cc
     at (Some t) meant named = keep-kill s t (meant-number s thread t meant) listed
-command-listed s other listed = unrefused ListedIn s (command_refusal s other) (command_effect s other) listed (λ _. listed)
+command-listed s other order listed = unrefused ListedIn s (command_refusal s other) (command_effect s other) listed (λ _. listed)
 
 -- ---- events and runs
 
@@ -359,7 +385,7 @@ stopped-listed : (s : State) (t ticks : ℕ) (compensation : Option ℕ) → Lis
 stopped-listed s t ticks compensation listed = keep-change (λ r. with_ticks ticks (record r { status = status.Ready; compensation = compensation })) s.records s.clients t (λ r v e. cc) listed
 
 event-listed : (s : State) (e : Event) → IsInOrder s → HasLists s → ListedIn s → ListedIn (step s e).state
-event-listed s (event.Command command) order lists listed = command-listed s command listed
+event-listed s (event.Command command) order lists listed = command-listed s command order listed
 event-listed s (event.Draw p d) order lists listed = unrefused ListedIn s _ (draw s p d) listed (λ _. draw-listed s p d listed)
 event-listed s (event.Expire p) order lists listed = unrefused ListedIn s _ (event_effect s (event.Expire p)) listed (λ _. stopped-listed s (thread_there s p) (s.limits.quantum - used_there s p) None listed)
 event-listed s (event.Preempt p ticks) order lists listed = unrefused ListedIn s _ (event_effect s (event.Preempt p ticks)) listed (λ _. stopped-listed s (thread_there s p) ticks None listed)

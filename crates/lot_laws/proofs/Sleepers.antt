@@ -1,5 +1,5 @@
 -- Who sleeps has nothing, and a sleep that ends at once is a yield.
-use Rattle.std.proofs.Common.{◌≡◌, ℕ, ◌+◌, ◌-◌, Bool, true, false, is_none, Option, Some, None, List, length, refl, sym, ◌∙◌, ap, nat_lt}
+use Rattle.std.proofs.Common.{◌≡◌, ℕ, ◌+◌, ◌-◌, false, Option, Some, None, List, length, refl, sym, ◌∙◌, ap}
 use Rattle.std.proofs.lemmas.List.{set-set}
 use Rattle.lot_machine.specs.declared.ticket.Ticket.{Ticket}
 use Rattle.lot_machine.specs.declared.ticket.Target.TheVariants as target
@@ -10,7 +10,6 @@ use Rattle.lot_machine.specs.declared.record.Status.TheVariants.{Ready, Running,
 use Rattle.lot_machine.specs.declared.action.Action.TheVariants.{Yield, Sleep}
 use Rattle.lot_machine.specs.declared.event.Event.TheVariants.{Trap, Wake}
 use Rattle.lot_machine.specs.declared.refusal.Refusal.{Refusal}
-use Rattle.lot_machine.specs.declared.after.After.{After}
 use Rattle.lot_machine.specs.declared.after.After.TheVariants.{Leaves}
 use Rattle.lot_machine.specs.Activity.{is_active, activates_within}
 use Rattle.lot_machine.specs.Commands.{unless_refused}

@@ -1,11 +1,12 @@
 -- Nothing refers to a thread that was removed: tickets, lends and owners that an event makes name a thread that is there.
-use Rattle.std.proofs.Common.{◌≡◌, ℕ, zero, suc, ◌+◌, ◌-◌, ◌⊎◌, inl, inr, Bool, true, false, not, Option, Some, None, is_none, List, [], ◌∷◌, ◌++◌, Contains, length, map, position, refl, sym, ◌∙◌, ap, subst, arith, nat_lt, option_map, option_and_then, unwrap_or, get_or, slice_get, slice_index}
+use Rattle.std.proofs.Common.{◌≡◌, ◌≢◌, cond, slice_set, ℕ, zero, suc, ◌+◌, ◌-◌, ◌⊎◌, inl, inr, Bool, true, false, not, Option, Some, None, is_none, List, [], ◌∷◌, ◌++◌, Contains, length, map, position, refl, sym, ◌∙◌, ap, subst, arith, nat_lt, option_map, option_and_then, unwrap_or, get_or, slice_get, slice_index}
 use Rattle.std.specs.Prelude.{remove}
 use Rattle.std.specs.Option.{option_flatten, option_or}
 use Rattle.std.specs.Str.{bytes_eq}
 use Rattle.std.proofs.lemmas.Bool.{ltb-false}
 use Rattle.std.proofs.lemmas.List.Quantifiers.{position-Some}
 use Rattle.std.proofs.lemmas.Option.{slice_get-get_or}
+use Rattle.std.proofs.lemmas.List.Elements.{All-head, All-tail}
 use Rattle.lot_machine.specs.declared.ticket.Ticket.{Ticket}
 use Rattle.lot_machine.specs.declared.ticket.Target.{Target}
 use Rattle.lot_machine.specs.declared.ticket.Target.TheVariants as target
@@ -28,25 +29,28 @@ use Rattle.lot_machine.specs.declared.reference.TargetRef.TheVariants as target_
 use Rattle.lot_machine.specs.declared.event.Event.{Event}
 use Rattle.lot_machine.specs.declared.event.Event.TheVariants as event
 use Rattle.lot_machine.specs.declared.refusal.Refusal.TheVariants.{InUse, NoThread, Alive, BadProcessor, NotRunning, BadTicks}
+use Rattle.lot_machine.specs.declared.refusal.Refusal.{Refusal}
 use Rattle.lot_machine.specs.declared.refusal.TrapRefusal.{TrapRefusal}
 use Rattle.lot_machine.specs.declared.drawn.Drawn.{Drawn}
 use Rattle.lot_machine.specs.declared.sizes.Sizes.{Sizes}
 use Rattle.lot_machine.specs.declared.after.After.{After}
 use Rattle.lot_machine.specs.declared.after.After.TheVariants.{GoesOn, Leaves, Ends}
 use Rattle.lot_machine.specs.Numbered.{at_number, set_number, option_any}
-use Rattle.lot_machine.specs.Funding.{Funding, ticket_in, ticket_at, target_node, lend_node, ends_of, edge_count_into, with_new_ticket, with_target, retargeted, with_amount, reissued}
+use Rattle.lot_machine.specs.Places.{next_place, placed}
+use Rattle.lot_machine.specs.Funding.{Funding, ticket_in, ticket_at, target_node, lend_node, ends_of, edge_count_into, with_target, retargeted, with_amount, reissued}
 use Rattle.lot_machine.specs.Equations.{edges_into}
 use Rattle.lot_machine.specs.Lottery.{winner}
-use Rattle.lot_machine.specs.State.{State, Mutex, QueuedCall, opening, funding_of, lend_of, status_of, thread_at, thread_on, ready_threads, change_record, value_of, weight_of}
-use Rattle.lot_machine.specs.Commands.{currency_meant, currency_named, thread_meant, thread_named, target_meant, target_named, currency_or_base, is_dead_in, is_thread_in_use, with_thread, command_refusal, command_effect, command_step}
+use Rattle.lot_machine.specs.State.{State, free_tickets, free_threads, next_thread, Mutex, QueuedCall, opening, funding_of, lend_of, status_of, thread_at, thread_on, ready_threads, change_record, value_of, weight_of}
+use Rattle.lot_machine.specs.Commands.{currency_meant, currency_named, thread_meant, thread_named, target_meant, target_named, currency_or_base, is_dead_in, is_thread_in_use, newborn, with_thread, drop_thread, command_refusal, command_effect, unless_refused, command_step}
 use Rattle.lot_machine.specs.Traps.{after_trap, with_ticks}
 use Rattle.lot_machine.specs.Ports.{port_at, first_client, call, receive, reply}
 use Rattle.lot_machine.specs.Mutexes.{mutex_at, lock, unlock}
 use Rattle.lot_machine.specs.Kill.{without, is_owned_by, mutex_without, killed}
-use Rattle.lot_machine.specs.Step.{Effect, of_ports, of_mutexes, is_bad_processor, started, draw, stopped, trap, wake, trap_refusal, trap_effect, checked_effect, thread_there, used_there, event_effect, step, state_after}
+use Rattle.lot_machine.specs.Step.{Effect, of_ports, of_mutexes, is_bad_processor, started, draw, stopped, trap, wake, trap_refusal, trap_effect, checked_effect, thread_there, used_there, event_effect, step, state_after, replies}
 use Rattle.lot_machine.specs.Order.{IsQueue, IsInOrder}
 use Rattle.lot_machine.proofs.Tickets.{at_number-suc, some-injective}
-use Rattle.lot_machine.proofs.Changes.{number-push, number-set, number-there}
+use Rattle.lot_machine.proofs.Changes.{number-set, number-there, place-set, place-set_same}
+use Rattle.lot_machine.proofs.Places.{number-placed, number-stays}
 use Rattle.lot_machine.proofs.CommandsKept.{unrefused, all-pass}
 use Rattle.lot_machine.proofs.RecordsKept.{status-changed}
 use Rattle.lot_machine.proofs.Queues.{record-of}
@@ -59,11 +63,11 @@ use Rattle.lot_machine.proofs.Idle.{IsAlive, alive-of, is-dead, status-number, r
 use Rattle.lot_machine.proofs.Killed.{owner-either, heir-waits, killed-either}
 use Rattle.lot_machine.proofs.KillKept.{number-mapped}
 use Rattle.lot_machine.proofs.StepChanges.{By, Console, Keeps, kept, by_event, step-leads}
-use Rattle.lot_machine.proofs.StepSizes.{other-sizes, other-tickets}
+use Rattle.lot_machine.proofs.StepSizes.{other-sizes, other-tickets, step-limits}
 use Rattle.lot_machine.proofs.OrderKept.{step-order, opening-order}
-use Rattle.lot_machine.specs.Change.{NewThread, DropThread, PutRecord, newborn}
+use Rattle.lot_machine.specs.Change.{NewThread, PutRecord}
 use Rattle.lot_laws.specs.Reachable.{IsReachable}
-use Rattle.lot_laws.specs.Removed.{IsRemoved, NothingLeadsTo, NothingLeadsToRemoved, StandsNowhere}
+use Rattle.lot_laws.specs.Removed.{IsRemoved, thread_given, IsNotGiven, NothingLeadsTo, NothingLeadsToRemoved, StandsNowhere}
 
 -- ---- whom a state refers to
 
@@ -160,12 +164,12 @@ module _ (IsSo : ℕ → Type 0) where
       from (inl same) = old v t (sym same ∙ is)
       from (inr (at, (r, there, now))) = new r t (some-injective (change r).status (status.Served t) (sym now ∙ is))
 
-  lent-more : (records : List Record) (r : Record) → r.status ≡ status.Ready → Lent IsSo records → Lent IsSo (records ++ r ∷ [])
-  lent-more records r ready old v t is = from (number-push records r v)
+  lent-more : (records : List Record) (free : List ℕ) (r : Record) → r.status ≡ status.Ready → Lent IsSo records → Lent IsSo (placed records free r)
+  lent-more records free r ready old v t is = from (number-placed records free r v)
     where
-      from : (at_number (records ++ r ∷ []) v ≡ at_number records v) ⊎ ((at_number records v ≡ None) × (at_number (records ++ r ∷ []) v ≡ Some r)) → IsSo t
+      from : (at_number (placed records free r) v ≡ at_number records v) ⊎ (at_number (placed records free r) v ≡ Some r) → IsSo t
       from (inl same) = old v t (sym (ap (option_map (λ (x : Record). x.status)) same) ∙ is)
-      from (inr (none, now)) =
+      from (inr now) =
           let never : status.Ready ≡ status.Served t = sym ready ∙ some-injective r.status (status.Served t) (sym (ap (option_map (λ (x : Record). x.status)) now) ∙ is) in cc
 
   owned-set : (mutexes : List Mutex) (m : ℕ) (x : Mutex) → ((t : ℕ) → x.owner ≡ Some t → IsSo t) → Owned IsSo mutexes → Owned IsSo (set_number mutexes m x)
@@ -182,15 +186,16 @@ module _ (IsSo : ℕ → Type 0) where
       from (inl same) = old n t ticket (sym (ap option_flatten same) ∙ at) is
       from (inr (place, now)) = new t ticket (sym (ap option_flatten now) ∙ at) is
 
-  funded-more : (tickets : List (Option Ticket)) (amount issuer : ℕ) (to : Target) → ((t : ℕ) → to ≡ target.Thread t → IsSo t) → Funded IsSo tickets → Funded IsSo (with_new_ticket tickets amount issuer to)
-  funded-more tickets amount issuer to new old n t ticket at is = from (number-push tickets (Some made) n)
+  funded-more : (tickets : List (Option Ticket)) (free : List ℕ) (amount issuer : ℕ) (to : Target) → ((t : ℕ) → to ≡ target.Thread t → IsSo t) → Funded IsSo tickets
+      → Funded IsSo (placed tickets free (Some (record { amount = amount; issuer = issuer; target = to })))
+  funded-more tickets free amount issuer to new old n t ticket at is = from (number-placed tickets free (Some made) n)
     where
       made : Ticket
       made = record { amount = amount; issuer = issuer; target = to }
 
-      from : (at_number (tickets ++ Some made ∷ []) n ≡ at_number tickets n) ⊎ ((at_number tickets n ≡ None) × (at_number (tickets ++ Some made ∷ []) n ≡ Some (Some made))) → IsSo t
+      from : (at_number (placed tickets free (Some made)) n ≡ at_number tickets n) ⊎ (at_number (placed tickets free (Some made)) n ≡ Some (Some made)) → IsSo t
       from (inl same) = old n t ticket (sym (ap option_flatten same) ∙ at) is
-      from (inr (none, now)) = new t (ap (λ (x : Ticket). x.target) (some-injective made ticket (sym (ap option_flatten now) ∙ at)) ∙ is)
+      from (inr now) = new t (ap (λ (x : Ticket). x.target) (some-injective made ticket (sym (ap option_flatten now) ∙ at)) ∙ is)
 
   funded-aimed : (tickets : List (Option Ticket)) (m : ℕ) (to : Target) → ((t : ℕ) → to ≡ target.Thread t → IsSo t) → Funded IsSo tickets → Funded IsSo (with_target tickets m to)
   funded-aimed tickets m to new old = funded-set tickets m (option_map (retargeted to) (ticket_in tickets m)) (λ t ticket is. by t ticket (ticket_in tickets m) is) old
@@ -378,24 +383,34 @@ other-refers s e other order refers =
 -- ---- commands
 
 -- who was there still is, once one more thread is made
-in-more : (threads : List (Option ThreadRecord)) (x : ThreadRecord) (t : ℕ) → IsIn threads t → IsIn (threads ++ Some x ∷ []) t
-in-more threads x t here gone = from (number-push threads (Some x) t)
+in-more : (threads : List (Option ThreadRecord)) (free : List ℕ) (x : ThreadRecord) (t : ℕ) → IsIn threads t → IsIn (placed threads free (Some x)) t
+in-more threads free x t here gone = from (number-placed threads free (Some x) t)
   where
-    from : (at_number (threads ++ Some x ∷ []) t ≡ at_number threads t) ⊎ ((at_number threads t ≡ None) × (at_number (threads ++ Some x ∷ []) t ≡ Some (Some x))) → ⊥
+    from : (at_number (placed threads free (Some x)) t ≡ at_number threads t) ⊎ (at_number (placed threads free (Some x)) t ≡ Some (Some x)) → ⊥
     from (inl same) = here (sym same ∙ gone)
-    from (inr (none, made)) = let never : Some (Some x) ≡ Some None = sym made ∙ gone in cc
+    from (inr made) = let never : Some (Some x) ≡ Some None = sym made ∙ gone in cc
 
 -- and the one that is made is there
-in-last : (threads : List (Option ThreadRecord)) (x : ThreadRecord) → IsIn (threads ++ Some x ∷ []) (length threads + 1)
-in-last threads x gone =
-    let next : length threads + 1 ≡ suc (length threads) = omega arith in
-    let made : at_number (threads ++ Some x ∷ []) (length threads + 1) ≡ Some (Some x) = ap (at_number (threads ++ Some x ∷ [])) next ∙ at_number-suc (threads ++ Some x ∷ []) (length threads) ∙ last threads in
-    let never : Some (Some x) ≡ Some None = sym made ∙ gone in
-    cc
+in-last : (threads : List (Option ThreadRecord)) (free : List ℕ) (x : ThreadRecord) → IsIn (placed threads free (Some x)) (next_place threads free + 1)
+in-last threads free x gone =
+    let next : next_place threads free + 1 ≡ suc (next_place threads free) = omega arith in
+    last free (sym (at_number-suc (placed threads free (Some x)) (next_place threads free)) ∙ ap (at_number (placed threads free (Some x))) (sym next) ∙ gone)
   where
-    last : (ts : List (Option ThreadRecord)) → slice_get (ts ++ Some x ∷ []) (length ts) ≡ Some (Some x)
-    last [] = refl
-    last (u ∷ us) = last us
+    pushed : (ts : List (Option ThreadRecord)) → slice_get (ts ++ Some x ∷ []) (length ts) ≡ Some (Some x)
+    pushed [] = refl
+    pushed (u ∷ us) = pushed us
+
+    put : (place : ℕ) (o : Option (Option ThreadRecord)) → slice_get threads place ≡ o → slice_get (slice_set threads place (Some x)) place ≡ Some None → ⊥
+    put place (Some y) is none = let never : Some (Some x) ≡ Some None = sym (place-set_same threads place (Some x) y is) ∙ none in cc
+    put place None is none = from (place-set threads place (Some x) place)
+      where
+        from : (slice_get (slice_set threads place (Some x)) place ≡ slice_get threads place) ⊎ ((place ≡ place) × (slice_get (slice_set threads place (Some x)) place ≡ Some (Some x))) → ⊥
+        from (inl same) = let never : None ≡ Some None = sym is ∙ sym same ∙ none in cc
+        from (inr (at, made)) = let never : Some (Some x) ≡ Some None = sym made ∙ none in cc
+
+    last : (places : List ℕ) → slice_get (placed threads places (Some x)) (next_place threads places) ≡ Some None → ⊥
+    last [] none = let never : Some (Some x) ≡ Some None = sym (pushed threads) ∙ none in cc
+    last (place ∷ places) none = put place (slice_get threads place) refl none
 
 -- who has a name is there
 named-in : (name : List ℕ) (threads : List (Option ThreadRecord)) (t : ℕ) → option_map (λ place. place + 1) (position (option_any (λ (x : ThreadRecord). bytes_eq name x.name)) threads) ≡ Some t → IsIn threads t
@@ -446,9 +461,10 @@ unused f node none edge from ends =
 
 refers-more : (s : State) (name : List ℕ) (script : ℕ) → RefersIn s → RefersIn (with_thread s name script)
 refers-more s name script (funded, lent, owned) =
-    let more : (t : ℕ) → IsIn s.threads t → IsIn (s.threads ++ Some (record { name = name; script = script }) ∷ []) t = in-more s.threads (record { name = name; script = script }) in (
+    let threads = placed s.threads (free_threads s) (Some (record { name = name; script = script })) in
+    let more : (t : ℕ) → IsIn s.threads t → IsIn threads t = in-more s.threads (free_threads s) (record { name = name; script = script }) in (
       λ n t ticket at is. more t (funded n t ticket at is),
-      lent-more (IsIn (s.threads ++ Some (record { name = name; script = script }) ∷ [])) s.records newborn refl (λ u t is. more t (lent u t is)),
+      lent-more (IsIn threads) s.records (free_threads s) newborn refl (λ u t is. more t (lent u t is)),
       λ m t mutex at is. more t (owned m t mutex at is),
     )
 
@@ -469,7 +485,7 @@ refers-dropped s gone dead none (funded, lent, owned) = (
 
 command-refers : (s : State) (c : Command) → IsInOrder s → RefersIn s → RefersIn (command_step s c).state
 command-refers s (MakeTicket amount currency) order refers =
-    unrefused RefersIn s _ (command_effect s (MakeTicket amount currency)) refers (λ _. (funded-more (IsIn s.threads) s.tickets amount (currency_or_base s currency) target.Unfunded (λ t e. cc) refers.0, refers.1, refers.2))
+    unrefused RefersIn s _ (command_effect s (MakeTicket amount currency)) refers (λ _. (funded-more (IsIn s.threads) s.tickets (free_tickets s) amount (currency_or_base s currency) target.Unfunded (λ t e. cc) refers.0, refers.1, refers.2))
 command-refers s (RemoveTicket n) order refers =
     unrefused RefersIn s _ (command_effect s (RemoveTicket n)) refers (λ _. (funded-set (IsIn s.threads) s.tickets n None (λ t ticket e. cc) refers.0, refers.1, refers.2))
 command-refers s (Fund n to) order refers =
@@ -496,7 +512,8 @@ command-refers s (MakeFunded amount currency name script) order refers =
     unrefused RefersIn s _ (command_effect s (MakeFunded amount currency name script)) refers (λ _.
     let made : ThreadRecord = record { name = name; script = script } in
     let more = refers-more s name script refers in
-    (funded-more (IsIn (s.threads ++ Some made ∷ [])) s.tickets amount (currency_or_base s currency) (target.Thread (length s.threads + 1)) (λ t e. subst (IsIn (s.threads ++ Some made ∷ [])) (thread-same (length s.threads + 1) t e) (in-last s.threads made)) more.0, more.1, more.2))
+    let threads = placed s.threads (free_threads s) (Some made) in
+    (funded-more (IsIn threads) s.tickets (free_tickets s) amount (currency_or_base s currency) (target.Thread (next_thread s)) (λ t e. subst (IsIn threads) (thread-same (next_thread s) t e) (in-last s.threads (free_threads s) made)) more.0, more.1, more.2))
   where
     thread-same : (a b : ℕ) → target.Thread a ≡ target.Thread b → a ≡ b
     thread-same a b e = cc
@@ -556,47 +573,99 @@ stands-nowhere s t order gone = dead-nowhere s order t (order.removed t gone)
 
 -- ---- what comes later
 
--- a gap stays one
-change-gap : (by : By) (s : State) (t : ℕ) → Keeps by s (λ a. IsRemoved a t)
-change-gap by s t a (NewThread x) allowed gone = from (number-push a.threads (Some x) t)
+-- the next new thread has another number: numbers aren't given again, or the event doesn't give this one
+abbrev Elsewhere : State → ℕ → Type 0
+Elsewhere s t = ¬ (slice_get (free_threads s) 0 ≡ Some (t - 1))
+
+-- a gap stays one, and its record stays
+abbrev StaysOut : State → ℕ → State → Type 0
+StaysOut s t a = IsRemoved a t × (at_number a.records t ≡ at_number s.records t)
+
+not-next : (s : State) (t : ℕ) → IsRemoved s t → (s.limits.reuse ≡ true → ¬ (next_thread s ≡ t)) → Elsewhere s t
+not-next s t gone another = at s.limits.reuse refl
   where
-    from : (at_number (a.threads ++ Some x ∷ []) t ≡ at_number a.threads t) ⊎ ((at_number a.threads t ≡ None) × (at_number (a.threads ++ Some x ∷ []) t ≡ Some (Some x))) → at_number (a.threads ++ Some x ∷ []) t ≡ Some None
-    from (inl same) = same ∙ gone
-    from (inr (none, made)) = let never : None ≡ Some None = sym none ∙ gone in cc
-change-gap by s t a (DropThread u) allowed gone = from (number-set a.threads u None t)
+    by : (free : List ℕ) → ¬ (next_place s.threads free + 1 ≡ t) → ¬ (slice_get free 0 ≡ Some (t - 1))
+    by [] other first = cc
+    by (place ∷ free) other first =
+        let number : suc (t - 1) ≡ t = number-there s.threads t None gone in
+        let same : place ≡ t - 1 = some-injective place (t - 1) first in
+        other (omega (arith, number, same))
+
+    at : (reuse : Bool) → s.limits.reuse ≡ reuse → Elsewhere s t
+    at false once first = let never : None ≡ Some (t - 1) = sym (ap (λ b. slice_get (cond {A = List ℕ} b s.freed.threads []) 0) once) ∙ first in cc
+    at true on first = by (free_threads s) (another on) first
+
+made-out : (s : State) (name : List ℕ) (script t : ℕ) → IsInOrder s → IsRemoved s t → Elsewhere s t → StaysOut s t (with_thread s name script)
+made-out s name script t order gone other =
+    let (r, at, is) = record-of s.records t status.Dead (order.removed t gone) in
+    (number-stays s.threads (free_threads s) (Some (record { name = name; script = script })) None t other gone, number-stays s.records (free_threads s) newborn r t other at ∙ sym at)
+
+dropped-out : (s : State) (u t : ℕ) → IsRemoved s t → StaysOut s t (drop_thread s u)
+dropped-out s u t gone = (from (number-set s.threads u None t), refl)
   where
-    from : (at_number (set_number a.threads u None) t ≡ at_number a.threads t) ⊎ ((t ≡ suc (u - 1)) × (at_number (set_number a.threads u None) t ≡ Some None)) → at_number (set_number a.threads u None) t ≡ Some None
+    from : (at_number (set_number s.threads u None) t ≡ at_number s.threads t) ⊎ ((t ≡ suc (u - 1)) × (at_number (set_number s.threads u None) t ≡ Some None)) → at_number (set_number s.threads u None) t ≡ Some None
     from (inl same) = same ∙ gone
     from (inr (place, is)) = is
-change-gap by s t a other allowed gone = gone
+
+-- the event doesn't give the number to a new thread
+abbrev GivesAnother : State → Event → ℕ → Type 0
+GivesAnother s e t = s.limits.reuse ≡ true → thread_given (step s e).reply ≢ Some t
 
 -- the record of a thread that was dead at the start stays
-change-dead : (by : By) (s : State) → IsInOrder s → (t : ℕ) (r : Record) → status_of s.records t ≡ Some status.Dead → Keeps by s (λ a. at_number a.records t ≡ Some r)
-change-dead by s order t r dead a (NewThread x) allowed is = from (number-push a.records newborn t)
-  where
-    from : (at_number (a.records ++ newborn ∷ []) t ≡ at_number a.records t) ⊎ ((at_number a.records t ≡ None) × (at_number (a.records ++ newborn ∷ []) t ≡ Some newborn)) → at_number (a.records ++ newborn ∷ []) t ≡ Some r
-    from (inl same) = same ∙ is
-    from (inr (none, made)) = let never : None ≡ Some r = sym none ∙ is in cc
-change-dead by s order t r dead a (PutRecord u x) allowed is = from (number-set a.records u x t)
+change-dead : (by : By) (s : State) → ¬ (by ≡ Console) → IsInOrder s → (t : ℕ) (r : Record) → status_of s.records t ≡ Some status.Dead → Keeps by s (λ a. at_number a.records t ≡ Some r)
+change-dead by s other order t r dead a (NewThread x) allowed is = absurd (other allowed.0)
+change-dead by s other order t r dead a (PutRecord u x) allowed is = from (number-set a.records u x t)
   where
     from : (at_number (set_number a.records u x) t ≡ at_number a.records t) ⊎ ((t ≡ suc (u - 1)) × (at_number (set_number a.records u x) t ≡ Some x)) → at_number (set_number a.records u x) t ≡ Some r
     from (inl same) = same ∙ is
     from (inr (place, now)) =
         let there : t ≡ u = place ∙ number-there a.records u allowed.there.0 allowed.there.1 in
         absurd (allowed.alive order.queues (ap (status_of s.records) (sym there) ∙ dead))
-change-dead by s order t r dead a other allowed is = is
+change-dead by s other order t r dead a c allowed is = is
 
-event-record : (s : State) (e : Event) (t : ℕ) → IsInOrder s → IsRemoved s t → at_number (step s e).state.records t ≡ at_number s.records t
-event-record s e t order gone =
+other-out : (s : State) (e : Event) (t : ℕ) → ¬ (by_event s e ≡ Console) → IsInOrder s → IsRemoved s t → StaysOut s t (step s e).state
+other-out s e t other order gone =
     let dead = order.removed t gone in
     let (r, at, is) = record-of s.records t status.Dead dead in
-    kept (λ a. at_number a.records t ≡ Some r) (change-dead (by_event s e) s order t r dead) (step-leads s e) at ∙ sym at
+    let record_stays : at_number (step s e).state.records t ≡ Some r = kept (λ a. at_number a.records t ≡ Some r) (change-dead (by_event s e) s other order t r dead) (step-leads s e) at in
+    (ap (λ (threads : List (Option ThreadRecord)). at_number threads t) (other-sizes s e other).2 ∙ gone, record_stays ∙ sym at)
 
-pub stays-removed : (s : State) (events : List Event) (t : ℕ) → IsInOrder s → IsRemoved s t → IsRemoved (state_after s events) t
-stays-removed s [] t order gone = gone
-stays-removed s (e ∷ events) t order gone = stays-removed (step s e).state events t (step-order s e order) (kept (λ a. IsRemoved a t) (change-gap (by_event s e) s t) (step-leads s e) gone)
+command-out : (s : State) (c : Command) (t : ℕ) → IsInOrder s → IsRemoved s t → GivesAnother s (event.Command c) t → StaysOut s t (command_step s c).state
+command-out s (MakeThread name script) t order gone another = by (command_refusal s (MakeThread name script)) another
+  where
+    by : (o : Option Refusal) → (s.limits.reuse ≡ true → thread_given (unless_refused s o (command_effect s (MakeThread name script))).reply ≢ Some t) → StaysOut s t (unless_refused s o (command_effect s (MakeThread name script))).state
+    by (Some refusal) other = (gone, refl)
+    by None other = made-out s name script t order gone (not-next s t gone (λ on same. other on (ap Some same)))
+command-out s (MakeFunded amount currency name script) t order gone another = by (command_refusal s (MakeFunded amount currency name script)) another
+  where
+    by : (o : Option Refusal) → (s.limits.reuse ≡ true → thread_given (unless_refused s o (command_effect s (MakeFunded amount currency name script))).reply ≢ Some t)
+        → StaysOut s t (unless_refused s o (command_effect s (MakeFunded amount currency name script))).state
+    by (Some refusal) other = (gone, refl)
+    by None other = made-out s name script t order gone (not-next s t gone (λ on same. other on (ap Some same)))
+command-out s (RemoveThread thread) t order gone another =
+    unrefused (StaysOut s t) s _ (command_effect s (RemoveThread thread)) (gone, refl) (λ _. dropped-out s (unwrap_or (thread_meant s thread) 0) t gone)
+command-out s (Kill thread) t order gone another = other-out s (event.Command (Kill thread)) t (λ e. cc) order gone
+command-out s other t order gone another = unrefused (StaysOut s t) s (command_refusal s other) (command_effect s other) (gone, refl) (λ _. (gone, refl))
 
-pub record-stays : (s : State) (events : List Event) (t : ℕ) → IsInOrder s → IsRemoved s t → at_number (state_after s events).records t ≡ at_number s.records t
-record-stays s [] t order gone = refl
-record-stays s (e ∷ events) t order gone =
-    record-stays (step s e).state events t (step-order s e order) (kept (λ a. IsRemoved a t) (change-gap (by_event s e) s t) (step-leads s e) gone) ∙ event-record s e t order gone
+event-out : (s : State) (e : Event) (t : ℕ) → IsInOrder s → IsRemoved s t → GivesAnother s e t → StaysOut s t (step s e).state
+event-out s (event.Command command) t order gone another = command-out s command t order gone another
+event-out s (event.Draw p d) t order gone another = other-out s (event.Draw p d) t (λ e. cc) order gone
+event-out s (event.Expire p) t order gone another = other-out s (event.Expire p) t (λ e. cc) order gone
+event-out s (event.Trap p ran action) t order gone another = other-out s (event.Trap p ran action) t (λ e. cc) order gone
+event-out s (event.Preempt p ticks) t order gone another = other-out s (event.Preempt p ticks) t (λ e. cc) order gone
+event-out s (event.Overrun p ticks) t order gone another = other-out s (event.Overrun p ticks) t (λ e. cc) order gone
+event-out s (event.Wake v) t order gone another = other-out s (event.Wake v) t (λ e. cc) order gone
+
+run-out : (s : State) (events : List Event) (t : ℕ) → IsInOrder s → IsRemoved s t → (s.limits.reuse ≡ true → IsNotGiven s events t) → StaysOut s t (state_after s events)
+run-out s [] t order gone another = (gone, refl)
+run-out s (e ∷ events) t order gone another =
+    let (out, same) = event-out s e t order gone (λ on. All-head (λ r. thread_given r ≢ Some t) (step s e).reply (replies (step s e).state events) (another on)) in
+    let (later, also) = run-out (step s e).state events t (step-order s e order) out
+    (λ on. All-tail (λ r. thread_given r ≢ Some t) (step s e).reply (replies (step s e).state events) (another (sym (ap (λ (limits : Sizes). limits.reuse) (step-limits s e)) ∙ on))) in
+    (later, also ∙ same)
+
+pub stays-removed : (s : State) (events : List Event) (t : ℕ) → IsInOrder s → IsRemoved s t → (s.limits.reuse ≡ true → IsNotGiven s events t) → IsRemoved (state_after s events) t
+stays-removed s events t order gone another = (run-out s events t order gone another).0
+
+pub record-stays : (s : State) (events : List Event) (t : ℕ) → IsInOrder s → IsRemoved s t → (s.limits.reuse ≡ true → IsNotGiven s events t) → at_number (state_after s events).records t ≡ at_number s.records t
+record-stays s events t order gone another = (run-out s events t order gone another).1

@@ -2,7 +2,7 @@
 use Rattle.std.specs.Prelude.{◌≡◌, ◌≢◌, ◌⊎◌, ℕ, Bool, true, false, Some, List, option_and_then}
 use Rattle.lot_machine.specs.declared.event.Event.{Event}
 use Rattle.lot_machine.specs.declared.event.Event.TheVariants.{Command}
-use Rattle.lot_machine.specs.declared.command.Command.TheVariants.{SetTicket}
+use Rattle.lot_machine.specs.declared.command.Command.TheVariants.{RemoveTicket, SetTicket}
 use Rattle.lot_machine.specs.declared.ticket.Ticket.{Ticket}
 use Rattle.lot_machine.specs.declared.ticket.Target.TheVariants as target
 use Rattle.lot_machine.specs.declared.reference.TargetRef.{TargetRef}
@@ -26,6 +26,10 @@ KeepsAmounts before after = (n : ℕ) → KeepsAmount before after n
 -- the event gives the ticket an amount: it is `settkt` of this ticket
 abbrev pub SetsAmountOf : ℕ → Event → Type 0
 SetsAmountOf n e = (amount : ℕ) × (e ≡ Command (SetTicket n amount))
+
+-- the event removes the ticket, unless it is refused
+abbrev pub RemovesTicket : ℕ → Event → Type 0
+RemovesTicket n e = e ≡ Command (RemoveTicket n)
 
 -- a path, perhaps empty, leads to the node from one that the change touched
 abbrev pub IsAffected : Funding → Funding → List Bool → List Bool → Node → Type 0

@@ -15,12 +15,12 @@ ghost use Rattle.lot_machine.specs.Funding.{Funding, ticket_at, issuer_of, reiss
 ghost use Rattle.lot_machine.specs.Activity.{active_amount};
 ghost use Rattle.lot_machine.specs.Value.{node_value};
 ghost use Rattle.lot_machine.specs.Equations.{HasEquation};
-ghost use Rattle.lot_machine.specs.State.{State, funding_of};
+ghost use Rattle.lot_machine.specs.State.{State, next_thread, funding_of};
 ghost use Rattle.lot_machine.specs.Facts.{HasNoCycle, FundsThere};
 ghost use Rattle.lot_machine.specs.Order.{IsInOrder};
 ghost use Rattle.lot_machine.specs.Commands.{currency_meant};
 ghost use Rattle.lot_machine.specs.Step.{step, state_after};
-ghost use Rattle.lot_laws.specs.Insulation.{KeepsAmount, KeepsAmounts, SetsAmountOf};
+ghost use Rattle.lot_laws.specs.Insulation.{KeepsAmount, KeepsAmounts, SetsAmountOf, RemovesTicket};
 ghost use Rattle.lot_laws.specs.Insulation.{IsAffected, Affects, Encloses, IsChangeInside};
 ghost use Rattle.lot_laws.specs.Insulation.{ChangesInside, IsMeantInside, amount_in, worth_in, is_active_in};
 ghost use Rattle.lot_laws.specs.Insulation.{ticket_worth_in};
@@ -37,13 +37,16 @@ pub fn changes_are_insulated()
 {}
 
 /// Only `settkt` changes a ticket's amount: every other event, and every run without a `settkt` of the ticket, leaves
-/// it.
+/// it. If numbers are given again, the state has to be in order, and the run may not remove the ticket: the next one
+/// with its number has an amount of its own.
 pub fn amounts_stay()
-    ensures event { (s : State) (e : Event) (n : ℕ) → ¬ SetsAmountOf n e
+    ensures event { (s : State) (e : Event) (n : ℕ) → ¬ SetsAmountOf n e → (s.limits.reuse ≡ true → IsInOrder s)
         → KeepsAmount (funding_of s) (funding_of (step s e).state) n }
     ensures run { (s : State) (events : List Event) (n : ℕ) → All (λ e. ¬ SetsAmountOf n e) events
+        → (s.limits.reuse ≡ true → IsInOrder s × All (λ e. ¬ RemovesTicket n e) events)
         → KeepsAmount (funding_of s) (funding_of (state_after s events)) n }
     ensures all { (s : State) (events : List Event) → ((n : ℕ) → All (λ e. ¬ SetsAmountOf n e) events)
+        → (s.limits.reuse ≡ true → IsInOrder s × ((n : ℕ) → All (λ e. ¬ RemovesTicket n e) events))
         → KeepsAmounts (funding_of s) (funding_of (state_after s events)) }
 {}
 
@@ -122,7 +125,7 @@ pub fn inflation_is_local()
     ensures make { (s : State) (amount c : ℕ) (currency : CurrencyRef) (name : List ℕ) (script : ℕ)
         (inside : Node → Bool)
         → IsReachable s → Encloses (funding_of s) c inside → currency_meant s currency ≡ Some c
-        → inside (Thread (length s.threads + 1)) ≡ true → 0 < amount_in s c → (node : Node) → inside node ≡ false
+        → inside (Thread (next_thread s)) ≡ true → 0 < amount_in s c → (node : Node) → inside node ≡ false
         → HasEquation (funding_of s) node
         → worth_in (step s (Command (MakeFunded amount currency name script))).state node ≡ worth_in s node }
     ensures set { (s : State) (n amount d c : ℕ) (inside : Node → Bool) → IsReachable s

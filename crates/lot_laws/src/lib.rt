@@ -9,5 +9,6 @@ pub mod kills;
 pub mod pauses;
 pub mod reachable;
 pub mod removed;
+pub mod reused;
 pub mod transfers;
 pub mod worked;

@@ -1,5 +1,5 @@
 -- No command makes a cycle, or leaves a ticket that funds a currency which isn't there.
-use Rattle.std.proofs.Common.{◌≡◌, ℕ, Bool, true, false, Option, Some, None, is_some, is_none, List, [], ◌∷◌, length, map, position, refl, sym, subst, ◌∙◌, ap, arith, nat_lt, option_map, get_or, slice_get}
+use Rattle.std.proofs.Common.{◌≡◌, ℕ, suc, ◌+◌, Bool, true, false, Option, Some, None, is_some, is_none, List, [], ◌∷◌, length, map, position, refl, sym, subst, ◌∙◌, ap, arith, nat_lt, option_map, get_or, slice_get}
 use Rattle.std.specs.Option.{option_flatten, option_or}
 use Rattle.std.specs.Str.{bytes_eq}
 use Rattle.std.proofs.lemmas.Bool.{ltb-false}
@@ -10,6 +10,8 @@ use Rattle.lot_machine.specs.declared.ticket.Target.{Target}
 use Rattle.lot_machine.specs.declared.ticket.Target.TheVariants.{Unfunded, Currency, Thread}
 use Rattle.lot_machine.specs.declared.reference.CurrencyRef.{CurrencyRef}
 use Rattle.lot_machine.specs.declared.reference.CurrencyRef.TheVariants as currency_ref
+use Rattle.lot_machine.specs.declared.record.Thread.{Thread as ThreadRecord}
+use Rattle.lot_machine.specs.declared.reference.ThreadRef.{ThreadRef}
 use Rattle.lot_machine.specs.declared.reference.ThreadRef.TheVariants as thread_ref
 use Rattle.lot_machine.specs.declared.reference.TargetRef.{TargetRef}
 use Rattle.lot_machine.specs.declared.reference.TargetRef.TheVariants as target_ref
@@ -17,9 +19,9 @@ use Rattle.lot_machine.specs.declared.refusal.Refusal.{Refusal}
 use Rattle.lot_machine.specs.Numbered.{option_any}
 use Rattle.lot_machine.specs.Funding.{ticket_in, without_ticket, with_target, issuer_of, currency_funded, would_cycle}
 use Rattle.lot_machine.specs.Facts.{HasNoCycle, FundsThere}
-use Rattle.lot_machine.specs.State.{State, funding_of}
+use Rattle.lot_machine.specs.State.{State, funding_of, thread_at}
 use Rattle.lot_machine.specs.Commands.{Step, first_failing, currency_meant, currency_named, thread_meant, thread_named, target_meant, target_named, is_cycle, unless_refused}
-use Rattle.lot_machine.proofs.Tickets.{some-injective}
+use Rattle.lot_machine.proofs.Tickets.{at_number-suc, some-injective}
 use Rattle.lot_machine.proofs.FundingKept.{HasNoCycle-without_ticket, FundsThere-without_ticket, HasNoCycle-target, FundsThere-target, HasNoCycle-funds_tested, FundsThere-funds}
 
 -- nothing makes a cycle, and tickets fund only currencies that are there
@@ -44,7 +46,11 @@ all-pass (check ∷ checks) e = at (all-pass checks) check.0 refl
     at rest true is = let fails : first_failing (check ∷ checks) ≡ Some check.1 = rw is refl in cc
     at rest false is = let same : first_failing (check ∷ checks) ≡ first_failing checks = rw is refl in (is, rest (sym same ∙ e))
 
-pub some-of : {A : Type 0} (o : Option A) → is_none o ≡ false → (x : A) × (o ≡ Some x)
+-- there is one
+abbrev pub IsThere : {A : Type 0} → Option A → Type 0
+IsThere {A} o = (x : A) × (o ≡ Some x)
+
+pub some-of : {A : Type 0} (o : Option A) → is_none o ≡ false → IsThere o
 some-of None e = cc
 some-of (Some x) e = (x, refl)
 
@@ -94,6 +100,28 @@ target-there s (target_ref.Thread t) c is = from (thread_meant s (thread_ref.Num
     from : (o : Option ℕ) → option_map Thread o ≡ Some (Currency c) → slice_get (map is_some s.currencies) c ≡ Some true
     from None e = cc
     from (Some n) e = cc
+
+-- and a thread that is meant
+pub meant-thread : (s : State) (thread : ThreadRef) (t : ℕ) → thread_meant s thread ≡ Some t → IsThere (thread_at s.threads t)
+meant-thread s (thread_ref.Named name) t is = from (position (option_any (λ (x : ThreadRecord). bytes_eq name x.name)) s.threads) refl is
+  where
+    passes : (o : Option ThreadRecord) → option_any (λ (x : ThreadRecord). bytes_eq name x.name) o ≡ true → IsThere o
+    passes None e = cc
+    passes (Some x) e = (x, refl)
+
+    from : (o : Option ℕ) → position (option_any (λ (x : ThreadRecord). bytes_eq name x.name)) s.threads ≡ o → option_map (λ place. place + 1) o ≡ Some t → IsThere (thread_at s.threads t)
+    from None found e = cc
+    from (Some i) found e =
+        let there = position-Some (option_any (λ (x : ThreadRecord). bytes_eq name x.name)) s.threads i None found in
+        let (x, is_x) = passes (get_or s.threads i None) there.1 in
+        let same : i + 1 ≡ t = some-injective (i + 1) t e in
+        let number : suc i ≡ t = omega (arith, same) in
+        subst (λ n. IsThere (thread_at s.threads n)) number (x, ap option_flatten (at_number-suc s.threads i ∙ slice_get-get_or s.threads i None there.0 ∙ ap Some is_x))
+meant-thread s (thread_ref.Numbered u) t is = from (thread_at s.threads u) refl is
+  where
+    from : (o : Option ThreadRecord) → thread_at s.threads u ≡ o → option_map (λ (x : ThreadRecord). u) o ≡ Some t → IsThere (thread_at s.threads t)
+    from None here e = cc
+    from (Some x) here e = let same : u ≡ t = some-injective u t e in (x, ap (thread_at s.threads) (sym same) ∙ here)
 
 module _ (s : State) (no_cycle : HasNoCycle (funding_of s)) (there : FundsThere (funding_of s)) where
   pub keeps-remove_ticket : (n : ℕ) → IsFunded (record s { tickets = without_ticket s.tickets n })

@@ -8,10 +8,12 @@ use Rattle.lot_machine.specs.declared.ticket.Ticket.{Ticket}
 use Rattle.lot_machine.specs.declared.ticket.Target.{Target}
 use Rattle.lot_machine.specs.declared.ticket.Target.TheVariants.{Currency}
 use Rattle.lot_machine.specs.Numbered.{at_number, set_number}
+use Rattle.lot_machine.specs.Places.{placed}
 use Rattle.lot_machine.specs.Funding.{Funding, ticket_at, ticket_in, with_new_ticket, without_ticket, with_target, retargeted, issuer_of, target_of, backing_currency, all_tickets, is_currency, IsChain, ChainLeads, WouldCycle, currency_funded, would_cycle}
 use Rattle.lot_machine.specs.Facts.{HasNoCycle, FundsThere}
 use Rattle.lot_machine.proofs.Paths.{IsPath, Leads, LeadsOn, HasNoReturn, fewer-steps, one-step-more}
-use Rattle.lot_machine.proofs.Changes.{place-set_other, place-after, number-set, number-push}
+use Rattle.lot_machine.proofs.Changes.{place-set_other, number-set}
+use Rattle.lot_machine.proofs.Places.{place-placed, number-placed}
 use Rattle.lot_machine.proofs.Tickets.{ticket-of, some-injective, place_of, any_from}
 use Rattle.lot_machine.proofs.TicketDepth.{would_cycle-exact}
 
@@ -70,20 +72,17 @@ not-currency : (to : Target) (c : ℕ) → currency_funded to ≡ None → Some 
 not-currency to c none e = let is : to ≡ Currency c = some-injective to (Currency c) e in let some : currency_funded to ≡ Some c = ap currency_funded is in cc
 
 -- a new ticket that funds no currency
-pub no_more-new : (tickets : List (Option Ticket)) (amount issuer : ℕ) (to : Target) → currency_funded to ≡ None → FundsNoMore tickets (with_new_ticket tickets amount issuer to)
-no_more-new tickets amount issuer to none n = from (number-push tickets (Some (record { amount = amount; issuer = issuer; target = to })) n)
+pub no_more-placed : (tickets : List (Option Ticket)) (free : List ℕ) (ticket : Ticket) → currency_funded ticket.target ≡ None → FundsNoMore tickets (placed tickets free (Some ticket))
+no_more-placed tickets free ticket none n = from (number-placed tickets free (Some ticket) n)
   where
-    new : Option (Option Ticket)
-    new = Some (Some (record { amount = amount; issuer = issuer; target = to }))
-
-    from : (at_number (with_new_ticket tickets amount issuer to) n ≡ at_number tickets n) ⊎ ((at_number tickets n ≡ None) × (at_number (with_new_ticket tickets amount issuer to) n ≡ new))
-        → (ticket_in (with_new_ticket tickets amount issuer to) n ≡ ticket_in tickets n) ⊎ ((c : ℕ) → ¬ (option_map (λ (t : Ticket). t.target) (ticket_in (with_new_ticket tickets amount issuer to) n) ≡ Some (Currency c)))
+    from : (at_number (placed tickets free (Some ticket)) n ≡ at_number tickets n) ⊎ (at_number (placed tickets free (Some ticket)) n ≡ Some (Some ticket))
+        → (ticket_in (placed tickets free (Some ticket)) n ≡ ticket_in tickets n) ⊎ ((c : ℕ) → ¬ (option_map (λ (t : Ticket). t.target) (ticket_in (placed tickets free (Some ticket)) n) ≡ Some (Currency c)))
     from (inl same) = inl (ap option_flatten same)
-    from (inr (past, is)) = inr (λ c e. not-currency to c none (sym (ap (λ o. option_map (λ (t : Ticket). t.target) (option_flatten o)) is) ∙ e))
+    from (inr is) = inr (λ c e. not-currency ticket.target c none (sym (ap (λ o. option_map (λ (t : Ticket). t.target) (option_flatten o)) is) ∙ e))
 
 -- a ticket's place that has another ticket then, or none
 module _ (tickets : List (Option Ticket)) (n : ℕ) (put : Option Ticket) (other : (c : ℕ) → ¬ (option_map (λ (t : Ticket). t.target) put ≡ Some (Currency c))) where
-  no_more-put : FundsNoMore tickets (set_number tickets n put)
+  pub no_more-put : FundsNoMore tickets (set_number tickets n put)
   no_more-put k = from (number-set tickets n put k)
     where
       from : (at_number (set_number tickets n put) k ≡ at_number tickets k) ⊎ ((k ≡ suc (n - 1)) × (at_number (set_number tickets n put) k ≡ Some put))
@@ -159,11 +158,18 @@ module _ (f : Funding) (n issuer c : ℕ) (issued : issuer_of f n ≡ Some issue
 pub HasNoCycle-currencies : (f : Funding) (currencies : List Bool) → HasNoCycle f → HasNoCycle (record f { currencies = currencies })
 HasNoCycle-currencies f currencies no_cycle = record { funding = no_cycle.funding; lends = no_cycle.lends }
 
-pub FundsThere-after : (f : Funding) (more : List Bool) → FundsThere f → FundsThere (record f { currencies = f.currencies ++ more })
-FundsThere-after f more there n c funds = place-after f.currencies more c true (there n c funds)
+pub FundsThere-placed : (f : Funding) (free : List ℕ) → FundsThere f → FundsThere (record f { currencies = placed f.currencies free true })
+FundsThere-placed f free there n c funds = from (place-placed f.currencies free true c)
+  where
+    from : (slice_get (placed f.currencies free true) c ≡ slice_get f.currencies c) ⊎ (slice_get (placed f.currencies free true) c ≡ Some true) → slice_get (placed f.currencies free true) c ≡ Some true
+    from (inl same) = same ∙ there n c funds
+    from (inr is) = is
+
+pub FundsThere-after : (f : Funding) → FundsThere f → FundsThere (record f { currencies = f.currencies ++ true ∷ [] })
+FundsThere-after f = FundsThere-placed f []
 
 -- what some element passes leaves something of a filter
-filtered-some : {A : Type 0} (test : A → Bool) (xs : List A) → list_any test xs ≡ true → ¬ (length (filter test xs) ≡ 0)
+pub filtered-some : {A : Type 0} (test : A → Bool) (xs : List A) → list_any test xs ≡ true → ¬ (length (filter test xs) ≡ 0)
 filtered-some test [] any none = cc
 filtered-some test (x ∷ xs) any none = at (filtered-some test xs) (test x) refl
   where
@@ -199,11 +205,17 @@ FundsThere-removed f c none there n d funds =
 -- ---- the changes by name
 
 module _ (f : Funding) where
+  pub HasNoCycle-placed_ticket : (free : List ℕ) (ticket : Ticket) → currency_funded ticket.target ≡ None → HasNoCycle f → HasNoCycle (record f { tickets = placed f.tickets free (Some ticket) })
+  HasNoCycle-placed_ticket free ticket none = HasNoCycle-no_more f _ (no_more-placed f.tickets free ticket none)
+
+  pub FundsThere-placed_ticket : (free : List ℕ) (ticket : Ticket) → currency_funded ticket.target ≡ None → FundsThere f → FundsThere (record f { tickets = placed f.tickets free (Some ticket) })
+  FundsThere-placed_ticket free ticket none = FundsThere-no_more f _ (no_more-placed f.tickets free ticket none)
+
   pub HasNoCycle-new_ticket : (amount issuer : ℕ) (to : Target) → currency_funded to ≡ None → HasNoCycle f → HasNoCycle (record f { tickets = with_new_ticket f.tickets amount issuer to })
-  HasNoCycle-new_ticket amount issuer to none = HasNoCycle-no_more f _ (no_more-new f.tickets amount issuer to none)
+  HasNoCycle-new_ticket amount issuer to = HasNoCycle-placed_ticket [] (record { amount = amount; issuer = issuer; target = to })
 
   pub FundsThere-new_ticket : (amount issuer : ℕ) (to : Target) → currency_funded to ≡ None → FundsThere f → FundsThere (record f { tickets = with_new_ticket f.tickets amount issuer to })
-  FundsThere-new_ticket amount issuer to none = FundsThere-no_more f _ (no_more-new f.tickets amount issuer to none)
+  FundsThere-new_ticket amount issuer to = FundsThere-placed_ticket [] (record { amount = amount; issuer = issuer; target = to })
 
   pub HasNoCycle-without_ticket : (n : ℕ) → HasNoCycle f → HasNoCycle (record f { tickets = without_ticket f.tickets n })
   HasNoCycle-without_ticket n = HasNoCycle-no_more f _ (no_more-without f.tickets n)

@@ -1,5 +1,5 @@
 -- Who runs, who is Ready, and who has used nothing on a processor.
-use Rattle.std.proofs.Common.{◌≡◌, ℕ, zero, suc, ◌<◌, ◌≤◌, ◌-◌, ◌==◌, Bool, true, false, ◌⊎◌, inl, inr, Option, Some, None, is_some, is_none, List, [], ◌∷◌, ◌++◌, length, map, filter, refl, sym, ◌∙◌, ap, subst, ne_eqb, arith, option_map, option_and_then, unwrap_or, get_or, slice_get, slice_index}
+use Rattle.std.proofs.Common.{◌≡◌, ℕ, zero, suc, ◌<◌, ◌≤◌, ◌-◌, ◌==◌, Bool, true, false, ◌⊎◌, inl, inr, Option, Some, None, is_some, is_none, List, [], ◌∷◌, ◌++◌, length, map, filter, refl, sym, ◌∙◌, ap, subst, ne_eqb, arith, option_map, option_and_then, unwrap_or, get_or, slice_get, slice_set, slice_index}
 use Rattle.std.specs.Bool.{then_some}
 use Rattle.std.proofs.lemmas.List.{get_or_past}
 use Rattle.std.proofs.lemmas.Option.{slice_get_cases, get_or_from_slice_get}
@@ -7,15 +7,17 @@ use Rattle.lot_machine.specs.declared.record.Record.{Record}
 use Rattle.lot_machine.specs.declared.record.Status.{Status}
 use Rattle.lot_machine.specs.declared.record.Status.TheVariants as status
 use Rattle.lot_machine.specs.Numbered.{at_number, numbers, option_any}
+use Rattle.lot_machine.specs.Places.{placed}
 use Rattle.lot_machine.specs.State.{State, QueuedCall, Port, Mutex, status_of, used_on, used_by, thread_on, is_dead, is_asleep, is_ready, ready_threads, change_record}
 use Rattle.lot_machine.specs.Ports.{first_client, port_at}
 use Rattle.lot_machine.specs.Mutexes.{mutex_at}
 use Rattle.lot_machine.specs.Step.{thread_there}
 use Rattle.lot_machine.specs.Facts.{RunsApart}
 use Rattle.lot_machine.specs.Order.{IsQueue, HasQueues}
-use Rattle.lot_machine.proofs.Changes.{number-push}
-use Rattle.lot_machine.proofs.Queues.{queue-clients}
-use Rattle.lot_machine.proofs.Tickets.{some-injective}
+use Rattle.lot_machine.proofs.Changes.{place-set, number-push}
+use Rattle.lot_machine.proofs.Places.{number-stays}
+use Rattle.lot_machine.proofs.Queues.{record-of, queue-clients, FirstIsDead}
+use Rattle.lot_machine.proofs.Tickets.{at_number-suc, some-injective}
 use Rattle.lot_machine.proofs.CommandsKept.{some-of}
 use Rattle.lot_machine.proofs.RecordsKept.{RunsAlone, status-changed, runs-alone, found-runs}
 
@@ -67,13 +69,12 @@ is-asleep (Some (status.Served server)) e = cc
 is-asleep (Some (status.Waiting m)) e = cc
 is-asleep (Some status.Dead) e = cc
 
--- who has a status keeps it when one more thread comes
-pub status-more : (records : List Record) (r : Record) (t : ℕ) (now : Status) → status_of records t ≡ Some now → status_of (records ++ r ∷ []) t ≡ Some now
-status-more records r t now is = from (number-push records r t)
+-- who has a status keeps it when one more thread comes in another place
+pub status-stays : (records : List Record) (free : List ℕ) (r : Record) (t : ℕ) (now : Status) → ¬ (slice_get free 0 ≡ Some (t - 1)) → status_of records t ≡ Some now → status_of (placed records free r) t ≡ Some now
+status-stays records free r t now other is = from (record-of records t now is)
   where
-    from : (at_number (records ++ r ∷ []) t ≡ at_number records t) ⊎ ((at_number records t ≡ None) × (at_number (records ++ r ∷ []) t ≡ Some r)) → status_of (records ++ r ∷ []) t ≡ Some now
-    from (inl same) = ap (option_map (λ (x : Record). x.status)) same ∙ is
-    from (inr (none, new)) = let never : None ≡ Some now = sym (ap (option_map (λ (x : Record). x.status)) none) ∙ is in cc
+    from : (x : Record) × (at_number records t ≡ Some x) × (x.status ≡ now) → status_of (placed records free r) t ≡ Some now
+    from (x, there, same) = ap (option_map (λ (y : Record). y.status)) (number-stays records free r x t other there) ∙ ap Some same
 
 -- who has a status has a number
 pub status-number : (records : List Record) (t : ℕ) (now : Status) → status_of records t ≡ Some now → suc (t - 1) ≡ t
@@ -158,13 +159,23 @@ abbrev used_in : ℕ → Option Record → Option ℕ
 used_in p o = option_and_then (used_on p) (option_map (λ (r : Record). r.status) o)
 
 -- one thread more, which doesn't run on the processor
-pub used-more : (records : List Record) (r : Record) (p : ℕ) → used_on p r.status ≡ None → SameUsed p records (records ++ r ∷ [])
-used-more records r p idle u = from (number-push records r u)
+pub used-placed : (records : List Record) (free : List ℕ) (r : Record) (p : ℕ) → used_on p r.status ≡ None → FirstIsDead records free → SameUsed p records (placed records free r)
+used-placed records [] r p idle first u = from (number-push records r u)
   where
     from : (at_number (records ++ r ∷ []) u ≡ at_number records u) ⊎ ((at_number records u ≡ None) × (at_number (records ++ r ∷ []) u ≡ Some r))
         → used_by (records ++ r ∷ []) p u ≡ used_by records p u
     from (inl same) = ap (used_in p) same
     from (inr (none, new)) = ap (used_in p) new ∙ idle ∙ sym (ap (used_in p) none)
+used-placed records (i ∷ free) r p idle first zero = refl
+used-placed records (i ∷ free) r p idle first (suc k) = from (place-set records i r k)
+  where
+    in-place : (xs : List Record) → used_by xs p (suc k) ≡ used_in p (slice_get xs k)
+    in-place xs = ap (used_in p) (at_number-suc xs k)
+
+    from : (slice_get (slice_set records i r) k ≡ slice_get records k) ⊎ ((k ≡ i) × (slice_get (slice_set records i r) k ≡ Some r)) → used_by (slice_set records i r) p (suc k) ≡ used_by records p (suc k)
+    from (inl same) = in-place (slice_set records i r) ∙ ap (used_in p) same ∙ sym (in-place records)
+    from (inr (at, is)) =
+        in-place (slice_set records i r) ∙ ap (used_in p) is ∙ idle ∙ sym (ap (option_and_then (used_on p)) (ap (λ j. status_of records (suc j)) at ∙ first i refl))
 
 -- what holds of 0 and of each element holds of what an index gives
 pub index-holds : (P : ℕ → Type 0) (xs : List ℕ) (place : ℕ) → P 0 → ((x : ℕ) → slice_get xs place ≡ Some x → P x) → P (slice_index xs place)
@@ -191,7 +202,7 @@ ready-alive s place t here = alive-of s.records t status.Ready (ready-stands s p
 
 module _ (records : List Record) (clients : List (List ℕ)) (ports : List Port) (mutexes : List Mutex) (queues : HasQueues records clients ports mutexes) where
   -- the first that receives at a port
-  receiver-stands : (port server : ℕ) (others : List ℕ) → (port_at ports port).receivers ≡ server ∷ others → status_of records server ≡ Some (status.Receiving port)
+  pub receiver-stands : (port server : ℕ) (others : List ℕ) → (port_at ports port).receivers ≡ server ∷ others → status_of records server ≡ Some (status.Receiving port)
   receiver-stands port server others = from (at_number ports port) refl
     where
       from : (o : Option Port) → at_number ports port ≡ o → (unwrap_or o (record { calls = []; receivers = [] })).receivers ≡ server ∷ others

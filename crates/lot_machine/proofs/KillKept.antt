@@ -1,5 +1,5 @@
 -- After a kill nothing makes a cycle, and those who wait stand where their statuses say.
-use Rattle.std.proofs.Common.{◌≡◌, ℕ, zero, suc, ◌-◌, ◌==◌, Bool, true, false, not, ◌⊎◌, inl, inr, Option, Some, None, List, [], ◌∷◌, map, refl, sym, ◌∙◌, ap, subst, cond, option_map, option_and_then, slice_get}
+use Rattle.std.proofs.Common.{◌≡◌, ℕ, zero, suc, ◌-◌, ◌==◌, Bool, true, false, not, ◌⊎◌, inl, inr, Option, Some, None, List, [], ◌∷◌, map, refl, sym, ◌∙◌, ap, subst, cond, option_map, option_and_then, unwrap_or, slice_get}
 use Rattle.std.specs.Option.{option_flatten}
 use Rattle.std.proofs.lemmas.Bool.{cases_eq}
 use Rattle.lot_machine.specs.declared.record.Record.{Record}
@@ -12,6 +12,7 @@ use Rattle.lot_machine.specs.Funding.{Funding, owner_of}
 use Rattle.lot_machine.specs.Lends.{borrower, LendsTo}
 use Rattle.lot_machine.specs.State.{State, Port, Mutex, QueuedCall, funding_of, lend_of, status_of, change_each}
 use Rattle.lot_machine.specs.Kill.{without, port_without, mutex_without, is_owned_by, passed_on, released_by, released, ended, killed}
+use Rattle.lot_machine.specs.Ports.{clients_of}
 use Rattle.lot_machine.specs.Facts.{HasNoCycle}
 use Rattle.lot_machine.specs.Order.{IsQueue, HasQueues}
 use Rattle.lot_machine.proofs.Paths.{IsEnd, steps-to-ends}
@@ -123,6 +124,19 @@ number-mapped {A} {B} f xs n y e = from (at_number xs n) refl (sym (at_number-ma
     from : (o : Option A) → at_number xs n ≡ o → option_map f o ≡ Some y → (x : A) × ((at_number xs n ≡ Some x) × (f x ≡ y))
     from None is h = cc
     from (Some x) is h = (x, (is, some-injective (f x) y h))
+
+-- who serves nobody serves nobody after a kill
+pub killed-idle : (s : State) (t u : ℕ) → clients_of s.clients u ≡ [] → clients_of (killed s t).clients u ≡ []
+killed-idle s t u idle = from (number-set (map (without t) s.clients) t [] u)
+  where
+    still : (o : Option (List ℕ)) → unwrap_or o [] ≡ [] → unwrap_or (option_map (without t) o) [] ≡ []
+    still None e = refl
+    still (Some threads) e = ap (without t) e
+
+    from : (at_number (set_number (map (without t) s.clients) t []) u ≡ at_number (map (without t) s.clients) u) ⊎ ((u ≡ suc (t - 1)) × (at_number (set_number (map (without t) s.clients) t []) u ≡ Some []))
+        → clients_of (set_number (map (without t) s.clients) t []) u ≡ []
+    from (inl same) = ap (λ o. unwrap_or o []) (same ∙ at_number-map (without t) s.clients u) ∙ still (at_number s.clients u) idle
+    from (inr (at, new)) = ap (λ o. unwrap_or o []) new
 
 module _ (s : State) (queues : HasQueues s.records s.clients s.ports s.mutexes) (t : ℕ) (number : suc (t - 1) ≡ t) where
   -- those who wait in a queue, without the thread, are in order as before if they aren't released

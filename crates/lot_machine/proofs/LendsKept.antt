@@ -4,11 +4,13 @@ use Rattle.std.specs.Option.{option_flatten}
 use Rattle.lot_machine.specs.declared.funding.Lend.{Lend}
 use Rattle.lot_machine.specs.declared.funding.Lend.TheVariants.{Nobody, ToThread, ToMutex}
 use Rattle.lot_machine.specs.Numbered.{at_number, set_number, option_any}
+use Rattle.lot_machine.specs.Places.{placed}
 use Rattle.lot_machine.specs.Funding.{Funding, owner_of}
 use Rattle.lot_machine.specs.Lends.{borrower, LendsTo, IsLendChain, LendsLead, LendsOnTo, lends_lead}
 use Rattle.lot_machine.specs.Facts.{HasNoCycle}
 use Rattle.lot_machine.proofs.Paths.{IsPath, HasNoReturn, fewer-steps, one-step-more, steps-to-end}
-use Rattle.lot_machine.proofs.Changes.{number-set, number-push, number-there}
+use Rattle.lot_machine.proofs.Changes.{number-set, number-there}
+use Rattle.lot_machine.proofs.Places.{number-placed}
 use Rattle.lot_machine.proofs.Tickets.{some-injective}
 use Rattle.lot_machine.proofs.LendDepth.{lends_lead-exact}
 
@@ -84,21 +86,24 @@ module _ (f : Funding) (t : ℕ) (lend : Lend) where
 
 -- ---- one thread more, which lends to nobody
 
-pub HasNoCycle-lends_more : (f : Funding) → HasNoCycle f → HasNoCycle (record f { lends = f.lends ++ Nobody ∷ [] })
-HasNoCycle-lends_more f no_cycle = record {
+pub HasNoCycle-lends_placed : (f : Funding) (free : List ℕ) → HasNoCycle f → HasNoCycle (record f { lends = placed f.lends free Nobody })
+HasNoCycle-lends_placed f free no_cycle = record {
   funding = no_cycle.funding;
   lends = no-lend-back more (fewer-steps (LendsTo more) (LendsTo f) before (no-lend-return f no_cycle));
 }
   where
     more : Funding
-    more = record f { lends = f.lends ++ Nobody ∷ [] }
+    more = record f { lends = placed f.lends free Nobody }
 
     before : (u s : ℕ) → LendsTo more u s → LendsTo f u s
-    before u s lends = from (number-push f.lends Nobody u)
+    before u s lends = from (number-placed f.lends free Nobody u)
       where
-        from : (at_number (f.lends ++ Nobody ∷ []) u ≡ at_number f.lends u) ⊎ ((at_number f.lends u ≡ None) × (at_number (f.lends ++ Nobody ∷ []) u ≡ Some Nobody)) → LendsTo f u s
+        from : (at_number (placed f.lends free Nobody) u ≡ at_number f.lends u) ⊎ (at_number (placed f.lends free Nobody) u ≡ Some Nobody) → LendsTo f u s
         from (inl same) = ap (option_and_then (borrower f)) (sym same) ∙ lends
-        from (inr (past, is)) = let none : None ≡ Some s = ap (option_and_then (borrower f)) (sym is) ∙ lends in cc
+        from (inr is) = let none : None ≡ Some s = ap (option_and_then (borrower f)) (sym is) ∙ lends in cc
+
+pub HasNoCycle-lends_more : (f : Funding) → HasNoCycle f → HasNoCycle (record f { lends = f.lends ++ Nobody ∷ [] })
+HasNoCycle-lends_more f = HasNoCycle-lends_placed f []
 
 -- ---- another owner of a mutex, or none
 

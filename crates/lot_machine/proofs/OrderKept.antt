@@ -18,7 +18,7 @@ use Rattle.lot_machine.specs.declared.funding.Lend.TheVariants.{Nobody}
 use Rattle.lot_machine.specs.declared.action.Action.{Action}
 use Rattle.lot_machine.specs.declared.action.Action.TheVariants.{Yield, Call, Receive, Reply as ReplyTo, Serve, Lock, Unlock, Sleep, Exit}
 use Rattle.lot_machine.specs.declared.command.Command.{Command}
-use Rattle.lot_machine.specs.declared.command.Command.TheVariants.{MakeTicket, RemoveTicket, MakeCurrency, RemoveCurrency, Fund, Unfund, SetTicket, MakeThread, RemoveThread, Kill, MakeFunded, List as Listing}
+use Rattle.lot_machine.specs.declared.command.Command.TheVariants.{Kill}
 use Rattle.lot_machine.specs.declared.reference.ThreadRef.{ThreadRef}
 use Rattle.lot_machine.specs.declared.reference.ThreadRef.TheVariants as thread_ref
 use Rattle.lot_machine.specs.declared.event.Event.{Event}
@@ -39,41 +39,50 @@ use Rattle.lot_machine.specs.Kill.{killed}
 use Rattle.lot_machine.specs.declared.after.After.{After}
 use Rattle.lot_machine.specs.Traps.{after_trap, with_ticks}
 use Rattle.lot_machine.specs.declared.after.After.TheVariants.{GoesOn, Leaves, Ends}
-use Rattle.lot_machine.specs.Ports.{first_client, reply}
+use Rattle.lot_machine.specs.Ports.{clients_of, first_client, reply}
 use Rattle.lot_machine.specs.Mutexes.{mutex_at}
 use Rattle.lot_machine.specs.Step.{Effect, is_bad_processor, started, draw, stopped, wake, owns, trap_refusal, trap_effect, checked_effect, trap, thread_there, used_there, event_effect, step, state_after}
 use Rattle.lot_machine.specs.Facts.{HasNoCycle, FundsThere, IsSound}
-use Rattle.lot_machine.specs.Order.{IsQueue, HasQueues, IsInOrder}
+use Rattle.lot_machine.specs.Equations.{HasEachOnce}
+use Rattle.lot_machine.specs.Order.{IsQueue, HasQueues, IsGap, IsInOrder}
 use Rattle.lot_machine.proofs.Tickets.{at_number-suc, some-injective}
 use Rattle.lot_machine.proofs.CommandsKept.{unrefused, all-pass}
+use Rattle.lot_machine.proofs.EachOnce.{contains-nothing}
 use Rattle.lot_machine.proofs.RecordsKept.{RunsAlone, apart}
 use Rattle.lot_machine.proofs.Idle.{IsAlive, alive-of, filter-passes, is-ready, is-asleep, there-runs, there-alone, free-of, used-of, used-elsewhere}
-use Rattle.lot_machine.proofs.StepChanges.{By, On, Leads, kept, Apart, Queues, HasAmount, HasRoom, AreRemovedDead, change-apart, change-gone, change-removed, change-room, change-there, change-queues, command-keeps, command-leads, kill-leads, not-dead, draw-leads, stopped-leads, wake-leads, checked-leads, finish-leads, passes, Console}
-use Rattle.lot_machine.proofs.KillKept.{kill-cycle, kill-queues}
+use Rattle.lot_machine.proofs.StepChanges.{By, On, Leads, kept, Apart, Queues, HasAmount, HasRoom, AreRemovedDead, change-apart, change-gone, change-removed, change-room, change-there, change-queues, command-keeps, command-leads, kill-leads, not-dead, draw-leads, stopped-leads, wake-leads, checked-leads, finish-leads, passes, Console, HasGaps, AreRemovedIdle, HasSizesOf, change-sizes, change-idle, change-gaps}
+use Rattle.lot_machine.proofs.KillKept.{kill-cycle, kill-queues, killed-idle}
 use Rattle.lot_machine.proofs.Queues.{queue-empty, queues-changed, queues-live}
 use Rattle.lot_machine.proofs.TrapQueues.{nowhere-from, stay-queues, call-queues, receive-queues, reply-queues, replied-queues, lock-queues, unlock-queues}
 use Rattle.lot_machine.proofs.TrapCycles.{cycle-nobody, call-cycle, receive-cycle, reply-cycle, replied-cycle, lock-cycle, unlock-cycle}
+use Rattle.lot_machine.proofs.Serving.{checked-clients}
 use Rattle.lot_machine.proofs.BaseKept.{base-bounded}
 use Rattle.lot_machine.proofs.Bounded.{sound}
 
 -- ---- what allowed changes keep of the order
 
 -- all but cycles, queues and what tickets fund
-frame-order : {by : By} (s b : State) → IsInOrder s → Leads by s b → HasNoCycle (funding_of b) → FundsThere (funding_of b) → Queues b → AreRemovedDead b → IsInOrder b
-frame-order {by} s b order leads no_cycle there queues removed =
+frame-order : {by : By} (s b : State) → IsInOrder s → Leads by s b → HasNoCycle (funding_of b) → FundsThere (funding_of b) → Queues b → AreRemovedDead b → AreRemovedIdle b → IsInOrder b
+frame-order {by} s b order leads no_cycle there queues removed idle =
     let room = kept HasRoom (change-room by s) leads (order.amounts, order.ticket_count, order.bounds) in
     let runs = kept Apart (change-apart by s order.runs_apart) leads order.runs_apart in
-    record { no_cycle = no_cycle; funds_there = there; runs_apart = runs; queues = queues; removed = removed; amounts = room.0; ticket_count = room.1; bounds = room.2 }
+    record { no_cycle = no_cycle; funds_there = there; runs_apart = runs; queues = queues; removed = removed; idle = idle; gaps = kept HasGaps (change-gaps by s) leads order.gaps; amounts = room.0; ticket_count = room.1; bounds = room.2 }
 
 -- nothing makes a cycle, and those who wait stand where their statuses say
 abbrev IsUntangled : State → Type 0
 IsUntangled s = HasNoCycle (funding_of s) × Queues s
 
+-- a thread that was dead and served nobody serves nobody
+abbrev KeepsIdle : State → State → Type 0
+KeepsIdle s b = (u : ℕ) → status_of s.records u ≡ Some status.Dead → clients_of s.clients u ≡ [] → clients_of b.clients u ≡ []
+
 -- what isn't the console's leaves what tickets fund
-other-order : {by : By} (s b : State) → ¬ (by ≡ Console) → IsInOrder s → Leads by s b → IsUntangled b → IsInOrder b
-other-order {by} s b other order leads (no_cycle, queues) =
+other-order : {by : By} (s b : State) → ¬ (by ≡ Console) → IsInOrder s → Leads by s b → IsUntangled b → KeepsIdle s b → IsInOrder b
+other-order {by} s b other order leads (no_cycle, queues) idle =
+    let same = kept (HasSizesOf s) (change-sizes by s other) leads (refl, refl, refl) in
     frame-order s b order leads no_cycle (kept (λ a. FundsThere (funding_of a)) (change-there by s other) leads order.funds_there) queues
     (kept (λ a. (a.threads ≡ s.threads) × AreRemovedDead a) (change-removed by s other order.queues order.removed) leads (refl, order.removed)).1
+    (λ u gone. let before : at_number s.threads u ≡ Some None = ap (λ (threads : List (Option Thread)). at_number threads u) (sym same.2) ∙ gone in idle u (order.removed u before) (order.idle u before))
 
 -- a thread that a command means was made
 pub meant-within : (s : State) (thread : ThreadRef) (t : ℕ) → thread_meant s thread ≡ Some t → (1 ≤ t) × (t ≤ length s.threads)
@@ -104,7 +113,7 @@ meant-number s thread t meant = omega (arith, (meant-within s thread t meant).0)
 
 -- a thread that isn't dead is killed
 kill-order : (s : State) (t : ℕ) → suc (t - 1) ≡ t → IsAlive s.records t → IsInOrder s → IsInOrder (killed s t)
-kill-order s t number alive order = other-order s (killed s t) (λ e. cc) order (kill-leads s t alive) (kill-cycle s t order.no_cycle, kill-queues s order.queues t number)
+kill-order s t number alive order = other-order s (killed s t) (λ e. cc) order (kill-leads s t alive) (kill-cycle s t order.no_cycle, kill-queues s order.queues t number) (λ u dead idle. killed-idle s t u idle)
 
 command-order : (s : State) (c : Command) → IsInOrder s → IsInOrder (command_step s c).state
 command-order s (Kill thread) order =
@@ -118,11 +127,11 @@ command-order s (Kill thread) order =
 command-order s c order =
     let leads = command-leads s c in
     let funded = command-keeps s c order.no_cycle order.funds_there in
-    frame-order s (command_step s c).state order leads funded.0 funded.1 (kept Queues (change-queues s) leads order.queues) (kept AreRemovedDead (change-gone s) leads order.removed)
+    frame-order s (command_step s c).state order leads funded.0 funded.1 (kept Queues (change-queues s order.gaps order.removed) leads order.queues) (kept AreRemovedDead (change-gone s) leads order.removed) (kept AreRemovedIdle (change-idle s order.queues) leads order.idle)
 
 -- nor does an event of a processor
-processor-order : (p : ℕ) (s b : State) → IsInOrder s → Leads (On p) s b → IsUntangled b → IsInOrder b
-processor-order p s b order leads untangled = other-order s b (λ e. cc) order leads untangled
+processor-order : (p : ℕ) (s b : State) → IsInOrder s → Leads (On p) s b → IsUntangled b → KeepsIdle s b → IsInOrder b
+processor-order p s b order leads untangled idle = other-order s b (λ e. cc) order leads untangled idle
 
 -- ---- draws and expiries
 
@@ -144,8 +153,12 @@ ready-queues s change place queues = from (slice_get_cases (ready_threads s.reco
         subst (λ u. HasQueues (change_record change s.records u) s.clients s.ports s.mutexes) (sym nobody) queues
 
 draw-order : (s : State) (p d : ℕ) → thread_on s.records p ≡ None → IsInOrder s → IsInOrder (draw s p d).state
-draw-order s p d free order = processor-order p s (draw s p d).state order (draw-leads s p d free) (at (winner (map (weight_of s) (ready_threads s.records)) d) refl)
+draw-order s p d free order = processor-order p s (draw s p d).state order (draw-leads s p d free) (at (winner (map (weight_of s) (ready_threads s.records)) d) refl) (λ u dead idle. clients u (winner (map (weight_of s) (ready_threads s.records)) d) refl ∙ idle)
   where
+    clients : (u : ℕ) (o : Option Drawn) → winner (map (weight_of s) (ready_threads s.records)) d ≡ o → clients_of (draw s p d).state.clients u ≡ clients_of s.clients u
+    clients u None is = rw is refl
+    clients u (Some w) is = rw is refl
+
     at : (o : Option Drawn) → winner (map (weight_of s) (ready_threads s.records)) d ≡ o → IsUntangled (draw s p d).state
     at None is = rw is (order.no_cycle, order.queues)
     at (Some w) is =
@@ -164,14 +177,14 @@ stopped-order s p ticks compensation some order =
     let there = there-runs s p some in
     let change : Record → Record = λ r. with_ticks ticks (record r { status = status.Ready; compensation = compensation }) in
     processor-order p s (stopped s (thread_there s p) ticks compensation).state order (stopped-leads s p ticks compensation some)
-    (cycle-nobody s change (thread_there s p) (λ r. refl) order.no_cycle, queues-live s.records s.clients s.ports s.mutexes order.queues change (thread_there s p) (status.Running p there.0) there.1 refl)
+    (cycle-nobody s change (thread_there s p) (λ r. refl) order.no_cycle, queues-live s.records s.clients s.ports s.mutexes order.queues change (thread_there s p) (status.Running p there.0) there.1 refl) (λ u dead idle. idle)
 
 -- a thread that sleeps is woken
 wake-order : (s : State) (t : ℕ) → status_of s.records t ≡ Some status.Asleep → IsInOrder s → IsInOrder (wake s t).state
 wake-order s t sleeps order =
     let change : Record → Record = λ r. record r { status = status.Ready } in
     other-order s (wake s t).state (λ e. cc) order (wake-leads s t sleeps)
-    (cycle-nobody s change t (λ r. refl) order.no_cycle, queues-sleeper s change t sleeps order.queues)
+    (cycle-nobody s change t (λ r. refl) order.no_cycle, queues-sleeper s change t sleeps order.queues) (λ u dead idle. idle)
 
 -- ---- traps
 
@@ -245,6 +258,7 @@ trap-order s p t before used ran action runs alone order =
     let works = checked-leads s t action (trap_refusal s t action) in
     let leads = finish-leads s p t (ran + 1) (used + ran + 1) effect works (alive-of s.records t (status.Running p before) runs (λ e. cc)) (λ queues q other. used-of s.records q t (status.Running p before) runs (used-elsewhere q p before (λ same. other (sym same)))) (λ apart. alone) in
     processor-order p s (trap s p t used ran action).state order leads (checked-untangled s order t p before (ran + 1) (used + ran + 1) runs action (trap_refusal s t action) refl)
+    (λ u dead idle. checked-clients s order.queues t p before runs u dead action (trap_refusal s t action) ∙ idle)
 
 -- ---- events and runs
 
@@ -310,11 +324,26 @@ opening-order limits bounds = record {
     served = λ server threads there. absurd (no-client server threads there);
   };
   removed = λ t there. absurd (nobody t there);
+  idle = λ t there. absurd (nobody t there);
+  gaps = λ on. record { tickets = none-free; currencies = no-gap; threads = none-free };
   amounts = All-nil HasAmount;
   ticket_count = omega arith;
   bounds = bounds;
 }
   where
+    no-place : {A : Type 0} (place : ℕ) (x : A) → ¬ (slice_get {X = A} [] place ≡ Some x)
+    no-place place x e = cc
+
+    none-free : {A : Type 0} → HasEachOnce [] (IsGap {A = A} [])
+    none-free = record { each = λ place in_free. absurd (contains-nothing place in_free); all = λ place gap. absurd (no-place place None gap); once = λ x place other e f. absurd (no-place place x e) }
+
+    no-gap : HasEachOnce [] (IsGap (opening limits).currencies)
+    no-gap = record { each = λ place in_free. absurd (contains-nothing place in_free); all = λ place gap. absurd (named place gap); once = λ x place other e f. absurd (no-place place x e) }
+      where
+        named : (place : ℕ) → ¬ IsGap (opening limits).currencies place
+        named zero gap = cc
+        named (suc place) gap = cc
+
     nobody : (t : ℕ) → at_number {A = Option Thread} [] t ≡ Some None → ⊥
     nobody t e = let none : None ≡ Some None = sym (number-empty {A = Option Thread} t) ∙ e in cc
 

@@ -2,21 +2,18 @@
 use Rattle.std.proofs.Common.{◌≡◌, ℕ, zero, suc, pred, ◌-◌, true, false, ◌⊎◌, inl, inr, Option, Some, None, List, [], ◌∷◌, ◌++◌, length, map, remove, refl, sym, ◌∙◌, ap, subst, arith, option_map, slice_get, slice_set, unwrap_or}
 use Rattle.lot_machine.specs.declared.record.Record.{Record}
 use Rattle.lot_machine.specs.declared.record.Status.{Status}
-use Rattle.lot_machine.specs.declared.record.Status.TheVariants.{Queued, Receiving, Served, Waiting}
+use Rattle.lot_machine.specs.declared.record.Status.TheVariants.{Queued, Receiving, Served, Waiting, Dead}
 use Rattle.lot_machine.specs.Numbered.{at_number, set_number}
+use Rattle.lot_machine.specs.Places.{placed}
 use Rattle.lot_machine.specs.State.{Port, Mutex, QueuedCall, status_of, change_record, is_live_status}
 use Rattle.lot_machine.specs.Ports.{clients_of}
 use Rattle.lot_machine.specs.Order.{IsQueue, HasQueues}
-use Rattle.lot_machine.proofs.Changes.{number-set, number-push, number-there}
+use Rattle.lot_machine.proofs.Changes.{number-set, number-there, place-set_same}
+use Rattle.lot_machine.proofs.Places.{number-placed, number-stays}
 use Rattle.lot_machine.proofs.Tickets.{at_number-suc, some-injective}
 use Rattle.lot_machine.proofs.RecordsKept.{status-changed}
 
 -- ---- records
-
-place-set_same : {A : Type 0} (xs : List A) (i : ℕ) (x y : A) → slice_get xs i ≡ Some y → slice_get (slice_set xs i x) i ≡ Some x
-place-set_same [] i x y e = cc
-place-set_same (z ∷ zs) zero x y e = refl
-place-set_same (z ∷ zs) (suc i) x y e = place-set_same zs i x y e
 
 pub number-set_same : {A : Type 0} (xs : List A) (n : ℕ) (x y : A) → at_number xs n ≡ Some y → at_number (set_number xs n x) n ≡ Some x
 number-set_same xs zero x y e = cc
@@ -74,12 +71,21 @@ queue-changed change records u status threads absent queue = record {
   once = queue.once;
 }
 
-pub queue-more : (records : List Record) (r : Record) (status : Status) (threads : List ℕ) → IsQueue records status threads → IsQueue (records ++ r ∷ []) status threads
-queue-more records r status threads queue = record { each = λ place t e. from t (queue.each place t e) (number-push records r t); once = queue.once }
+-- the thread of the first free place, if there is one, is dead
+abbrev pub FirstIsDead : List Record → List ℕ → Type 0
+FirstIsDead records free = (place : ℕ) → slice_get free 0 ≡ Some place → status_of records (suc place) ≡ Some Dead
+
+-- who isn't dead keeps its record when one more thread comes
+pub record-stays : (records : List Record) (free : List ℕ) (x r : Record) (t : ℕ) → FirstIsDead records free → ¬ (r.status ≡ Dead) → at_number records t ≡ Some r → at_number (placed records free x) t ≡ Some r
+record-stays records free x r t first alive is =
+    number-stays records free x r t
+    (λ at. alive (some-injective r.status Dead (sym (ap (option_map (λ (y : Record). y.status)) is) ∙ ap (status_of records) (sym (number-there records t r is)) ∙ first (t - 1) at))) is
+
+pub queue-placed : (records : List Record) (free : List ℕ) (r : Record) (status : Status) (threads : List ℕ) → ¬ (status ≡ Dead) → FirstIsDead records free → IsQueue records status threads → IsQueue (placed records free r) status threads
+queue-placed records free r status threads alive first queue = record { each = λ place t e. from t (record-of records t status (queue.each place t e)); once = queue.once }
   where
-    from : (t : ℕ) → status_of records t ≡ Some status → (at_number (records ++ r ∷ []) t ≡ at_number records t) ⊎ ((at_number records t ≡ None) × (at_number (records ++ r ∷ []) t ≡ Some r)) → status_of (records ++ r ∷ []) t ≡ Some status
-    from t e (inl same) = ap (option_map (λ (x : Record). x.status)) same ∙ e
-    from t e (inr (none, new)) = let past : None ≡ Some status = sym (ap (option_map (λ (x : Record). x.status)) none) ∙ e in cc
+    from : (t : ℕ) → (x : Record) × (at_number records t ≡ Some x) × (x.status ≡ status) → status_of (placed records free r) t ≡ Some status
+    from t (x, there, is) = ap (option_map (λ (y : Record). y.status)) (record-stays records free r x t first (λ dead. alive (sym is ∙ dead)) there) ∙ ap Some is
 
 -- the place of what is added at the end
 push-place : (xs : List ℕ) (x k : ℕ) → (slice_get (xs ++ x ∷ []) k ≡ slice_get xs k) ⊎ ((k ≡ length xs) × (slice_get (xs ++ x ∷ []) k ≡ Some x))
@@ -193,19 +199,19 @@ module _ (records : List Record) (clients : List (List ℕ)) (ports : List Port)
   queues-live change t now is live = queues-changed change t (nowhere-live t now is live)
 
   -- one thread more, which serves nobody
-  pub queues-more : (r : Record) → HasQueues (records ++ r ∷ []) (clients ++ [] ∷ []) ports mutexes
-  queues-more r = record {
-    receivers = λ p port there. queue-more records r (Receiving p) port.receivers (queues.receivers p port there);
-    callers = λ p port there. queue-more records r (Queued p) (map (λ (call : QueuedCall). call.caller) port.calls) (queues.callers p port there);
-    waiters = λ m mutex there. queue-more records r (Waiting m) mutex.waiters (queues.waiters m mutex there);
-    served = λ server threads there. from server threads there (number-push clients [] server);
+  pub queues-placed : (free : List ℕ) (r : Record) → FirstIsDead records free → HasQueues (placed records free r) (placed clients free []) ports mutexes
+  queues-placed free r first = record {
+    receivers = λ p port there. queue-placed records free r (Receiving p) port.receivers (λ e. cc) first (queues.receivers p port there);
+    callers = λ p port there. queue-placed records free r (Queued p) (map (λ (call : QueuedCall). call.caller) port.calls) (λ e. cc) first (queues.callers p port there);
+    waiters = λ m mutex there. queue-placed records free r (Waiting m) mutex.waiters (λ e. cc) first (queues.waiters m mutex there);
+    served = λ server threads there. from server threads there (number-placed clients free [] server);
   }
     where
-      from : (server : ℕ) (threads : List ℕ) → at_number (clients ++ [] ∷ []) server ≡ Some threads
-          → (at_number (clients ++ [] ∷ []) server ≡ at_number clients server) ⊎ ((at_number clients server ≡ None) × (at_number (clients ++ [] ∷ []) server ≡ Some [])) → IsQueue (records ++ r ∷ []) (Served server) threads
-      from server threads there (inl same) = queue-more records r (Served server) threads (queues.served server threads (sym same ∙ there))
-      from server threads there (inr (none, new)) =
-          let empty : [] ≡ threads = some-injective [] threads (sym new ∙ there) in subst (λ ts. IsQueue (records ++ r ∷ []) (Served server) ts) empty (queue-empty (records ++ r ∷ []) (Served server))
+      from : (server : ℕ) (threads : List ℕ) → at_number (placed clients free []) server ≡ Some threads
+          → (at_number (placed clients free []) server ≡ at_number clients server) ⊎ (at_number (placed clients free []) server ≡ Some []) → IsQueue (placed records free r) (Served server) threads
+      from server threads there (inl same) = queue-placed records free r (Served server) threads (λ e. cc) first (queues.served server threads (sym same ∙ there))
+      from server threads there (inr new) =
+          let empty : [] ≡ threads = some-injective [] threads (sym new ∙ there) in subst (λ ts. IsQueue (placed records free r) (Served server) ts) empty (queue-empty (placed records free r) (Served server))
 
   -- another port in the place of one
   pub queues-port : (p : ℕ) (old new : Port) → at_number ports p ≡ Some old → IsQueue records (Receiving p) new.receivers → IsQueue records (Queued p) (map (λ (call : QueuedCall). call.caller) new.calls)

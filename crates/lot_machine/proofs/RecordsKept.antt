@@ -1,5 +1,5 @@
 -- Changes of threads' records after which each processor still has its own thread.
-use Rattle.std.proofs.Common.{◌≡◌, ℕ, zero, suc, ◌+◌, ◌-◌, ◌<◌, ◌≤◌, ◌==◌, Bool, true, false, ◌⊎◌, inl, inr, Option, Some, None, is_some, List, [], ◌∷◌, ◌++◌, length, find, refl, sym, ◌∙◌, ap, subst, arith, option_map, option_and_then, slice_get}
+use Rattle.std.proofs.Common.{◌≡◌, ℕ, zero, suc, ◌+◌, ◌-◌, ◌<◌, ◌≤◌, ◌==◌, Bool, true, false, ◌⊎◌, inl, inr, Option, Some, None, is_some, List, [], ◌∷◌, length, find, refl, sym, ◌∙◌, ap, subst, arith, option_map, option_and_then, slice_get}
 use Rattle.std.specs.Bool.{then_some}
 use Rattle.std.specs.List.{range_with_len}
 use Rattle.std.proofs.lemmas.Bool.{eqb-true, eq-eqb, cases_eq}
@@ -8,11 +8,13 @@ use Rattle.lot_machine.specs.declared.record.Record.{Record}
 use Rattle.lot_machine.specs.declared.record.Status.{Status}
 use Rattle.lot_machine.specs.declared.record.Status.TheVariants.{Ready, Running, Queued, Receiving, Served, Waiting, Asleep, Dead}
 use Rattle.lot_machine.specs.Numbered.{at_number, set_number, numbers}
+use Rattle.lot_machine.specs.Places.{placed}
 use Rattle.lot_machine.specs.State.{status_of, used_on, used_by, thread_on, change_record}
 use Rattle.lot_machine.specs.declared.after.After.{After}
 use Rattle.lot_machine.specs.declared.after.After.TheVariants.{Leaves}
 use Rattle.lot_machine.specs.Facts.{RunsApart}
-use Rattle.lot_machine.proofs.Changes.{number-set, number-push, number-there}
+use Rattle.lot_machine.proofs.Changes.{number-set, number-there}
+use Rattle.lot_machine.proofs.Places.{number-placed}
 use Rattle.lot_machine.proofs.Tickets.{at_number-suc, some-injective}
 
 -- ---- statuses after a change
@@ -184,15 +186,15 @@ module _ (change : Record → Record) (records : List Record) (t : ℕ) where
       from q same = subst (λ x. RunsAlone records x t) same (runs-alone records p t used runs (used_by-runs records p t used there))
 
 -- one thread more, which doesn't run
-pub RunsApart-more : (records : List Record) (r : Record) → ((p used : ℕ) → ¬ (r.status ≡ Running p used)) → RunsApart records → RunsApart (records ++ r ∷ [])
-RunsApart-more records r idle runs = apart (records ++ r ∷ []) (λ t u p used more on_t on_u. runs.one_thread t u p used more (before t p used on_t) (before u p more on_u))
+pub RunsApart-placed : (records : List Record) (free : List ℕ) (r : Record) → ((p used : ℕ) → ¬ (r.status ≡ Running p used)) → RunsApart records → RunsApart (placed records free r)
+RunsApart-placed records free r idle runs = apart (placed records free r) (λ t u p used more on_t on_u. runs.one_thread t u p used more (before t p used on_t) (before u p more on_u))
   where
-    before : (t p used : ℕ) → status_of (records ++ r ∷ []) t ≡ Some (Running p used) → status_of records t ≡ Some (Running p used)
-    before t p used e = from (number-push records r t)
+    before : (t p used : ℕ) → status_of (placed records free r) t ≡ Some (Running p used) → status_of records t ≡ Some (Running p used)
+    before t p used e = from (number-placed records free r t)
       where
-        from : (at_number (records ++ r ∷ []) t ≡ at_number records t) ⊎ ((at_number records t ≡ None) × (at_number (records ++ r ∷ []) t ≡ Some r)) → status_of records t ≡ Some (Running p used)
+        from : (at_number (placed records free r) t ≡ at_number records t) ⊎ (at_number (placed records free r) t ≡ Some r) → status_of records t ≡ Some (Running p used)
         from (inl same) = ap (option_map (λ (x : Record). x.status)) (sym same) ∙ e
-        from (inr (past, new)) = absurd (idle p used (some-injective r.status (Running p used) (sym (ap (option_map (λ (x : Record). x.status)) new) ∙ e)))
+        from (inr new) = absurd (idle p used (some-injective r.status (Running p used) (sym (ap (option_map (λ (x : Record). x.status)) new) ∙ e)))
 
 -- ---- after a trap
 

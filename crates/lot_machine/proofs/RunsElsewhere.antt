@@ -1,5 +1,5 @@
 -- An event of one processor leaves who runs on another, unless it kills that thread, and how many ticks it has used there.
-use Rattle.std.proofs.Common.{◌≡◌, ℕ, Bool, true, false, Option, Some, None, List, [], ◌∷◌, is_none, refl, sym, ◌∙◌, ap, subst, option_and_then, unwrap_or}
+use Rattle.std.proofs.Common.{◌≡◌, ℕ, false, Option, Some, None, List, [], ◌∷◌, refl, sym, ◌∙◌, ap, option_and_then, unwrap_or}
 use Rattle.lot_machine.specs.declared.record.Record.{Record}
 use Rattle.lot_machine.specs.declared.record.Status.TheVariants as status
 use Rattle.lot_machine.specs.declared.command.Command.{Command}
@@ -9,16 +9,15 @@ use Rattle.lot_machine.specs.declared.event.Event.TheVariants as event
 use Rattle.lot_machine.specs.declared.reference.ThreadRef.{ThreadRef}
 use Rattle.lot_machine.specs.Numbered.{option_any}
 use Rattle.lot_machine.specs.State.{State, is_dead, status_of, used_by, thread_on}
-use Rattle.lot_machine.specs.Kill.{released_by, released, ended, killed}
+use Rattle.lot_machine.specs.Kill.{killed}
 use Rattle.lot_machine.specs.Commands.{thread_meant, is_dead_in, command_step}
 use Rattle.lot_machine.specs.Step.{used_there, step}
 use Rattle.lot_machine.specs.Facts.{RunsApart}
 use Rattle.lot_machine.specs.Order.{IsInOrder}
 use Rattle.lot_machine.specs.Named.{processor_of, killed_by}
-use Rattle.lot_machine.proofs.Tickets.{some-injective}
 use Rattle.lot_machine.proofs.RecordsKept.{used_by-runs, runs-used_by, nobody-runs, found-runs}
 use Rattle.lot_machine.proofs.Killed.{killed-dead}
-use Rattle.lot_machine.proofs.StepChanges.{By, On, Kills, kept, change-used, change-ran, by_event, step-leads}
+use Rattle.lot_machine.proofs.StepChanges.{On, Kills, kept, change-used, change-ran, by_event, step-leads}
 
 -- an event of no processor, or of another, makes no change on this one
 elsewhere : (s : State) (e : Event) (p : ℕ) → ¬ (processor_of e ≡ Some p) → ¬ (by_event s e ≡ On p)
@@ -65,7 +64,7 @@ spared s (event.Wake u) t other is = cc
 -- an event of no processor, or of another, leaves the ticks that a thread has used on this one, unless it kills the thread
 pub step-used : (s : State) (e : Event) (p t : ℕ) → IsInOrder s → ¬ (processor_of e ≡ Some p) → ¬ (killed_by s e ≡ Some t) → used_by (step s e).state.records p t ≡ used_by s.records p t
 step-used s e p t order apart other =
-    kept (λ a. used_by a.records p t ≡ used_by s.records p t) (change-used (by_event s e) s p t order.queues (elsewhere s e p apart) (spared s e t other)) (step-leads s e) refl
+    kept (λ a. used_by a.records p t ≡ used_by s.records p t) (change-used (by_event s e) s p t order.queues (λ _. (order.gaps, order.removed)) (elsewhere s e p apart) (spared s e t other)) (step-leads s e) refl
 
 -- who runs on this one ran there before
 step-ran : (s : State) (e : Event) (p t used : ℕ) → ¬ (processor_of e ≡ Some p) → status_of (step s e).state.records t ≡ Some (status.Running p used) → status_of s.records t ≡ Some (status.Running p used)

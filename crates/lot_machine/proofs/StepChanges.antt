@@ -1,8 +1,9 @@
 -- Each event is a list of changes, each of which is allowed where it is made. So what each allowed change keeps, each event keeps.
-use Rattle.std.proofs.Common.{◌≡◌, ℕ, zero, suc, ◌+◌, ◌-◌, ◌^◌, ◌<◌, ◌≤◌, ◌==◌, Bool, true, false, not, ◌||◌, ◌⊎◌, inl, inr, Option, Some, None, is_some, is_none, List, [], ◌∷◌, ◌++◌, length, drop, map, remove, refl, sym, ◌∙◌, ap, subst, arith, cond, nat_lt, nat_le, option_map, option_and_then, unwrap_or, slice_get, slice_set, slice_index, All, IfSome}
+use Rattle.std.proofs.Common.{◌≡◌, ℕ, zero, suc, ◌+◌, ◌-◌, ◌^◌, ◌<◌, ◌≤◌, ◌==◌, Bool, true, false, not, ◌||◌, ◌⊎◌, inl, inr, Option, Some, None, is_some, is_none, List, [], ◌∷◌, ◌++◌, length, drop, map, remove, refl, sym, ◌∙◌, ap, subst, arith, cond, nat_lt, nat_le, option_map, option_and_then, unwrap_or, slice_get, slice_set, slice_index, All, IfSome, ◌&&◌}
 use Rattle.std.specs.Option.{option_flatten}
 use Rattle.std.proofs.lemmas.Bool.{cases_eq, ltb-false, leb-false, or_parts}
-use Rattle.std.proofs.lemmas.List.{length-append, map-append, map-set}
+use Rattle.std.proofs.lemmas.List.{length-append, map-set}
+use Rattle.std.proofs.lemmas.Option.{slice_get-map}
 use Rattle.std.proofs.Math.ListN.{length-set}
 use Rattle.std.proofs.lemmas.List.Elements.{All-head, All-tail, All-push, All-set}
 use Rattle.lot_machine.specs.declared.ticket.Ticket.{Ticket}
@@ -15,9 +16,11 @@ use Rattle.lot_machine.specs.declared.action.Action.{Action}
 use Rattle.lot_machine.specs.declared.action.Action.TheVariants.{Yield, Call, Receive, Reply as ReplyTo, Serve, Lock, Unlock, Sleep, Exit}
 use Rattle.lot_machine.specs.declared.command.Command.{Command}
 use Rattle.lot_machine.specs.declared.command.Command.TheVariants.{MakeTicket, RemoveTicket, MakeCurrency, RemoveCurrency, Fund, Unfund, SetTicket, MakeThread, RemoveThread, Kill, MakeFunded, List as Listing}
+use Rattle.lot_machine.specs.declared.reference.CurrencyRef.{CurrencyRef}
+use Rattle.lot_machine.specs.declared.reference.ThreadRef.{ThreadRef}
 use Rattle.lot_machine.specs.declared.event.Event.{Event}
 use Rattle.lot_machine.specs.declared.event.Event.TheVariants as event
-use Rattle.lot_machine.specs.declared.refusal.Refusal.TheVariants.{BadName, NameTaken, NoCurrency, NoTicket, NoTarget, BadAmount, InUse, Funding as IsFunding, Cycle, BaseFixed, DeadThread, Full, NoScript, NoThread, Alive, BadProcessor, Busy, NotRunning, BadTicks, NotAsleep}
+use Rattle.lot_machine.specs.declared.refusal.Refusal.TheVariants.{BadName, NameTaken, NoCurrency, NoTicket, NoTarget, BadAmount, InUse, Funding as IsFunding, NotFunding, Cycle, BaseFixed, DeadThread, Full, NoScript, NoThread, Alive, BadProcessor, Busy, NotRunning, BadTicks, NotAsleep}
 use Rattle.lot_machine.specs.declared.refusal.TrapRefusal.{TrapRefusal}
 use Rattle.lot_machine.specs.declared.drawn.Drawn.{Drawn}
 use Rattle.lot_machine.specs.declared.after.After.{After}
@@ -26,27 +29,32 @@ use Rattle.lot_machine.specs.Numbered.{at_number, set_number, option_any}
 use Rattle.lot_machine.specs.Funding.{ticket_in, with_target, retargeted, reissued, issued_in, backing_currency, is_currency, currency_funded}
 use Rattle.lot_machine.specs.Bounds.{IsWithinBounds}
 use Rattle.lot_machine.specs.Lottery.{winner}
-use Rattle.lot_machine.specs.State.{State, Port, Mutex, funding_of, is_dead, is_asleep, lend_of, QueuedCall, status_of, thread_at, used_on, used_by, thread_on, ready_threads, change_record, change_each, value_of, weight_of}
-use Rattle.lot_machine.specs.Commands.{currency_meant, thread_meant, target_meant, currency_or_base, is_good_name, is_taken, is_no_script, is_bad_amount, are_tickets_full, are_threads_full, is_in_use, is_dead_in, is_thread_in_use, is_dead_thread, is_funding, is_cycle, command_effect, command_step}
+use Rattle.lot_machine.specs.State.{State, Port, Mutex, funding_of, is_dead, is_asleep, lend_of, QueuedCall, status_of, thread_at, used_on, used_by, thread_on, ready_threads, change_record, change_each, value_of, weight_of, given_again, free_tickets, free_currencies, free_threads, next_thread}
+use Rattle.lot_machine.specs.Commands.{currency_meant, thread_meant, target_meant, currency_or_base, is_good_name, is_taken, is_no_script, is_bad_amount, are_tickets_full, are_threads_full, is_in_use, is_dead_in, is_thread_in_use, is_dead_thread, is_funding, is_cycle, command_effect, command_step, newborn}
+use Rattle.lot_machine.specs.Places.{is_none_free, placed}
 use Rattle.lot_machine.specs.Traps.{after_trap, with_ticks}
 use Rattle.lot_machine.specs.Ports.{clients_of, port_at, first_client, call, receive, reply}
 use Rattle.lot_machine.specs.Mutexes.{mutex_at, lock, unlock}
 use Rattle.lot_machine.specs.Kill.{without, port_without, mutex_without, released_by, released, ended, killed}
 use Rattle.lot_machine.specs.Step.{Effect, of_ports, of_mutexes, is_bad_processor, started, draw, stopped, wake, trap_refusal, trap_effect, checked_effect, thread_there, used_there, event_effect, step}
+use Rattle.lot_machine.specs.Equations.{HasEachOnce}
 use Rattle.lot_machine.specs.Facts.{HasNoCycle, FundsThere, RunsApart}
-use Rattle.lot_machine.specs.Order.{HasQueues}
-use Rattle.lot_machine.specs.Change.{Change, NewTicket, PutTicket, NewCurrency, DropCurrency, NewThread, DropThread, PutRecord, PutClients, PutPort, PutMutex, newborn, applied, applied_all}
-use Rattle.lot_machine.proofs.Idle.{there-alone, free-of, used-changed, used-more, used-of, used-stopped_on, index-holds, IsAlive, nobody-alive, ready-used, receiver-used, caller-used, client-used, waiter-used, there-used, is-dead, is-asleep, alive-of, status-more, status-number, ready-alive, receiver-alive, caller-alive, client-alive, waiter-alive, there-alive}
+use Rattle.lot_machine.specs.Order.{HasQueues, IsGap, HasFreeGaps}
+use Rattle.lot_machine.specs.Change.{Change, NewTicket, PutTicket, NewCurrency, DropCurrency, NewThread, DropThread, PutRecord, PutClients, PutPort, PutMutex, applied, applied_all, DropTicket}
+use Rattle.lot_machine.proofs.Idle.{there-alone, free-of, used-changed, used-of, used-stopped_on, index-holds, IsAlive, nobody-alive, ready-used, receiver-used, caller-used, client-used, waiter-used, there-used, is-dead, is-asleep, alive-of, status-number, ready-alive, receiver-alive, caller-alive, client-alive, waiter-alive, there-alive, used-placed, status-stays}
 use Rattle.lot_machine.proofs.Amounts.{HasNoCycle-amount, FundsThere-amount, place-of}
-use Rattle.lot_machine.proofs.CommandsKept.{IsFunded, unrefused, all-pass, none-of, target-there, keeps-remove_ticket, keeps-unfund, keeps-target}
-use Rattle.lot_machine.proofs.FundingKept.{HasNoCycle-new_ticket, FundsThere-new_ticket, HasNoCycle-currencies, FundsThere-after, FundsThere-removed}
-use Rattle.lot_machine.proofs.LendsKept.{HasNoCycle-lends_more}
-use Rattle.lot_machine.proofs.Queues.{queues-more, status-other}
-use Rattle.lot_machine.proofs.Tickets.{some-injective}
-use Rattle.lot_machine.proofs.Changes.{number-push, number-set, map-by-sets}
+use Rattle.lot_machine.proofs.CommandsKept.{IsFunded, unrefused, all-pass, none-of, target-there, keeps-remove_ticket, keeps-unfund, keeps-target, IsThere, some-of, meant-there, meant-thread}
+use Rattle.lot_machine.proofs.FundingKept.{HasNoCycle-currencies, FundsThere-removed, HasNoCycle-placed_ticket, FundsThere-placed_ticket, FundsThere-placed}
+use Rattle.lot_machine.proofs.LendsKept.{HasNoCycle-lends_placed}
+use Rattle.lot_machine.proofs.Queues.{status-other, FirstIsDead, number-set_same, queues-placed}
+use Rattle.lot_machine.proofs.Tickets.{some-injective, at_number-suc, flatten-some}
+use Rattle.lot_machine.proofs.Changes.{number-set, map-by-sets, number-there}
 use Rattle.lot_machine.proofs.KillKept.{kill-cycle}
 use Rattle.lot_machine.proofs.Killed.{IsAmong, IsHeir, released-why, client-waits, heir-waits}
-use Rattle.lot_machine.proofs.RecordsKept.{RunsAlone, StopsIfLeaves, status-changed, nobody-runs, RunsAlone-stops, RunsApart-changed, RunsApart-more}
+use Rattle.lot_machine.proofs.RecordsKept.{RunsAlone, StopsIfLeaves, status-changed, nobody-runs, RunsAlone-stops, RunsApart-changed, RunsApart-placed}
+use Rattle.lot_machine.proofs.Serving.{unused-serves}
+use Rattle.lot_machine.proofs.Places.{number-placed, length-placed, map-placed, gaps-placed, gaps-removed, gaps-replaced}
+use Rattle.lot_machine.proofs.EachOnce.{contains-at}
 
 -- ---- changes that are allowed
 
@@ -86,15 +94,28 @@ pub record Moves (by : By) (s a : State) (t : ℕ) (r : Record) : Type 0 where
   pub elsewhere : Queues s → (p : ℕ) → ¬ (by ≡ On p) → ¬ (by ≡ Kills (Some t)) → used_by a.records p t ≡ None
   pub runs : (p used : ℕ) → r.status ≡ status.Running p used → (by ≡ On p) × (Apart s → RunsAlone a.records p t)
 
+-- a thread that was removed is dead
+abbrev pub AreRemovedDead : State → Type 0
+AreRemovedDead s = (t : ℕ) → at_number s.threads t ≡ Some None → status_of s.records t ≡ Some status.Dead
+
+-- and serves nobody
+abbrev pub AreRemovedIdle : State → Type 0
+AreRemovedIdle s = (t : ℕ) → at_number s.threads t ≡ Some None → clients_of s.clients t ≡ []
+
+-- gaps are free if numbers are given again
+abbrev pub HasGaps : State → Type 0
+HasGaps s = s.limits.reuse ≡ true → HasFreeGaps s
+
 -- The change is allowed in the second state, which the event has reached from the first. The console alone changes tickets and
--- currencies and makes and removes threads, and it changes nothing else unless it kills a thread.
+-- currencies and makes and removes threads, and it changes nothing else unless it kills a thread. What it removes or replaces is there.
 abbrev pub Allowed : By → State → State → Change → Type 0
-Allowed by s a (NewTicket t) = (by ≡ Console) × (t.amount < 2 ^ 32) × (length a.tickets < a.limits.tickets) × (currency_funded t.target ≡ None)
-Allowed by s a (PutTicket n place) = (by ≡ Console) × (All HasAmount a.tickets → HasAmount place) × (IsFunded a → IsFunded (record a { tickets = set_number a.tickets n place }))
+Allowed by s a (NewTicket t) = (by ≡ Console) × (t.amount < 2 ^ 32) × (free_tickets a ≡ [] → length a.tickets < a.limits.tickets) × (currency_funded t.target ≡ None)
+Allowed by s a (DropTicket n) = (by ≡ Console) × IsThere (ticket_in a.tickets n)
+Allowed by s a (PutTicket n place) = (by ≡ Console) × (All HasAmount a.tickets → HasAmount place) × (IsFunded a → IsFunded (record a { tickets = set_number a.tickets n place })) × IsThere (ticket_in a.tickets n) × IsThere place
 Allowed by s a (NewCurrency name) = by ≡ Console
-Allowed by s a (DropCurrency c) = (by ≡ Console) × (length (backing_currency (funding_of a) c) ≡ 0)
-Allowed by s a (NewThread t) = by ≡ Console
-Allowed by s a (DropThread t) = (by ≡ Console) × (status_of a.records t ≡ Some status.Dead)
+Allowed by s a (DropCurrency c) = (by ≡ Console) × (length (backing_currency (funding_of a) c) ≡ 0) × IsThere (option_flatten (slice_get a.currencies c))
+Allowed by s a (NewThread t) = (by ≡ Console) × (HasGaps s → AreRemovedDead s → FirstIsDead a.records (free_threads a))
+Allowed by s a (DropThread t) = (by ≡ Console) × (status_of a.records t ≡ Some status.Dead) × IsThere (thread_at a.threads t) × (Queues s → clients_of a.clients t ≡ [])
 Allowed by s a (PutRecord t r) = Moves by s a t r
 Allowed by s a other = ¬ (by ≡ Console)
 
@@ -131,7 +152,8 @@ working p s b leads = kept (Leads (On p) s) (λ a c allowed before. Then before 
     not-console e = cc
 
     may : (a : State) (c : Change) → Allowed Work s a c → Allowed (On p) s a c
-    may a (NewThread t) allowed = absurd (not-console allowed)
+    may a (NewThread t) allowed = absurd (not-console allowed.0)
+    may a (DropTicket n) allowed = absurd (not-console allowed.0)
     may a (DropThread t) allowed = absurd (not-console allowed.0)
     may a (PutRecord t r) allowed =
         record { there = allowed.there; mover = λ e. cc; tally = λ e. absurd e; alive = allowed.alive; elsewhere = λ queues q other spared. allowed.elsewhere queues q (not-on q) (λ e. cc); runs = λ q used is. absurd (not-on q (allowed.runs q used is).0) }
@@ -170,14 +192,14 @@ put-changes records t r old is = rw is refl
 
 -- each processor still has its own thread
 pub change-apart : (by : By) (s : State) → Apart s → Keeps by s Apart
-change-apart by s apart a (NewThread t) allowed runs = RunsApart-more a.records newborn ready-stops runs
+change-apart by s apart a (NewThread t) allowed runs = RunsApart-placed a.records (free_threads a) newborn ready-stops runs
 change-apart by s apart a (PutRecord t r) allowed runs =
     subst RunsApart (put-changes a.records t r allowed.there.0 allowed.there.1) (RunsApart-changed (λ _. r) a.records t (λ x p used there is. (allowed.runs p used is).1 apart) runs)
 change-apart by s apart a other allowed runs = runs
 
 -- the work of a trap puts nobody else on a processor
 pub change-alone : (s : State) (p t : ℕ) → Keeps Work s (λ a. RunsAlone a.records p t)
-change-alone s p t a (NewThread x) allowed alone = absurd (differs allowed)
+change-alone s p t a (NewThread x) allowed alone = absurd (differs allowed.0)
   where
     differs : Work ≡ Console → ⊥
     differs e = cc
@@ -189,9 +211,10 @@ change-alone s p t a (PutRecord u r) allowed alone =
 change-alone s p t a other allowed alone = alone
 
 -- a thread that isn't killed has used as many ticks on a processor that isn't the event's as at the start
-pub change-used : (by : By) (s : State) (p u : ℕ) → Queues s → ¬ (by ≡ On p) → ¬ (by ≡ Kills (Some u)) → Keeps by s (λ a. used_by a.records p u ≡ used_by s.records p u)
-change-used by s p u queues other spared a (NewThread t) allowed same = used-more a.records newborn p refl u ∙ same
-change-used by s p u queues other spared a (PutRecord t r) allowed same = from (cases_eq u t)
+pub change-used : (by : By) (s : State) (p u : ℕ) → Queues s → (by ≡ Console → HasGaps s × AreRemovedDead s) → ¬ (by ≡ On p) → ¬ (by ≡ Kills (Some u))
+    → Keeps by s (λ a. used_by a.records p u ≡ used_by s.records p u)
+change-used by s p u queues gaps other spared a (NewThread t) (console, first) same = let (free, dead) = gaps console in used-placed a.records (free_threads a) newborn p refl (first free dead) u ∙ same
+change-used by s p u queues gaps other spared a (PutRecord t r) allowed same = from (cases_eq u t)
   where
     put : change_record (λ _. r) a.records t ≡ set_number a.records t r
     put = put-changes a.records t r allowed.there.0 allowed.there.1
@@ -201,15 +224,15 @@ change-used by s p u queues other spared a (PutRecord t r) allowed same = from (
         let idle = allowed.elsewhere queues p other (λ kills. spared (kills ∙ ap (λ x. Kills (Some x)) (sym at))) in
         ap (λ rs. used_by rs p u) (sym put) ∙ used-changed (λ _. r) a.records t p idle (λ _. used-stopped_on p r.status (λ used is. other (allowed.runs p used is).0)) u ∙ same
     from (inr differs) = ap (λ rs. used_by rs p u) (sym put) ∙ ap (option_and_then (used_on p)) (status-other (λ _. r) a.records t u differs) ∙ same
-change-used by s p u queues other spared a c allowed same = same
+change-used by s p u queues gaps other spared a c allowed same = same
 
 -- who runs on a processor that isn't the event's ran there at the start
 pub change-ran : (by : By) (s : State) (p u used : ℕ) → ¬ (by ≡ On p) → Keeps by s (λ a. status_of a.records u ≡ Some (status.Running p used) → status_of s.records u ≡ Some (status.Running p used))
-change-ran by s p u used other a (NewThread t) allowed ran runs = from (number-push a.records newborn u)
+change-ran by s p u used other a (NewThread t) allowed ran runs = from (number-placed a.records (free_threads a) newborn u)
   where
-    from : (at_number (a.records ++ newborn ∷ []) u ≡ at_number a.records u) ⊎ ((at_number a.records u ≡ None) × (at_number (a.records ++ newborn ∷ []) u ≡ Some newborn)) → status_of s.records u ≡ Some (status.Running p used)
+    from : (at_number (placed a.records (free_threads a) newborn) u ≡ at_number a.records u) ⊎ (at_number (placed a.records (free_threads a) newborn) u ≡ Some newborn) → status_of s.records u ≡ Some (status.Running p used)
     from (inl same) = ran (ap (option_map (λ (x : Record). x.status)) (sym same) ∙ runs)
-    from (inr (none, new)) = let never : Some status.Ready ≡ Some (status.Running p used) = sym (ap (option_map (λ (x : Record). x.status)) new) ∙ runs in cc
+    from (inr new) = let never : Some status.Ready ≡ Some (status.Running p used) = sym (ap (option_map (λ (x : Record). x.status)) new) ∙ runs in cc
 change-ran by s p u used other a (PutRecord t r) allowed ran runs = from (status-changed (λ _. r) a.records t u)
   where
     now : status_of (change_record (λ _. r) a.records t) u ≡ Some (status.Running p used)
@@ -226,7 +249,17 @@ abbrev pub HasRoom : State → Type 0
 HasRoom s = All HasAmount s.tickets × (length s.tickets ≤ s.limits.tickets) × IsWithinBounds s.limits
 
 pub change-room : (by : By) (s : State) → Keeps by s HasRoom
-change-room by s a (NewTicket t) (console, small, free, target) (amounts, few, bounds) = (All-push HasAmount a.tickets (Some t) amounts small, omega (arith, free, length-append a.tickets (Some t ∷ [])), bounds)
+change-room by s a (NewTicket t) (console, small, free, target) (amounts, few, bounds) = (amounts-placed (free_tickets a), few-placed (length-placed a.tickets (free_tickets a) (Some t)), bounds)
+  where
+    amounts-placed : (places : List ℕ) → All HasAmount (placed a.tickets places (Some t))
+    amounts-placed [] = All-push HasAmount a.tickets (Some t) amounts small
+    amounts-placed (i ∷ places) = All-set HasAmount a.tickets i (Some t) small amounts
+
+    few-placed : ((free_tickets a ≡ []) × (length (placed a.tickets (free_tickets a) (Some t)) ≡ length a.tickets + 1)) ⊎ (length (placed a.tickets (free_tickets a) (Some t)) ≡ length a.tickets)
+        → length (placed a.tickets (free_tickets a) (Some t)) ≤ a.limits.tickets
+    few-placed (inl (none, one_more)) = omega (arith, free none, one_more)
+    few-placed (inr same) = omega (arith, few, same)
+change-room by s a (DropTicket n) allowed (amounts, few, bounds) = (All-set HasAmount a.tickets (n - 1) None tt amounts, omega (arith, few, length-set a.tickets (n - 1) None), bounds)
 change-room by s a (PutTicket n place) allowed (amounts, few, bounds) = (All-set HasAmount a.tickets (n - 1) place (allowed.1 amounts) amounts, omega (arith, few, length-set a.tickets (n - 1) place), bounds)
 change-room by s a other allowed room = room
 
@@ -235,8 +268,11 @@ abbrev pub HasGrownFrom : State → State → Type 0
 HasGrownFrom s after = (after.limits ≡ s.limits) × ((more : ℕ) × (length after.records ≡ length s.records + more) × (length after.threads ≡ length s.threads + more))
 
 pub change-grown : (by : By) (s : State) → Keeps by s (HasGrownFrom s)
-change-grown by s a (NewThread t) allowed (limits, (more, records, threads)) =
-    (limits, (more + 1, omega (arith, records, length-append a.records (newborn ∷ [])), omega (arith, threads, length-append a.threads (Some t ∷ []))))
+change-grown by s a (NewThread t) allowed (limits, (more, records, threads)) = (limits, by-free (free_threads a))
+  where
+    by-free : (free : List ℕ) → (n : ℕ) × (length (placed a.records free newborn) ≡ length s.records + n) × (length (placed a.threads free (Some t)) ≡ length s.threads + n)
+    by-free [] = (more + 1, omega (arith, records, length-append a.records (newborn ∷ [])), omega (arith, threads, length-append a.threads (Some t ∷ [])))
+    by-free (i ∷ free) = (more, length-set a.records i newborn ∙ records, length-set a.threads i (Some t) ∙ threads)
 change-grown by s a (DropThread t) allowed (limits, (more, records, threads)) = (limits, (more, records, length-set a.threads (t - 1) None ∙ threads))
 change-grown by s a (PutRecord t r) allowed (limits, (more, records, threads)) = (limits, (more, length-set a.records (t - 1) r ∙ records, threads))
 change-grown by s a other allowed grown = grown
@@ -246,18 +282,14 @@ abbrev pub HasSizesOf : State → State → Type 0
 HasSizesOf s after = (after.limits ≡ s.limits) × (length after.records ≡ length s.records) × (after.threads ≡ s.threads)
 
 pub change-sizes : (by : By) (s : State) → ¬ (by ≡ Console) → Keeps by s (HasSizesOf s)
-change-sizes by s other a (NewThread t) allowed sizes = absurd (other allowed)
+change-sizes by s other a (NewThread t) allowed sizes = absurd (other allowed.0)
 change-sizes by s other a (DropThread t) allowed sizes = absurd (other allowed.0)
 change-sizes by s other a (PutRecord t r) allowed (limits, records, threads) = (limits, length-set a.records (t - 1) r ∙ records, threads)
 change-sizes by s other a c allowed sizes = sizes
 
--- a thread that was removed is dead
-abbrev pub AreRemovedDead : State → Type 0
-AreRemovedDead s = (t : ℕ) → at_number s.threads t ≡ Some None → status_of s.records t ≡ Some status.Dead
-
 -- what isn't the console's removes nobody, and wakes nobody who was dead at the start
 pub change-removed : (by : By) (s : State) → ¬ (by ≡ Console) → Queues s → AreRemovedDead s → Keeps by s (λ a. (a.threads ≡ s.threads) × AreRemovedDead a)
-change-removed by s other queues before a (NewThread t) allowed removed = absurd (other allowed)
+change-removed by s other queues before a (NewThread t) allowed removed = absurd (other allowed.0)
 change-removed by s other queues before a (DropThread t) allowed removed = absurd (other allowed.0)
 change-removed by s other queues before a (PutRecord t r) allowed (same, dead) = (same, λ u gone. from u gone (status-changed (λ _. r) a.records t u))
   where
@@ -271,16 +303,23 @@ change-removed by s other queues before a c allowed removed = removed
 
 -- what the console removes is dead, and what it makes is there
 pub change-gone : (s : State) → Keeps Console s AreRemovedDead
-change-gone s a (NewThread t) allowed removed u gone = from (number-push a.threads (Some t) u)
+change-gone s a (NewThread t) allowed removed u gone = from (number-placed a.threads (free_threads a) (Some t) u)
   where
-    older : at_number a.threads u ≡ Some None → status_of (a.records ++ newborn ∷ []) u ≡ Some status.Dead
-    older before = status-more a.records newborn u status.Dead (removed u before)
+    -- a gap isn't in the first free place, where the new thread is
+    elsewhere : (free : List ℕ) → at_number a.threads u ≡ Some None → at_number (placed a.threads free (Some t)) u ≡ Some None → ¬ (slice_get free 0 ≡ Some (u - 1))
+    elsewhere [] before now first = cc
+    elsewhere (i ∷ free) before now first =
+        let number : suc (u - 1) ≡ u = number-there a.threads u None before in
+        let at : i ≡ u - 1 = some-injective i (u - 1) first in
+        let place : slice_set a.threads i (Some t) ≡ set_number a.threads u (Some t) = ap (λ j. slice_set a.threads j (Some t)) at in
+        let made : at_number (set_number a.threads u (Some t)) u ≡ Some (Some t) = number-set_same a.threads u (Some t) None before in
+        let differs : Some (Some t) ≡ Some None = sym made ∙ sym (ap (λ ts. at_number ts u) place) ∙ now in cc
 
-    from : (at_number (a.threads ++ Some t ∷ []) u ≡ at_number a.threads u) ⊎ ((at_number a.threads u ≡ None) × (at_number (a.threads ++ Some t ∷ []) u ≡ Some (Some t)))
-        → status_of (a.records ++ newborn ∷ []) u ≡ Some status.Dead
-    from (inl same) = older (sym same ∙ gone)
-    from (inr (none, made)) = let differs : Some (Some t) ≡ Some None = sym made ∙ gone in cc
-change-gone s a (DropThread t) (console, dead) removed u gone = from (number-set a.threads t None u)
+    from : (at_number (placed a.threads (free_threads a) (Some t)) u ≡ at_number a.threads u) ⊎ (at_number (placed a.threads (free_threads a) (Some t)) u ≡ Some (Some t))
+        → status_of (placed a.records (free_threads a) newborn) u ≡ Some status.Dead
+    from (inl same) = let before : at_number a.threads u ≡ Some None = sym same ∙ gone in status-stays a.records (free_threads a) newborn u status.Dead (elsewhere (free_threads a) before gone) (removed u before)
+    from (inr made) = let differs : Some (Some t) ≡ Some None = sym made ∙ gone in cc
+change-gone s a (DropThread t) (console, dead, there, serves) removed u gone = from (number-set a.threads t None u)
   where
     from : (at_number (set_number a.threads t None) u ≡ at_number a.threads u) ⊎ ((u ≡ suc (t - 1)) × (at_number (set_number a.threads t None) u ≡ Some None)) → status_of a.records u ≡ Some status.Dead
     from (inl same) = removed u (sym same ∙ gone)
@@ -288,9 +327,28 @@ change-gone s a (DropThread t) (console, dead) removed u gone = from (number-set
 change-gone s a (PutRecord t r) allowed removed u gone = absurd (allowed.mover refl)
 change-gone s a other allowed removed u gone = removed u gone
 
+-- what the console removes serves nobody
+pub change-idle : (s : State) → Queues s → Keeps Console s AreRemovedIdle
+change-idle s queues a (NewThread t) allowed idle u gone = from (number-placed a.threads (free_threads a) (Some t) u) (number-placed a.clients (free_threads a) [] u)
+  where
+    from : (at_number (placed a.threads (free_threads a) (Some t)) u ≡ at_number a.threads u) ⊎ (at_number (placed a.threads (free_threads a) (Some t)) u ≡ Some (Some t))
+        → (at_number (placed a.clients (free_threads a) []) u ≡ at_number a.clients u) ⊎ (at_number (placed a.clients (free_threads a) []) u ≡ Some [])
+        → clients_of (placed a.clients (free_threads a) []) u ≡ []
+    from (inr made) _ = let differs : Some (Some t) ≡ Some None = sym made ∙ gone in cc
+    from (inl was) (inl same) = ap (λ o. unwrap_or o []) same ∙ idle u (sym was ∙ gone)
+    from (inl was) (inr new) = ap (λ o. unwrap_or o []) new
+change-idle s queues a (DropThread t) (console, dead, there, serves) idle u gone = from (number-set a.threads t None u)
+  where
+    from : (at_number (set_number a.threads t None) u ≡ at_number a.threads u) ⊎ ((u ≡ suc (t - 1)) × (at_number (set_number a.threads t None) u ≡ Some None)) → clients_of a.clients u ≡ []
+    from (inl same) = idle u (sym same ∙ gone)
+    from (inr (at, new)) = let here : u ≡ t = at ∙ status-number a.records t status.Dead dead in ap (clients_of a.clients) here ∙ serves queues
+change-idle s queues a (PutClients t x) allowed idle u gone = absurd (allowed refl)
+change-idle s queues a other allowed idle u gone = idle u gone
+
 -- the same tickets
 pub change-tickets : (by : By) (s : State) → ¬ (by ≡ Console) → Keeps by s (λ a. a.tickets ≡ s.tickets)
 change-tickets by s other a (NewTicket t) allowed same = absurd (other allowed.0)
+change-tickets by s other a (DropTicket n) allowed same = absurd (other allowed.0)
 change-tickets by s other a (PutTicket n place) allowed same = absurd (other allowed.0)
 change-tickets by s other a c allowed same = same
 
@@ -306,7 +364,7 @@ release-leads {by} {s} (t ∷ ts) a other leads waits =
     (put a released t other (λ _ r. refl) leads
     (λ queues. let (now, is, lives, idle) = waits 0 t refl queues in alive-of s.records t now is lives)
     (λ queues p on spared. let (now, is, lives, idle) = waits 0 t refl queues in
-    kept (λ b. used_by b.records p t ≡ used_by s.records p t) (change-used by s p t queues on spared) leads refl ∙ used-of s.records p t now is (idle p))
+    kept (λ b. used_by b.records p t ≡ used_by s.records p t) (change-used by s p t queues (λ console. absurd (other console)) on spared) leads refl ∙ used-of s.records p t now is (idle p))
     (λ r p used is. cc))
     (λ place u e. waits (suc place) u e)
 
@@ -366,9 +424,54 @@ amount-in tickets n to all = at (n == 0)
 
 -- a ticket's amount is checked, and that there is room for it
 may-issue : (s : State) (amount : ℕ) (to : Target) → is_bad_amount amount ≡ false → are_tickets_full s ≡ false → currency_funded to ≡ None
-    → ◌≡◌ {A = By} Console Console × (amount < 2 ^ 32) × (length s.tickets < s.limits.tickets) × (currency_funded to ≡ None)
+    → ◌≡◌ {A = By} Console Console × (amount < 2 ^ 32) × (free_tickets s ≡ [] → length s.tickets < s.limits.tickets) × (currency_funded to ≡ None)
 may-issue s amount to good free none =
-    (refl, omega (arith, ltb-false 4294967295 amount (or_parts (amount == 0) (nat_lt 4294967295 amount) good).1), leb-false s.limits.tickets (length s.tickets) free, none)
+    (refl, omega (arith, ltb-false 4294967295 amount (or_parts (amount == 0) (nat_lt 4294967295 amount) good).1), λ all_used. leb-false s.limits.tickets (length s.tickets) (few all_used), none)
+  where
+    few : free_tickets s ≡ [] → nat_le s.limits.tickets (length s.tickets) ≡ false
+    few all_used = sym (ap (λ places. is_none_free places && nat_le s.limits.tickets (length s.tickets)) all_used) ∙ free
+
+-- a thread that leaves a free place is dead
+pub free-dead : (s : State) → HasGaps s → AreRemovedDead s → FirstIsDead s.records (free_threads s)
+free-dead s gaps removed place = by s.limits.reuse refl
+  where
+    by : (reuse : Bool) → s.limits.reuse ≡ reuse → slice_get (cond {A = List ℕ} reuse s.freed.threads []) 0 ≡ Some place → status_of s.records (suc place) ≡ Some status.Dead
+    by false is first = cc
+    by true is first = removed (suc place) (at_number-suc s.threads place ∙ (gaps is).threads.each place (contains-at s.freed.threads 0 place first))
+
+-- a currency that is meant has a name
+pub currency-there : (s : State) (currency : CurrencyRef) → is_none (currency_meant s currency) ≡ false → IsThere (option_flatten (slice_get s.currencies (currency_or_base s currency)))
+currency-there s currency some = by (some-of (currency_meant s currency) some)
+  where
+    found : (c : ℕ) (o : Option (Option (List ℕ))) → option_map is_some o ≡ Some true → IsThere (option_flatten o)
+    found c None e = cc
+    found c (Some None) e = cc
+    found c (Some (Some name)) e = (name, refl)
+
+    by : IsThere (currency_meant s currency) → IsThere (option_flatten (slice_get s.currencies (currency_or_base s currency)))
+    by (c, is) =
+        subst (λ (o : Option ℕ). IsThere (option_flatten (slice_get s.currencies (unwrap_or o 0)))) (sym is) (found c (slice_get s.currencies c) (sym (slice_get-map is_some s.currencies c) ∙ meant-there s currency c is))
+
+-- a thread that is meant is there
+thread-there : (s : State) (thread : ThreadRef) → is_none (thread_meant s thread) ≡ false → IsThere (thread_at s.threads (unwrap_or (thread_meant s thread) 0))
+thread-there s thread some = by (some-of (thread_meant s thread) some)
+  where
+    by : IsThere (thread_meant s thread) → IsThere (thread_at s.threads (unwrap_or (thread_meant s thread) 0))
+    by (t, is) = subst (λ (o : Option ℕ). IsThere (thread_at s.threads (unwrap_or o 0))) (sym is) (meant-thread s thread t is)
+
+-- what becomes of a ticket that is there is there
+still-there : (change : Ticket → Ticket) (o : Option Ticket) → is_none o ≡ false → IsThere (option_map change o)
+still-there change None some = cc
+still-there change (Some t) some = (change t, refl)
+
+-- these places are given again, if numbers are
+given : (s : State) → s.limits.reuse ≡ true → (free : List ℕ) → given_again s free ≡ free
+given s on free = ap (λ b. cond {A = List ℕ} b free []) on
+
+-- the place of what is there
+place-there : {A : Type 0} (xs : List (Option A)) (n : ℕ) (x : A) → option_flatten (at_number xs n) ≡ Some x → slice_get xs (n - 1) ≡ Some (Some x)
+place-there xs zero x is = cc
+place-there xs (suc i) x is = let place : suc i - 1 ≡ i = omega arith in ap (slice_get xs) place ∙ sym (at_number-suc xs i) ∙ flatten-some (at_number xs (suc i)) x is
 
 amount-small : (o : Option Ticket) (amount : ℕ) → is_bad_amount amount ≡ false → HasAmount (option_map (reissued amount) o)
 amount-small None amount good = tt
@@ -386,13 +489,15 @@ command-leads s (MakeTicket amount currency) =
     let passed = all-pass ((is_bad_amount amount, BadAmount) ∷ (is_none (currency_meant s currency), NoCurrency) ∷ (are_tickets_full s, Full) ∷ []) e in
     Then Stays (NewTicket (record { amount = amount; issuer = currency_or_base s currency; target = target.Unfunded })) (may-issue s amount target.Unfunded passed.0 passed.1.1.0 refl))
 command-leads s (RemoveTicket n) =
-    unrefused (Leads Console s) s _ (command_effect s (RemoveTicket n)) Stays (λ _. Then Stays (PutTicket n None) (refl, λ _. tt, λ (cycle, there). keeps-remove_ticket s cycle there n))
+    unrefused (Leads Console s) s _ (command_effect s (RemoveTicket n)) Stays (λ e.
+    let passed = all-pass ((is_none (ticket_in s.tickets n), NoTicket) ∷ (option_any is_funding (ticket_in s.tickets n), IsFunding) ∷ []) e in
+    Then Stays (DropTicket n) (refl, some-of (ticket_in s.tickets n) passed.0))
 command-leads s (MakeCurrency name) = unrefused (Leads Console s) s _ (command_effect s (MakeCurrency name)) Stays (λ _. Then Stays (NewCurrency name) refl)
 command-leads s (RemoveCurrency currency) =
     unrefused (Leads Console s) s _ (command_effect s (RemoveCurrency currency)) Stays (λ e.
     let passed = all-pass ((is_none (currency_meant s currency), NoCurrency) ∷ (option_any (λ c. c == 0) (currency_meant s currency), BaseFixed)
     ∷ (option_any (is_in_use s) (currency_meant s currency), InUse) ∷ []) e in
-    Then Stays (DropCurrency (currency_or_base s currency)) (refl, unused (currency_meant s currency) passed.0 passed.1.1.0))
+    Then Stays (DropCurrency (currency_or_base s currency)) (refl, unused (currency_meant s currency) passed.0 passed.1.1.0, currency-there s currency passed.0))
   where
     unused : (o : Option ℕ) → is_none o ≡ false → option_any (is_in_use s) o ≡ false → length (backing_currency (funding_of s) (unwrap_or o 0)) ≡ 0
     unused None named not_used = cc
@@ -403,7 +508,7 @@ command-leads s (Fund n to_fund) =
     ∷ (option_any (is_currency 0) (target_meant s to_fund), BaseFixed) ∷ (option_any (is_dead_thread s) (target_meant s to_fund), DeadThread)
     ∷ (option_any is_funding (ticket_in s.tickets n), IsFunding) ∷ (option_any (is_cycle s n) (target_meant s to_fund), Cycle) ∷ []) e in
     let to = unwrap_or (target_meant s to_fund) target.Unfunded in
-    Then Stays (PutTicket n (option_map (retargeted to) (ticket_in s.tickets n))) (refl, amount-in s.tickets n to, funds (target_meant s to_fund) refl passed.1.0 passed.1.1.1.1.1.0 passed.0))
+    Then Stays (PutTicket n (option_map (retargeted to) (ticket_in s.tickets n))) (refl, amount-in s.tickets n to, funds (target_meant s to_fund) refl passed.1.0 passed.1.1.1.1.1.0 passed.0, some-of (ticket_in s.tickets n) passed.0, still-there (retargeted to) (ticket_in s.tickets n) passed.0))
   where
     funds : (o : Option Target) → target_meant s to_fund ≡ o → is_none o ≡ false → option_any (is_cycle s n) o ≡ false → is_none (ticket_in s.tickets n) ≡ false
         → IsFunded s → IsFunded (record s { tickets = with_target s.tickets n (unwrap_or o target.Unfunded) })
@@ -411,25 +516,36 @@ command-leads s (Fund n to_fund) =
     funds (Some to) is named apart here (no_cycle, there) =
         keeps-target s no_cycle there n to (λ c same. (apart, target-there s to_fund c (is ∙ ap Some same))) here
 command-leads s (Unfund n) =
-    unrefused (Leads Console s) s _ (command_effect s (Unfund n)) Stays (λ _.
-    Then Stays (PutTicket n (option_map (retargeted target.Unfunded) (ticket_in s.tickets n))) (refl, amount-in s.tickets n target.Unfunded, λ (cycle, there). keeps-unfund s cycle there n target.Unfunded refl))
+    unrefused (Leads Console s) s _ (command_effect s (Unfund n)) Stays (λ e.
+    let passed = all-pass ((is_none (ticket_in s.tickets n), NoTicket) ∷ (not (option_any is_funding (ticket_in s.tickets n)), NotFunding) ∷ []) e in
+    Then Stays (PutTicket n (option_map (retargeted target.Unfunded) (ticket_in s.tickets n)))
+    (refl, amount-in s.tickets n target.Unfunded, λ (cycle, there). keeps-unfund s cycle there n target.Unfunded refl, some-of (ticket_in s.tickets n) passed.0, still-there (retargeted target.Unfunded) (ticket_in s.tickets n) passed.0))
 command-leads s (SetTicket n amount) =
     unrefused (Leads Console s) s _ (command_effect s (SetTicket n amount)) Stays (λ e.
     let passed = all-pass ((is_bad_amount amount, BadAmount) ∷ (is_none (ticket_in s.tickets n), NoTicket) ∷ []) e in
     let (place, there) = place-of s.tickets n passed.1.0 in
-    Then Stays (PutTicket n (option_map (reissued amount) (ticket_in s.tickets n)))
-    (refl, λ _. amount-small (ticket_in s.tickets n) amount passed.0, λ (cycle, funds). (HasNoCycle-amount (funding_of s) n amount place there cycle, FundsThere-amount (funding_of s) n amount place there funds)))
+    Then Stays (PutTicket n (option_map (reissued amount) (ticket_in s.tickets n))) (
+      refl,
+      λ _. amount-small (ticket_in s.tickets n) amount passed.0,
+      λ (cycle, funds). (HasNoCycle-amount (funding_of s) n amount place there cycle, FundsThere-amount (funding_of s) n amount place there funds),
+      some-of (ticket_in s.tickets n) passed.1.0,
+      still-there (reissued amount) (ticket_in s.tickets n) passed.1.0,
+    ))
 command-leads s (MakeThread name script) =
-    unrefused (Leads Console s) s _ (command_effect s (MakeThread name script)) Stays (λ _. Then Stays (NewThread (record { name = name; script = script })) refl)
+    unrefused (Leads Console s) s _ (command_effect s (MakeThread name script)) Stays (λ _. Then Stays (NewThread (record { name = name; script = script })) (refl, free-dead s))
 command-leads s (RemoveThread thread) =
     unrefused (Leads Console s) s _ (command_effect s (RemoveThread thread)) Stays (λ e.
     let passed = all-pass ((is_none (thread_meant s thread), NoThread) ∷ (not (option_any (is_dead_in s) (thread_meant s thread)), Alive)
     ∷ (option_any (is_thread_in_use s) (thread_meant s thread), InUse) ∷ []) e in
-    Then Stays (DropThread (unwrap_or (thread_meant s thread) 0)) (refl, ended (thread_meant s thread) passed.0 passed.1.0))
+    Then Stays (DropThread (unwrap_or (thread_meant s thread) 0)) (refl, ended (thread_meant s thread) passed.0 passed.1.0, thread-there s thread passed.0, λ queues. unserved queues (thread_meant s thread) passed.0 passed.1.1.0))
   where
     holds : (b : Bool) → not b ≡ false → b ≡ true
     holds true e = refl
     holds false e = cc
+
+    unserved : Queues s → (o : Option ℕ) → is_none o ≡ false → option_any (is_thread_in_use s) o ≡ false → clients_of s.clients (unwrap_or o 0) ≡ []
+    unserved queues None named unused = cc
+    unserved queues (Some t) named unused = unused-serves s t queues unused
 
     ended : (o : Option ℕ) → is_none o ≡ false → not (option_any (is_dead_in s) o) ≡ false → status_of s.records (unwrap_or o 0) ≡ Some status.Dead
     ended None named alive = cc
@@ -446,8 +562,8 @@ command-leads s (MakeFunded amount currency name script) =
     unrefused (Leads Console s) s _ (command_effect s (MakeFunded amount currency name script)) Stays (λ e.
     let passed = all-pass ((is_bad_amount amount, BadAmount) ∷ (is_none (currency_meant s currency), NoCurrency) ∷ (not (is_good_name name), BadName)
     ∷ (is_taken s name, NameTaken) ∷ (is_no_script s script, NoScript) ∷ (are_tickets_full s || are_threads_full s, Full) ∷ []) e in
-    let to = target.Thread (length s.threads + 1) in
-    Then (Then Stays (NewThread (record { name = name; script = script })) refl)
+    let to = target.Thread (next_thread s) in
+    Then (Then Stays (NewThread (record { name = name; script = script })) (refl, free-dead s))
     (NewTicket (record { amount = amount; issuer = currency_or_base s currency; target = to }))
     (may-issue s amount to passed.0 (or_parts (are_tickets_full s) (are_threads_full s) passed.1.1.1.1.1.0).0 refl))
 command-leads s (Listing kind) = Stays
@@ -455,18 +571,19 @@ command-leads s (Listing kind) = Stays
 -- nothing makes a cycle, and tickets fund only currencies that are there
 pub change-funded : (s : State) → Keeps Console s IsFunded
 change-funded s a (NewTicket t) (console, small, room, none) (no_cycle, there) =
-    (HasNoCycle-new_ticket (funding_of a) t.amount t.issuer t.target none no_cycle, FundsThere-new_ticket (funding_of a) t.amount t.issuer t.target none there)
+    (HasNoCycle-placed_ticket (funding_of a) (free_tickets a) t none no_cycle, FundsThere-placed_ticket (funding_of a) (free_tickets a) t none there)
+change-funded s a (DropTicket n) allowed (no_cycle, there) = keeps-remove_ticket a no_cycle there n
 change-funded s a (PutTicket n place) allowed funded = allowed.2 funded
 change-funded s a (NewCurrency name) allowed (no_cycle, there) = (
-  HasNoCycle-currencies (funding_of a) (map is_some (a.currencies ++ Some name ∷ [])) no_cycle,
-  subst (λ xs. FundsThere (record (funding_of a) { currencies = xs })) (sym (map-append is_some a.currencies (Some name ∷ []))) (FundsThere-after (funding_of a) (true ∷ []) there),
+  HasNoCycle-currencies (funding_of a) (map is_some (placed a.currencies (free_currencies a) (Some name))) no_cycle,
+  subst (λ xs. FundsThere (record (funding_of a) { currencies = xs })) (sym (map-placed is_some a.currencies (free_currencies a) (Some name))) (FundsThere-placed (funding_of a) (free_currencies a) there),
 )
-change-funded s a (DropCurrency c) (console, unused) (no_cycle, there) = (
+change-funded s a (DropCurrency c) (console, unused, _) (no_cycle, there) = (
   HasNoCycle-currencies (funding_of a) (map is_some (slice_set a.currencies c None)) no_cycle,
   subst (λ xs. FundsThere (record (funding_of a) { currencies = xs })) (sym (map-set is_some a.currencies c None)) (FundsThere-removed (funding_of a) c unused there),
 )
 change-funded s a (NewThread t) allowed (no_cycle, there) =
-    (subst (λ xs. HasNoCycle (record (funding_of a) { lends = xs })) (sym (map-append (λ (r : Record). lend_of r.status) a.records (newborn ∷ []))) (HasNoCycle-lends_more (funding_of a) no_cycle), there)
+    (subst (λ xs. HasNoCycle (record (funding_of a) { lends = xs })) (sym (map-placed (λ (r : Record). lend_of r.status) a.records (free_threads a) newborn)) (HasNoCycle-lends_placed (funding_of a) (free_threads a) no_cycle), there)
 change-funded s a (DropThread t) allowed funded = funded
 change-funded s a (PutRecord t r) allowed funded = absurd (allowed.mover refl)
 change-funded s a (PutClients t x) allowed funded = absurd (allowed refl)
@@ -476,20 +593,60 @@ change-funded s a (PutMutex t x) allowed funded = absurd (allowed refl)
 -- what isn't the console's leaves tickets and currencies
 pub change-there : (by : By) (s : State) → ¬ (by ≡ Console) → Keeps by s (λ a. FundsThere (funding_of a))
 change-there by s other a (NewTicket t) allowed there = absurd (other allowed.0)
+change-there by s other a (DropTicket n) allowed there = absurd (other allowed.0)
 change-there by s other a (PutTicket n place) allowed there = absurd (other allowed.0)
 change-there by s other a (NewCurrency name) allowed there = absurd (other allowed)
 change-there by s other a (DropCurrency c) allowed there = absurd (other allowed.0)
-change-there by s other a (NewThread t) allowed there = absurd (other allowed)
+change-there by s other a (NewThread t) allowed there = absurd (other allowed.0)
 change-there by s other a c allowed there = there
 
 -- those who wait stand where their statuses say
-pub change-queues : (s : State) → Keeps Console s Queues
-change-queues s a (NewThread t) allowed queues = queues-more a.records a.clients a.ports a.mutexes queues newborn
-change-queues s a (PutRecord t r) allowed queues = absurd (allowed.mover refl)
-change-queues s a (PutClients t x) allowed queues = absurd (allowed refl)
-change-queues s a (PutPort t x) allowed queues = absurd (allowed refl)
-change-queues s a (PutMutex t x) allowed queues = absurd (allowed refl)
-change-queues s a other allowed queues = queues
+pub change-queues : (s : State) → HasGaps s → AreRemovedDead s → Keeps Console s Queues
+change-queues s gaps removed a (NewThread t) allowed queues = queues-placed a.records a.clients a.ports a.mutexes queues (free_threads a) newborn (allowed.1 gaps removed)
+change-queues s gaps removed a (PutRecord t r) allowed queues = absurd (allowed.mover refl)
+change-queues s gaps removed a (PutClients t x) allowed queues = absurd (allowed refl)
+change-queues s gaps removed a (PutPort t x) allowed queues = absurd (allowed refl)
+change-queues s gaps removed a (PutMutex t x) allowed queues = absurd (allowed refl)
+change-queues s gaps removed a other allowed queues = queues
+
+-- gaps are free if numbers are given again
+pub change-gaps : (by : By) (s : State) → Keeps by s HasGaps
+change-gaps by s a (NewTicket t) allowed gaps on = let are = gaps on in record { tickets = now on; currencies = are.currencies; threads = are.threads }
+  where
+    now : a.limits.reuse ≡ true → HasEachOnce (drop 1 (free_tickets a)) (IsGap (placed a.tickets (free_tickets a) (Some t)))
+    now on = subst (λ free. HasEachOnce (drop 1 free) (IsGap (placed a.tickets free (Some t)))) (sym (given a on a.freed.tickets)) (gaps-placed a.tickets a.freed.tickets t (gaps on).tickets)
+change-gaps by s a (DropTicket n) (console, there) gaps on = let are = gaps on in record { tickets = now on there; currencies = are.currencies; threads = are.threads }
+  where
+    now : a.limits.reuse ≡ true → IsThere (ticket_in a.tickets n) → HasEachOnce (given_again a ((n - 1) ∷ a.freed.tickets)) (IsGap (set_number a.tickets n None))
+    now on (t, is) = subst (λ free. HasEachOnce free (IsGap (set_number a.tickets n None))) (sym (given a on ((n - 1) ∷ a.freed.tickets))) (gaps-removed a.tickets a.freed.tickets (n - 1) t (place-there a.tickets n t is) (gaps on).tickets)
+change-gaps by s a (PutTicket n place) (console, small, funded, (t, is), (u, now)) gaps on =
+    let are = gaps on in
+    record {
+      tickets = subst (λ x. HasEachOnce a.freed.tickets (IsGap (set_number a.tickets n x))) (sym now) (gaps-replaced a.tickets a.freed.tickets (n - 1) t u (place-there a.tickets n t is) are.tickets);
+      currencies = are.currencies;
+      threads = are.threads;
+    }
+change-gaps by s a (NewCurrency name) allowed gaps on = let are = gaps on in record { tickets = are.tickets; currencies = now on; threads = are.threads }
+  where
+    now : a.limits.reuse ≡ true → HasEachOnce (drop 1 (free_currencies a)) (IsGap (placed a.currencies (free_currencies a) (Some name)))
+    now on = subst (λ free. HasEachOnce (drop 1 free) (IsGap (placed a.currencies free (Some name)))) (sym (given a on a.freed.currencies)) (gaps-placed a.currencies a.freed.currencies name (gaps on).currencies)
+change-gaps by s a (DropCurrency c) (console, unused, there) gaps on = let are = gaps on in record { tickets = are.tickets; currencies = now on there; threads = are.threads }
+  where
+    now : a.limits.reuse ≡ true → IsThere (option_flatten (slice_get a.currencies c)) → HasEachOnce (given_again a (c ∷ a.freed.currencies)) (IsGap (slice_set a.currencies c None))
+    now on (name, is) =
+        subst (λ free. HasEachOnce free (IsGap (slice_set a.currencies c None))) (sym (given a on (c ∷ a.freed.currencies))) (gaps-removed a.currencies a.freed.currencies c name (flatten-some (slice_get a.currencies c) name is) (gaps on).currencies)
+change-gaps by s a (NewThread t) allowed gaps on = let are = gaps on in record { tickets = are.tickets; currencies = are.currencies; threads = now on }
+  where
+    now : a.limits.reuse ≡ true → HasEachOnce (drop 1 (free_threads a)) (IsGap (placed a.threads (free_threads a) (Some t)))
+    now on = subst (λ free. HasEachOnce (drop 1 free) (IsGap (placed a.threads free (Some t)))) (sym (given a on a.freed.threads)) (gaps-placed a.threads a.freed.threads t (gaps on).threads)
+change-gaps by s a (DropThread t) (console, dead, there, serves) gaps on = let are = gaps on in record { tickets = are.tickets; currencies = are.currencies; threads = now on there }
+  where
+    now : a.limits.reuse ≡ true → IsThere (thread_at a.threads t) → HasEachOnce (given_again a ((t - 1) ∷ a.freed.threads)) (IsGap (set_number a.threads t None))
+    now on (x, is) = subst (λ free. HasEachOnce free (IsGap (set_number a.threads t None))) (sym (given a on ((t - 1) ∷ a.freed.threads))) (gaps-removed a.threads a.freed.threads (t - 1) x (place-there a.threads t x is) (gaps on).threads)
+change-gaps by s a (PutRecord t r) allowed gaps on = let are = gaps on in record { tickets = are.tickets; currencies = are.currencies; threads = are.threads }
+change-gaps by s a (PutClients t x) allowed gaps on = let are = gaps on in record { tickets = are.tickets; currencies = are.currencies; threads = are.threads }
+change-gaps by s a (PutPort t x) allowed gaps on = let are = gaps on in record { tickets = are.tickets; currencies = are.currencies; threads = are.threads }
+change-gaps by s a (PutMutex t x) allowed gaps on = let are = gaps on in record { tickets = are.tickets; currencies = are.currencies; threads = are.threads }
 
 -- a command leaves no ticket that makes a cycle, or that funds a currency which isn't there
 pub command-keeps : (s : State) (c : Command) → HasNoCycle (funding_of s) → FundsThere (funding_of s)
@@ -564,7 +721,7 @@ effect-leads s t (ReplyTo number) = reply-leads s t number
 effect-leads s t (Serve port number) =
     let replied = (reply-leads s t number).0 in
     receive-leads (of_ports s (reply s.records s.clients s.ports t number)).state t port replied (λ first others is queues. caller-alive s.records s.clients s.ports s.mutexes queues port first others is) (λ first others is queues p.
-    kept (λ a. used_by a.records p first.caller ≡ used_by s.records p first.caller) (change-used Work s p first.caller queues (λ e. cc) (λ e. cc)) replied refl ∙ caller-used s.records s.clients s.ports s.mutexes queues p port first others is)
+    kept (λ a. used_by a.records p first.caller ≡ used_by s.records p first.caller) (change-used Work s p first.caller queues (λ e. cc) (λ e. cc) (λ e. cc)) replied refl ∙ caller-used s.records s.clients s.ports s.mutexes queues p port first others is)
 effect-leads s t (Lock m) = lock-leads s t m
 effect-leads s t (Unlock m d) = unlock-leads s (value_of s) m d
 effect-leads s t Sleep = (Stays, λ p used e. cc)
@@ -607,7 +764,7 @@ pub finish-leads : (s : State) (p t ticks used : ℕ) (e : Effect) → Works s e
     → Leads (On p) s (record e.state { records = change_record (λ r. with_ticks ticks (after_trap e.after p used s.limits.quantum r)) e.state.records t })
 finish-leads s p t ticks used e (works, stops) alive idle alone =
     put e.state (λ r. with_ticks ticks (after_trap e.after p used s.limits.quantum r)) t (λ e. cc) (λ e. absurd e) (working p s e.state works) (λ _. alive)
-    (λ queues q other spared. kept (λ a. used_by a.records q t ≡ used_by s.records q t) (change-used Work s q t queues (λ e. cc) (λ e. cc)) works refl ∙ idle queues q (λ same. other (ap On (sym same))))
+    (λ queues q other spared. kept (λ a. used_by a.records q t ≡ used_by s.records q t) (change-used Work s q t queues (λ e. cc) (λ e. cc) (λ e. cc)) works refl ∙ idle queues q (λ same. other (ap On (sym same))))
     (λ r q more is. let here = runs e.after stops r q more is in (ap On here, λ apart. subst (λ x. RunsAlone e.state.records x t) here (kept (λ a. RunsAlone a.records p t) (change-alone s p t) works (alone apart))))
   where
     runs : (after : After) → StopsIfLeaves after → (r : Record) (q more : ℕ) → (after_trap after p used s.limits.quantum r).status ≡ status.Running q more → p ≡ q

@@ -1,16 +1,17 @@
 -- The primitive changes that make up each event.
-use Rattle.std.specs.Prelude.{ℕ, Option, Some, None, List, [], ◌∷◌, ◌++◌, slice_set}
+use Rattle.std.specs.Prelude.{ℕ, Option, List, [], ◌∷◌}
 use Rattle.lot_machine.specs.declared.ticket.Ticket.{Ticket}
 use Rattle.lot_machine.specs.declared.record.Record.{Record}
 use Rattle.lot_machine.specs.declared.record.Thread.{Thread}
-use Rattle.lot_machine.specs.declared.record.Status.TheVariants as status
 use Rattle.lot_machine.specs.Numbered.{set_number}
 use Rattle.lot_machine.specs.State.{State, Port, Mutex}
+use Rattle.lot_machine.specs.Commands.{with_ticket, with_currency, with_thread, drop_ticket, drop_currency, drop_thread}
 
--- Appends a row to a table or replaces one. Removal leaves a gap, and a new thread adds a row to each of three
+-- Adds a row to a table, replaces one, or leaves a gap in place of one. A new thread adds a row to each of three
 -- tables.
 pub data Change : Type 0 where
   NewTicket : Ticket → Change
+  DropTicket : ℕ → Change
   PutTicket : ℕ → Option Ticket → Change
   NewCurrency : List ℕ → Change
   DropCurrency : ℕ → Change
@@ -21,22 +22,15 @@ pub data Change : Type 0 where
   PutPort : ℕ → Port → Change
   PutMutex : ℕ → Mutex → Change
 
--- a new thread is Ready, and has won and used nothing
-abbrev pub newborn : Record
-newborn = record { status = status.Ready; compensation = None; delivered = None; quanta = 0; ticks = 0 }
-
 -- the state after one change
 abbrev pub applied : State → Change → State
-applied s (NewTicket ticket) = record s { tickets = s.tickets ++ Some ticket ∷ [] }
+applied s (NewTicket ticket) = with_ticket s ticket
+applied s (DropTicket n) = drop_ticket s n
 applied s (PutTicket n place) = record s { tickets = set_number s.tickets n place }
-applied s (NewCurrency name) = record s { currencies = s.currencies ++ Some name ∷ [] }
-applied s (DropCurrency c) = record s { currencies = slice_set s.currencies c None }
-applied s (NewThread thread) = record s {
-  threads = s.threads ++ Some thread ∷ [];
-  records = s.records ++ newborn ∷ [];
-  clients = s.clients ++ [] ∷ [];
-}
-applied s (DropThread t) = record s { threads = set_number s.threads t None }
+applied s (NewCurrency name) = with_currency s name
+applied s (DropCurrency c) = drop_currency s c
+applied s (NewThread thread) = with_thread s thread.name thread.script
+applied s (DropThread t) = drop_thread s t
 applied s (PutRecord t r) = record s { records = set_number s.records t r }
 applied s (PutClients t clients) = record s { clients = set_number s.clients t clients }
 applied s (PutPort p port) = record s { ports = set_number s.ports p port }

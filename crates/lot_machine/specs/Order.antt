@@ -1,11 +1,13 @@
 -- An invariant: true at the start and preserved by each event. It implies that each reachable state is sound.
-use Rattle.std.specs.Prelude.{◌≡◌, ℕ, ◌^◌, ◌<◌, ◌≤◌, None, Some, List, All, IfSome, length, map, slice_get}
+use Rattle.std.specs.Prelude.{◌≡◌, ℕ, ◌^◌, ◌<◌, ◌≤◌, true, Option, None, Some, List, [], All, IfSome, length, map, slice_get}
 use Rattle.lot_machine.specs.declared.record.Record.{Record}
 use Rattle.lot_machine.specs.declared.record.Status.{Status}
 use Rattle.lot_machine.specs.declared.record.Status.TheVariants.{Receiving, Queued, Served, Waiting, Dead}
 use Rattle.lot_machine.specs.Bounds.{IsWithinBounds}
 use Rattle.lot_machine.specs.Numbered.{at_number}
 use Rattle.lot_machine.specs.State.{State, Port, Mutex, funding_of, status_of}
+use Rattle.lot_machine.specs.Ports.{clients_of}
+use Rattle.lot_machine.specs.Equations.{HasEachOnce}
 use Rattle.lot_machine.specs.Facts.{HasNoCycle, FundsThere, RunsApart}
 
 -- each of these threads has this status, and none is listed twice
@@ -21,14 +23,26 @@ pub record HasQueues (records : List Record) (clients : List (List ℕ)) (ports 
   pub waiters : (m : ℕ) (mutex : Mutex) → at_number mutexes m ≡ Some mutex → IsQueue records (Waiting m) mutex.waiters
   pub served : (server : ℕ) (threads : List ℕ) → at_number clients server ≡ Some threads → IsQueue records (Served server) threads
 
+-- the place was left by what was removed
+abbrev pub IsGap : {A : Type 0} → List (Option A) → ℕ → Type 0
+IsGap xs place = slice_get xs place ≡ Some None
+
+-- the free places of each table are exactly its gaps, each once
+pub record HasFreeGaps (s : State) : Type 0 where
+  pub tickets : HasEachOnce s.freed.tickets (IsGap s.tickets)
+  pub currencies : HasEachOnce s.freed.currencies (IsGap s.currencies)
+  pub threads : HasEachOnce s.freed.threads (IsGap s.threads)
+
 -- In order: no cycle, tickets fund existing currencies, threads run apart, queues match statuses, removed threads are
--- dead, tickets and sizes are in bounds.
+-- dead and serve nobody, gaps are free if numbers are given again, tickets and sizes are in bounds.
 pub record IsInOrder (s : State) : Type 0 where
   pub no_cycle : HasNoCycle (funding_of s)
   pub funds_there : FundsThere (funding_of s)
   pub runs_apart : RunsApart s.records
   pub queues : HasQueues s.records s.clients s.ports s.mutexes
   pub removed : (t : ℕ) → at_number s.threads t ≡ Some None → status_of s.records t ≡ Some Dead
+  pub idle : (t : ℕ) → at_number s.threads t ≡ Some None → clients_of s.clients t ≡ []
+  pub gaps : s.limits.reuse ≡ true → HasFreeGaps s
   pub amounts : All (λ place. IfSome place (λ t. t.amount < 2 ^ 32)) s.tickets
   pub ticket_count : length s.tickets ≤ s.limits.tickets
   pub bounds : IsWithinBounds s.limits

@@ -1,5 +1,5 @@
 -- The state of the kernel (4.3, 4.4, 4.6, 6.1).
-use Rattle.std.specs.Prelude.{ℕ, ◌-◌, ◌^◌, min, ◌==◌, Bool, true, false, Option, Some, None, is_some, List, [], ◌∷◌, map, filter, find, replicate, codes, option_and_then, option_map}
+use Rattle.std.specs.Prelude.{ℕ, ◌+◌, ◌-◌, ◌^◌, min, ◌==◌, Bool, true, false, Option, Some, None, is_some, List, [], ◌∷◌, map, filter, find, replicate, codes, option_and_then, option_map, if◌then◌else◌}
 use Rattle.std.specs.Bool.{then_some}
 use Rattle.std.specs.Option.{option_flatten}
 use Rattle.lot_machine.specs.declared.ticket.Ticket.{Ticket}
@@ -12,6 +12,7 @@ use Rattle.lot_machine.specs.declared.funding.Lend.{Lend}
 use Rattle.lot_machine.specs.declared.funding.Lend.TheVariants.{Nobody, ToThread, ToMutex}
 use Rattle.lot_machine.specs.declared.sizes.Sizes.{Sizes}
 use Rattle.lot_machine.specs.Numbered.{at_number, set_number, numbers, option_any}
+use Rattle.lot_machine.specs.Places.{next_place}
 use Rattle.lot_machine.specs.Funding.{Funding}
 use Rattle.lot_machine.specs.Value.{thread_value}
 use Rattle.lot_machine.specs.Lottery.{weight}
@@ -31,9 +32,15 @@ pub record Mutex : Type 0 where
   pub owner : Option ℕ
   pub waiters : List ℕ
 
+-- the free places of three tables, the one left last first
+pub record Freed : Type 0 where
+  pub tickets : List ℕ
+  pub currencies : List ℕ
+  pub threads : List ℕ
+
 -- Tickets, threads, ports and mutexes are numbered from 1; currencies are numbered from 0, which is base. Removal
--- leaves a gap, so a list's length is the number ever made. Thread n is the nth of `threads`, `records` and
--- `clients`; a removed thread's record stays Dead.
+-- leaves a gap, whose place is free if numbers are given again; otherwise a list's length is the number ever made.
+-- Thread n is the nth of `threads`, `records` and `clients`; a removed thread's record stays Dead.
 pub record State : Type 0 where
   pub currencies : List (Option (List ℕ))  -- each currency's name
   pub tickets : List (Option Ticket)
@@ -43,6 +50,7 @@ pub record State : Type 0 where
   pub ports : List Port
   pub mutexes : List Mutex
   pub limits : Sizes
+  pub freed : Freed
 
 -- the limits as plain numbers
 abbrev pub sizes_of : Limits → Sizes
@@ -56,6 +64,7 @@ sizes_of l = record {
   scripts = l.scripts;
   quantum = l.quantum;
   unit = l.unit;
+  reuse = l.reuse;
 }
 
 -- the opening state: base alone, empty ports and free mutexes
@@ -69,11 +78,40 @@ opening limits = record {
   ports = replicate limits.ports (record { calls = []; receivers = [] });
   mutexes = replicate limits.mutexes (record { owner = None; waiters = [] });
   limits = limits;
+  freed = record { tickets = []; currencies = []; threads = [] };
 }
 
 -- the name and script of the thread with this number, if it exists
 abbrev pub thread_at : List (Option Thread) → ℕ → Option Thread
 thread_at threads t = option_flatten (at_number threads t)
+
+-- ---- places that are given again
+
+-- these free places if numbers are given again, otherwise none
+abbrev pub given_again : State → List ℕ → List ℕ
+given_again s free = if s.limits.reuse then free else []
+
+-- the free places of tickets, of currencies and of threads, which the next ones get
+abbrev pub free_tickets : State → List ℕ
+free_tickets s = given_again s s.freed.tickets
+
+abbrev pub free_currencies : State → List ℕ
+free_currencies s = given_again s s.freed.currencies
+
+abbrev pub free_threads : State → List ℕ
+free_threads s = given_again s s.freed.threads
+
+-- the number of the next ticket
+abbrev pub next_ticket : State → ℕ
+next_ticket s = next_place s.tickets (free_tickets s) + 1
+
+-- the number of the next currency
+abbrev pub next_currency : State → ℕ
+next_currency s = next_place s.currencies (free_currencies s)
+
+-- the number of the next thread
+abbrev pub next_thread : State → ℕ
+next_thread s = next_place s.threads (free_threads s) + 1
 
 -- ---- the funding graph of a state
 

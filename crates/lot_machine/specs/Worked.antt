@@ -1,10 +1,10 @@
 -- Notation for small runs: the commands of the console, and the values and listings after them.
-use Rattle.std.specs.Prelude.{ℕ, Bool, List, [], ◌∷◌, map, codes, Option, Some}
-use Rattle.lot_machine.specs.declared.command.Command.TheVariants.{MakeTicket, RemoveTicket, MakeCurrency, RemoveCurrency, Fund, Unfund, SetTicket, MakeThread, Kill, MakeFunded}
+use Rattle.std.specs.Prelude.{ℕ, Bool, true, false, List, [], ◌∷◌, map, codes, Option, Some}
+use Rattle.lot_machine.specs.declared.command.Command.TheVariants.{MakeTicket, RemoveTicket, MakeCurrency, RemoveCurrency, Fund, Unfund, SetTicket, MakeThread, Kill, MakeFunded, RemoveThread}
 use Rattle.lot_machine.specs.declared.event.Event.{Event}
 use Rattle.lot_machine.specs.declared.reference.CurrencyRef.TheVariants as currency_ref
-use Rattle.lot_machine.specs.declared.reference.TargetRef.TheVariants as target_ref
 use Rattle.lot_machine.specs.declared.reference.ThreadRef.TheVariants as thread_ref
+use Rattle.lot_machine.specs.declared.reference.TargetRef.TheVariants as target_ref
 use Rattle.lot_machine.specs.declared.event.Event.TheVariants.{Command}
 use Rattle.lot_machine.specs.declared.reply.Reply.{Reply}
 use Rattle.lot_machine.specs.declared.record.Status.{Status}
@@ -19,11 +19,19 @@ use Rattle.lot_machine.specs.Rows.{currency_row}
 
 -- the largest tables for tickets, currencies and threads; two ports, mutexes and processors, one script, quantum 100
 abbrev pub largest : Sizes
-largest = record { tickets = 65535; currencies = 4096; threads = 4096; ports = 2; mutexes = 2; processors = 2; scripts = 1; quantum = 100; unit = 1 }
+largest = record { tickets = 65535; currencies = 4096; threads = 4096; ports = 2; mutexes = 2; processors = 2; scripts = 1; quantum = 100; unit = 1; reuse = false }
 
 -- the sizes `largest` with unit 256
 abbrev pub finer : Sizes
 finer = record largest { unit = 256 }
+
+-- at most two tickets, two user currencies and two threads at once: their numbers are given again
+abbrev pub two_of_each : Sizes
+two_of_each = record { tickets = 2; currencies = 2; threads = 2; ports = 0; mutexes = 0; processors = 1; scripts = 1; quantum = 100; unit = 1; reuse = true }
+
+-- the same limits on all that are ever made
+abbrev pub two_in_all : Sizes
+two_in_all = record two_of_each { reuse = false }
 
 -- ---- commands
 
@@ -66,6 +74,10 @@ mkthr name = Command (MakeThread name 1)
 -- kill the thread with this name
 abbrev pub kill : List ℕ → Event
 kill name = Command (Kill (thread_ref.Named name))
+
+-- remove the thread with this name
+abbrev pub rmthr : List ℕ → Event
+rmthr name = Command (RemoveThread (thread_ref.Named name))
 
 -- make a thread with this name and script 1, and a ticket of this amount in the currency that funds it
 abbrev pub fundx : ℕ → List ℕ → List ℕ → Event

@@ -16,6 +16,7 @@ mod record;
 mod reference;
 mod refusal;
 mod reply;
+pub mod reused;
 mod row;
 mod sizes;
 mod ticket;

@@ -13,6 +13,7 @@ pub struct Limits {
     pub scripts: u32,
     pub quantum: u32,
     pub unit: u32,
+    pub reuse: bool,
     ghost within_bounds: { IsWithinBounds (record {
       tickets = tickets;
       currencies = currencies;
@@ -23,5 +24,6 @@ pub struct Limits {
       scripts = scripts;
       quantum = quantum;
       unit = unit;
+      reuse = reuse;
     }) },
 }

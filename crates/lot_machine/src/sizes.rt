@@ -6,7 +6,8 @@ ghost use Rattle.lot_machine.specs.State.{sizes_of};
 use crate::Limits;
 
 /// The sizes of a kernel: the largest numbers of tickets, user currencies and threads ever made, the numbers of
-/// ports, mutexes, processors and scripts, the ticks of a quantum, and the value of one of base.
+/// ports, mutexes, processors and scripts, the ticks of a quantum, the value of one of base, and whether numbers are
+/// given again.
 #[derive(Clone, Copy, Debug, PartialEq, Eq)]
 pub struct Sizes {
     /// 1 to 65535.
@@ -27,10 +28,13 @@ pub struct Sizes {
     pub quantum: u32,
     /// 1, or 256 for finer shares.
     pub unit: u32,
+    /// Whether the number of what is removed is given again, that of the last removed first. The limits then count
+    /// what exists at once.
+    pub reuse: bool,
 }
 
 impl Sizes {
-    /// The smallest sizes within their bounds.
+    /// The smallest sizes within their bounds. No number is given again.
     pub const SMALLEST: Sizes = Sizes {
         tickets: 1,
         currencies: 1,
@@ -41,8 +45,9 @@ impl Sizes {
         scripts: 0,
         quantum: 1,
         unit: 1,
+        reuse: false,
     };
-    /// The largest sizes within their bounds.
+    /// The largest sizes within their bounds. No number is given again.
     pub const LARGEST: Sizes = Sizes {
         tickets: 65535,
         currencies: 4096,
@@ -53,6 +58,7 @@ impl Sizes {
         scripts: 256,
         quantum: 1000,
         unit: 256,
+        reuse: false,
     };
 }
 
@@ -75,6 +81,7 @@ impl Limits {
             scripts: sizes.scripts,
             quantum: sizes.quantum,
             unit: sizes.unit,
+            reuse: sizes.reuse,
         })
     }
 }

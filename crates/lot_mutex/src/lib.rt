@@ -3,6 +3,7 @@
 //! `lock` and `unlock` take the threads and the queues by reference, and change both according to the machine's
 //! definitions. The thread that makes the trap remains Running: the function returns its disposition as an `After`. A
 //! `Lottery` holds a lottery over the waiters' values, with scratch memory for it; only `Lottery::new` allocates.
+//! `pass_all_on` passes on the mutexes of a killed thread.
 #![tactic(auto)]
 
 mod checks;

@@ -15,7 +15,7 @@ use Rattle.lot_simulation.specs.declared.timed.Due.{Due}
 use Rattle.lot_simulation.specs.declared.timed.Sleeper.{Sleeper}
 use Rattle.lot_simulation.specs.declared.script.ScriptTrap.{ScriptTrap}
 use Rattle.lot_simulation.specs.declared.timed.WaitChange.{WaitChange}
-use Rattle.lot_simulation.specs.declared.timed.WaitChange.TheVariants.{Nobody, Begins, Ends}
+use Rattle.lot_simulation.specs.declared.timed.WaitChange.TheVariants.{Nobody, Anew, Begins, Ends}
 use Rattle.lot_simulation.specs.declared.timed.Waits.{Waits}
 use Rattle.lot_simulation.specs.Report.{total_of}
 use Rattle.lot_simulation.specs.Timed.{Moment, TimedTurn, alarm_due, earliest, moment_after_all, next_due, opening_moment, timed_room, timed_turns, turns_from}
@@ -88,6 +88,8 @@ is_locking other = false
 
 -- the change that a reply makes to the threads that wait for a mutex, given whether its event is a lock
 abbrev pub change_by : Bool → Reply → WaitChange
+change_by locks (reply.Thread thread) = Anew thread
+change_by locks (reply.Funded ticket thread) = Anew thread
 change_by true (reply.Trapped thread ticks outcome.Waits ends) = Begins thread
 change_by locks (reply.Trapped thread ticks (outcome.Passed to drawn) ends) = Ends to
 change_by locks other = Nobody

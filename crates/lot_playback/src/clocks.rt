@@ -1,5 +1,6 @@
 //! The next turn in time order.
-ghost use Rattle.std.specs.Prelude.{◌≡◌, ℕ, ◌<◌, ◌≤◌, ◌+◌, ◌^◌, ◌||◌, List, Option, false, map, replicate, is_none, IfOk, IfSome, vec_len, if◌then◌else◌};
+ghost use Rattle.std.specs.Prelude.{◌≡◌, ℕ, ◌<◌, ◌≤◌, ◌+◌, ◌^◌, ◌||◌, List, Option, false, map, replicate, is_none};
+ghost use Rattle.std.specs.Prelude.{IfOk, IfSome, vec_len, if◌then◌else◌};
 ghost use Rattle.lot_machine.specs.Bounds.{IsBetween};
 ghost use Rattle.lot_machine.specs.State.{thread_on};
 ghost use Rattle.lot_machine.specs.declared.event.Event.{Event as EventRecord};

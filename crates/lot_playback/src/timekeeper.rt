@@ -1,12 +1,14 @@
 //! The records of a timed play, which its report needs in addition to the system.
-ghost use Rattle.std.specs.Prelude.{◌≡◌, ℕ, ◌<◌, ◌≤◌, ◌+◌, ◌^◌, ◌++◌, List, [], ◌∷◌, None, IfOk, IfSome, false, length, replicate, vec_len};
+ghost use Rattle.std.specs.Prelude.{◌≡◌, ℕ, ◌<◌, ◌≤◌, ◌+◌, ◌^◌, ◌++◌, List, [], ◌∷◌, None, false, length, replicate};
+ghost use Rattle.std.specs.Prelude.{IfOk, IfSome, vec_len};
 ghost use Rattle.lot_simulation.specs.TimedReport as reports;
 ghost use Rattle.lot_simulation.specs.Timed as timed;
 ghost use Rattle.lot_simulation.specs.Timed.{Moment, TimedTurn, alarms_after, clocks_after, is_idle_draw};
 ghost use Rattle.lot_simulation.specs.World.{Program as ProgramRecord, sleeper_on};
 ghost use Rattle.lot_simulation.specs.World.Answer.{Answered};
 ghost use Rattle.lot_engine.specs.Seen.{world_of};
-ghost use Rattle.lot_playback.specs.InTime.{AreAlarms, CanFollow, HasFollowed, HasRoomFor, IsFollowed, alarms_in, moment_in};
+ghost use Rattle.lot_playback.specs.InTime.{AreAlarms, CanFollow, HasFollowed, HasRoomFor, IsFollowed};
+ghost use Rattle.lot_playback.specs.InTime.{alarms_in, moment_in};
 ghost use Rattle.lot_text.specs.Programs.{IsProgram};
 
 use crate::alarms::Alarms;

@@ -8,7 +8,7 @@ ghost use Rattle.lot_simulation.specs.World.Answer.{Answered};
 ghost use Rattle.lot_simulation.specs.declared.timed.WaitChange.{WaitChange as WaitChangeRecord};
 ghost use Rattle.lot_machine.specs.declared.event.Event.{Event as EventRecord};
 ghost use Rattle.lot_machine.specs.declared.event.Event.TheVariants as event;
-ghost use Rattle.lot_simulation.specs.declared.timed.WaitChange.TheVariants.{Begins, Ends};
+ghost use Rattle.lot_simulation.specs.declared.timed.WaitChange.TheVariants.{Anew, Begins, Ends};
 ghost use Rattle.lot_playback.specs.InTime as in_time;
 ghost use Rattle.lot_playback.specs.InTime.{AreFew, AreWaits, HaveFollowed};
 
@@ -63,9 +63,20 @@ impl WaitTable {
     {
         match change {
             WaitChange::Nobody => (),
+            WaitChange::Anew(thread) => self.forget(thread),
             WaitChange::Begins(thread) => self.begin(time, thread),
             WaitChange::Ends(thread) => self.end(time, thread),
         }
+    }
+
+    /// Forgets the waits of the thread that had this number before.
+    fn forget(&mut self, thread: u32)
+        ensures { (time : ℕ) → HaveFollowed time (Anew thread) self.old.threads.items self.new.threads.items }
+    {
+        if thread == 0 || self.threads.len() < thread as usize {
+            return;
+        }
+        self.threads[thread as usize - 1] = NO_WAITS;
     }
 
     /// Starts the thread's wait at this time.
@@ -125,13 +136,14 @@ pub(crate) fn mutex_change(event: &Event, reply: Reply) -> WaitChange
 fn change_by(locks: bool, reply: Reply) -> WaitChange
     ensures { result ≡ in_time.change_by locks reply }
 {
-    let Reply::Trapped {
-        thread,
-        outcome,
-        ..
-    } = reply
-    else {
-        return WaitChange::Nobody;
+    let (thread, outcome) = match reply {
+        Reply::Trapped {
+            thread,
+            outcome,
+            ..
+        } => (thread, outcome),
+        Reply::Thread(thread) | Reply::Funded { thread, .. } => return WaitChange::Anew(thread),
+        _ => return WaitChange::Nobody,
     };
     match outcome {
         Outcome::Passed { to, draw: _ } => WaitChange::Ends(to),
@@ -167,13 +179,14 @@ fn is_lock(action: Action) -> bool
 pub(crate) fn reply_change(reply: Reply) -> WaitChange
     ensures { (e : EventRecord) → result ≡ timed.reply_change (Answered e reply) }
 {
-    let Reply::Trapped {
-        thread,
-        outcome,
-        ..
-    } = reply
-    else {
-        return WaitChange::Nobody;
+    let (thread, outcome) = match reply {
+        Reply::Trapped {
+            thread,
+            outcome,
+            ..
+        } => (thread, outcome),
+        Reply::Thread(thread) | Reply::Funded { thread, .. } => return WaitChange::Anew(thread),
+        _ => return WaitChange::Nobody,
     };
     match outcome {
         Outcome::ServedBy(_) | Outcome::Queued => WaitChange::Begins(thread),

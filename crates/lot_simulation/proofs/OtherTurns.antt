@@ -2,32 +2,37 @@
 use Rattle.std.proofs.Common.{◌≡◌, ℕ, zero, suc, ◌+◌, ◌-◌, ◌<◌, ◌≤◌, ◌==◌, nat_le, Bool, true, false, ◌⊎◌, inl, inr, Option, Some, None, is_none, List, [], ◌∷◌, ◌++◌, length, drop, refl, sym, ◌∙◌, ap, subst, arith, cond, unwrap_or, get_or, slice_get}
 use Rattle.std.proofs.lemmas.Bool.{eqb-true}
 use Rattle.std.proofs.Math.ListN.{length-set}
-use Rattle.std.proofs.lemmas.List.{length-append, length-map, length-drop}
-use Rattle.std.proofs.lemmas.Option.{slice_get_cases}
+use Rattle.std.proofs.lemmas.List.{length-append}
 use Rattle.lot_machine.specs.declared.command.Command.{Command}
+use Rattle.lot_machine.specs.declared.command.Command.TheVariants.{MakeThread, MakeFunded, Kill}
+use Rattle.lot_machine.specs.declared.record.Record.{Record}
+use Rattle.lot_machine.specs.Bounds.{IsBetween}
+use Rattle.lot_machine.specs.Places.{placed}
 use Rattle.lot_machine.specs.declared.event.Event.{Event}
 use Rattle.lot_machine.specs.declared.event.Event.TheVariants as event
 use Rattle.lot_machine.specs.declared.reply.Reply.{Reply}
 use Rattle.lot_machine.specs.declared.reply.Reply.TheVariants as reply
 use Rattle.lot_machine.specs.declared.record.Status.TheVariants as status
 use Rattle.lot_machine.specs.Numbered.{at_number, set_number}
-use Rattle.lot_machine.specs.State.{State, thread_on}
+use Rattle.lot_machine.specs.State.{State, free_threads, status_of, thread_on}
 use Rattle.lot_machine.specs.declared.refusal.Refusal.{Refusal}
-use Rattle.lot_machine.specs.Commands.{unless_refused}
+use Rattle.lot_machine.specs.Commands.{Step, command_effect, command_refusal, command_step, newborn, thread_meant, unless_refused}
 use Rattle.lot_machine.specs.Step.{event_refusal, step, used_there, wake}
 use Rattle.lot_machine.specs.Order.{IsInOrder}
 use Rattle.lot_machine.specs.Named.{processor_of, killed_by, thread_in}
-use Rattle.lot_machine.proofs.Changes.{number-set, place-after}
-use Rattle.lot_machine.proofs.Tickets.{at_number-suc}
+use Rattle.lot_machine.proofs.Changes.{number-set}
+use Rattle.lot_machine.proofs.Places.{length-placed, number-stays}
+use Rattle.lot_machine.proofs.StepChanges.{free-dead}
 use Rattle.lot_machine.proofs.RecordsKept.{found-runs, numbered}
 use Rattle.lot_machine.proofs.OrderKept.{step-order}
 use Rattle.lot_machine.proofs.RunsElsewhere.{step-found, step-idle, step-used_there}
 use Rattle.lot_machine.proofs.NamedThreads.{named-apart}
-use Rattle.lot_machine.proofs.StepSizes.{other-sizes, step-grown, step-sizes, step-limits, command-grown}
+use Rattle.lot_machine.proofs.StepSizes.{other-sizes, killed-length, step-grown, step-sizes, step-limits, command-grown}
 use Rattle.lot_simulation.specs.declared.script.ScriptTrap.{ScriptTrap}
-use Rattle.lot_simulation.specs.Script.{Slice, slice}
-use Rattle.lot_simulation.specs.World.{Program, World, Turn, number_of, context_of, slice_on, event_of_slice, processor_event, actor_event, contexts_after, new_contexts, console_turn, processor_turn, system_turn}
+use Rattle.lot_simulation.specs.Script.{Context, Slice, slice}
+use Rattle.lot_simulation.specs.World.{Program, World, Turn, number_of, context_of, slice_on, event_of_slice, processor_event, actor_event, contexts_after, contexts_after_command, new_context, console_turn, processor_turn, system_turn}
 use Rattle.lot_simulation.specs.Timed.{cost_of}
+use Rattle.lot_simulation.proofs.DrawnThreads.{number-some}
 
 -- ---- what a turn costs
 
@@ -125,14 +130,69 @@ contexts-length w q (reply.List kind) = refl
 contexts-length w q reply.Idle = refl
 contexts-length w q (reply.Refused refusal) = refl
 
--- what stands at a number stays if more is put after it
-number-after : {A : Type 0} (xs more : List A) (n : ℕ) → 1 ≤ n → n < 1 + length xs → at_number (xs ++ more) n ≡ at_number xs n
-number-after {A} xs more zero low high = absurd (omega (arith, low))
-number-after {A} xs more (suc i) low high = from (slice_get_cases xs i).1
+-- The contexts after a command are as many, as the records are; or both have one more, in the first free place or at
+-- the end.
+abbrev pub ContextsCome : World → List Context → List Record → Type 0
+ContextsCome w contexts records =
+    ((context : Context) × (r : Record) × (contexts ≡ placed w.contexts (free_threads w.state) context) × (records ≡ placed w.state.records (free_threads w.state) r))
+    ⊎ ((contexts ≡ w.contexts) × (length records ≡ length w.state.records))
+
+-- a command that makes no thread, refused or not
+command-kept : (s : State) (o : Option Refusal) (next : Step) → length next.state.records ≡ length s.records → length (unless_refused s o next).state.records ≡ length s.records
+command-kept s None next same = same
+command-kept s (Some why) next same = refl
+
+pub contexts-come : (program : Program) (w : World) (c : Command) → ContextsCome w (contexts_after_command program w c (command_step w.state c).reply) (command_step w.state c).state.records
+contexts-come program w (MakeThread name script) = at (command_refusal w.state (MakeThread name script))
   where
-    from : ((x : A) × (i < length xs) × (slice_get xs i ≡ Some x) × (get_or xs i x ≡ x)) ⊎ ((length xs ≤ i) × (slice_get xs i ≡ None)) → at_number (xs ++ more) (suc i) ≡ at_number xs (suc i)
-    from (inl (x, _, here, _)) = at_number-suc (xs ++ more) i ∙ place-after xs more i x here ∙ sym here ∙ sym (at_number-suc xs i)
-    from (inr (past, _)) = absurd (omega (arith, past, high))
+    at : (o : Option Refusal) → ContextsCome w (contexts_after_command program w (MakeThread name script) (unless_refused w.state o (command_effect w.state (MakeThread name script))).reply)
+        (unless_refused w.state o (command_effect w.state (MakeThread name script))).state.records
+    at None = inl (new_context program script, newborn, refl, refl)
+    at (Some why) = inr (refl, refl)
+contexts-come program w (MakeFunded amount currency name script) = at (command_refusal w.state (MakeFunded amount currency name script))
+  where
+    at : (o : Option Refusal)
+        → ContextsCome w (contexts_after_command program w (MakeFunded amount currency name script) (unless_refused w.state o (command_effect w.state (MakeFunded amount currency name script))).reply)
+        (unless_refused w.state o (command_effect w.state (MakeFunded amount currency name script))).state.records
+    at None = inl (new_context program script, newborn, refl, refl)
+    at (Some why) = inr (refl, refl)
+contexts-come program w (Kill thread) =
+    inr (refl, command-kept w.state (command_refusal w.state (Kill thread)) (command_effect w.state (Kill thread)) (killed-length w.state (unwrap_or (thread_meant w.state thread) 0)))
+contexts-come program w c = inr (refl, command-kept w.state (command_refusal w.state c) (command_effect w.state c) refl)
+
+-- each thread still has a context
+come-few : (w : World) (contexts : List Context) (records : List Record) → IsOrderly w → ContextsCome w contexts records → length records ≤ length contexts
+come-few w contexts records orderly (inr (same, few)) = omega (arith, orderly.contexts, ap length same, few)
+come-few w contexts records orderly (inl (context, r, contexts_is, records_is)) = from (length-placed w.contexts (free_threads w.state) context) (length-placed w.state.records (free_threads w.state) r)
+  where
+    free : List ℕ
+    free = free_threads w.state
+
+    from : ((free ≡ []) × (length (placed w.contexts free context) ≡ length w.contexts + 1)) ⊎ (length (placed w.contexts free context) ≡ length w.contexts)
+        → ((free ≡ []) × (length (placed w.state.records free r) ≡ length w.state.records + 1)) ⊎ (length (placed w.state.records free r) ≡ length w.state.records) → length records ≤ length contexts
+    from (inl (none, more)) (inl (_, one)) = omega (arith, ap length contexts_is, ap length records_is, more, one, orderly.contexts)
+    from (inl (none, more)) (inr as_many) = omega (arith, ap length contexts_is, ap length records_is, more, as_many, orderly.contexts)
+    from (inr same) (inr as_many) = omega (arith, ap length contexts_is, ap length records_is, same, as_many, orderly.contexts)
+    from (inr same) (inl (none, one)) =
+        let more : length (placed w.contexts free context) ≡ length w.contexts + 1 = ap (λ places. length (placed w.contexts places context)) none ∙ length-append w.contexts (context ∷ []) in
+        omega (arith, same, more)
+
+-- and a thread that runs has the same
+come-kept : (w : World) (contexts : List Context) (records : List Record) → IsOrderly w → ContextsCome w contexts records → (p t used : ℕ) → status_of w.state.records t ≡ Some (status.Running p used)
+    → IsBetween 1 (length w.state.records) t → at_number contexts t ≡ at_number w.contexts t
+come-kept w contexts records orderly (inr (same, few)) p t used runs there = ap (λ xs. at_number xs t) same
+come-kept w contexts records orderly (inl (context, r, contexts_is, records_is)) p t used runs there =
+    ap (λ xs. at_number xs t) contexts_is ∙ number-stays w.contexts (free_threads w.state) context (get_or w.contexts (t - 1) context) t other numbered ∙ sym numbered
+  where
+    numbered : at_number w.contexts t ≡ Some (get_or w.contexts (t - 1) context)
+    numbered = number-some w.contexts t context (there.0, omega (arith, there.1, orderly.contexts))
+
+    other : ¬ (slice_get (free_threads w.state) 0 ≡ Some (t - 1))
+    other first =
+        let number : suc (t - 1) ≡ t = omega (arith, there.0) in
+        let dead : status_of w.state.records (suc (t - 1)) ≡ Some status.Dead = free-dead w.state orderly.order.gaps orderly.order.removed (t - 1) first in
+        let never : Some (status.Running p used) ≡ Some status.Dead = sym runs ∙ ap (status_of w.state.records) (sym number) ∙ dead in
+        cc
 
 -- ---- turns
 
@@ -205,13 +265,11 @@ runs-on s e p order runs t found kills = let idle : true ≡ false = sym (ap is_
 console-keeps : (program : Program) (w : World) (commands : List Command) → IsOrderly w → TurnKeeps w 0 (console_turn program w commands)
 console-keeps program w [] orderly = (orderly, λ p other positive spared. refl)
 console-keeps program w (c ∷ cs) orderly =
-    let after = (step w.state (event.Command c)).state in
     let grown = command-grown w.state c in
-    let more = new_contexts program w.state after in
-    let count : length more ≡ length (drop (length w.state.threads) after.threads) = length-map (drop (length w.state.threads) after.threads) _ in (
+    let comes = contexts-come program w c in (
       record {
         order = step-order w.state (event.Command c) orderly.order;
-        contexts = omega (arith, orderly.contexts, grown.1.1, grown.1.2, count, length-drop (length w.state.threads) after.threads, length-append w.contexts more);
+        contexts = come-few w _ _ orderly comes;
       },
       λ p other positive spared.
           let alive = runs-on w.state (event.Command c) p orderly.order (spared refl) in
@@ -219,7 +277,7 @@ console-keeps program w (c ∷ cs) orderly =
           (λ t found.
           let runs = found-runs w.state.records p t found in
           let there = numbered w.state.records t (status.Running p runs.0) runs.1 in
-          ap (λ o. unwrap_or o (record { rest = []; accumulator = 0 })) (number-after w.contexts more t there.0 (omega (arith, there.1, orderly.contexts)))),
+          ap (λ o. unwrap_or o (record { rest = []; accumulator = 0 })) (come-kept w _ _ orderly comes p t runs.0 runs.1 (there.0, omega (arith, there.1)))),
     )
   where
     nobody : (p : ℕ) → ¬ (None ≡ Some p)

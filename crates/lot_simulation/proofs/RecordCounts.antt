@@ -1,6 +1,6 @@
 -- The quanta and the ticks of the threads' records add up to what is counted in the turns that led to them.
 use Rattle.std.specs.Prelude.{⊤}
-use Rattle.std.proofs.Common.{◌≡◌, ℕ, zero, suc, ◌+◌, ◌-◌, ◌*◌, ◌^◌, ◌<◌, ◌≤◌, ◌==◌, Bool, true, false, Option, Some, None, is_none, List, [], ◌∷◌, length, map, sum, sum_by, get_or, set, slice_get, slice_index, nat_lt, nat_le, refl, sym, ◌∙◌, ap, subst, arith, if◌then◌else◌}
+use Rattle.std.proofs.Common.{◌≡◌, ℕ, zero, suc, ◌+◌, ◌-◌, ◌*◌, ◌^◌, ◌<◌, ◌≤◌, ◌==◌, Bool, true, false, Option, Some, None, is_none, List, [], ◌∷◌, ◌++◌, cond, length, map, sum, sum_by, get_or, set, slice_get, slice_set, slice_index, nat_lt, nat_le, refl, sym, ◌∙◌, ap, subst, arith, if◌then◌else◌}
 use Rattle.std.proofs.Math.Nat.{min-eq_left}
 use Rattle.std.proofs.lemmas.Bool.{ltb-false}
 use Rattle.std.proofs.lemmas.Option.{slice_get_within, get_or_from_slice_get}
@@ -23,11 +23,13 @@ use Rattle.lot_machine.specs.declared.drawn.Drawn.{Drawn}
 use Rattle.lot_machine.specs.Bounds.{IsBetween, IsWithinBounds}
 use Rattle.lot_machine.specs.Numbered.{at_number, set_number}
 use Rattle.lot_machine.specs.Lottery.{winner}
-use Rattle.lot_machine.specs.State.{State, thread_on, change_record, ready_threads, weight_of, saturated}
+use Rattle.lot_machine.specs.declared.sizes.Sizes.{Sizes}
+use Rattle.lot_machine.specs.Places.{placed}
+use Rattle.lot_machine.specs.State.{State, opening, free_threads, thread_on, change_record, ready_threads, weight_of, saturated}
 use Rattle.lot_machine.specs.declared.reference.ThreadRef.{ThreadRef}
-use Rattle.lot_machine.specs.Commands.{Step, command_step, thread_meant, unless_refused}
+use Rattle.lot_machine.specs.Commands.{Step, command_step, thread_meant, unless_refused, newborn}
 use Rattle.lot_machine.specs.Traps.{after_trap, with_ticks}
-use Rattle.lot_machine.specs.Change.{NewThread, PutRecord, newborn}
+use Rattle.lot_machine.specs.Change.{NewThread, PutRecord}
 use Rattle.lot_machine.specs.Step.{is_bad_processor, started, draw, expire, trap, trap_refusal, trap_effect, checked_effect, thread_there, used_there, wake, event_effect, step}
 use Rattle.lot_machine.specs.Order.{IsInOrder}
 use Rattle.lot_simulation.specs.declared.script.ScriptTrap.{ScriptTrap}
@@ -40,7 +42,7 @@ use Rattle.lot_machine.proofs.CommandsKept.{all-pass, some-of}
 use Rattle.lot_machine.proofs.RecordsKept.{found-runs, numbered}
 use Rattle.lot_machine.proofs.Tickets.{at_number-suc}
 use Rattle.lot_machine.proofs.StepChanges.{By, Console, Kills, Work, IsTallied, Keeps, kept, command-leads, checked-leads}
-use Rattle.lot_machine.proofs.StepSizes.{checked-sizes}
+use Rattle.lot_machine.proofs.StepSizes.{checked-sizes, step-limits}
 use Rattle.lot_simulation.proofs.DrawnThreads.{drawn-numbered, number-some}
 use Rattle.lot_simulation.proofs.ProcessorCounts.{command-silent}
 
@@ -95,10 +97,17 @@ quanta_of records = sum_by (λ (r : Record). r.quanta) records
 abbrev ticks_of : List Record → ℕ
 ticks_of records = sum_by (λ (r : Record). r.ticks) records
 
+-- as much as this, or less if numbers are given again: what a removed thread has won and used goes with its number
+abbrev pub Comes : State → ℕ → ℕ → Type 0
+Comes s n m = (n ≤ m) × (s.limits.reuse ≡ false → n ≡ m)
+
+pub as-much : (s : State) (n m : ℕ) → n ≡ m → Comes s n m
+as-much s n m same = (omega (arith, same), λ _. same)
+
 -- the records have what the reply says besides, which is one quantum at most, and the ticks of one
 record Adds (s : State) (done : Step) : Type 0 where
-  pub quanta : quanta_of done.state.records ≡ quanta_of s.records + quanta_in done.reply
-  pub ticks : ticks_of done.state.records ≡ ticks_of s.records + ticks_in done.reply
+  pub quanta : Comes s (quanta_of done.state.records) (quanta_of s.records + quanta_in done.reply)
+  pub ticks : Comes s (ticks_of done.state.records) (ticks_of s.records + ticks_in done.reply)
   pub bounded : quanta_in done.reply ≤ 1
   pub short : ticks_in done.reply ≤ s.limits.quantum
 
@@ -109,13 +118,29 @@ record HasSpace (s : State) : Type 0 where
 
 unless-adds : (s : State) (o : Option Refusal) (next : Step) → (o ≡ None → Adds s next) → Adds s (unless_refused s o next)
 unless-adds s None next adds = adds refl
-unless-adds s (Some refusal) next adds = record { quanta = omega arith; ticks = omega arith; bounded = omega arith; short = omega arith }
+unless-adds s (Some refusal) next adds = record { quanta = as-much s _ _ (omega arith); ticks = as-much s _ _ (omega arith); bounded = omega arith; short = omega arith }
 
 -- ---- commands
 
+-- nothing in the place of one
+sum-set_less : (g : Record → ℕ) (xs : List Record) (i : ℕ) (x : Record) → g x ≡ 0 → sum_by g (slice_set xs i x) ≤ sum_by g xs
+sum-set_less g [] zero x none = omega arith
+sum-set_less g [] (suc i) x none = omega arith
+sum-set_less g (y ∷ ys) zero x none = omega (arith, sum_by-cons g y ys, sum_by-cons g x ys, none)
+sum-set_less g (y ∷ ys) (suc i) x none = omega (arith, sum_by-cons g y ys, sum_by-cons g y (slice_set ys i x), sum-set_less g ys i x none)
+
+-- the same limits, and as much in all
+abbrev SumsTo : (Record → ℕ) → State → State → Type 0
+SumsTo g s a = (a.limits ≡ s.limits) × Comes s (sum_by g a.records) (sum_by g s.records)
+
 -- a new thread has won and used nothing, and a command changes no other
-change-sum : (g : Record → ℕ) (s : State) → g newborn ≡ 0 → Keeps Console s (λ a. sum_by g a.records ≡ sum_by g s.records)
-change-sum g s none a (NewThread t) allowed same = omega (arith, sum_by_push g a.records newborn, none, same)
+change-sum : (g : Record → ℕ) (s : State) → g newborn ≡ 0 → Keeps Console s (SumsTo g s)
+change-sum g s none a (NewThread t) allowed (limits, (most, exact)) = (limits, by-free (free_threads a) (λ once. ap (λ b. cond {A = List ℕ} b a.freed.threads []) (ap (λ (sizes : Sizes). sizes.reuse) limits ∙ once)))
+  where
+    by-free : (free : List ℕ) → (s.limits.reuse ≡ false → free ≡ []) → Comes s (sum_by g (placed a.records free newborn)) (sum_by g s.records)
+    by-free [] empty =
+        let more : sum_by g (a.records ++ newborn ∷ []) ≡ sum_by g a.records = omega (arith, sum_by_push g a.records newborn, none) in (omega (arith, more, most), λ once. more ∙ exact once)
+    by-free (i ∷ free) empty = (omega (arith, sum-set_less g a.records i newborn none, most), λ once. let never : i ∷ free ≡ [] = empty once in cc)
 change-sum g s none a (PutRecord t r) allowed same = absurd (allowed.mover refl)
 change-sum g s none a other allowed same = same
 
@@ -123,7 +148,7 @@ change-sum g s none a other allowed same = same
 module _ (g : Record → ℕ) (even : (r : Record) (st : Status) (compensation delivered : Option ℕ) → g (record r { status = st; compensation = compensation; delivered = delivered }) ≡ g r) where
   -- the work of a trap leaves it, in each record, and so does a kill
   change-even : (by : By) (s : State) → IsTallied by → Keeps by s (λ a. map g a.records ≡ map g s.records)
-  change-even by s tallied a (NewThread t) allowed same = absurd (subst IsTallied allowed tallied)
+  change-even by s tallied a (NewThread t) allowed same = absurd (subst IsTallied allowed.0 tallied)
   change-even by s tallied a (PutRecord t r) allowed same =
       put-leaves g a.records t r allowed.there.0 allowed.there.1 (ap g (allowed.tally tallied) ∙ even allowed.there.0 r.status r.compensation r.delivered) ∙ same
   change-even by s tallied a other allowed same = same
@@ -131,17 +156,21 @@ module _ (g : Record → ℕ) (even : (r : Record) (st : Status) (compensation d
   pub kill-even : (s : State) (thread : ThreadRef) → map g (command_step s (Kill thread)).state.records ≡ map g s.records
   kill-even s thread = kept (λ a. map g a.records ≡ map g s.records) (change-even (Kills (thread_meant s thread)) s tt) (command-leads s (Kill thread)) refl
 
-  command-sum : (s : State) (c : Command) → g newborn ≡ 0 → sum_by g (command_step s c).state.records ≡ sum_by g s.records
-  command-sum s (Kill thread) none =
-      sum-same g (command_step s (Kill thread)).state.records s.records (kill-even s thread)
-  command-sum s c none = kept (λ a. sum_by g a.records ≡ sum_by g s.records) (change-sum g s none) (command-leads s c) refl
+  command-sum : (s : State) (c : Command) → g newborn ≡ 0 → Comes s (sum_by g (command_step s c).state.records) (sum_by g s.records)
+  command-sum s (Kill thread) none = as-much s _ _ (sum-same g (command_step s (Kill thread)).state.records s.records (kill-even s thread))
+  command-sum s c none = (kept (SumsTo g s) (change-sum g s none) (command-leads s c) (refl, as-much s _ _ refl)).1
 
 command-adds : (s : State) (c : Command) → Adds s (command_step s c)
 command-adds s c =
     let silent = command-silent s c in
     let quanta = command-sum (λ r. r.quanta) (λ r st compensation delivered. refl) s c refl in
     let ticks = command-sum (λ r. r.ticks) (λ r st compensation delivered. refl) s c refl in
-    record { quanta = omega (arith, quanta, silent.0); ticks = omega (arith, ticks, silent.2); bounded = omega (arith, silent.0); short = omega (arith, silent.2) }
+    record {
+      quanta = (omega (arith, quanta.0, silent.0), λ once. omega (arith, quanta.1 once, silent.0));
+      ticks = (omega (arith, ticks.0, silent.2), λ once. omega (arith, ticks.1 once, silent.2));
+      bounded = omega (arith, silent.0);
+      short = omega (arith, silent.2);
+    }
 
 -- ---- draws
 
@@ -159,14 +188,14 @@ draw-adds s p d space = at (winner (map (weight_of s) (ready_threads s.records))
         let more = change-there (λ (x : Record). x.quanta) s.records t (started p) r there in
         let left = change-leaves (λ (x : Record). x.ticks) s.records t (started p) (λ x. refl) in
         rw is (record {
-          quanta = omega (arith, more, one);
-          ticks = omega (arith, sum-same (λ (x : Record). x.ticks) (change_record (started p) s.records t) s.records left);
+          quanta = as-much s _ _ (omega (arith, more, one));
+          ticks = as-much s _ _ (omega (arith, sum-same (λ (x : Record). x.ticks) (change_record (started p) s.records t) s.records left));
           bounded = omega arith;
           short = omega arith;
         })
 
     at : (o : Option Drawn) → winner (map (weight_of s) (ready_threads s.records)) d ≡ o → Adds s (draw s p d)
-    at None is = rw is (record { quanta = omega arith; ticks = omega arith; bounded = omega arith; short = omega arith })
+    at None is = rw is (record { quanta = as-much s _ _ (omega arith); ticks = as-much s _ _ (omega arith); bounded = omega arith; short = omega arith })
     at (Some w) is = won w is
 
 -- ---- expiries
@@ -184,8 +213,8 @@ expire-adds s t used r there space =
     let change : Record → Record = λ x. record x { status = status.Ready; compensation = None } in
     let expired : Record → Record = λ x. with_ticks (s.limits.quantum - used) (change x) in
     record {
-      quanta = omega (arith, sum-same (λ (x : Record). x.quanta) (change_record expired s.records t) s.records (change-leaves (λ (x : Record). x.quanta) s.records t expired (λ x. refl)));
-      ticks = ticks-added s.records t (s.limits.quantum - used) change r there (λ x. refl) (omega (arith, space.ticks));
+      quanta = as-much s _ _ (omega (arith, sum-same (λ (x : Record). x.quanta) (change_record expired s.records t) s.records (change-leaves (λ (x : Record). x.quanta) s.records t expired (λ x. refl))));
+      ticks = as-much s _ _ (ticks-added s.records t (s.limits.quantum - used) change r there (λ x. refl) (omega (arith, space.ticks)));
       bounded = omega arith;
       short = omega arith;
     }
@@ -218,8 +247,8 @@ trap-adds s p t used ran action named enough space =
     let won = change-leaves (λ r. r.quanta) effect.state.records t trapped (after-even (λ r. r.quanta) (λ r st compensation delivered. refl) effect.after p (used + ran + 1) s.limits.quantum) in
     let used_up = sum-same (λ r. r.ticks) effect.state.records s.records ticks in
     record {
-      quanta = omega (arith, sum-same (λ r. r.quanta) (change_record trapped effect.state.records t) s.records (won ∙ quanta));
-      ticks = ticks-added effect.state.records t (ran + 1) change _ there (after-even (λ r. r.ticks) (λ r st compensation delivered. refl) effect.after p (used + ran + 1) s.limits.quantum) (omega (arith, space.ticks, enough, used_up)) ∙ omega (arith, used_up);
+      quanta = as-much s _ _ (omega (arith, sum-same (λ r. r.quanta) (change_record trapped effect.state.records t) s.records (won ∙ quanta)));
+      ticks = as-much s _ _ (ticks-added effect.state.records t (ran + 1) change _ there (after-even (λ r. r.ticks) (λ r st compensation delivered. refl) effect.after p (used + ran + 1) s.limits.quantum) (omega (arith, space.ticks, enough, used_up)) ∙ omega (arith, used_up));
       bounded = omega arith;
       short = omega (arith, enough);
     }
@@ -272,8 +301,8 @@ step-adds s (event.Wake t) made space =
     unless-adds s _ (wake s t) (λ _.
     let ready : Record → Record = λ r. record r { status = status.Ready } in
     record {
-      quanta = omega (arith, sum-same (λ r. r.quanta) (change_record ready s.records t) s.records (change-leaves (λ r. r.quanta) s.records t ready (λ r. refl)));
-      ticks = omega (arith, sum-same (λ r. r.ticks) (change_record ready s.records t) s.records (change-leaves (λ r. r.ticks) s.records t ready (λ r. refl)));
+      quanta = as-much s _ _ (omega (arith, sum-same (λ r. r.quanta) (change_record ready s.records t) s.records (change-leaves (λ r. r.quanta) s.records t ready (λ r. refl))));
+      ticks = as-much s _ _ (omega (arith, sum-same (λ r. r.ticks) (change_record ready s.records t) s.records (change-leaves (λ r. r.ticks) s.records t ready (λ r. refl))));
       bounded = omega arith;
       short = omega arith;
     })
@@ -289,13 +318,22 @@ step-adds s (event.Trap p ran action) made space =
 
 -- ---- turns
 
+pub comes-same : (s : State) {n k m j : ℕ} → n ≡ k → m ≡ j → Comes s n m → Comes s k j
+comes-same s {n} {k} {m} {j} left right (most, exact) = (omega (arith, left, right, most), λ once. sym left ∙ exact once ∙ right)
+
+-- first this, then that
+pub comes-then : (s after : State) (last middle first more later total : ℕ) → after.limits ≡ s.limits → total ≡ more + later → Comes after last (middle + later) → Comes s middle (first + more) → Comes s last (first + total)
+comes-then s after last middle first more later total limits sum (low, rest) (most, exact) =
+    (omega (arith, sum, low, most), λ once. omega (arith, sum, rest (ap (λ (sizes : Sizes). sizes.reuse) limits ∙ once), exact once))
+
 -- what a turn adds, and that the state stays in order
 record AddsTurn (w : World) (turn : Turn) : Type 0 where
-  pub quanta : quanta_of turn.world.state.records ≡ quanta_of w.state.records + count_in quanta_in turn.answer
-  pub ticks : ticks_of turn.world.state.records ≡ ticks_of w.state.records + count_in ticks_in turn.answer
+  pub quanta : Comes w.state (quanta_of turn.world.state.records) (quanta_of w.state.records + count_in quanta_in turn.answer)
+  pub ticks : Comes w.state (ticks_of turn.world.state.records) (ticks_of w.state.records + count_in ticks_in turn.answer)
   pub bounded : count_in quanta_in turn.answer ≤ 1
   pub short : count_in ticks_in turn.answer ≤ w.state.limits.quantum
   pub order : IsInOrder turn.world.state
+  pub limits : turn.world.state.limits ≡ w.state.limits
 
 module _ (program : Program) where
   system_turn-adds : (w : World) (actor : ℕ) → IsInOrder w.state → HasSpace w.state → AddsTurn w (system_turn program w actor)
@@ -305,15 +343,16 @@ module _ (program : Program) where
       of_step e turn made state answer =
           let adds = step-adds w.state e made space in
           record {
-            quanta = ap (λ (s : State). quanta_of s.records) state ∙ adds.quanta ∙ ap (λ a. quanta_of w.state.records + count_in quanta_in a) (sym answer);
-            ticks = ap (λ (s : State). ticks_of s.records) state ∙ adds.ticks ∙ ap (λ a. ticks_of w.state.records + count_in ticks_in a) (sym answer);
+            quanta = comes-same w.state (sym (ap (λ (s : State). quanta_of s.records) state)) (ap (λ a. quanta_of w.state.records + count_in quanta_in a) (sym answer)) adds.quanta;
+            ticks = comes-same w.state (sym (ap (λ (s : State). ticks_of s.records) state)) (ap (λ a. ticks_of w.state.records + count_in ticks_in a) (sym answer)) adds.ticks;
             bounded = omega (arith, adds.bounded, ap (count_in quanta_in) answer);
             short = omega (arith, adds.short, ap (count_in ticks_in) answer);
             order = subst IsInOrder (sym state) (step-order w.state e order);
+            limits = ap (λ (s : State). s.limits) state ∙ step-limits w.state e;
           }
 
       console : (commands : List Command) → AddsTurn w (console_turn program w commands)
-      console [] = record { quanta = omega arith; ticks = omega arith; bounded = omega arith; short = omega arith; order = order }
+      console [] = record { quanta = as-much w.state _ _ (omega arith); ticks = as-much w.state _ _ (omega arith); bounded = omega arith; short = omega arith; order = order; limits = refl }
       console (c ∷ cs) = of_step (event.Command c) (console_turn program w (c ∷ cs)) tt refl refl
 
       at : (b : Bool) → AddsTurn w (if b then console_turn program w w.commands else processor_turn w actor (actor_event program w actor))
@@ -322,26 +361,35 @@ module _ (program : Program) where
 
   -- after k turns, and with less than 2 ^ 32 in all
   run-adds : (w : World) (k : ℕ) (actors : List ℕ) → IsInOrder w.state → quanta_of w.state.records ≤ k → ticks_of w.state.records ≤ k * 1000 → k + length actors < 2 ^ 32
-      → (quanta_of (system_after program w actors).state.records ≡ quanta_of w.state.records + total_of quanta_in (beside actors (system_answers program w actors)))
-      × (ticks_of (system_after program w actors).state.records ≡ ticks_of w.state.records + total_of ticks_in (beside actors (system_answers program w actors)))
-  run-adds w k [] order quanta ticks bounded = (omega arith, omega arith)
+      → Comes w.state (quanta_of (system_after program w actors).state.records) (quanta_of w.state.records + total_of quanta_in (beside actors (system_answers program w actors)))
+      × Comes w.state (ticks_of (system_after program w actors).state.records) (ticks_of w.state.records + total_of ticks_in (beside actors (system_answers program w actors)))
+  run-adds w k [] order quanta ticks bounded = (as-much w.state _ _ (omega arith), as-much w.state _ _ (omega arith))
   run-adds w k (actor ∷ actors) order quanta ticks bounded =
       let most : w.state.limits.quantum ≤ 1000 = order.bounds.of_quantum.1 in
       let turn = system_turn program w actor in
       let adds = system_turn-adds w actor order (record { quanta = omega (arith, quanta, bounded); ticks = omega (arith, ticks, bounded, most) }) in
-      let later = run-adds turn.world (k + 1) actors adds.order (omega (arith, adds.quanta, adds.bounded, quanta)) (omega (arith, adds.ticks, adds.short, most, ticks)) (omega (arith, bounded)) in
+      let later = run-adds turn.world (k + 1) actors adds.order (omega (arith, adds.quanta.0, adds.bounded, quanta)) (omega (arith, adds.ticks.0, adds.short, most, ticks)) (omega (arith, bounded)) in
       let others = beside actors (system_answers program turn.world actors) in
       let first : ActorTurn = record { actor = actor; answer = turn.answer } in (
-        later.0 ∙ omega (arith, adds.quanta, sum_by-cons (λ (t : ActorTurn). count_in quanta_in t.answer) first others),
-        later.1 ∙ omega (arith, adds.ticks, sum_by-cons (λ (t : ActorTurn). count_in ticks_in t.answer) first others),
+        comes-then w.state turn.world.state _ (quanta_of turn.world.state.records) (quanta_of w.state.records) (count_in quanta_in turn.answer) (total_of quanta_in others) _ adds.limits
+            (sum_by-cons (λ (t : ActorTurn). count_in quanta_in t.answer) first others) later.0 adds.quanta,
+        comes-then w.state turn.world.state _ (ticks_of turn.world.state.records) (ticks_of w.state.records) (count_in ticks_in turn.answer) (total_of ticks_in others) _ adds.limits
+            (sum_by-cons (λ (t : ActorTurn). count_in ticks_in t.answer) first others) later.1 adds.ticks,
       )
 
   module _ (history : List ℕ) (bounds : IsWithinBounds program.limits) (bounded : length history < 2 ^ 32) where
-    abbrev sums : (quanta_of (system_run program history).state.records ≡ 0 + total_of quanta_in (turns_made program history)) × (ticks_of (system_run program history).state.records ≡ 0 + total_of ticks_in (turns_made program history))
+    abbrev sums : Comes (opening program.limits) (quanta_of (system_run program history).state.records) (0 + total_of quanta_in (turns_made program history))
+        × Comes (opening program.limits) (ticks_of (system_run program history).state.records) (0 + total_of ticks_in (turns_made program history))
     sums = run-adds (opening_world program) 0 history (opening-order program.limits bounds) (omega arith) (omega arith) (omega (arith, bounded))
 
-    pub quanta-add_up : sum_by (λ (r : Record). r.quanta) (system_run program history).state.records ≡ total_of quanta_in (turns_made program history)
-    quanta-add_up = omega (arith, sums.0)
+    pub quanta-add_up : program.limits.reuse ≡ false → sum_by (λ (r : Record). r.quanta) (system_run program history).state.records ≡ total_of quanta_in (turns_made program history)
+    quanta-add_up once = omega (arith, sums.0.1 once)
 
-    pub ticks-add_up : sum_by (λ (r : Record). r.ticks) (system_run program history).state.records ≡ total_of ticks_in (turns_made program history)
-    ticks-add_up = omega (arith, sums.1)
+    pub ticks-add_up : program.limits.reuse ≡ false → sum_by (λ (r : Record). r.ticks) (system_run program history).state.records ≡ total_of ticks_in (turns_made program history)
+    ticks-add_up once = omega (arith, sums.1.1 once)
+
+    pub quanta-within : sum_by (λ (r : Record). r.quanta) (system_run program history).state.records ≤ total_of quanta_in (turns_made program history)
+    quanta-within = omega (arith, sums.0.0)
+
+    pub ticks-within : sum_by (λ (r : Record). r.ticks) (system_run program history).state.records ≤ total_of ticks_in (turns_made program history)
+    ticks-within = omega (arith, sums.1.0)

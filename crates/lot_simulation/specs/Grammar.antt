@@ -67,6 +67,7 @@ header_line r header.Limits (t ∷ c ∷ h ∷ []) = do
   currencies ← number_between 1 4096 c
   threads ← number_between 1 4096 h
   Ok (record r { tickets = tickets; currencies = currencies; threads = threads })
+header_line r header.Reuse [] = checked ((not r.is_timed, BadLine) ∷ []) (record r { reuse = true })
 header_line r word tokens = Err BadLine
 
 -- A header line is refused if its word is out of order, repeated, or after the body.
@@ -255,7 +256,7 @@ body_line n r word tokens = Err BadLine
 abbrev pub body_after_header : ℕ → Reading → BodyWord → List (List ℕ) → Result Reading InputRefusal
 body_after_header n r word tokens = do
   after ← body_line n r word tokens
-  Ok (record after { place = 7 })
+  Ok (record after { place = 8 })
 
 -- ---- a line
 
@@ -344,6 +345,7 @@ limits_of r = record {
   scripts = length r.scripts;
   quantum = r.quantum;
   unit = r.unit;
+  reuse = r.reuse;
 }
 
 -- The seeds unless the input gives them: seed p for processor p, or its mixed seed in a timed input.

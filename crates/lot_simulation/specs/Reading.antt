@@ -1,5 +1,5 @@
 -- The part of an input read so far, and the meaning of tokens.
-use Rattle.std.specs.Prelude.{ℕ, ◌+◌, ◌-◌, ◌^◌, nat_lt, Bool, not, ◌||◌, Option, Some, None, is_none, Result, Ok, Err, List, [], ◌∷◌, length, position, option_map, unwrap_or}
+use Rattle.std.specs.Prelude.{ℕ, ◌+◌, ◌-◌, ◌^◌, nat_lt, Bool, false, not, ◌||◌, Option, Some, None, is_none, Result, Ok, Err, List, [], ◌∷◌, length, position, option_map, unwrap_or}
 use Rattle.std.specs.Str.{bytes_eq}
 use Rattle.lot_simulation.specs.declared.script.Line.{Line}
 use Rattle.lot_machine.specs.declared.command.Command.{Command}
@@ -20,7 +20,7 @@ pub record OpenScript : Type 0 where
   pub lines : List Line
   pub loops : ℕ
 
--- The contents of the lines read so far. The header's place is that of its last line, and 7 from the body on.
+-- The contents of the lines read so far. The header's place is that of its last line, and 8 from the body on.
 pub record Reading : Type 0 where
   pub place : ℕ
   pub is_timed : Bool  -- whether the input is timed
@@ -33,6 +33,7 @@ pub record Reading : Type 0 where
   pub tickets : ℕ
   pub currencies : ℕ
   pub threads : ℕ
+  pub reuse : Bool  -- whether numbers are given again
   pub ports : List (List ℕ)  -- names, as for mutexes
   pub mutexes : List (List ℕ)
   pub scripts : List NamedScript
@@ -56,6 +57,7 @@ opening_reading is_timed unit = record {
   tickets = 65535;
   currencies = 4096;
   threads = 4096;
+  reuse = false;
   ports = [];
   mutexes = [];
   scripts = [];

@@ -18,7 +18,7 @@ use Rattle.lot_simulation.specs.Texts.{newline, quotient_text}
 use Rattle.lot_simulation.specs.Report.{ActorTurn, quanta_in, idles_in, ticks_in, total_of, turns_of}
 use Rattle.lot_simulation.specs.declared.timed.Clock.{Clock}
 use Rattle.lot_simulation.specs.declared.timed.WaitChange.{WaitChange}
-use Rattle.lot_simulation.specs.declared.timed.WaitChange.TheVariants.{Nobody, Begins, Ends}
+use Rattle.lot_simulation.specs.declared.timed.WaitChange.TheVariants.{Nobody, Anew, Begins, Ends}
 use Rattle.lot_simulation.specs.declared.timed.Waits.{Waits}
 use Rattle.lot_simulation.specs.Timed.{Moment, TimedTurn, timed_turns, last_moment, ended_at, clock_of}
 use Rattle.lot_simulation.specs.World.{Program, Answer}
@@ -42,15 +42,19 @@ wait_ended time waits = made waits.since
     made None = waits
     made (Some since) = record { count = waits.count + 1; total = waits.total + (time - since); longest = max waits.longest (time - since); since = None }
 
--- A thread waits for a mutex from the lock that finds it taken until the unlock that passes it on (6.1). A wait that a
--- kill ends isn't counted.
+-- A new thread has never waited, whoever had its number before. A thread waits for a mutex from the lock that finds it
+-- taken until the unlock that passes it on (6.1). A wait that a kill ends isn't counted.
 abbrev pub mutex_change : Answer → WaitChange
+mutex_change (Answered e (reply.Thread thread)) = Anew thread
+mutex_change (Answered e (reply.Funded ticket thread)) = Anew thread
 mutex_change (Answered (event.Trap p ran (action.Lock mutex)) (reply.Trapped thread ticks outcome.Waits ends)) = Begins thread
 mutex_change (Answered e (reply.Trapped thread ticks (outcome.Passed to drawn) ends)) = Ends to
 mutex_change other = Nobody
 
 -- A thread waits for a reply from its call until the reply to it (4.6); nor is such a wait that a kill ends.
 abbrev pub reply_change : Answer → WaitChange
+reply_change (Answered e (reply.Thread thread)) = Anew thread
+reply_change (Answered e (reply.Funded ticket thread)) = Anew thread
 reply_change (Answered e (reply.Trapped thread ticks (outcome.ServedBy server) ends)) = Begins thread
 reply_change (Answered e (reply.Trapped thread ticks outcome.Queued ends)) = Begins thread
 reply_change (Answered e (reply.Trapped thread ticks (outcome.Replied client) ends)) = Ends client
@@ -61,6 +65,7 @@ reply_change other = Nobody
 -- the thread's waits after this change at this time
 abbrev pub waits_after : ℕ → ℕ → Waits → WaitChange → Waits
 waits_after t time waits Nobody = waits
+waits_after t time waits (Anew u) = if u == t then no_waits else waits
 waits_after t time waits (Begins u) = if u == t then wait_begun time waits else waits
 waits_after t time waits (Ends u) = if u == t then wait_ended time waits else waits
 

@@ -1,5 +1,5 @@
 -- The simulated system: a console, processors with their generators, and threads with their scripts.
-use Rattle.std.specs.Prelude.{ℕ, ◌-◌, ◌≤◌, ◌==◌, nat_le, Bool, true, false, Option, Some, None, is_some, List, [], ◌∷◌, ◌++◌, length, map, drop, count_by, All, option_and_then, unwrap_or, if◌then◌else◌}
+use Rattle.std.specs.Prelude.{ℕ, ◌-◌, ◌≤◌, ◌==◌, nat_le, Bool, true, false, Option, Some, None, is_some, List, [], ◌∷◌, ◌++◌, length, map, count_by, All, option_and_then, unwrap_or, if◌then◌else◌}
 use Rattle.std.specs.List.{last_or}
 use Rattle.lot_simulation.specs.declared.script.Line.{Line}
 use Rattle.lot_simulation.specs.declared.script.ScriptTrap.{ScriptTrap}
@@ -9,6 +9,7 @@ use Rattle.lot_simulation.specs.declared.script.MutexTrap.TheVariants.{Lock, Unl
 use Rattle.lot_machine.specs.declared.action.Action.{Action}
 use Rattle.lot_machine.specs.declared.action.Action.TheVariants as action
 use Rattle.lot_machine.specs.declared.command.Command.{Command}
+use Rattle.lot_machine.specs.declared.command.Command.TheVariants.{MakeThread, MakeFunded}
 use Rattle.lot_machine.specs.declared.event.Event.{Event}
 use Rattle.lot_machine.specs.declared.event.Event.TheVariants as event
 use Rattle.lot_machine.specs.declared.reply.Reply.{Reply}
@@ -19,7 +20,8 @@ use Rattle.lot_machine.specs.declared.sizes.Sizes.{Sizes}
 use Rattle.lot_simulation.specs.declared.timed.Sleeper.{Sleeper}
 use Rattle.lot_machine.specs.Numbered.{at_number, set_number}
 use Rattle.lot_machine.specs.Lottery.{drawn_number, seed_after_number, wide_number, seed_after_wide_number}
-use Rattle.lot_machine.specs.State.{State, opening, thread_on}
+use Rattle.lot_machine.specs.Places.{placed}
+use Rattle.lot_machine.specs.State.{State, opening, free_threads, thread_on}
 use Rattle.lot_machine.specs.Commands.{Step}
 use Rattle.lot_machine.specs.Step.{step, used_there}
 use Rattle.lot_simulation.specs.Script.{Context, Slice, slice, start, without_sleep}
@@ -148,10 +150,15 @@ contexts_after w p (reply.Trapped t ticks outcome ends) =
 contexts_after w p (reply.Expired t ticks) = set_number w.contexts t (slice_on w p t).end
 contexts_after w p other = w.contexts
 
--- the contexts of new threads: the script from its start, and accumulator 0
-abbrev pub new_contexts : Program → State → State → List Context
-new_contexts program old new =
-    map (λ t. start (unwrap_or (option_and_then (λ made. at_number program.scripts made.script) t) [])) (drop (length old.threads) new.threads)
+-- the context of a new thread with this script: at its start, with accumulator 0
+abbrev pub new_context : Program → ℕ → Context
+new_context program script = start (unwrap_or (at_number program.scripts script) [])
+
+-- the contexts after a command: a new thread's takes the place of its number
+abbrev pub contexts_after_command : Program → World → Command → Reply → List Context
+contexts_after_command program w (MakeThread name script) (reply.Thread t) = placed w.contexts (free_threads w.state) (new_context program script)
+contexts_after_command program w (MakeFunded amount currency name script) (reply.Funded ticket t) = placed w.contexts (free_threads w.state) (new_context program script)
+contexts_after_command program w c other = w.contexts
 
 -- ---- turns
 
@@ -172,7 +179,7 @@ console_turn program w (c ∷ cs) = made (step w.state (event.Command c))
   where
     made : Step → Turn
     made done = record {
-      world = record { state = done.state; contexts = w.contexts ++ new_contexts program w.state done.state; generators = w.generators; is_wide = w.is_wide; commands = cs; history = w.history ++ 0 ∷ [] };
+      world = record { state = done.state; contexts = contexts_after_command program w c done.reply; generators = w.generators; is_wide = w.is_wide; commands = cs; history = w.history ++ 0 ∷ [] };
       answer = Answered (event.Command c) done.reply;
     }
 

@@ -12,6 +12,7 @@ pub enum HeaderWord {
     For,
     Seed,
     Limits,
+    Reuse,
 }
 
 /// A word that begins a line of the body.

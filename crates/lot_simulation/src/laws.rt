@@ -1,5 +1,5 @@
 //! Laws of the definitions, without executable code.
-ghost use Rattle.std.specs.Prelude.{◌≡◌, ◌≤◌, ℕ, ◌+◌, List, length, map, sum_by};
+ghost use Rattle.std.specs.Prelude.{◌≡◌, ◌≤◌, ℕ, ◌+◌, false, List, length, map, sum_by};
 ghost use Rattle.std.specs.List.{range_with_len};
 ghost use Rattle.std.specs.List.Sorted.{IsNonDecreasing};
 ghost use Rattle.lot_machine.specs.Bounds.{IsBetween, IsWithinBounds};
@@ -53,14 +53,20 @@ pub fn clocks_add_up()
 {}
 
 /// In the report of a timed program the threads' quanta and ticks add up to its totals, if sizes are within their
-/// bounds.
+/// bounds. If numbers are given again they may be less: a thread with the number of a removed one begins anew.
 pub fn timed_threads_add_up()
-    ensures quanta { (program : Program) → IsWithinBounds program.limits
+    ensures quanta { (program : Program) → IsWithinBounds program.limits → program.limits.reuse ≡ false
         → sum_by (λ r. r.quanta) (last_moment program).world.state.records
         ≡ total_of quanta_in (actor_turns (timed_turns program)) }
-    ensures ticks { (program : Program) → IsWithinBounds program.limits
+    ensures ticks { (program : Program) → IsWithinBounds program.limits → program.limits.reuse ≡ false
         → sum_by (λ r. r.ticks) (last_moment program).world.state.records
         ≡ total_of ticks_in (actor_turns (timed_turns program)) }
+    ensures quanta_within { (program : Program) → IsWithinBounds program.limits
+        → sum_by (λ r. r.quanta) (last_moment program).world.state.records
+        ≤ total_of quanta_in (actor_turns (timed_turns program)) }
+    ensures ticks_within { (program : Program) → IsWithinBounds program.limits
+        → sum_by (λ r. r.ticks) (last_moment program).world.state.records
+        ≤ total_of ticks_in (actor_turns (timed_turns program)) }
 {}
 
 /// In the report of a timed program the processors' quanta, idle draws and ticks add up to its totals, if each

@@ -45,6 +45,8 @@ pub struct Waits {
 #[derive(Clone, Copy, Debug, PartialEq, Eq)]
 pub enum WaitChange {
     Nobody,
+    /// A thread with this number was made: it has never waited.
+    Anew(u32),
     /// This thread begins to wait.
     Begins(u32),
     /// This thread's wait ends.

@@ -313,6 +313,14 @@ pub fn refused_inputs()
         ≡ refused_on_line (codes "2 51 BadLine") }
     ensures kill_lacking { output (text (codes "lottery 3" ∷ codes "for 5" ∷ codes "kill" ∷ []))
         ≡ refused_on_line (codes "3 51 BadLine") }
+    ensures reuse_in_second { output (text (codes "lottery 2" ∷ codes "reuse" ∷ []))
+        ≡ refused_on_line (codes "2 51 BadLine") }
+    ensures reuse_in_first { output (text (codes "lottery 1" ∷ codes "reuse" ∷ []))
+        ≡ refused_on_line (codes "2 51 BadLine") }
+    ensures reuse_with_number { output (text (codes "lottery 3" ∷ codes "for 5" ∷ codes "reuse 1" ∷ []))
+        ≡ refused_on_line (codes "3 51 BadLine") }
+    ensures reuse_too_early { output (text (codes "lottery 3" ∷ codes "for 5" ∷ codes "reuse" ∷ codes "limits 1 1 1"
+        ∷ [])) ≡ refused_on_line (codes "4 50 BadHeader") }
     ensures sleep_in_second { output (text (codes "lottery 2" ∷ codes "script s" ∷ codes "sleep 5" ∷ []))
         ≡ refused_on_line (codes "3 51 BadLine") }
     ensures sleep_in_first { output (text (codes "lottery 1" ∷ codes "script s" ∷ codes "sleep 5" ∷ []))
@@ -494,4 +502,52 @@ pub fn killed_owner()
         ∷ codes "thread 2 b quanta 3 ticks 15 share 93.75% value 0%"
         ∷ codes "processor 1 quanta 3 idle 1 ticks 15 unused 5" ∷ codes "processor 2 quanta 1 idle 5 ticks 1 unused 19"
         ∷ codes "total turns 18 quanta 4 ticks 16 refused 0 left 0" ∷ []) }
+{}
+
+/// With `reuse` the limits count what is there at once: a thread and a ticket get the numbers of those removed.
+#[tactic(auto, unfolding(crate::specs::OnLiterals::texts_on_literals, crate::specs::Timed::timed_room))]
+pub fn numbers_again()
+    ensures { output (text (codes "lottery 3" ∷ codes "quantum 10" ∷ codes "for 30" ∷ codes "limits 2 1 2"
+        ∷ codes "reuse" ∷ codes "script short" ∷ codes "compute 4" ∷ codes "endscript" ∷ codes "script long"
+        ∷ codes "compute 1000" ∷ codes "endscript" ∷ codes "fundx 3 base a short" ∷ codes "fundx 1 base b long"
+        ∷ codes "at 8" ∷ codes "fundx 3 base c short" ∷ codes "unfund 1" ∷ codes "rmtkt 1" ∷ codes "rmthr a"
+        ∷ codes "fundx 3 base c short" ∷ codes "lsthr" ∷ []))
+        ≡ text (codes "0 0 funded 1 1" ∷ codes "0 0 funded 2 2" ∷ codes "0 1 draw 1.992 of 4 thread 1"
+        ∷ codes "5 1 thread 1 ticks 5 exit" ∷ codes "5 1 draw 0.281 of 1 thread 2" ∷ codes "8 0 refused 13 Full"
+        ∷ codes "8 0 done" ∷ codes "8 0 done" ∷ codes "8 0 done" ∷ codes "8 0 funded 1 1" ∷ codes "8 0 lsthr 2"
+        ∷ codes "8 thread 1 c ready value 3 weight 3 quanta 0 ticks 0"
+        ∷ codes "8 thread 2 b running 1 used 0 value 1 weight 1 quanta 1 ticks 0"
+        ∷ codes "15 1 thread 2 ticks 10 expire" ∷ codes "15 1 draw 3.921 of 4 thread 2"
+        ∷ codes "25 1 thread 2 ticks 10 expire" ∷ codes "25 1 draw 0.363 of 4 thread 1"
+        ∷ codes "30 1 thread 1 ticks 5 exit" ∷ codes "30 1 draw 0.738 of 1 thread 2" ∷ codes "report"
+        ∷ codes "thread 1 c quanta 1 ticks 5 share 16.666% value 0%"
+        ∷ codes "thread 2 b quanta 3 ticks 20 share 66.666% value 100%"
+        ∷ codes "processor 1 quanta 5 idle 0 ticks 30 unused 0"
+        ∷ codes "total turns 17 quanta 5 ticks 30 refused 1 left 0" ∷ []) }
+{}
+
+/// A thread with a number given again starts its script from its first line, and has neither the draws, the ticks nor
+/// the waits of the one before it.
+#[tactic(auto, unfolding(crate::specs::OnLiterals::texts_on_literals, crate::specs::Timed::timed_room))]
+pub fn begins_anew()
+    ensures { output (text (codes "lottery 3" ∷ codes "quantum 10" ∷ codes "for 40" ∷ codes "limits 2 1 2"
+        ∷ codes "reuse" ∷ codes "mutex m" ∷ codes "script waiter" ∷ codes "lock m unlock m endscript"
+        ∷ codes "script holder" ∷ codes "lock m compute 1 yield compute 1 unlock m compute 1000 endscript"
+        ∷ codes "fundx 1 base h holder" ∷ codes "at 1" ∷ codes "fundx 9 base w waiter" ∷ codes "at 14"
+        ∷ codes "unfund 2" ∷ codes "rmthr w" ∷ codes "rmtkt 2" ∷ codes "fundx 9 base v waiter" ∷ []))
+        ≡ text (codes "0 0 funded 1 1" ∷ codes "0 1 draw 0.992 of 1 thread 1" ∷ codes "1 0 funded 2 2"
+        ∷ codes "1 1 thread 1 ticks 1 lock 1 taken" ∷ codes "3 1 thread 1 ticks 2 yield"
+        ∷ codes "3 1 draw 5.152 of 12.332 thread 2" ∷ codes "4 1 thread 2 ticks 1 lock 1 waits"
+        ∷ codes "4 1 draw 31.496 of 33.332 thread 1" ∷ codes "6 1 thread 1 ticks 2 unlock 1 to 2 draw 1.363 of 9"
+        ∷ codes "6 1 draw 43.738 of 95 thread 2" ∷ codes "7 1 thread 2 ticks 1 unlock 1 free"
+        ∷ codes "8 1 thread 2 ticks 1 exit" ∷ codes "8 1 draw 1.828 of 5 thread 1" ∷ codes "14 0 done"
+        ∷ codes "14 0 done" ∷ codes "14 0 done" ∷ codes "14 0 funded 2 2" ∷ codes "18 1 thread 1 ticks 10 expire"
+        ∷ codes "18 1 draw 2.316 of 10 thread 2" ∷ codes "19 1 thread 2 ticks 1 lock 1 taken"
+        ∷ codes "20 1 thread 2 ticks 1 unlock 1 free" ∷ codes "21 1 thread 2 ticks 1 exit"
+        ∷ codes "21 1 draw 0.316 of 1 thread 1" ∷ codes "31 1 thread 1 ticks 10 expire"
+        ∷ codes "31 1 draw 0.929 of 1 thread 1" ∷ codes "report"
+        ∷ codes "thread 1 h quanta 5 ticks 25 share 80.645% value 100%"
+        ∷ codes "thread 2 v quanta 1 ticks 3 share 9.677% value 0%"
+        ∷ codes "processor 1 quanta 8 idle 0 ticks 31 unused 0"
+        ∷ codes "total turns 25 quanta 8 ticks 31 refused 0 left 0" ∷ []) }
 {}

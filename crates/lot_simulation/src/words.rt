@@ -28,13 +28,14 @@ pub const SCHEDULE_WORD: &[u8] = b"schedule";
 /// The first word of a line of a schedule that lists runs, several turns of one actor in a row.
 pub const RUNS_WORD: &[u8] = b"runs";
 
-/// The words of the header in the order of their lines; first `for`, which only some formats have.
-pub const HEADER_WORDS: [WordRow<HeaderWord>; 7] = [
+/// The words of the header in the order of their lines; first `for` and `reuse`, which only some formats have.
+pub const HEADER_WORDS: [WordRow<HeaderWord>; 8] = [
     (
         b"for",
         HeaderWord::For,
         Once(&[("TICKS", Number(ranges::DURATION))]),
     ),
+    (b"reuse", HeaderWord::Reuse, Once(&[])),
     (
         FIRST_WORD,
         HeaderWord::Lottery,
@@ -219,7 +220,7 @@ pub const SCRIPT_WORDS: [WordRow<ScriptWord>; 14] = [
 ];
 
 // The tables above as static data: a constant would be built anew at each call.
-static HEADER_TABLE: [WordRow<HeaderWord>; 7] = HEADER_WORDS;
+static HEADER_TABLE: [WordRow<HeaderWord>; 8] = HEADER_WORDS;
 
 static BODY_TABLE: [WordRow<BodyWord>; 20] = BODY_WORDS;
 
@@ -233,7 +234,7 @@ impl HeaderWord {
         if format.is_timed() {
             word_spelled(&HEADER_TABLE, token)
         } else {
-            word_spelled(&HEADER_TABLE[1..], token)
+            word_spelled(&HEADER_TABLE[2..], token)
         }
     }
 

@@ -18,6 +18,7 @@ reading_of r = record {
   tickets = r.tickets;
   currencies = r.currencies;
   threads = r.threads;
+  reuse = r.reuse;
   ports = r.ports.items;
   mutexes = r.mutexes.items;
   scripts = r.scripts.items;

@@ -50,6 +50,7 @@ pub(crate) fn header_line(
         HeaderWord::For => read_duration(reading, tokens),
         HeaderWord::Seed => read_seed(alloc, reading, tokens),
         HeaderWord::Limits => read_limits(reading, tokens),
+        HeaderWord::Reuse => read_reuse(reading, tokens),
     }
 }
 
@@ -141,5 +142,19 @@ fn read_limits(reading: &mut Reading, mut tokens: Tokens<'_>) -> Result<(), Line
     reading.currencies = currencies;
     reading.threads = threads;
     reading.place = HeaderWord::Limits.place();
+    Ok(())
+}
+
+/// `reuse`, in a timed input
+fn read_reuse(reading: &mut Reading, tokens: Tokens<'_>) -> Result<(), LineFault>
+    requires { reading.old.place < 7 }
+    ensures { Gives reading.new result (header_in_order reading.old HeaderWord.Reuse tokens.entry) }
+{
+    tokens.none()?;
+    if !reading.format.is_timed() {
+        return Err(LineFault::Refused(InputRefusal::BadLine));
+    }
+    reading.reuse = true;
+    reading.place = HeaderWord::Reuse.place();
     Ok(())
 }

@@ -74,6 +74,8 @@ pub(crate) struct Reading {
     pub(crate) tickets: u32,
     pub(crate) currencies: u32,
     pub(crate) threads: u32,
+    /// Whether numbers are given again.
+    pub(crate) reuse: bool,
     pub(crate) ports: Vec<Name>,
     pub(crate) mutexes: Vec<Name>,
     pub(crate) scripts: Vec<NamedScript>,
@@ -115,6 +117,7 @@ impl Reading {
             tickets: Sizes::LARGEST.tickets,
             currencies: Sizes::LARGEST.currencies,
             threads: Sizes::LARGEST.threads,
+            reuse: false,
             ports: Vec::new(alloc),
             mutexes: Vec::new(alloc),
             scripts: Vec::new(alloc),
@@ -199,6 +202,7 @@ impl Reading {
             scripts: self.scripts.len() as u32,
             quantum: self.quantum,
             unit: self.format.unit(),
+            reuse: self.reuse,
         };
         Limits::new(sizes).unwrap()
     }
@@ -236,6 +240,7 @@ impl Reading {
             tickets: _,
             currencies: _,
             threads: _,
+            reuse: _,
             ports: _,
             mutexes: _,
             scripts,

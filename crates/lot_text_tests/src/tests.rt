@@ -95,6 +95,7 @@ fn sizes_of(limits: Limits) -> Sizes {
         scripts: limits.scripts,
         quantum: limits.quantum,
         unit: limits.unit,
+        reuse: limits.reuse,
     }
 }
 
@@ -166,6 +167,7 @@ const FIRST_RUN_SAYS: Said<'_> = Said {
         scripts: 1,
         quantum: 100,
         unit: 1,
+        reuse: false,
     },
     seeds: &[1],
     turns: 0,
@@ -202,6 +204,7 @@ const HEADERS_SAY: Said<'_> = Said {
         scripts: 1,
         quantum: 7,
         unit: 256,
+        reuse: false,
     },
     seeds: &[2147483646],
     turns: 0,
@@ -236,6 +239,7 @@ const WHOLE_GRAMMAR_SAYS: Said<'_> = Said {
         scripts: 2,
         quantum: 7,
         unit: 256,
+        reuse: false,
     },
     seeds: &[5, 6],
     turns: 10000,
@@ -280,9 +284,10 @@ fn reads_the_whole_grammar(rt: HostRuntime) {
 
 /// The parts that only timed inputs have. One name has 16 bytes, the longest, and isn't good.
 const TIMED: &str =
-    "lottery 3\nprocessors 2\nturns 5\nfor 4294967295\nport p\nscript s\nloop 2 serve p yield\nend sleep 4294967295 sleep 1 endscript\n\
-    mkthr a s\nat 10\nat 20\nlstkt\nlscur\nat 20\nlsthr\nsettkt 3 0\nsettkt 0 18446744073709551615\n\
-    rmthr a\nrmthr 0123456789abcdef\nkill a\nkill fedcba9876543210\nat 4294967295";
+    "lottery 3\nprocessors 2\nturns 5\nfor 4294967295\nreuse\nport p\nscript s\nloop 2 serve p yield\n\
+    end sleep 4294967295 sleep 1 endscript\nmkthr a s\nat 10\nat 20\nlstkt\nlscur\nat 20\nlsthr\nsettkt 3 0\n\
+    settkt 0 18446744073709551615\nrmthr a\nrmthr 0123456789abcdef\nkill a\nkill fedcba9876543210\n\
+    at 4294967295";
 
 /// The seeds are those after 1 of the generator that multiplies by 48271 modulo 2147483647.
 const TIMED_SAYS: Said<'_> = Said {
@@ -296,6 +301,7 @@ const TIMED_SAYS: Said<'_> = Said {
         scripts: 1,
         quantum: 100,
         unit: 256,
+        reuse: true,
     },
     seeds: &[48271, 182605794],
     turns: 5,

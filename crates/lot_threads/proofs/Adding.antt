@@ -31,7 +31,7 @@ use Rattle.lot_draw.specs.Queued.{Queued, AreWeights}
 use Rattle.lot_draw.proofs.Together.{queue-set, competes-more, weights-follow}
 use Rattle.lot_threads.specs.Timely.{IsTimely}
 use Rattle.lot_threads.specs.Runners.{AreRunners, runner_at}
-use Rattle.lot_machine.specs.Change.{newborn}
+use Rattle.lot_machine.specs.Commands.{newborn}
 use Rattle.lot_threads.specs.Threaded.{AreOf}
 use Rattle.lot_value.proofs.Lending.{number-some, lent_weighed}
 use Rattle.lot_threads.proofs.Together.{number-other}

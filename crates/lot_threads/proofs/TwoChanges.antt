@@ -8,7 +8,7 @@ use Rattle.lot_machine.specs.declared.funding.Lend.{Lend}
 use Rattle.lot_machine.specs.declared.funding.Node.{Node}
 use Rattle.lot_machine.specs.declared.funding.Node.TheVariants as node
 use Rattle.lot_machine.specs.declared.record.Record.{Record}
-use Rattle.lot_machine.specs.Funding.{Funding, lend_node, owner_of, target_node, weighed_of}
+use Rattle.lot_machine.specs.Funding.{lend_node, target_node, weighed_of}
 use Rattle.lot_machine.specs.Numbered.{at_number}
 use Rattle.lot_machine.specs.State.{is_live_status, lend_of, live_in}
 use Rattle.lot_machine.specs.Touched.{WeighedBetween, LiveBetween}

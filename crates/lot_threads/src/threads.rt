@@ -20,7 +20,7 @@ ghost use Rattle.lot_value.specs.Caches.{HasNoneTwice, edges_into_all};
 ghost use Rattle.lot_value.specs.Changing.{CanApply};
 ghost use Rattle.lot_threads.specs.Threaded.{LeavesThreads, StaleByIn, applied_in};
 ghost use Rattle.lot_threads.specs.Threaded.{IsLiveIn, IsThreadOf, IsStaleIn, CanRun, CanChange, MakesStaleIn};
-ghost use Rattle.lot_machine.specs.Change.{newborn};
+ghost use Rattle.lot_machine.specs.Commands.{newborn};
 ghost use Rattle.lot_threads.specs.Threaded.{drawn_in, funding_in, limited_in, settled_in, with_records};
 ghost use Rattle.lot_threads.specs.Threaded.{worth_in};
 ghost use Rattle.lot_threads.specs.Timely.{IsTimely};
@@ -170,6 +170,21 @@ impl Threads {
         self.threads.push_reserved(Some(thread));
         self.records.push_reserved(NEWBORN);
         ThreadNumber { number }
+    }
+
+    /// Makes a thread with the number of one that was removed. It is Ready, and has won and used nothing. Computes no
+    /// value.
+    pub fn reuse_thread(&mut self, number: ThreadNumber, thread: Thread)
+        requires there { IsThreadOf self.old number.number }
+        ensures made { self.new ≡ record (with_records self.old
+            (set_number self.old.records number.number newborn) self.new.stale) {
+              threads = set_number self.old.threads number.number (Some thread);
+            } }
+        ensures kept { (node : ANode) → IsStaleIn self.old node → IsStaleIn self.new node }
+        ensures stale { MakesStaleIn self.old self.new }
+    {
+        self.change(number, NEWBORN);
+        self.threads[index_of(number.number)] = Some(thread);
     }
 
     /// Removes a thread's name and script, and leaves its record.

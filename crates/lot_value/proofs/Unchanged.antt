@@ -1,7 +1,9 @@
 -- What is kept together follows a change that moves no edge and switches nothing.
-use Rattle.std.proofs.Common.{◌≡◌, ℕ, ◌+◌, ◌≤◌, ◌↔◌, inl, Bool, false, Some, List, [], ◌∷◌, ◌++◌, length, ap, sym, ◌∙◌, refl, subst, arith}
+use Rattle.std.proofs.Common.{◌≡◌, ℕ, ◌+◌, ◌≤◌, ◌↔◌, inl, Bool, false, Some, None, List, [], ◌∷◌, ◌++◌, length, ap, sym, ◌∙◌, refl, subst, arith}
 use Rattle.std.proofs.lemmas.List.{length_push}
+use Rattle.lot_machine.specs.declared.ticket.Ticket.{Ticket}
 use Rattle.lot_machine.specs.declared.ticket.Target.TheVariants as target
+use Rattle.lot_machine.specs.Numbered.{at_number, set_number}
 use Rattle.lot_machine.specs.declared.funding.Node.{Node}
 use Rattle.lot_machine.specs.declared.funding.Node.TheVariants.{Currency, Thread, Mutex}
 use Rattle.lot_machine.specs.declared.funding.Edge.{Edge}
@@ -24,8 +26,8 @@ use Rattle.lot_value.specs.Caches.{Known, IsRight, CoversChange}
 use Rattle.lot_value.specs.Valued.{live_of, AreTogether}
 use Rattle.lot_value.proofs.Ends.{edge-there, there-edge}
 use Rattle.lot_value.proofs.Nodes.{node-within, within-node}
-use Rattle.lot_active.proofs.CallEdits.{issue-kept, destroy-kept, set_amount-kept, currencies-kept, thread-kept}
-use Rattle.lot_active.proofs.Edits.{issue-ends, destroy-ends, set_amount-ends, thread-ends}
+use Rattle.lot_active.proofs.CallEdits.{issue-kept, again-kept, destroy-kept, set_amount-kept, currencies-kept, thread-kept}
+use Rattle.lot_active.proofs.Edits.{issue-ends, again-ends, destroy-ends, set_amount-ends, thread-ends}
 use Rattle.lot_value.proofs.OneEdge.{has-same}
 use Rattle.lot_value.proofs.GraphCalls.{live-one, together-one}
 use Rattle.lot_value.proofs.Following.{live-is, live-length}
@@ -105,6 +107,11 @@ module _ (w now : LimitedFunding) (v : Activity) (c : Known) (together : AreToge
   stays-issue amount issuer issued sound fits =
       stays-alike (issue-kept v w now (live_of w v) together.kept sound fits amount issuer issued) (ap layout_of issued) (ap (λ (x : LimitedFunding). length x.funding.lends) issued)
       (λ edge. ap (λ (x : LimitedFunding). ends_of_edge x.funding edge) issued ∙ issue-ends w.funding amount issuer edge)
+
+  pub stays-again : (n : ℕ) (ticket : Ticket) → at_number w.funding.tickets n ≡ Some None → ticket.target ≡ target.Unfunded → now ≡ with_tickets w (set_number w.funding.tickets n (Some ticket)) → IsSound now.funding → FitsLimits now → Stays now v c (live_of w v)
+  stays-again n ticket gap unfunded issued sound fits =
+      stays-alike (again-kept v w now (live_of w v) together.kept sound fits n ticket gap unfunded issued) (ap layout_of issued) (ap (λ (x : LimitedFunding). length x.funding.lends) issued)
+      (λ edge. ap (λ (x : LimitedFunding). ends_of_edge x.funding edge) issued ∙ again-ends w.funding n ticket gap unfunded edge)
 
   pub stays-destroy : (n : ℕ) → target_of w.funding n ≡ Some target.Unfunded → now ≡ with_tickets w (without_ticket w.funding.tickets n) → IsSound now.funding → FitsLimits now → Stays now v c (live_of w v)
   stays-destroy n free destroyed sound fits =

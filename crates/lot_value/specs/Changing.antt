@@ -1,5 +1,5 @@
 -- The effect of a change on a valued graph, and the condition for making it.
-use Rattle.std.specs.Prelude.{◌≡◌, ◌≢◌, ◌<◌, ◌≤◌, ◌∷◌, ◌++◌, ℕ, ⊤, Bool, true, false, Option, Some, None, List, [], length, slice_set}
+use Rattle.std.specs.Prelude.{◌≡◌, ◌≢◌, ◌<◌, ◌≤◌, ◌∷◌, ◌++◌, ℕ, ⊤, Bool, true, false, Option, Some, None, List, [], length, slice_get, slice_set}
 use Rattle.lot_machine.specs.declared.ticket.Ticket.{Ticket}
 use Rattle.lot_machine.specs.declared.ticket.Target.{Target}
 use Rattle.lot_machine.specs.declared.ticket.Target.TheVariants as target
@@ -7,25 +7,27 @@ use Rattle.lot_machine.specs.declared.funding.Node.{Node}
 use Rattle.lot_machine.specs.declared.funding.Node.TheVariants.{Thread, Mutex}
 use Rattle.lot_machine.specs.declared.funding.Lend.{Lend}
 use Rattle.lot_machine.specs.declared.funding.Lend.TheVariants.{Nobody, ToThread, ToMutex}
-use Rattle.lot_machine.specs.Numbered.{set_number}
+use Rattle.lot_machine.specs.Numbered.{at_number, set_number}
 use Rattle.lot_machine.specs.Funding.{Funding, ticket_at, target_of, owner_of, issued_in, backing_currency, retargeted, with_amount}
 use Rattle.lot_machine.specs.Lends.{IsLive}
 use Rattle.lot_machine.specs.Equations.{Reaches}
 use Rattle.lot_graph.specs.Graphs.{LimitedFunding, IsCurrency, IsUserCurrency, IsThread, IsMutex, IsTarget, IsCycle, IsBorrower, LendReaches}
 use Rattle.lot_value.specs.declared.change.Change.{Change}
-use Rattle.lot_value.specs.declared.change.Change.TheVariants.{NewTicket, PutTicket, SetAmount, DropTicket, NewCurrency, DropCurrency, PutOwner, MoveOwner, PutThread}
+use Rattle.lot_value.specs.declared.change.Change.TheVariants.{NewTicket, ReuseTicket, PutTicket, SetAmount, DropTicket, NewCurrency, ReuseCurrency, DropCurrency, PutOwner, MoveOwner, PutThread}
 use Rattle.lot_value.specs.Caches.{IsStale}
 use Rattle.lot_value.specs.Valued.{Valued, MakesStale}
 
 -- the currencies after a change
 abbrev pub currencies_after : List Bool → Change → List Bool
 currencies_after there NewCurrency = there ++ true ∷ []
+currencies_after there (ReuseCurrency c) = slice_set there c true
 currencies_after there (DropCurrency c) = slice_set there c false
 currencies_after there other = there
 
 -- the tickets after a change
 abbrev pub tickets_after : List (Option Ticket) → Change → List (Option Ticket)
 tickets_after tickets (NewTicket t) = tickets ++ Some t ∷ []
+tickets_after tickets (ReuseTicket n t) = set_number tickets n (Some t)
 tickets_after tickets (PutTicket n t) = set_number tickets n (Some t)
 tickets_after tickets (SetAmount n amount) = with_amount tickets n amount
 tickets_after tickets (DropTicket n) = set_number tickets n None
@@ -58,8 +60,10 @@ applied v c stale = record { now = graph_after v.now c; live = live_after v.live
 -- the change moves no edge, and makes no thread live or not
 abbrev pub MovesNothing : Change → Type 0
 MovesNothing (NewTicket t) = ⊤
+MovesNothing (ReuseTicket n t) = ⊤
 MovesNothing (DropTicket n) = ⊤
 MovesNothing NewCurrency = ⊤
+MovesNothing (ReuseCurrency c) = ⊤
 MovesNothing (DropCurrency c) = ⊤
 MovesNothing other = ⊥
 
@@ -96,10 +100,12 @@ CanOwn f m t = IsMutex f m × IsThread f t × (¬ Reaches f (Thread t) (Mutex m)
 -- a live thread to another.
 abbrev pub CanApply : LimitedFunding → List Bool → Change → Type 0
 CanApply w live (NewTicket t) = IsCurrency w.funding t.issuer × (0 < t.amount) × (t.target ≡ target.Unfunded) × (length w.funding.tickets < w.ticket_limit)
+CanApply w live (ReuseTicket n t) = (at_number w.funding.tickets n ≡ Some None) × IsCurrency w.funding t.issuer × (0 < t.amount) × (t.target ≡ target.Unfunded)
 CanApply w live (PutTicket n t) = (before : Ticket) × (ticket_at w.funding n ≡ Some before) × (t ≡ retargeted t.target before) × CanTarget w.funding n before.target t.target
 CanApply w live (SetAmount n amount) = (before : Ticket) × (ticket_at w.funding n ≡ Some before) × (0 < amount)
 CanApply w live (DropTicket n) = target_of w.funding n ≡ Some target.Unfunded
 CanApply w live NewCurrency = length w.funding.currencies ≤ w.currency_limit
+CanApply w live (ReuseCurrency c) = slice_get w.funding.currencies c ≡ Some false
 CanApply w live (DropCurrency c) = IsUserCurrency w.funding c × (issued_in w.funding c ≡ []) × (backing_currency w.funding c ≡ [])
 CanApply w live (PutOwner m None) = IsMutex w.funding m
 CanApply w live (PutOwner m (Some t)) = CanOwn w.funding m t × (owner_of w.funding m ≡ None)

@@ -22,7 +22,8 @@ ghost use Rattle.lot_value.specs.Caches.{IsStale, IsOnce, Settles, edges_into_al
 ghost use Rattle.lot_value.specs.Valued.{FollowsGraph, FollowsLives};
 ghost use Rattle.lot_value.specs.Changing.{CanApply, StaleBy, applied};
 ghost use Rattle.lot_value.specs.declared.change.Change.TheVariants.{NewTicket, PutTicket, DropTicket, NewCurrency};
-ghost use Rattle.lot_value.specs.declared.change.Change.TheVariants.{DropCurrency, PutOwner};
+ghost use Rattle.lot_value.specs.declared.change.Change.TheVariants.{ReuseTicket, ReuseCurrency, DropCurrency};
+ghost use Rattle.lot_value.specs.declared.change.Change.TheVariants.{PutOwner};
 ghost use Rattle.lot_graph.specs.Changes.{with_lends, with_owners, with_tickets};
 
 use crate::change::Change;
@@ -110,10 +111,12 @@ impl ValuedGraph {
     {
         match change {
             Change::NewTicket(ticket) => self.new_ticket(ticket),
+            Change::ReuseTicket(number, ticket) => self.reuse_ticket(number, ticket),
             Change::PutTicket(number, ticket) => self.put_ticket(number, ticket),
             Change::SetAmount(number, amount) => set_amount(self, number, amount),
             Change::DropTicket(number) => self.drop_ticket(number),
             Change::NewCurrency => self.new_currency(),
+            Change::ReuseCurrency(currency) => self.reuse_currency(currency),
             Change::DropCurrency(currency) => self.drop_currency(currency),
             Change::PutOwner(mutex, owner) => self.put_owner(mutex, owner),
             Change::MoveOwner { mutex, owner, next } => self.move_owner(mutex, owner, next),
@@ -128,6 +131,15 @@ impl ValuedGraph {
         ensures stale { StaleBy (NewTicket ticket) self.old self.new }
     {
         let _ = self.graph.issue(ticket.issuer, ticket.amount);
+    }
+
+    #[inline(always)]
+    fn reuse_ticket(&mut self, number: u32, ticket: Ticket)
+        requires allowed { CanApply self.old.now self.old.live (ReuseTicket number ticket) }
+        ensures applied { self.new ≡ applied self.old (ReuseTicket number ticket) self.new.known.stale }
+        ensures stale { StaleBy (ReuseTicket number ticket) self.old self.new }
+    {
+        self.graph.issue_again(number, ticket.issuer, ticket.amount);
     }
 
     #[inline(always)]
@@ -198,6 +210,15 @@ impl ValuedGraph {
         ensures stale { StaleBy NewCurrency self.old self.new }
     {
         let _ = self.graph.make_currency();
+    }
+
+    #[inline(always)]
+    fn reuse_currency(&mut self, currency: u32)
+        requires allowed { CanApply self.old.now self.old.live (ReuseCurrency currency) }
+        ensures applied { self.new ≡ applied self.old (ReuseCurrency currency) self.new.known.stale }
+        ensures stale { StaleBy (ReuseCurrency currency) self.old self.new }
+    {
+        self.graph.make_currency_again(currency);
     }
 
     #[inline(always)]

@@ -11,18 +11,31 @@ pub(crate) struct HeaderLines(pub(crate) Format);
 
 impl fmt::Display for HeaderLines {
     fn fmt<W: fmt::Write>(&self, f: &mut fmt::Formatter<W>) -> fmt::Result {
-        let places = HEADER_WORDS.len();
+        let last = last_place(self.0);
         let mut between = "";
-        for place in 0..places {
-            let Some(spelling) = spelling_at(self.0, place as u32) else {
+        for place in 0..HEADER_WORDS.len() as u32 {
+            let Some(spelling) = spelling_at(self.0, place) else {
                 continue;
             };
+            if place == last {
+                between = " and ";
+            }
             write!(f, "{between}'{spelling}'")?;
-            // All formats have the last line.
-            between = if place + 2 == places { " and " } else { ", " };
+            between = ", ";
         }
         Ok(())
     }
+}
+
+/// The place of the last line that a header has in inputs of this format.
+fn last_place(format: Format) -> u32 {
+    let mut last = 0;
+    for (spelling, word, _) in &HEADER_WORDS {
+        if HeaderWord::is_read(format, *spelling) {
+            last = word.place().max(last);
+        }
+    }
+    last
 }
 
 /// The spelling of the word whose line has this place in a header, if inputs of this format have such a line.

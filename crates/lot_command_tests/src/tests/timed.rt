@@ -373,8 +373,8 @@ total turns 8 quanta 3 ticks 12 refused 0 left 0
 ",
 );
 
-/// Two threads that wake at the same time, while both processors wait: `a`, which has the lower number, comes first, and
-/// went to sleep last. Then `a` sleeps to the last tick, and `b` past it.
+/// Two threads that wake at the same time, while both processors wait: `a`, which has the lower number, comes first,
+/// and went to sleep last. Then `a` sleeps to the last tick, and `b` past it.
 const SLEEPERS: (&str, &str) = (
     "lottery 3
 processors 2
@@ -446,7 +446,8 @@ total turns 7 quanta 2 ticks 5 refused 0 left 0
 ",
 );
 
-/// A thread that sleeps with a mutex. The one that waits for it has no value until the owner wakes, and then lends to it.
+/// A thread that sleeps with a mutex. The one that waits for it has no value until the owner wakes, and then lends to
+/// it.
 const SLEEPING_OWNER: (&str, &str) = (
     "lottery 3
 quantum 10
@@ -511,6 +512,88 @@ total turns 26 quanta 8 ticks 33 refused 0 left 0
 ",
 );
 
+/// Numbers that are given again. Two sleepers are killed in their sleep, and each time the next has the number: it
+/// wakes by its own time. The second's wake comes before the third sleeps, and is refused.
+const NUMBERS_AGAIN: (&str, &str) = (
+    "lottery 3
+quantum 10
+for 60
+limits 2 1 2
+reuse
+script sleeper
+sleep 20
+endscript
+script spin
+compute 1000
+endscript
+fundx 1 base a sleeper
+at 3
+kill a
+unfund 1
+rmthr a
+rmtkt 1
+fundx 2 base b sleeper
+fundx 1 base c spin
+fundx 1 base d spin
+at 21
+kill b
+unfund 1
+rmthr b
+rmtkt 1
+fundx 5 base d sleeper
+lsthr
+at 40
+lsthr
+",
+    "0 0 funded 1 1
+0 1 draw 0.992 of 1 thread 1
+1 1 thread 1 ticks 1 sleep
+1 1 idle
+3 0 done
+3 0 done
+3 0 done
+3 0 done
+3 0 funded 1 1
+3 0 funded 2 2
+3 0 refused 13 Full
+3 1 draw 1.921 of 3 thread 1
+4 1 thread 1 ticks 1 sleep
+4 1 draw 0.363 of 1 thread 2
+14 1 thread 2 ticks 10 expire
+14 1 draw 0.738 of 1 thread 2
+21 0 done
+21 0 done
+21 0 done
+21 0 done
+21 0 funded 1 1
+21 0 lsthr 2
+21 thread 1 d ready value 5 weight 5 quanta 0 ticks 0
+21 thread 2 c running 1 used 0 value 1 weight 1 quanta 2 ticks 10
+24 2 refused 24 NotAsleep
+24 1 thread 2 ticks 10 expire
+24 1 draw 1.058 of 6 thread 1
+25 1 thread 1 ticks 1 sleep
+25 1 draw 0.828 of 1 thread 2
+35 1 thread 2 ticks 10 expire
+35 1 draw 0.316 of 1 thread 2
+40 0 lsthr 2
+40 thread 1 d asleep value 0 weight 0 quanta 1 ticks 1
+40 thread 2 c running 1 used 0 value 1 weight 1 quanta 4 ticks 30
+45 2 wake thread 1
+45 1 thread 2 ticks 10 expire
+45 1 draw 6.273 of 51 thread 1
+46 1 thread 1 ticks 1 exit
+46 1 draw 0.316 of 1 thread 2
+56 1 thread 2 ticks 10 expire
+56 1 draw 0.929 of 1 thread 2
+report
+thread 1 d quanta 2 ticks 2 share 3.703% value 0%
+thread 2 c quanta 6 ticks 50 share 92.592% value 100%
+processor 1 quanta 10 idle 1 ticks 54 unused 2
+total turns 37 quanta 10 ticks 54 refused 2 left 0
+",
+);
+
 #[test]
 fn turns_in_time(rt: HostRuntime) {
     let rows = [
@@ -535,7 +618,7 @@ fn turns_in_time(rt: HostRuntime) {
 // The outputs are computed by a small model of the rules.
 #[test]
 fn sleepers_in_time(rt: HostRuntime) {
-    for (input, output) in [SLEEPERS, LAST_TICK, SLEEPING_OWNER] {
+    for (input, output) in [SLEEPERS, LAST_TICK, SLEEPING_OWNER, NUMBERS_AGAIN] {
         check_play(&rt, rt.alloc(), input, 0, output);
     }
 }

@@ -227,6 +227,7 @@ fn play(
         scripts: 4,
         quantum: 1000,
         unit: 1,
+        reuse: false,
     });
     let mut kept = Kept::new(rt, alloc, limits)?;
     for _ in 0..threads {

@@ -26,6 +26,7 @@ fn small_graph(rt: &impl Abort, alloc: Global) -> Result<Graph, Fail>
         scripts: 1,
         quantum: 100,
         unit: 1,
+        reuse: false,
     });
     let limits = limits.expect(rt, "limits are not in bounds");
     Ok(Graph::new(alloc, &limits)?)
@@ -213,6 +214,7 @@ fn opening(
         scripts: 4,
         quantum: 1000,
         unit: 1,
+        reuse: false,
     });
     let limits = limits.expect(rt, "limits are not in bounds");
     let mut graph = ValuedGraph::new(alloc, &limits)?;

@@ -1,7 +1,7 @@
 //! The commands of the console (4.7).
 ghost use Rattle.std.specs.Prelude.{◌≡◌, ◌↔◌, ◌<◌, ◌+◌, ◌^◌, true, Some, IfNone, IfSome, IsTrue};
-ghost use Rattle.std.specs.Prelude.{OnSome, is_some, length};
-ghost use Rattle.std.specs.Prelude.{map, slice_get, if◌then◌else◌};
+ghost use Rattle.std.specs.Prelude.{◌≤◌, ◌++◌, ◌∷◌, [], false, OnSome, is_some, length};
+ghost use Rattle.std.specs.Prelude.{map, option_map, slice_get, if◌then◌else◌};
 ghost use Rattle.std.specs.Option.{SomeIff};
 ghost use Rattle.lot_machine.specs.declared.refusal.Refusal.TheVariants.{Cycle};
 ghost use Rattle.lot_machine.specs.declared.reply.Reply.TheVariants.{Done, Refused};
@@ -11,12 +11,14 @@ ghost use Rattle.lot_machine.specs.declared.command.Command.TheVariants.{RemoveC
 ghost use Rattle.lot_machine.specs.declared.command.Command.TheVariants.{MakeThread, MakeFunded, RemoveThread, Kill};
 ghost use Rattle.lot_machine.specs.Commands as names;
 ghost use Rattle.lot_machine.specs.Commands.{command_step};
-ghost use Rattle.lot_machine.specs.Funding.{target_of, ticket_at, ticket_in, with_new_ticket, with_target};
+ghost use Rattle.lot_machine.specs.Funding.{target_of, ticket_at, ticket_in, with_target};
 ghost use Rattle.lot_graph.specs.Graphs.{IsCycle, IsTarget};
 ghost use Rattle.lot_value.specs.Changing.{CanTarget};
 ghost use Rattle.lot_machine.specs.Order.{IsInOrder};
-ghost use Rattle.lot_machine.specs.State.{funding_of};
+ghost use Rattle.lot_machine.specs.State.{free_currencies, free_threads, free_tickets, funding_of};
+ghost use Rattle.lot_machine.specs.State.{next_currency, next_thread, next_ticket};
 ghost use Rattle.lot_kernel.specs.Counted.{KeepsStale};
+ghost use Rattle.lot_kernel.specs.FreePlaces.{HasIdlePlace};
 ghost use Rattle.lot_kernel.specs.Snapshots.{MakesStale};
 
 use crate::tables::Tables;
@@ -60,6 +62,7 @@ impl Tables {
     }
 
     fn make_ticket(&mut self, amount: u64, currency: &CurrencyRef) -> Reply
+        requires { IsInOrder self.old.state }
         ensures reply { result ≡ (command_step self.old.state (MakeTicket amount currency.now)).reply }
         ensures state { self.new.state ≡ (command_step self.old.state (MakeTicket amount currency.now)).state }
         ensures stale { self.new.stale ≡ self.old.stale }
@@ -71,23 +74,44 @@ impl Tables {
         let Some(issuer) = self.currency_meant(currency) else {
             return Reply::Refused(Refusal::NoCurrency);
         };
-        match self.issue(issuer, amount as u32) {
-            Some(ticket) => Reply::Ticket(ticket),
+        let ticket = Ticket {
+            amount: amount as u32,
+            issuer,
+            target: Target::Unfunded,
+        };
+        match self.issue(ticket) {
+            Some(number) => Reply::Ticket(number),
             None => Reply::Refused(Refusal::Full),
         }
     }
 
-    /// Makes one more ticket, which funds nothing, and returns its number, or `None` if the limit is reached.
-    fn issue(&mut self, issuer: u32, amount: u32) -> Option<u32>
-        requires issuer { slice_get (map is_some self.old.state.currencies) issuer ≡ Some true }
-        requires amount { 0 < amount }
+    /// Makes one more ticket, which funds nothing, and returns its number, or `None` if the kernel is full.
+    fn issue(&mut self, ticket: Ticket) -> Option<u32>
+        requires order { IsInOrder self.old.state }
+        requires issuer { slice_get (map is_some self.old.state.currencies) ticket.issuer ≡ Some true }
+        requires amount { 0 < ticket.amount }
+        requires unfunded { ticket.target ≡ Unfunded }
+        ensures number { SomeIff result (names.are_tickets_full self.old.state ≡ false) (next_ticket self.old.state) }
+        ensures issued { OnSome result (self.new
+            ≡ record self.old { state = names.with_ticket self.old.state ticket }) }
+        ensures unchanged { IfNone result (self.new ≡ self.old) }
+    {
+        match self.issue_again(ticket) {
+            Some(number) => Some(number),
+            None => self.issue_last(ticket),
+        }
+    }
+
+    /// Makes a ticket with the next number that was never given and returns it, or `None` if the limit is reached.
+    fn issue_last(&mut self, ticket: Ticket) -> Option<u32>
+        requires issuer { slice_get (map is_some self.old.state.currencies) ticket.issuer ≡ Some true }
+        requires amount { 0 < ticket.amount }
+        requires unfunded { ticket.target ≡ Unfunded }
         ensures number { SomeIff result (length self.old.state.tickets < self.old.state.limits.tickets)
             (length self.old.state.tickets + 1) }
         ensures issued { OnSome result (self.new
             ≡ record self.old {
-              state = record self.old.state {
-                tickets = with_new_ticket self.old.state.tickets amount issuer Unfunded;
-              };
+              state = record self.old.state { tickets = self.old.state.tickets ++ Some ticket ∷ [] };
             }) }
         ensures unchanged { IfNone result (self.new ≡ self.old) }
     {
@@ -95,12 +119,26 @@ impl Tables {
         if count >= self.limits.tickets {
             return None;
         }
-        self.threads.apply(Change::NewTicket(Ticket {
-            amount,
-            issuer,
-            target: Target::Unfunded,
-        }));
+        self.threads.apply(Change::NewTicket(ticket));
         Some(count + 1)
+    }
+
+    /// Makes a ticket in the first free place and returns its number, or `None` if no place is free.
+    fn issue_again(&mut self, ticket: Ticket) -> Option<u32>
+        requires order { IsInOrder self.old.state }
+        requires issuer { slice_get (map is_some self.old.state.currencies) ticket.issuer ≡ Some true }
+        requires amount { 0 < ticket.amount }
+        requires unfunded { ticket.target ≡ Unfunded }
+        ensures number { result ≡ option_map (λ place. place + 1) (slice_get (free_tickets self.old.state) 0) }
+        ensures issued { OnSome result (self.new
+            ≡ record self.old { state = names.with_ticket self.old.state ticket }) }
+        ensures none { IfNone result (self.old.state.freed.tickets ≡ []) }
+        ensures unchanged { IfNone result (self.new ≡ self.old) }
+    {
+        let place = self.freed.tickets.pop()?;
+        let number = place + 1;
+        self.threads.apply(Change::ReuseTicket(number, ticket));
+        Some(number)
     }
 
     fn remove_ticket(&mut self, ticket: u64) -> Reply
@@ -117,10 +155,14 @@ impl Tables {
             return Reply::Refused(Refusal::Funding);
         }
         self.threads.apply(Change::DropTicket(ticket as u32));
+        self.freed
+            .tickets
+            .leave(index_of(ticket as u32) as u32, self.limits.reuse);
         Reply::Done
     }
 
     fn make_currency(&mut self, name: &Name) -> Reply
+        requires { IsInOrder self.old.state }
         ensures reply { result ≡ (command_step self.old.state (MakeCurrency name.now)).reply }
         ensures state { self.new.state ≡ (command_step self.old.state (MakeCurrency name.now)).state }
         ensures stale { self.new.stale ≡ self.old.stale }
@@ -132,17 +174,65 @@ impl Tables {
         if self.target_named(name).is_some() {
             return Reply::Refused(Refusal::NameTaken);
         }
+        match self.add_currency(name) {
+            Some(number) => Reply::Currency(number),
+            None => Reply::Refused(Refusal::Full),
+        }
+    }
+
+    /// Makes one more currency and returns its number, or `None` if the kernel is full.
+    fn add_currency(&mut self, name: &Name) -> Option<u32>
+        requires { IsInOrder self.old.state }
+        ensures number { SomeIff result (names.are_currencies_full self.old.state ≡ false)
+            (next_currency self.old.state) }
+        ensures made { OnSome result (self.new
+            ≡ record self.old { state = names.with_currency self.old.state name.now }) }
+        ensures unchanged { IfNone result (self.new ≡ self.old) }
+    {
+        match self.add_currency_again(name) {
+            Some(number) => Some(number),
+            None => self.add_currency_last(name),
+        }
+    }
+
+    /// Makes a currency with the next number that was never given and returns it, or `None` if the limit is reached.
+    fn add_currency_last(&mut self, name: &Name) -> Option<u32>
+        ensures number { SomeIff result (length self.old.state.currencies ≤ self.old.state.limits.currencies)
+            (length self.old.state.currencies) }
+        ensures made { OnSome result (self.new
+            ≡ record self.old {
+              state = record self.old.state { currencies = self.old.state.currencies ++ Some name.now ∷ [] };
+            }) }
+        ensures unchanged { IfNone result (self.new ≡ self.old) }
+    {
         let number = self.currency_count();
         if number > self.limits.currencies {
-            return Reply::Refused(Refusal::Full);
+            return None;
         }
         self.threads.apply(Change::NewCurrency);
         self.currency_index.add(number as usize, name);
         self.currencies.push_reserved(Some(name.copied()));
-        Reply::Currency(number)
+        Some(number)
+    }
+
+    /// Makes a currency in the first free place and returns its number, or `None` if no place is free.
+    fn add_currency_again(&mut self, name: &Name) -> Option<u32>
+        requires { IsInOrder self.old.state }
+        ensures number { result ≡ slice_get (free_currencies self.old.state) 0 }
+        ensures made { OnSome result (self.new
+            ≡ record self.old { state = names.with_currency self.old.state name.now }) }
+        ensures none { IfNone result (self.old.state.freed.currencies ≡ []) }
+        ensures unchanged { IfNone result (self.new ≡ self.old) }
+    {
+        let place = self.freed.currencies.pop()?;
+        self.threads.apply(Change::ReuseCurrency(place));
+        self.currency_index.add(place as usize, name);
+        self.currencies[place as usize] = Some(name.copied());
+        Some(place)
     }
 
     fn remove_currency(&mut self, currency: &CurrencyRef) -> Reply
+        requires { IsInOrder self.old.state }
         ensures reply { result ≡ (command_step self.old.state (RemoveCurrency currency.now)).reply }
         ensures state { self.new.state ≡ (command_step self.old.state (RemoveCurrency currency.now)).state }
         ensures stale { self.new.stale ≡ self.old.stale }
@@ -160,10 +250,12 @@ impl Tables {
         self.threads.apply(Change::DropCurrency(number));
         self.currency_index.remove(number as usize);
         self.currencies[number as usize] = None;
+        self.freed.currencies.leave(number, self.limits.reuse);
         Reply::Done
     }
 
     fn make_thread(&mut self, name: &Name, script: u32) -> Reply
+        requires { IsInOrder self.old.state }
         ensures reply { result ≡ (command_step self.old.state (MakeThread name.now script)).reply }
         ensures state { self.new.state ≡ (command_step self.old.state (MakeThread name.now script)).state }
         ensures stale { MakesStale self.old self.new }
@@ -179,7 +271,7 @@ impl Tables {
         if script == 0 || script > self.limits.scripts {
             return Reply::Refused(Refusal::NoScript);
         }
-        if self.threads.threads().len() >= self.limits.threads as usize {
+        if self.are_threads_full() {
             return Reply::Refused(Refusal::Full);
         }
         Reply::Thread(self.add_thread(name, script).number)
@@ -204,6 +296,9 @@ impl Tables {
         }
         self.thread_index.remove(index_of(number));
         self.threads.remove_thread(ThreadNumber { number });
+        self.freed
+            .threads
+            .leave(index_of(number) as u32, self.limits.reuse);
         Reply::Done
     }
 
@@ -225,11 +320,40 @@ impl Tables {
         Reply::Done
     }
 
+    /// Whether there is no room for one more thread.
+    fn are_threads_full(&self) -> bool
+        ensures { result ≡ names.are_threads_full self.now.state }
+    {
+        self.freed.threads.is_empty()
+            && self.threads.threads().len() >= self.limits.threads as usize
+    }
+
     /// Makes one more thread, which is Ready and serves nobody, and returns its number.
     fn add_thread(&mut self, name: &Name, script: u32) -> ThreadNumber
+        requires room { names.are_threads_full self.old.state ≡ false }
+        requires idle { HasIdlePlace self.old.state }
+        ensures number { result.number ≡ next_thread self.old.state }
+        ensures state { self.new.state ≡ names.with_thread self.old.state name.now script }
+        ensures stale { MakesStale self.old self.new }
+        ensures kept { KeepsStale self.old self.new }
+        ensures meter { self.new.meter ≡ self.old.meter }
+    {
+        match self.add_thread_again(name, script) {
+            Some(number) => number,
+            None => self.add_thread_last(name, script),
+        }
+    }
+
+    /// Makes a thread with the next number that was never given, and returns it.
+    fn add_thread_last(&mut self, name: &Name, script: u32) -> ThreadNumber
         requires { length self.old.state.threads < self.old.state.limits.threads }
         ensures number { result.number ≡ length self.old.state.threads + 1 }
-        ensures state { self.new.state ≡ names.with_thread self.old.state name.now script }
+        ensures state { self.new.state
+            ≡ record self.old.state {
+              threads = self.old.state.threads ++ Some (record { name = name.now; script = script }) ∷ [];
+              records = self.old.state.records ++ names.newborn ∷ [];
+              clients = self.old.state.clients ++ [] ∷ [];
+            } }
         ensures stale { MakesStale self.old self.new }
         ensures kept { KeepsStale self.old self.new }
         ensures meter { self.new.meter ≡ self.old.meter }
@@ -243,6 +367,29 @@ impl Tables {
         })
     }
 
+    /// Makes a thread in the first free place and returns its number, or `None` if no place is free.
+    fn add_thread_again(&mut self, name: &Name, script: u32) -> Option<ThreadNumber>
+        requires idle { HasIdlePlace self.old.state }
+        ensures number { option_map (λ t. t.number) result
+            ≡ option_map (λ place. place + 1) (slice_get (free_threads self.old.state) 0) }
+        ensures state { OnSome result (self.new.state ≡ names.with_thread self.old.state name.now script) }
+        ensures none { IfNone result (self.old.state.freed.threads ≡ []) }
+        ensures unchanged { IfNone result (self.new ≡ self.old) }
+        ensures stale { MakesStale self.old self.new }
+        ensures kept { KeepsStale self.old self.new }
+        ensures meter { self.new.meter ≡ self.old.meter }
+    {
+        let place = self.freed.threads.pop()?;
+        let number = ThreadNumber { number: place + 1 };
+        self.thread_index.add(place as usize, name);
+        let thread = Thread {
+            name: name.copied(),
+            script,
+        };
+        self.threads.reuse_thread(number, thread);
+        Some(number)
+    }
+
     fn make_funded(
         &mut self,
         amount: u64,
@@ -250,6 +397,7 @@ impl Tables {
         name: &Name,
         script: u32,
     ) -> Reply
+        requires { IsInOrder self.old.state }
         ensures reply { result ≡ (command_step self.old.state (MakeFunded amount currency.now name.now script)).reply }
         ensures state { self.new.state
             ≡ (command_step self.old.state (MakeFunded amount currency.now name.now script)).state }
@@ -272,18 +420,18 @@ impl Tables {
         if script == 0 || script > self.limits.scripts {
             return Reply::Refused(Refusal::NoScript);
         }
-        if self.threads.threads().len() >= self.limits.threads as usize {
+        if self.are_threads_full() {
             return Reply::Refused(Refusal::Full);
         }
-        let Some(ticket) = self.issue(issuer, amount as u32) else {
-            return Reply::Refused(Refusal::Full);
-        };
-        let thread = self.add_thread(name, script).number;
         let issued = Ticket {
             amount: amount as u32,
             issuer,
             target: Target::Unfunded,
         };
+        let Some(ticket) = self.issue(issued) else {
+            return Reply::Refused(Refusal::Full);
+        };
+        let thread = self.add_thread(name, script).number;
         self.put_target(ticket, issued, Target::Thread(thread));
         Reply::Funded { ticket, thread }
     }

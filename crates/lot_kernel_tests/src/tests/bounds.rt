@@ -12,6 +12,7 @@ const LEAST: Sizes = Sizes {
     scripts: 0,
     quantum: 1,
     unit: 1,
+    reuse: false,
 };
 
 /// The largest sizes.
@@ -25,6 +26,7 @@ const MOST: Sizes = Sizes {
     scripts: 256,
     quantum: 1000,
     unit: 256,
+    reuse: false,
 };
 
 /// Sizes with one of them one past its bound. A unit is 1 or 256.

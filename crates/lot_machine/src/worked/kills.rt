@@ -24,8 +24,8 @@ pub fn running()
         ≡ reply.Winner 1 0 500 None ∷ reply.Done ∷ reply.Refused refusal.NotRunning ∷ reply.Winner 2 99 100 None ∷ [] }
     ensures elsewhere { statuses (after (fundx 400 base (codes "a") ∷ fundx 100 base (codes "b") ∷ Draw 1 0 ∷ Draw 2 0
         ∷ kill (codes "b") ∷ [])) ≡ status.Running 1 0 ∷ status.Dead ∷ [] }
-    ensures row { thread_row (after (fundx 400 base (codes "a") ∷ Draw 1 0 ∷ Trap 1 29 (Lock 1) ∷ kill (codes "a") ∷ []))
-        1 ≡ thread_shown (codes "a") status.Dead 0 0 1 30 }
+    ensures row { thread_row (after (fundx 400 base (codes "a") ∷ Draw 1 0 ∷ Trap 1 29 (Lock 1) ∷ kill (codes "a")
+        ∷ [])) 1 ≡ thread_shown (codes "a") status.Dead 0 0 1 30 }
     ensures charged { thread_row (after (fundx 400 base (codes "a") ∷ Draw 1 0 ∷ Preempt 1 50 ∷ kill (codes "a") ∷ []))
         1 ≡ thread_shown (codes "a") status.Dead 0 0 1 50 }
 {}

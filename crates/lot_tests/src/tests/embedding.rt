@@ -15,6 +15,7 @@ fn first_winner(rt: &impl Abort, alloc: Global) -> Reply {
         scripts: 1,
         quantum: 100,
         unit: 1,
+        reuse: false,
     });
     let limits = limits.expect(rt, "limits");
     let mut kernel = Kernel::new(alloc, limits).expect(rt, "memory");

@@ -22,6 +22,7 @@ fn largest(rt: &impl Abort) -> Limits {
         scripts: 1,
         quantum: 100,
         unit: 1,
+        reuse: false,
     });
     limits.expect(rt, "limits")
 }

@@ -8,4 +8,4 @@ pub returns-clause-run : goal.returns-clause-run
 returns-clause-run c = run-amount
 
 pub returns-clause-all : goal.returns-clause-all
-returns-clause-all c s events none n = run-amount s events n (none n)
+returns-clause-all c s events none stays n = run-amount s events n (none n) (λ on. ((stays on).0, (stays on).1 n))

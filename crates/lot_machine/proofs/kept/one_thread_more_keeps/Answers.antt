@@ -1,5 +1,6 @@
-use Rattle.lot_machine.proofs.RecordsKept.{RunsApart-more}
+use Rattle.std.proofs.Common.{[]}
+use Rattle.lot_machine.proofs.RecordsKept.{RunsApart-placed}
 use Rattle.lot_machine.proofs.kept.one_thread_more_keeps.Goals as goal
 
 pub returns : goal.returns
-returns c = RunsApart-more
+returns c = λ records. RunsApart-placed records []

@@ -1,4 +1,4 @@
-use Rattle.std.proofs.Common.{◌≡◌, ◌+◌, ◌-◌, ℕ, List, ◌∷◌, length, take, drop, Err, rules, sym, ◌∙◌, ap}
+use Rattle.std.proofs.Common.{◌≡◌, ◌+◌, ◌-◌, ℕ, List, ◌∷◌, take, drop, Err, rules, sym, ◌∙◌, ap}
 use Rattle.std.specs.List.{flat_map}
 use Rattle.lot_simulation.specs.Grammar.{ActorRun}
 use Rattle.lot_simulation.specs.Report.{run_text, runs_in}

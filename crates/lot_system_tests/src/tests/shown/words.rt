@@ -257,8 +257,8 @@ fn turns_in_time(rt: HostRuntime) {
         rt,
         alloc,
         b"lottery 3\nfor 5\nquantum 5\n",
-        "line 3: 'quantum' comes too late: the header has 'lottery', 'processors', 'quantum', 'turns', 'for', 'seed' \
-         and 'limits', each at most once, in this order and before all else\n",
+        "line 3: 'quantum' comes too late: the header has 'lottery', 'processors', 'quantum', 'turns', 'for', 'seed', \
+         'limits' and 'reuse', each at most once, in this order and before all else\n",
     );
     check(
         rt,
@@ -285,6 +285,37 @@ fn turns_in_time(rt: HostRuntime) {
         b"lottery 1\nport p\nscript s\nserve p\n",
         "line 4: 'serve' is for 'lottery 3', whose turns come in the order of time\n",
     );
+}
+
+#[test]
+fn numbers_given_again(rt: HostRuntime) {
+    for (input, expected) in [
+        (
+            "lottery 2\nreuse\n",
+            "line 2: 'reuse' is for 'lottery 3', whose turns come in the order of time\n",
+        ),
+        (
+            "lottery 3\nfor 5\nreuse 1\n",
+            "line 3: this line is written 'reuse', and here are 2 words\n",
+        ),
+        (
+            "lottery 3\nfor 5\nreuse\nlimits 1 1 1\n",
+            "line 4: 'limits' comes too late: the header has 'lottery', 'processors', 'quantum', 'turns', 'for', \
+             'seed', 'limits' and 'reuse', each at most once, in this order and before all else\n",
+        ),
+        (
+            "lottery 3\nfor 5\nscript s\nreuse\n",
+            "line 4: 'reuse' is no word of a script, and the one that line 3 opens isn't closed: 'endscript' closes \
+             it\n",
+        ),
+        (
+            "lottery 3\nreuse\nmkcur a\n",
+            "line 3: the header doesn't say how long the input runs: 'for TICKS' comes before 'seed', 'limits' and \
+             all else\n",
+        ),
+    ] {
+        check(&rt, rt.alloc(), input.as_bytes(), expected);
+    }
 }
 
 #[test]
@@ -363,14 +394,6 @@ fn sleeps(rt: HostRuntime) {
     for (input, expected) in [
         ("lottery 1\nscript s\nsleep 5\n", of_one_format),
         ("lottery 2\nscript s\nsleep\n", of_one_format),
-        (
-            "lottery 3\nfor 5\nscript s\nslep 5\n",
-            "line 4: 'slep' is no word of a script; did you mean 'sleep'?\n",
-        ),
-        (
-            "lottery 3\nfor 5\nscript s\nsleep 0\n",
-            "line 4: '0' is no number from 1 to 4294967295\n",
-        ),
         (
             "lottery 3\nfor 5\nscript s\nyield sleep 4294967296\n",
             "line 4: '4294967296' is no number from 1 to 4294967295\n",

@@ -3,7 +3,9 @@ use Rattle.std.proofs.Common.{◌≡◌, length, sym, ap, ◌∙◌, subst, refl
 use Rattle.lot_simulation.specs.World.{system_turn, system_run}
 use Rattle.lot_simulation.specs.World.Answer.{Answered}
 use Rattle.lot_machine.specs.declared.event.Event.TheVariants as event
+use Rattle.lot_machine.specs.Order.{IsInOrder}
 use Rattle.lot_engine.specs.Seen.{Seen, world_of}
+use Rattle.lot_engine.proofs.InOrder.{run-in-order}
 use Rattle.lot_engine.proofs.OneMore.{console-more}
 use Rattle.lot_simulation.specs.Report.{turns_made}
 use Rattle.lot_engine.proofs.TurnFacts.{command-left, command-next, command-made, command-answer, command-held, kept-made}
@@ -16,12 +18,14 @@ follow_command-requires-clause-made c =
     let left = rw (← c.self.view_is) at c.requires.left in
     let w = system_run s.program s.history.items in
     let below = command-left s.program w s.kernel.state s.places.items s.generators.items s.spent i.held left in
+    let order : IsInOrder s.kernel.state = subst IsInOrder (sym i.held.state) (run-in-order s.program s.history.items i.program.limits) in
     let next = command-next s.program w s.kernel.state s.places.items s.generators.items s.spent i.held c.commands.result.now c.copied.result c.index-commands-self.result below c.commands.ensures.commands c.index-commands-self.is c.copied.ensures in (
       s.kernel.state,
       w.contexts,
-      command-made s.program w s.kernel.state s.places.items s.generators.items s.spent i.held c.copied.result _ next c.answer.new.self.state c.answer.new.reply c.answer.ensures.state c.answer.ensures.reply,
+      command-made s.program w s.kernel.state s.places.items s.generators.items s.spent i.held c.copied.result _ next c.answer.new.self.state c.answer.new.reply c.answer.ensures.state c.answer.ensures.reply order,
       i.held.places_at,
       ap (λ l. l.scripts) i.held.kept.limits ∙ sym i.program.script_count,
+      i.held.kept.count,
     )
 
 pub follow_command-requires-clause-room : goal.follow_command-requires-clause-room
@@ -45,10 +49,11 @@ invariant_of-self c =
     let requires = rw (← c.self.view_is) at c.requires in
     let w = system_run s.program s.history.items in
     let below = command-left s.program w s.kernel.state s.places.items s.generators.items s.spent i.held requires.left in
+    let order : IsInOrder s.kernel.state = subst IsInOrder (sym i.held.state) (run-in-order s.program s.history.items i.program.limits) in
     let next = command-next s.program w s.kernel.state s.places.items s.generators.items s.spent i.held c.commands.result.now c.copied.result c.index-commands-self.result below c.commands.ensures.commands c.index-commands-self.is c.copied.ensures in
-    let made = command-made s.program w s.kernel.state s.places.items s.generators.items s.spent i.held c.copied.result _ next c.answer.new.self.state c.answer.new.reply c.answer.ensures.state c.answer.ensures.reply in
+    let made = command-made s.program w s.kernel.state s.places.items s.generators.items s.spent i.held c.copied.result _ next c.answer.new.self.state c.answer.new.reply c.answer.ensures.state c.answer.ensures.reply order in
     let held =
-    command-held s.program w s.kernel.state s.places.items s.generators.items s.spent i.held c.copied.result _ next c.answer.new.self.state c.answer.new.reply c.answer.ensures.state c.answer.ensures.reply refl
+    command-held s.program w s.kernel.state s.places.items s.generators.items s.spent i.held c.copied.result _ next c.answer.new.self.state c.answer.new.reply c.answer.ensures.state c.answer.ensures.reply order refl
     c.follow_command.new.places.items (c.follow_command.ensures.at s.kernel.state w.contexts made i.held.places_at) in
     let answer =
     command-answer s.program w s.kernel.state s.places.items s.generators.items s.spent i.held c.copied.result _ next c.answer.new.self.state c.answer.new.reply c.answer.ensures.state c.answer.ensures.reply in
@@ -64,6 +69,7 @@ returns-clause-answer c =
     let requires = rw (← c.self.view_is) at c.requires in
     let w = system_run s.program s.history.items in
     let below = command-left s.program w s.kernel.state s.places.items s.generators.items s.spent i.held requires.left in
+    let order : IsInOrder s.kernel.state = subst IsInOrder (sym i.held.state) (run-in-order s.program s.history.items i.program.limits) in
     let next = command-next s.program w s.kernel.state s.places.items s.generators.items s.spent i.held c.commands.result.now c.copied.result c.index-commands-self.result below c.commands.ensures.commands c.index-commands-self.is c.copied.ensures in
     subst (λ (x : Seen). (system_turn x.setting.program (world_of x) 0).answer ≡ Answered (event.Command c.copied.result) c.answer.new.reply) c.self.view_is
     (command-answer s.program w s.kernel.state s.places.items s.generators.items s.spent i.held c.copied.result _ next c.answer.new.self.state c.answer.new.reply c.answer.ensures.state c.answer.ensures.reply)

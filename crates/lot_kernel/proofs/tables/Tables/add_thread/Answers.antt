@@ -1,23 +1,41 @@
-use Rattle.std.proofs.Common.{◌≡◌, ◌∙◌, Option, List, ap, length, option_map, rules, subst, sym}
-use Rattle.std.proofs.lemmas.List.{length-map}
+use Rattle.std.proofs.Common.{◌∙◌, ◌+◌, ◌<◌, ◌++◌, ◌∷◌, [], Some, ap, length, subst, sym}
 use Rattle.lot_machine.specs.declared.record.Thread.{Thread}
-use Rattle.lot_lists.specs.NodeLists.{IsFree}
-use Rattle.lot_kernel.specs.Names.{names_of}
-use Rattle.lot_kernel.proofs.Indexed.{next-free}
-use Rattle.lot_kernel.proofs.Holding.{IsHeld, held-threads, makes-held}
-use Rattle.lot_machine.specs.State.{sizes_of}
+use Rattle.lot_machine.specs.State.{free_threads}
+use Rattle.lot_machine.specs.Commands.{newborn}
+use Rattle.lot_kernel.specs.Counted.{KeepsStale}
+use Rattle.lot_kernel.specs.Snapshots.{MakesStale, Snapshot}
+use Rattle.lot_kernel.proofs.Reusing.{first-thread, last-thread, none-first, thread-last, thread-room}
 use Rattle.lot_kernel.proofs.tables.Tables.add_thread.Goals as goal
 
-pub add-requires-clause-free : goal.add-requires-clause-free
-add-requires-clause-free c =
-    let i = c.self.inside in
-    let number : length (names_of i.threads.threads) ≡ length c.threads-place.result.now =
-    length-map i.threads.threads (option_map (λ (t : Thread). t.name)) ∙ ap (λ (ts : List (Option Thread)). length ts) (sym c.threads-place.ensures) in
-    subst (λ n. IsFree i.thread_index n) number (next-free i.thread_index (names_of i.threads.threads) c.self.invariant.thread_index)
+pub add_thread_last-requires : goal.add_thread_last-requires
+add_thread_last-requires c =
+    let s = c.args.self.now.state in
+    let none = none-first (free_threads s) c.in-None.ensures.number in
+    subst (λ (x : Snapshot). length x.state.threads < x.state.limits.threads) (sym c.in-None.ensures.unchanged) (thread-room s none c.requires.room)
 
-pub returns-clause-stale : goal.returns-clause-stale
-returns-clause-stale c =
-    let i = c.self.inside in
-    let threads = held-threads (sizes_of i.limits) i.currencies.items i.threads c.add_thread-2.new.self i.queues c.self.invariant.threads _ _ c.add_thread-2.ensures.added in
-    let held_then : IsHeld (sizes_of i.limits) i.currencies.items c.add_thread-2.new.self c.add_thread.new.self = search (rules, threads) in
-    rw (← c.self.view_is) (makes-held (sizes_of i.limits) i.currencies.items i.currencies.items i.threads c.add_thread-2.new.self i.queues c.add_thread.new.self c.self.invariant.threads held_then c.add_thread-2.ensures.stale)
+pub returns-in-Some-clause-number : goal.returns-in-Some-clause-number
+returns-in-Some-clause-number c = first-thread c.args.self.now.state c.in-Some.number.number c.in-Some.ensures.number
+
+pub returns-in-None-clause-number : goal.returns-in-None-clause-number
+returns-in-None-clause-number c =
+    let s = c.args.self.now.state in
+    c.add_thread_last.ensures.number ∙ ap (λ (x : Snapshot). length x.state.threads + 1) c.in-None.ensures.unchanged ∙ sym (last-thread s (none-first (free_threads s) c.in-None.ensures.number))
+
+pub returns-in-None-clause-state : goal.returns-in-None-clause-state
+returns-in-None-clause-state c =
+    let s = c.args.self.now.state in
+    let none = none-first (free_threads s) c.in-None.ensures.number in
+    let given = none ∙ sym c.in-None.ensures.none in
+    let made : Thread = record { name = c.args.name.now; script = c.args.script } in
+    c.add_thread_last.ensures.state
+    ∙ ap (λ (x : Snapshot). record x.state { threads = x.state.threads ++ Some made ∷ []; records = x.state.records ++ newborn ∷ []; clients = x.state.clients ++ [] ∷ [] }) c.in-None.ensures.unchanged
+    ∙ thread-last s c.args.name.now c.args.script given none
+
+pub returns-in-None-clause-stale : goal.returns-in-None-clause-stale
+returns-in-None-clause-stale c = subst (λ (x : Snapshot). MakesStale x c.add_thread_last.new.self) c.in-None.ensures.unchanged c.add_thread_last.ensures.stale
+
+pub returns-in-None-clause-kept : goal.returns-in-None-clause-kept
+returns-in-None-clause-kept c = subst (λ (x : Snapshot). KeepsStale x c.add_thread_last.new.self) c.in-None.ensures.unchanged c.add_thread_last.ensures.kept
+
+pub returns-in-None-clause-meter : goal.returns-in-None-clause-meter
+returns-in-None-clause-meter c = c.add_thread_last.ensures.meter ∙ ap (λ (x : Snapshot). x.meter) c.in-None.ensures.unchanged

@@ -21,6 +21,7 @@ use Rattle.lot_kernel.specs.contracts.tables.Tables.{the_view}
 use Rattle.lot_machine.specs.declared.reply.Reply.TheVariants as answer
 use Rattle.lot_kernel.proofs.tables.Tables.draw.Goals as goal
 use Rattle.lot_kernel.specs.contracts.tables.Tables.{the_view}
+use Rattle.lot_kernel.specs.FreePlaces.{freed_in}
 use Rattle.lot_kernel.specs.contracts.tables.Tables.{the_view}
 
 pub returns-in_default-clause-reply : goal.returns-in_default-clause-reply
@@ -39,7 +40,7 @@ returns-in_default-clause-state c =
     let good : is_bad_processor s c.args.processor.number ≡ false = search rules in
     let free : is_some (thread_on s.records c.args.processor.number) ≡ false = search rules in
     let none = ap (λ (v : Threaded). drawn_in v c.args.d) (sym c.self.invariant.threads) ∙ sym c.draw.ensures.winner ∙ c.in_default.is in
-    rw (← c.self.view_is) (ap (λ (v : Threaded). held (sizes_of i.limits) i.currencies.items v i.queues) c.draw.ensures.settled ∙ sym (ap (λ (x : Step). x.state) (step-idle s c.args.processor.number c.args.d good free i.threads.stale i.threads.meter none)))
+    rw (← c.self.view_is) (ap (λ (v : Threaded). held (sizes_of i.limits) (freed_in i.freed) i.currencies.items v i.queues) c.draw.ensures.settled ∙ sym (ap (λ (x : Step). x.state) (step-idle s c.args.processor.number c.args.d good free i.threads.stale i.threads.meter none)))
 
 pub returns-in_default-clause-counts : goal.returns-in_default-clause-counts
 returns-in_default-clause-counts c =
@@ -71,8 +72,8 @@ returns-clause-state c =
     let good : is_bad_processor s c.args.processor.number ≡ false = search rules in
     let free : is_some (thread_on s.records c.args.processor.number) ≡ false = search rules in
     let some = ap (λ (v : Threaded). drawn_in v c.args.d) (sym c.self.invariant.threads) ∙ sym c.draw.ensures.winner ∙ c.in-Some.is in
-    rw (← c.self.view_is) (ap (λ (v : Threaded). held (sizes_of i.limits) i.currencies.items v i.queues) c.start-delivered.ensures.started
-    ∙ ap (λ (v : Threaded). held (sizes_of i.limits) i.currencies.items (with_records v (change_record (started c.args.processor.number) v.records w.thread) v.stale) i.queues) c.draw.ensures.settled
+    rw (← c.self.view_is) (ap (λ (v : Threaded). held (sizes_of i.limits) (freed_in i.freed) i.currencies.items v i.queues) c.start-delivered.ensures.started
+    ∙ ap (λ (v : Threaded). held (sizes_of i.limits) (freed_in i.freed) i.currencies.items (with_records v (change_record (started c.args.processor.number) v.records w.thread) v.stale) i.queues) c.draw.ensures.settled
     ∙ sym (ap (λ (x : Step). x.state) (step-won s c.args.processor.number c.args.d good free i.threads.stale i.threads.meter w some)))
 
 fresh : (v settled new : Threaded) (p t : ℕ) → settled ≡ record v { stale = []; meter = settled.meter } → status_of v.records t ≡ Some Ready → new ≡ with_records settled (change_record (started p) settled.records t) new.stale → MakesStaleIn settled new → new.stale ≡ []

@@ -3,6 +3,7 @@ use Rattle.lot_machine.specs.State.{sizes_of}
 use Rattle.lot_queues.specs.QueueLists.{QueueLists}
 use Rattle.lot_threads.specs.Threaded.{Threaded}
 use Rattle.lot_kernel.specs.Names.{IsIndexOf, names_of}
+use Rattle.lot_kernel.specs.FreePlaces.{freed_in}
 use Rattle.lot_kernel.proofs.Holding.{makes-held}
 use Rattle.lot_kernel.proofs.Killing.{held-killed, state-killed, records-count, clients-count, out-there, out-count, pass-nowhere, pass-count, pass-owners, end-there, all-queues, all-threads, all-meter, all-stale}
 use Rattle.lot_kernel.proofs.tables.Tables.end.Goals as goal
@@ -51,10 +52,10 @@ invariant_of-self c =
     c.pass_all_on.new.threads c.pass_all_on.new.queues c.pass_all_on.ensures.threads c.pass_all_on.ensures.queues c.end.new.self c.end.ensures.ended in
     let queues = all-queues i.threads i.queues t c.take_out.new.self c.take_out.ensures.out c.release_clients.new.threads c.release_clients.new.queues c.release_clients.ensures.threads c.release_clients.ensures.queues
     c.pass_all_on.new.threads c.pass_all_on.new.queues c.pass_all_on.ensures.threads c.pass_all_on.ensures.queues in
-    let records = records-count (sizes_of i.limits) i.currencies.items i.threads i.queues t c.self.invariant.threads c.end.new.self c.pass_all_on.new.queues is queues in
-    let clients = clients-count (sizes_of i.limits) i.currencies.items i.threads i.queues t c.self.invariant.threads c.end.new.self c.pass_all_on.new.queues is queues in
+    let records = records-count (sizes_of i.limits) (freed_in i.freed) i.currencies.items i.threads i.queues t c.self.invariant.threads c.end.new.self c.pass_all_on.new.queues is queues in
+    let clients = clients-count (sizes_of i.limits) (freed_in i.freed) i.currencies.items i.threads i.queues t c.self.invariant.threads c.end.new.self c.pass_all_on.new.queues is queues in
     record {
-      threads = held-killed (sizes_of i.limits) i.currencies.items i.threads i.queues t c.self.invariant.threads c.end.new.self c.pass_all_on.new.queues is queues;
+      threads = held-killed (sizes_of i.limits) (freed_in i.freed) i.currencies.items i.threads i.queues t c.self.invariant.threads c.end.new.self c.pass_all_on.new.queues is queues;
       count = ap (λ (x : Threaded). length x.threads) is ∙ c.self.invariant.count ∙ sym records;
       few = omega (arith, c.self.invariant.few, records);
       clients = clients ∙ c.self.invariant.clients ∙ sym records;
@@ -66,6 +67,8 @@ invariant_of-self c =
       thread_places = c.self.invariant.thread_places;
       queue_room = ap (λ (x : QueueLists). x.room) queues ∙ c.self.invariant.queue_room;
       lottery_room = c.self.invariant.lottery_room;
+      freed_room = c.self.invariant.freed_room;
+      none_freed = c.self.invariant.none_freed;
     }
 
 pub returns-clause-state : goal.returns-clause-state
@@ -77,7 +80,7 @@ returns-clause-state c =
     c.pass_all_on.new.threads c.pass_all_on.new.queues c.pass_all_on.ensures.threads c.pass_all_on.ensures.queues c.end.new.self c.end.ensures.ended in
     let queues = all-queues i.threads i.queues t c.take_out.new.self c.take_out.ensures.out c.release_clients.new.threads c.release_clients.new.queues c.release_clients.ensures.threads c.release_clients.ensures.queues
     c.pass_all_on.new.threads c.pass_all_on.new.queues c.pass_all_on.ensures.threads c.pass_all_on.ensures.queues in
-    rw (← c.self.view_is) (state-killed (sizes_of i.limits) i.currencies.items i.threads i.queues t c.self.invariant.threads c.end.new.self c.pass_all_on.new.queues is queues order)
+    rw (← c.self.view_is) (state-killed (sizes_of i.limits) (freed_in i.freed) i.currencies.items i.threads i.queues t c.self.invariant.threads c.end.new.self c.pass_all_on.new.queues is queues order)
 
 pub returns-clause-stale : goal.returns-clause-stale
 returns-clause-stale c =
@@ -87,8 +90,8 @@ returns-clause-stale c =
     c.pass_all_on.new.threads c.pass_all_on.new.queues c.pass_all_on.ensures.threads c.pass_all_on.ensures.queues c.end.new.self c.end.ensures.ended in
     let queues = all-queues i.threads i.queues t c.take_out.new.self c.take_out.ensures.out c.release_clients.new.threads c.release_clients.new.queues c.release_clients.ensures.threads c.release_clients.ensures.queues
     c.pass_all_on.new.threads c.pass_all_on.new.queues c.pass_all_on.ensures.threads c.pass_all_on.ensures.queues in
-    let held = held-killed (sizes_of i.limits) i.currencies.items i.threads i.queues t c.self.invariant.threads c.end.new.self c.pass_all_on.new.queues is queues in
-    rw (← c.self.view_is) (makes-held (sizes_of i.limits) i.currencies.items i.currencies.items i.threads c.end.new.self i.queues c.pass_all_on.new.queues c.self.invariant.threads held
+    let held = held-killed (sizes_of i.limits) (freed_in i.freed) i.currencies.items i.threads i.queues t c.self.invariant.threads c.end.new.self c.pass_all_on.new.queues is queues in
+    rw (← c.self.view_is) (makes-held (sizes_of i.limits) (freed_in i.freed) i.currencies.items i.currencies.items i.threads c.end.new.self i.queues c.pass_all_on.new.queues c.self.invariant.threads held
     (all-stale i.threads i.queues t c.take_out.new.self c.take_out.ensures.out c.release_clients.new.threads c.release_clients.new.queues c.release_clients.ensures.threads c.release_clients.ensures.queues
     c.pass_all_on.new.threads c.pass_all_on.new.queues c.pass_all_on.ensures.threads c.pass_all_on.ensures.queues c.end.new.self c.end.ensures.ended c.release_clients.ensures.stale c.pass_all_on.ensures.stale c.end.ensures.stale))
 

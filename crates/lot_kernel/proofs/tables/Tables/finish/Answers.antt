@@ -9,6 +9,7 @@ use Rattle.lot_kernel.proofs.Trapping.{status-there}
 use Rattle.lot_kernel.specs.contracts.tables.Tables.{the_view}
 use Rattle.lot_kernel.specs.Snapshots.{threads_of}
 use Rattle.lot_kernel.proofs.tables.Tables.finish.Goals as goal
+use Rattle.lot_kernel.specs.FreePlaces.{freed_in}
 use Rattle.lot_kernel.specs.contracts.tables.Tables.{the_view}
 
 pub change-requires : goal.change-requires
@@ -27,5 +28,5 @@ change-requires c =
 pub returns-clause-stale : goal.returns-clause-stale
 returns-clause-stale c =
     let i = c.self.inside in
-    let threads = held-records (sizes_of i.limits) i.currencies.items i.threads c.change.new.self i.queues c.self.invariant.threads _ c.change.ensures.changed in
-    rw (← c.self.view_is) (makes-held (sizes_of i.limits) i.currencies.items i.currencies.items i.threads c.change.new.self i.queues i.queues c.self.invariant.threads threads c.change.ensures.stale)
+    let threads = held-records (sizes_of i.limits) (freed_in i.freed) i.currencies.items i.threads c.change.new.self i.queues c.self.invariant.threads _ c.change.ensures.changed in
+    rw (← c.self.view_is) (makes-held (sizes_of i.limits) (freed_in i.freed) i.currencies.items i.currencies.items i.threads c.change.new.self i.queues i.queues c.self.invariant.threads threads c.change.ensures.stale)

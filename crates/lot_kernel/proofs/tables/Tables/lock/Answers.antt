@@ -7,6 +7,7 @@ use Rattle.lot_threads.specs.Threaded.{Threaded}
 use Rattle.lot_threads.proofs.Ways.{live-status}
 use Rattle.lot_machine.specs.declared.record.Status.TheVariants.{Running}
 use Rattle.lot_kernel.specs.contracts.tables.Tables.{the_view}
+use Rattle.lot_kernel.specs.FreePlaces.{freed_in}
 use Rattle.lot_kernel.proofs.tables.Tables.lock.Goals as goal
 
 pub lock-requires-clause-nowhere : goal.lock-requires-clause-nowhere
@@ -15,14 +16,14 @@ lock-requires-clause-nowhere c =
     let same = c.self.view_is ∙ c.lock_refusal.ensures.unchanged in
     let order = rw (← same) at c.requires.order in
     let runs = rw (← same) at c.requires.runs in
-    running-nowhere (sizes_of i.limits) i.currencies.items i.threads i.queues c.args.thread.number order runs
+    running-nowhere (sizes_of i.limits) (freed_in i.freed) i.currencies.items i.threads i.queues c.args.thread.number order runs
 
 pub invariant_of-self : goal.invariant_of-self
 invariant_of-self c =
     let i = c.self.inside in
     let left = lock i.threads.records i.queues.mutexes c.args.thread.number c.args.mutex.number in
     let count = lock-count i.threads.records i.queues.mutexes c.args.thread.number c.args.mutex.number in
-    let threads = held-mutexes (sizes_of i.limits) i.currencies.items i.threads c.lock.new.threads i.queues c.self.invariant.threads left c.lock.new.queues i.threads.meter c.lock.ensures.threads c.lock.ensures.queues in
+    let threads = held-mutexes (sizes_of i.limits) (freed_in i.freed) i.currencies.items i.threads c.lock.new.threads i.queues c.self.invariant.threads left c.lock.new.queues i.threads.meter c.lock.ensures.threads c.lock.ensures.queues in
     search (rules, threads, count)
 
 pub returns-clause-stale : goal.returns-clause-stale
@@ -30,8 +31,8 @@ returns-clause-stale c =
     let i = c.self.inside in
     let same = c.self.view_is ∙ c.lock_refusal.ensures.unchanged in
     let left = lock i.threads.records i.queues.mutexes c.args.thread.number c.args.mutex.number in
-    let threads = held-mutexes (sizes_of i.limits) i.currencies.items i.threads c.lock.new.threads i.queues c.self.invariant.threads left c.lock.new.queues i.threads.meter c.lock.ensures.threads c.lock.ensures.queues in
-    rw (← same) (makes-held (sizes_of i.limits) i.currencies.items i.currencies.items i.threads c.lock.new.threads i.queues c.lock.new.queues c.self.invariant.threads threads c.lock.ensures.stale)
+    let threads = held-mutexes (sizes_of i.limits) (freed_in i.freed) i.currencies.items i.threads c.lock.new.threads i.queues c.self.invariant.threads left c.lock.new.queues i.threads.meter c.lock.ensures.threads c.lock.ensures.queues in
+    rw (← same) (makes-held (sizes_of i.limits) (freed_in i.freed) i.currencies.items i.currencies.items i.threads c.lock.new.threads i.queues c.lock.new.queues c.self.invariant.threads threads c.lock.ensures.stale)
 
 pub lock-requires-clause-same : goal.lock-requires-clause-same
 lock-requires-clause-same c = sym c.self.invariant.clients

@@ -1,4 +1,5 @@
 use Rattle.std.proofs.Common.{arith, refl, rules}
+use Rattle.lot_kernel.specs.FreePlaces.{freed_in}
 use Rattle.lot_kernel.proofs.Opening.{opening-held}
 use Rattle.lot_machine.specs.State.{sizes_of}
 use Rattle.lot_kernel.proofs.tables.Tables.new.Goals as goal
@@ -8,7 +9,7 @@ invariant_of-result-2 c =
     let opening = c.in_ok-new.ensures.opening in
     let empty = c.in_ok-new-2.ensures in
     let room = c.in_ok-new-4.ensures in
-    let threads = opening-held (sizes_of c.args.limits) c.in_ok-currencies.currencies.items c.in_ok-new.field-0 c.in_ok-new-2.field-0 c.in_ok-currencies.ensures.names opening empty in
+    let threads = opening-held (sizes_of c.args.limits) (freed_in c.in_ok-new-5.field-0) c.in_ok-currencies.currencies.items c.in_ok-new.field-0 c.in_ok-new-2.field-0 c.in_ok-currencies.ensures.names opening empty in
     record {
       threads = threads;
       count = rw opening refl;
@@ -22,4 +23,6 @@ invariant_of-result-2 c =
       thread_places = search rules;
       queue_room = rw empty refl;
       lottery_room = rw room refl;
+      freed_room = c.in_ok-new-5.ensures.room;
+      none_freed = λ off. c.in_ok-new-5.ensures.none;
     }

@@ -7,6 +7,7 @@ use Rattle.lot_value.specs.Changing.{CanTarget}
 use Rattle.lot_threads.specs.Threaded.{Threaded, funding_in}
 use Rattle.lot_kernel.specs.Snapshots.{held}
 use Rattle.lot_kernel.proofs.Holding.{held-tickets, makes-held}
+use Rattle.lot_kernel.specs.FreePlaces.{freed_in}
 use Rattle.lot_kernel.proofs.tables.Tables.put_target.Goals as goal
 
 pub apply-requires-clause-allowed : goal.apply-requires-clause-allowed
@@ -19,10 +20,10 @@ returns-clause-state c =
     let i = c.self.inside in
     let put : set_number i.threads.tickets c.args.ticket (Some (retargeted c.args.target c.args.found)) ≡ with_target i.threads.tickets c.args.ticket c.args.target =
     ap (λ (o : Option Ticket). set_number i.threads.tickets c.args.ticket (option_map (retargeted c.args.target) o)) (sym (rw (← c.self.view_is) at c.requires.found)) in
-    rw (← c.self.view_is) (ap (λ (v : Threaded). held (sizes_of i.limits) i.currencies.items v i.queues) (c.apply.ensures.applied ∙ ap (λ ts. record i.threads { tickets = ts; stale = c.apply.new.self.stale }) put))
+    rw (← c.self.view_is) (ap (λ (v : Threaded). held (sizes_of i.limits) (freed_in i.freed) i.currencies.items v i.queues) (c.apply.ensures.applied ∙ ap (λ ts. record i.threads { tickets = ts; stale = c.apply.new.self.stale }) put))
 
 pub returns-clause-stale : goal.returns-clause-stale
 returns-clause-stale c =
     let i = c.self.inside in
-    let threads = held-tickets (sizes_of i.limits) i.currencies.items i.threads c.apply.new.self i.queues c.self.invariant.threads _ c.apply.ensures.applied in
-    rw (← c.self.view_is) (makes-held (sizes_of i.limits) i.currencies.items i.currencies.items i.threads c.apply.new.self i.queues i.queues c.self.invariant.threads threads c.apply.ensures.stale.reached)
+    let threads = held-tickets (sizes_of i.limits) (freed_in i.freed) i.currencies.items i.threads c.apply.new.self i.queues c.self.invariant.threads _ c.apply.ensures.applied in
+    rw (← c.self.view_is) (makes-held (sizes_of i.limits) (freed_in i.freed) i.currencies.items i.currencies.items i.threads c.apply.new.self i.queues i.queues c.self.invariant.threads threads c.apply.ensures.stale.reached)

@@ -5,6 +5,11 @@ use Rattle.lot_graph.specs.Graphs.{LimitedFunding}
 use Rattle.lot_threads.specs.Threaded.{Threaded}
 use Rattle.std.proofs.lemmas.List.{length-map}
 use Rattle.std.proofs.lemmas.Option.{slice_get_within}
+use Rattle.lot_machine.specs.Order.{IsInOrder}
+use Rattle.lot_kernel.specs.FreeStacks.{FreeStack}
+use Rattle.lot_kernel.specs.FreePlaces.{freed_in}
+use Rattle.lot_kernel.specs.Snapshots.{held}
+use Rattle.lot_kernel.proofs.Reusing.{currency-fits, currency-left, none-currencies, room-currencies}
 use Rattle.lot_kernel.proofs.Holding.{held-removed}
 use Rattle.lot_kernel.proofs.Indexed.{currency-listed}
 use Rattle.lot_kernel.proofs.tables.Tables.remove_currency.Goals as goal
@@ -33,6 +38,23 @@ index_mut-requires c =
 pub invariant_of-self : goal.invariant_of-self
 invariant_of-self c =
     let i = c.self.inside in
-    let threads = held-removed (sizes_of i.limits) i.currencies.items i.threads c.apply.new.self i.queues c.self.invariant.threads c.in-Some.number c.apply.ensures.applied in
+    let threads = held-removed (sizes_of i.limits) (freed_in i.freed) i.currencies.items i.threads c.apply.new.self i.queues c.self.invariant.threads c.in-Some.number c.apply.ensures.applied in
     let index = c.remove.ensures.removed i.currencies.items c.self.invariant.currency_index in
-    search (rules, threads, index)
+    let room = room-currencies (sizes_of i.limits) i.freed c.self.invariant.freed_room c.leave.new.self (ap (λ (x : FreeStack). x.room) c.leave.ensures) in
+    let none = none-currencies i.limits.reuse i.freed c.self.invariant.none_freed c.leave.new.self _ (ap (λ (x : FreeStack). x.places) c.leave.ensures) in
+    search (rules, threads, index, room, none)
+
+pub leave-requires : goal.leave-requires
+leave-requires c =
+    let i = c.self.inside in
+    let s = held (sizes_of i.limits) (freed_in i.freed) i.currencies.items i.threads i.queues in
+    let order : IsInOrder s = rw (← c.self.view_is) at c.requires in
+    let there : slice_get (map is_some i.currencies.items) c.in-Some.number ≡ Some true = search rules in
+    record { room = λ on. omega (arith, currency-fits s order on c.in-Some.number there, c.self.invariant.currencies, (c.self.invariant.freed_room on).currencies) }
+
+pub returns-clause-state : goal.returns-clause-state
+returns-clause-state c =
+    let i = c.self.inside in
+    let s = held (sizes_of i.limits) (freed_in i.freed) i.currencies.items i.threads i.queues in
+    let left = currency-left s c.self.invariant.none_freed c.in-Some.number in
+    search (rules, left)

@@ -1,13 +1,23 @@
-use Rattle.std.proofs.Common.{◌∙◌, ◌-◌, ℕ, List, None, Option, Some, ap, arith, inl, option_map, rules, slice_get, slice_set, subst, sym}
+use Rattle.std.proofs.Common.{◌≡◌, ◌∙◌, ◌-◌, ◌∷◌, ℕ, List, None, Option, Some, ap, arith, cond, false, inl, nat_lt, true, option_map, rules, slice_get, slice_set, subst, sym}
 use Rattle.std.proofs.lemmas.List.{map-set}
 use Rattle.std.proofs.lemmas.Option.{slice_get_within}
 use Rattle.lot_machine.specs.declared.record.Thread.{Thread}
 use Rattle.lot_kernel.specs.Names.{IsIndexOf, names_of}
-use Rattle.lot_kernel.specs.Snapshots.{Snapshot}
+use Rattle.lot_machine.specs.Order.{IsInOrder}
+use Rattle.lot_kernel.specs.FreeStacks.{FreeStack}
+use Rattle.lot_kernel.specs.FreePlaces.{freed_in}
+use Rattle.lot_kernel.specs.Snapshots.{Snapshot, held}
+use Rattle.lot_kernel.proofs.Reusing.{none-threads, room-threads, thread-fits}
+use Rattle.lot_kernel.proofs.ThreadsAgain.{removes-thread, thread-gone}
+use Rattle.lot_machine.specs.State.{sizes_of}
 use Rattle.lot_kernel.proofs.Indexed.{meant-place, thread-listed}
 use Rattle.std.specs.List.{Contains}
 use Rattle.lot_machine.specs.declared.funding.Node.{Node}
-use Rattle.lot_threads.specs.Threaded.{Threaded}
+use Rattle.lot_machine.specs.declared.funding.Node.TheVariants as node
+use Rattle.lot_machine.specs.Commands.{Step, is_dead_in, is_thread_in_use, thread_meant}
+use Rattle.lot_machine.specs.Funding.{Funding, edge_count_into}
+use Rattle.lot_graph.specs.Graphs.{LimitedFunding}
+use Rattle.lot_threads.specs.Threaded.{Threaded, funding_in}
 use Rattle.lot_kernel.proofs.tables.Tables.remove_thread.Goals as goal
 
 pub remove-requires : goal.remove-requires
@@ -43,6 +53,8 @@ invariant_of-self c =
       thread_places = search rules;
       queue_room = search rules;
       lottery_room = search rules;
+      freed_room = room-threads (sizes_of i.limits) i.freed c.self.invariant.freed_room c.leave.new.self (ap (λ (x : FreeStack). x.room) c.leave.ensures);
+      none_freed = none-threads i.limits.reuse i.freed c.self.invariant.none_freed c.leave.new.self _ (ap (λ (x : FreeStack). x.places) c.leave.ensures);
     }
 
 pub returns-clause-stale : goal.returns-clause-stale
@@ -54,3 +66,26 @@ pub returns-clause-kept : goal.returns-clause-kept
 returns-clause-kept c =
     let same = ap (λ (v : Threaded). v.stale) c.remove_thread.ensures in
     rw (← c.self.view_is) (λ x stale. subst (λ (nodes : List Node). Contains nodes x) (sym same) stale)
+
+pub leave-requires : goal.leave-requires
+leave-requires c =
+    let i = c.self.inside in
+    let s = held (sizes_of i.limits) (freed_in i.freed) i.currencies.items i.threads i.queues in
+    let order : IsInOrder s = rw (← c.self.view_is) at c.requires in
+    let (t, number, at) = meant-place c.args.self.now.state c.args.thread.now c.in-Some.number c.index_of.result c.in-Some.ensures c.index_of.ensures in
+    let here = ap (λ (x : Snapshot). slice_get x.state.threads c.index_of.result) c.self.view_is ∙ at in
+    record { room = λ on. omega (arith, thread-fits s order on c.index_of.result t here, c.self.invariant.count, c.self.invariant.few, (c.self.invariant.freed_room on).threads) }
+
+pub returns-clause-state : goal.returns-clause-state
+returns-clause-state c =
+    let i = c.self.inside in
+    let n = c.in-Some.number in
+    let s = held (sizes_of i.limits) (freed_in i.freed) i.currencies.items i.threads i.queues in
+    let meant : Some n ≡ thread_meant s c.args.thread.now = rw (← c.self.view_is) at c.in-Some.ensures in
+    let dead : is_dead_in s n ≡ true = sym (rw (← c.self.view_is) at c.is_dead.ensures) ∙ c.if-not-is_dead.false in
+    let unused : is_thread_in_use s n ≡ false =
+    sym (ap (λ (f : Funding). nat_lt 0 (edge_count_into f (node.Thread n))) (ap (λ (w : LimitedFunding). w.funding) c.graph.ensures ∙ ap funding_in c.self.invariant.threads)) ∙ sym c.has_edge_into.ensures ∙ c.if-has_edge_into.false in
+    let left = ap (λ (x : FreeStack). x.places) c.leave.ensures ∙ ap (λ k. cond {A = List ℕ} i.limits.reuse (k ∷ i.freed.threads.places) i.freed.threads.places) c.index_of-2.ensures in
+    rw (← c.self.view_is)
+    (thread-gone (sizes_of i.limits) (freed_in i.freed) i.currencies.items i.threads c.remove_thread.new.self i.queues c.leave.new.self.places n c.self.invariant.none_freed c.remove_thread.ensures left
+    ∙ sym (ap (λ (x : Step). x.state) (removes-thread s c.args.thread.now n meant dead unused)))

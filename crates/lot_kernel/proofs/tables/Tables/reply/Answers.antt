@@ -3,6 +3,7 @@ use Rattle.lot_machine.specs.State.{sizes_of}
 use Rattle.lot_kernel.proofs.PortTraps.{port-leaves, port-shows}
 use Rattle.lot_kernel.proofs.Trapping.{reply-done, reply-keeps, running-there}
 use Rattle.lot_kernel.specs.contracts.tables.Tables.{the_view}
+use Rattle.lot_kernel.specs.FreePlaces.{freed_in}
 use Rattle.lot_kernel.proofs.tables.Tables.reply.Goals as goal
 
 pub reply-requires-clause-server : goal.reply-requires-clause-server
@@ -11,8 +12,8 @@ reply-requires-clause-server c =
     (there.0, omega (arith, there.1, c.self.invariant.clients))
 
 pub invariant_of-self : goal.invariant_of-self
-invariant_of-self c = let left = port-leaves (sizes_of c.self.inside.limits) c.self.inside.currencies.items c.self.inside.threads c.self.inside.queues c.reply.new.threads c.reply.new.queues _ c.self.invariant.threads (reply-keeps c.self.inside.threads.records c.self.inside.queues.clients c.self.inside.queues.ports c.args.thread.number c.args.number) c.reply.ensures.done.threads c.reply.ensures.done.queues in search (rules, left.0, left.1, left.2)
+invariant_of-self c = let left = port-leaves (sizes_of c.self.inside.limits) (freed_in c.self.inside.freed) c.self.inside.currencies.items c.self.inside.threads c.self.inside.queues c.reply.new.threads c.reply.new.queues _ c.self.invariant.threads (reply-keeps c.self.inside.threads.records c.self.inside.queues.clients c.self.inside.queues.ports c.args.thread.number c.args.number) c.reply.ensures.done.threads c.reply.ensures.done.queues in search (rules, left.0, left.1, left.2)
 
 pub returns : goal.returns
-returns c = let shown = port-shows (sizes_of c.self.inside.limits) c.self.inside.currencies.items c.self.inside.threads c.self.inside.queues c.reply.new.threads c.reply.new.queues _ _ _ _ c.self.invariant.threads (reply-done (the_view c.self.inside).state c.args.thread.number c.in-Some.client c.args.number (sym c.in-Some.ensures)) c.reply.ensures.done.outcome c.reply.ensures.done.after c.reply.ensures.done.threads c.reply.ensures.done.queues c.reply.ensures.done.stale c.reply.ensures.done.kept in
+returns c = let shown = port-shows (sizes_of c.self.inside.limits) (freed_in c.self.inside.freed) c.self.inside.currencies.items c.self.inside.threads c.self.inside.queues c.reply.new.threads c.reply.new.queues _ _ _ _ c.self.invariant.threads (reply-done (the_view c.self.inside).state c.args.thread.number c.in-Some.client c.args.number (sym c.in-Some.ensures)) c.reply.ensures.done.outcome c.reply.ensures.done.after c.reply.ensures.done.threads c.reply.ensures.done.queues c.reply.ensures.done.stale c.reply.ensures.done.kept in
     rw (← c.self.view_is) (record { outcome = shown.outcome; after = shown.after; state = shown.state; stale = shown.stale; kept = shown.kept; meter = shown.meter })

@@ -9,6 +9,7 @@ use Rattle.lot_machine.specs.State.{sizes_of}
 use Rattle.lot_machine.specs.Rows.{thread_name}
 use Rattle.lot_kernel.proofs.tables.Tables.thread_row.Goals as goal
 use Rattle.lot_kernel.specs.contracts.tables.Tables.{the_view}
+use Rattle.lot_kernel.specs.FreePlaces.{freed_in}
 use Rattle.lot_kernel.specs.contracts.tables.Tables.{the_view}
 
 pub returns-clause-row : goal.returns-clause-row
@@ -23,16 +24,16 @@ returns-clause-row c =
 pub invariant_of-self : goal.invariant_of-self
 invariant_of-self c =
     let i = c.self.inside in
-    let threads = held-stale (sizes_of i.limits) i.currencies.items i.threads c.settle.new.self i.queues c.self.invariant.threads [] (settled_in i.threads).meter c.settle.ensures.settled in
+    let threads = held-stale (sizes_of i.limits) (freed_in i.freed) i.currencies.items i.threads c.settle.new.self i.queues c.self.invariant.threads [] (settled_in i.threads).meter c.settle.ensures.settled in
     search (rules, threads)
 
 pub returns-clause-state : goal.returns-clause-state
 returns-clause-state c =
     let i = c.self.inside in
-    let after = settles-held (sizes_of i.limits) i.currencies.items i.threads c.settle.new.self i.queues c.self.invariant.threads c.settle.ensures.settled in
+    let after = settles-held (sizes_of i.limits) (freed_in i.freed) i.currencies.items i.threads c.settle.new.self i.queues c.self.invariant.threads c.settle.ensures.settled in
     rw (← c.self.view_is) (ap (λ (x : Snapshot). x.state) after)
 
 pub returns-clause-settled : goal.returns-clause-settled
 returns-clause-settled c =
     let i = c.self.inside in
-    rw (← c.self.view_is) (settles-held (sizes_of i.limits) i.currencies.items i.threads c.settle.new.self i.queues c.self.invariant.threads c.settle.ensures.settled)
+    rw (← c.self.view_is) (settles-held (sizes_of i.limits) (freed_in i.freed) i.currencies.items i.threads c.settle.new.self i.queues c.self.invariant.threads c.settle.ensures.settled)

@@ -20,6 +20,7 @@ use Rattle.lot_machine.specs.Funding.{ticket_at, ticket_in}
 use Rattle.lot_machine.specs.Value.{ticket_value}
 use Rattle.lot_kernel.proofs.tables.Tables.ticket_row.Goals as goal
 use Rattle.lot_kernel.specs.contracts.tables.Tables.{the_view}
+use Rattle.lot_kernel.specs.FreePlaces.{freed_in}
 use Rattle.lot_kernel.specs.contracts.tables.Tables.{the_view}
 
 -- whether a ticket is active, as it was told and as it is tested
@@ -62,9 +63,9 @@ returns-clause-settled c t there =
     let found : ticket_in s.tickets c.args.ticket.number ≡ Some t = rw (← c.self.view_is) at there in
     let here : ticket_in c.settle.new.self.tickets c.args.ticket.number ≡ Some t = ap (λ (v : Threaded). ticket_in v.tickets c.args.ticket.number) c.settle.ensures.settled ∙ found in
     let read = read-meter c.args.ticket.number t c.settle.new.self c.ticket_value.new.self here c.ticket_value.ensures.counted c.ticket_value.ensures.uncounted in
-    let after = settles-held (sizes_of i.limits) i.currencies.items i.threads c.settle.new.self i.queues c.self.invariant.threads c.settle.ensures.settled in
+    let after = settles-held (sizes_of i.limits) (freed_in i.freed) i.currencies.items i.threads c.settle.new.self i.queues c.self.invariant.threads c.settle.ensures.settled in
     rw (← c.self.view_is)
-    (ap (snapshot_of (sizes_of i.limits) i.currencies.items i.queues) read ∙ ap (λ (x : Snapshot). record x { meter = with_ticket_read x.meter t }) after)
+    (ap (snapshot_of (sizes_of i.limits) (freed_in i.freed) i.currencies.items i.queues) read ∙ ap (λ (x : Snapshot). record x { meter = with_ticket_read x.meter t }) after)
 
 pub invariant_of-self : goal.invariant_of-self
 invariant_of-self c =
@@ -74,7 +75,7 @@ invariant_of-self c =
     let here : ticket_in c.settle.new.self.tickets c.args.ticket.number ≡ Some t = ap (λ (v : Threaded). ticket_in v.tickets c.args.ticket.number) c.settle.ensures.settled ∙ found in
     let read = read-meter c.args.ticket.number t c.settle.new.self c.ticket_value.new.self here c.ticket_value.ensures.counted c.ticket_value.ensures.uncounted in
     let whole = read ∙ ap (λ (v : Threaded). record v { meter = with_ticket_read v.meter t }) c.settle.ensures.settled in
-    let threads = held-stale (sizes_of i.limits) i.currencies.items i.threads c.ticket_value.new.self i.queues c.self.invariant.threads [] (with_ticket_read (settled_in i.threads).meter t) whole in
+    let threads = held-stale (sizes_of i.limits) (freed_in i.freed) i.currencies.items i.threads c.ticket_value.new.self i.queues c.self.invariant.threads [] (with_ticket_read (settled_in i.threads).meter t) whole in
     search (rules, threads, whole)
 
 pub returns-clause-state : goal.returns-clause-state
@@ -84,6 +85,6 @@ returns-clause-state c =
     let found : ticket_in i.threads.tickets c.args.ticket.number ≡ Some t = search rules in
     let here : ticket_in c.settle.new.self.tickets c.args.ticket.number ≡ Some t = ap (λ (v : Threaded). ticket_in v.tickets c.args.ticket.number) c.settle.ensures.settled ∙ found in
     let read = read-meter c.args.ticket.number t c.settle.new.self c.ticket_value.new.self here c.ticket_value.ensures.counted c.ticket_value.ensures.uncounted in
-    let after = settles-held (sizes_of i.limits) i.currencies.items i.threads c.settle.new.self i.queues c.self.invariant.threads c.settle.ensures.settled in
+    let after = settles-held (sizes_of i.limits) (freed_in i.freed) i.currencies.items i.threads c.settle.new.self i.queues c.self.invariant.threads c.settle.ensures.settled in
     rw (← c.self.view_is)
-    (ap (λ (x : Snapshot). x.state) (ap (snapshot_of (sizes_of i.limits) i.currencies.items i.queues) read ∙ ap (λ (x : Snapshot). record x { meter = with_ticket_read x.meter t }) after))
+    (ap (λ (x : Snapshot). x.state) (ap (snapshot_of (sizes_of i.limits) (freed_in i.freed) i.currencies.items i.queues) read ∙ ap (λ (x : Snapshot). record x { meter = with_ticket_read x.meter t }) after))

@@ -11,6 +11,7 @@ use Rattle.lot_kernel.specs.Snapshots.{held}
 use Rattle.lot_machine.specs.State.{sizes_of}
 use Rattle.lot_kernel.specs.contracts.tables.Tables.{the_view}
 use Rattle.lot_kernel.proofs.tables.Tables.unlock.Goals as goal
+use Rattle.lot_kernel.specs.FreePlaces.{freed_in}
 use Rattle.lot_kernel.specs.contracts.tables.Tables.{the_view}
 
 pub invariant_of-self : goal.invariant_of-self
@@ -18,7 +19,7 @@ invariant_of-self c =
     let i = c.self.inside in
     let left = unlock i.threads.records i.queues.mutexes (worth_in i.threads) c.args.mutex.number c.args.d in
     let count = unlock-count i.threads.records i.queues.mutexes (worth_in i.threads) c.args.mutex.number c.args.d in
-    let threads = held-mutexes (sizes_of i.limits) i.currencies.items i.threads c.unlock.new.threads i.queues c.self.invariant.threads left c.unlock.new.queues c.unlock.new.threads.meter c.unlock.ensures.threads c.unlock.ensures.queues in
+    let threads = held-mutexes (sizes_of i.limits) (freed_in i.freed) i.currencies.items i.threads c.unlock.new.threads i.queues c.self.invariant.threads left c.unlock.new.queues c.unlock.new.threads.meter c.unlock.ensures.threads c.unlock.ensures.queues in
     search (rules, threads, count)
 
 pub returns-clause-outcome : goal.returns-clause-outcome
@@ -27,7 +28,7 @@ returns-clause-outcome c =
     let s = (the_view i).state in
     let there : IsThere i.queues.mutexes c.args.mutex.number = (omega (arith, c.if-mutex-eq0.false), omega (arith, c.if-mutex-mutexes.false, c.mutexes.ensures)) in
     let owned : (mutex_at i.queues.mutexes c.args.mutex.number).owner ≡ Some c.args.thread.number = search rules in
-    rw (← c.self.view_is) (c.unlock.ensures.outcome ∙ ap (λ (e : MutexTrap). e.outcome) (unlock-same (sizes_of i.limits) i.currencies.items i.threads i.queues c.self.invariant.threads c.args.mutex.number c.args.d)
+    rw (← c.self.view_is) (c.unlock.ensures.outcome ∙ ap (λ (e : MutexTrap). e.outcome) (unlock-same (sizes_of i.limits) (freed_in i.freed) i.currencies.items i.threads i.queues c.self.invariant.threads c.args.mutex.number c.args.d)
     ∙ sym (ap (λ (e : Effect). e.outcome) (unlock-done s c.args.thread.number c.args.mutex.number c.args.d there owned)))
 
 pub returns-clause-after : goal.returns-clause-after
@@ -36,7 +37,7 @@ returns-clause-after c =
     let s = (the_view i).state in
     let there : IsThere i.queues.mutexes c.args.mutex.number = (omega (arith, c.if-mutex-eq0.false), omega (arith, c.if-mutex-mutexes.false, c.mutexes.ensures)) in
     let owned : (mutex_at i.queues.mutexes c.args.mutex.number).owner ≡ Some c.args.thread.number = search rules in
-    rw (← c.self.view_is) (c.unlock.ensures.after ∙ ap (λ (e : MutexTrap). e.after) (unlock-same (sizes_of i.limits) i.currencies.items i.threads i.queues c.self.invariant.threads c.args.mutex.number c.args.d)
+    rw (← c.self.view_is) (c.unlock.ensures.after ∙ ap (λ (e : MutexTrap). e.after) (unlock-same (sizes_of i.limits) (freed_in i.freed) i.currencies.items i.threads i.queues c.self.invariant.threads c.args.mutex.number c.args.d)
     ∙ sym (ap (λ (e : Effect). e.after) (unlock-done s c.args.thread.number c.args.mutex.number c.args.d there owned)))
 
 pub returns-clause-state : goal.returns-clause-state
@@ -46,23 +47,23 @@ returns-clause-state c =
     let left = unlock i.threads.records i.queues.mutexes (worth_in i.threads) c.args.mutex.number c.args.d in
     let there : IsThere i.queues.mutexes c.args.mutex.number = (omega (arith, c.if-mutex-eq0.false), omega (arith, c.if-mutex-mutexes.false, c.mutexes.ensures)) in
     let owned : (mutex_at i.queues.mutexes c.args.mutex.number).owner ≡ Some c.args.thread.number = search rules in
-    rw (← c.self.view_is) (mutexes-state (sizes_of i.limits) i.currencies.items i.threads c.unlock.new.threads i.queues c.unlock.new.queues c.self.invariant.threads left c.unlock.new.threads.meter c.unlock.ensures.threads c.unlock.ensures.queues
-    ∙ ap (λ (e : MutexTrap). (of_mutexes s e).state) (unlock-same (sizes_of i.limits) i.currencies.items i.threads i.queues c.self.invariant.threads c.args.mutex.number c.args.d)
+    rw (← c.self.view_is) (mutexes-state (sizes_of i.limits) (freed_in i.freed) i.currencies.items i.threads c.unlock.new.threads i.queues c.unlock.new.queues c.self.invariant.threads left c.unlock.new.threads.meter c.unlock.ensures.threads c.unlock.ensures.queues
+    ∙ ap (λ (e : MutexTrap). (of_mutexes s e).state) (unlock-same (sizes_of i.limits) (freed_in i.freed) i.currencies.items i.threads i.queues c.self.invariant.threads c.args.mutex.number c.args.d)
     ∙ sym (ap (λ (e : Effect). e.state) (unlock-done s c.args.thread.number c.args.mutex.number c.args.d there owned)))
 
 pub returns-clause-stale : goal.returns-clause-stale
 returns-clause-stale c =
     let i = c.self.inside in
     let left = unlock i.threads.records i.queues.mutexes (worth_in i.threads) c.args.mutex.number c.args.d in
-    let threads = held-mutexes (sizes_of i.limits) i.currencies.items i.threads c.unlock.new.threads i.queues c.self.invariant.threads left c.unlock.new.queues c.unlock.new.threads.meter c.unlock.ensures.threads c.unlock.ensures.queues in
-    rw (← c.self.view_is) (makes-held (sizes_of i.limits) i.currencies.items i.currencies.items i.threads c.unlock.new.threads i.queues c.unlock.new.queues c.self.invariant.threads threads c.unlock.ensures.stale)
+    let threads = held-mutexes (sizes_of i.limits) (freed_in i.freed) i.currencies.items i.threads c.unlock.new.threads i.queues c.self.invariant.threads left c.unlock.new.queues c.unlock.new.threads.meter c.unlock.ensures.threads c.unlock.ensures.queues in
+    rw (← c.self.view_is) (makes-held (sizes_of i.limits) (freed_in i.freed) i.currencies.items i.currencies.items i.threads c.unlock.new.threads i.queues c.unlock.new.queues c.self.invariant.threads threads c.unlock.ensures.stale)
 
 pub returns-clause-counts : goal.returns-clause-counts
 returns-clause-counts c =
     let i = c.self.inside in
     let owned : (mutex_at i.queues.mutexes c.args.mutex.number).owner ≡ Some c.args.thread.number = search rules in
     let reads = ap (λ (v : Threaded). (settled_in v).meter) c.self.invariant.threads in
-    rw (← c.self.view_is) (unlock-counts i.threads.records i.queues.mutexes (worth_in i.threads) c.args.mutex.number c.args.d (the_view i) (record { state = held (sizes_of i.limits) i.currencies.items c.unlock.new.threads c.unlock.new.queues; stale = c.unlock.new.threads.stale; meter = c.unlock.new.threads.meter }) c.unlock.result.outcome
+    rw (← c.self.view_is) (unlock-counts i.threads.records i.queues.mutexes (worth_in i.threads) c.args.mutex.number c.args.d (the_view i) (record { state = held (sizes_of i.limits) (freed_in i.freed) i.currencies.items c.unlock.new.threads c.unlock.new.queues; stale = c.unlock.new.threads.stale; meter = c.unlock.new.threads.meter }) c.unlock.result.outcome
     c.unlock.ensures.outcome c.unlock.ensures.kept c.unlock.ensures.uncounted (λ some. c.unlock.ensures.counted some ∙ reads) c.unlock.ensures.once c.args.thread.number owned c.unlock.ensures.owners)
 
 pub unlock-requires-clause-mutex : goal.unlock-requires-clause-mutex

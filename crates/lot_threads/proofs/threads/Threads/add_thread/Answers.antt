@@ -8,7 +8,7 @@ use Rattle.lot_draw.specs.Competing.{HasTicks}
 use Rattle.lot_draw.specs.declared.competing.Competitor.{Competitor}
 use Rattle.lot_graph.specs.Graphs.{LimitedFunding}
 use Rattle.lot_value.specs.Caches.{Known}
-use Rattle.lot_machine.specs.Change.{newborn}
+use Rattle.lot_machine.specs.Commands.{newborn}
 use Rattle.lot_threads.specs.Threaded.{Threaded, AreOf, lends_in}
 use Rattle.lot_threads.proofs.Adding.{added-of, made-stale, number-made}
 use Rattle.lot_threads.proofs.Together.{graph-is, stale-of}

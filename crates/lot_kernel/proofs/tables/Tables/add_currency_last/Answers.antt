@@ -1,7 +1,7 @@
 use Rattle.std.proofs.Common.{◌≡◌, length, subst, sym}
 use Rattle.lot_lists.specs.NodeLists.{IsFree}
 use Rattle.lot_kernel.proofs.Indexed.{next-free}
-use Rattle.lot_kernel.proofs.tables.Tables.make_currency.Goals as goal
+use Rattle.lot_kernel.proofs.tables.Tables.add_currency_last.Goals as goal
 
 pub add-requires-clause-free : goal.add-requires-clause-free
 add-requires-clause-free c =

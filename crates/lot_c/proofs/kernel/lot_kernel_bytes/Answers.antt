@@ -1,0 +1,10 @@
+-- The bytes of the kernel's box, and those that the kernel requests.
+use Rattle.std.proofs.Common.{refl, ◌∙◌, ap, arith}
+use Rattle.lot_kernel.specs.Memory.{bytes_of}
+use Rattle.lot_c.proofs.kernel.lot_kernel_bytes.Goals as goal
+
+pub returns-in-Some : goal.returns-in-Some
+returns-in-Some c = record {
+  limits = λ outside. absurd (outside (c.in-Some.ensures.some.0 refl));
+  bytes = λ within. (c.code-in-Some.ensures, omega (arith, c.bytes.ensures.bytes ∙ ap bytes_of c.in-Some.ensures.sizes));
+}

@@ -1,0 +1,25 @@
+use Rattle.std.proofs.Common.{◌∙◌, ◌≤◌, ◌++◌, ◌∷◌, [], Some, SomeIff, ap, length, subst, sym}
+use Rattle.lot_machine.specs.State.{free_currencies}
+use Rattle.lot_kernel.specs.Snapshots.{Snapshot}
+use Rattle.lot_kernel.proofs.Freeing.{no-first}
+use Rattle.lot_kernel.proofs.Reusing.{currency-last, first-currency, last-currency, on-some}
+use Rattle.lot_kernel.proofs.tables.Tables.add_currency.Goals as goal
+
+pub returns-in-Some-clause-number : goal.returns-in-Some-clause-number
+returns-in-Some-clause-number c = first-currency c.args.self.now.state c.in-Some.number c.in-Some.ensures.number
+
+pub returns-in-None-clause-number : goal.returns-in-None-clause-number
+returns-in-None-clause-number c =
+    let s = c.args.self.now.state in
+    last-currency s c.add_currency_last.result (no-first (free_currencies s) (sym c.in-None.ensures.number))
+    (subst (λ (x : Snapshot). SomeIff c.add_currency_last.result (length x.state.currencies ≤ x.state.limits.currencies) (length x.state.currencies)) c.in-None.ensures.unchanged c.add_currency_last.ensures.number)
+
+pub returns-in-None-clause-made : goal.returns-in-None-clause-made
+returns-in-None-clause-made c =
+    let old = c.args.self.now in
+    let none = no-first (free_currencies old.state) (sym c.in-None.ensures.number) in
+    let given = none ∙ sym c.in-None.ensures.none in
+    on-some c.add_currency_last.result
+    (λ is. is ∙ ap (λ (x : Snapshot). record x { state = record x.state { currencies = x.state.currencies ++ Some c.args.name.now ∷ [] } }) c.in-None.ensures.unchanged
+    ∙ ap (λ s. record old { state = s }) (currency-last old.state c.args.name.now given none))
+    c.add_currency_last.ensures.made

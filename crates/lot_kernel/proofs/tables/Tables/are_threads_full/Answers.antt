@@ -1,0 +1,24 @@
+use Rattle.std.proofs.Common.{◌≡◌, ◌∙◌, ◌&&◌, true, false, Option, List, ap, length, nat_le, sym}
+use Rattle.lot_machine.specs.declared.record.Thread.{Thread}
+use Rattle.lot_machine.specs.Commands.{are_threads_full}
+use Rattle.lot_machine.specs.Places.{is_none_free}
+use Rattle.lot_machine.specs.State.{sizes_of, free_threads}
+use Rattle.lot_kernel.specs.FreePlaces.{freed_in}
+use Rattle.lot_kernel.specs.Snapshots.{Snapshot, held}
+use Rattle.lot_kernel.proofs.Reusing.{given-threads}
+use Rattle.lot_kernel.proofs.tables.Tables.are_threads_full.Goals as goal
+
+pub returns-then-is_empty : goal.returns-then-is_empty
+returns-then-is_empty c =
+    let i = c.self.inside in
+    let s = held (sizes_of i.limits) (freed_in i.freed) i.currencies.items i.threads i.queues in
+    let none : is_none_free (free_threads s) ≡ true = ap is_none_free (given-threads s c.self.invariant.none_freed) ∙ sym c.is_empty.ensures ∙ c.if-is_empty.true in
+    ap (λ (ts : List (Option Thread)). nat_le i.limits.threads (length ts)) c.threads.ensures
+    ∙ sym (ap (λ b. b && nat_le s.limits.threads (length s.threads)) none) ∙ ap (λ (x : Snapshot). are_threads_full x.state) c.self.view_is
+
+pub returns-else-is_empty : goal.returns-else-is_empty
+returns-else-is_empty c =
+    let i = c.self.inside in
+    let s = held (sizes_of i.limits) (freed_in i.freed) i.currencies.items i.threads i.queues in
+    let some : is_none_free (free_threads s) ≡ false = ap is_none_free (given-threads s c.self.invariant.none_freed) ∙ sym c.is_empty.ensures ∙ c.if-is_empty.false in
+    c.if-is_empty.false ∙ sym (ap (λ b. b && nat_le s.limits.threads (length s.threads)) some) ∙ ap (λ (x : Snapshot). are_threads_full x.state) c.self.view_is

@@ -1,0 +1,35 @@
+use Rattle.std.proofs.Common.{ap, arith, rules, sym}
+use Rattle.lot_machine.specs.State.{sizes_of}
+use Rattle.lot_machine.specs.Order.{IsInOrder}
+use Rattle.lot_kernel.specs.FreeStacks.{FreeStack}
+use Rattle.lot_kernel.specs.FreePlaces.{freed_in}
+use Rattle.lot_kernel.specs.Snapshots.{held}
+use Rattle.lot_kernel.proofs.Holding.{held-tickets}
+use Rattle.lot_kernel.proofs.Reusing.{none-tickets, room-tickets, ticket-fits, ticket-left, ticket-some}
+use Rattle.lot_kernel.proofs.tables.Tables.remove_ticket.Goals as goal
+
+pub index_of-requires : goal.index_of-requires
+index_of-requires c = ticket-some c.args.self.now.state.tickets c.args.ticket c.in-Some.found c.in-Some.ensures.found
+
+pub leave-requires : goal.leave-requires
+leave-requires c =
+    let i = c.self.inside in
+    let s = held (sizes_of i.limits) (freed_in i.freed) i.currencies.items i.threads i.queues in
+    let order : IsInOrder s = rw (← c.self.view_is) at c.requires in
+    let there = rw (← c.self.view_is) at c.in-Some.ensures.found in
+    record { room = λ on. omega (arith, ticket-fits s order on c.args.ticket c.in-Some.found (sym there), (c.self.invariant.freed_room on).tickets) }
+
+pub returns-clause-state : goal.returns-clause-state
+returns-clause-state c =
+    let i = c.self.inside in
+    let s = held (sizes_of i.limits) (freed_in i.freed) i.currencies.items i.threads i.queues in
+    let left = ticket-left s c.self.invariant.none_freed c.args.ticket in
+    search (rules, left)
+
+pub invariant_of-self : goal.invariant_of-self
+invariant_of-self c =
+    let i = c.self.inside in
+    let threads = held-tickets (sizes_of i.limits) (freed_in i.freed) i.currencies.items i.threads c.apply.new.self i.queues c.self.invariant.threads _ c.apply.ensures.applied in
+    let room = room-tickets (sizes_of i.limits) i.freed c.self.invariant.freed_room c.leave.new.self (ap (λ (x : FreeStack). x.room) c.leave.ensures) in
+    let none = none-tickets i.limits.reuse i.freed c.self.invariant.none_freed c.leave.new.self _ (ap (λ (x : FreeStack). x.places) c.leave.ensures) in
+    search (rules, threads, room, none)

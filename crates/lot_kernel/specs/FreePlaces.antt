@@ -1,0 +1,27 @@
+-- The free places that the kernel keeps for numbers that are given again.
+use Rattle.std.specs.Prelude.{◌≡◌, ℕ, ◌+◌, ◌≤◌, true, Some, None, [], slice_get}
+use Rattle.lot_machine.specs.declared.sizes.Sizes.{Sizes}
+use Rattle.lot_machine.specs.State.{State, Freed, free_threads}
+use Rattle.lot_kernel.specs.declared.freed.Freed.{Freed as Stacks}
+
+-- no place is free
+abbrev pub none_free : Freed
+none_free = record { tickets = []; currencies = []; threads = [] }
+
+-- the free places of the three tables
+abbrev pub freed_in : Stacks → Freed
+freed_in s = record { tickets = s.tickets.places; currencies = s.currencies.places; threads = s.threads.places }
+
+-- there is room for each place within the limits
+pub record HasRoom (sizes : Sizes) (s : Stacks) : Type 0 where
+  pub tickets : sizes.tickets ≤ s.tickets.room
+  pub currencies : sizes.currencies + 1 ≤ s.currencies.room
+  pub threads : sizes.threads ≤ s.threads.room
+
+-- if numbers are given again, there is room for each place within the limits
+abbrev pub HasRoomFor : Sizes → Stacks → Type 0
+HasRoomFor sizes s = sizes.reuse ≡ true → HasRoom sizes s
+
+-- the first free place of threads, if there is one, is a gap, and no thread is served there
+abbrev pub HasIdlePlace : State → Type 0
+HasIdlePlace s = (place : ℕ) → slice_get (free_threads s) 0 ≡ Some place → (slice_get s.threads place ≡ Some None) × (slice_get s.clients place ≡ Some [])

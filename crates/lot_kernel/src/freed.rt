@@ -1,0 +1,53 @@
+//! The free places of the tables, which the next tickets, currencies and threads get if numbers are given again.
+ghost use Rattle.std.specs.Prelude.{◌≡◌, ◌≤◌, ◌+◌, ◌*◌, IfOk, if◌then◌else◌};
+ghost use Rattle.lot_machine.specs.State.{sizes_of};
+ghost use Rattle.lot_kernel.specs.FreePlaces.{none_free, freed_in, HasRoomFor};
+
+use crate::free_places::FreePlaces;
+use lot_machine::Limits;
+use std::alloc::{AllocError, Global};
+use std::mem::size_of;
+
+// The memory of one place.
+const PLACE_BYTES: u64 = size_of::<u32>() as u64;
+
+/// The free places of tickets, currencies and threads.
+#[derive(Drop)]
+pub(crate) struct Freed {
+    pub(crate) tickets: FreePlaces,
+    pub(crate) currencies: FreePlaces,
+    pub(crate) threads: FreePlaces,
+}
+
+impl Freed {
+    /// No free place yet. It has room for each place within the limits if numbers are given again.
+    pub(crate) fn new(alloc: Global, limits: &Limits) -> Result<Self, AllocError>
+        ensures none { IfOk result (λ made. freed_in made ≡ none_free) }
+        ensures room { IfOk result (HasRoomFor (sizes_of limits.now)) }
+    {
+        Ok(Freed {
+            tickets: FreePlaces::new(alloc, room_for(limits, limits.tickets))?,
+            currencies: FreePlaces::new(alloc, room_for(limits, limits.currencies + 1))?,
+            threads: FreePlaces::new(alloc, room_for(limits, limits.threads))?,
+        })
+    }
+
+    /// The total of bytes that `new` requests from the allocator.
+    pub(crate) fn bytes(limits: &Limits) -> u64
+        ensures bytes { result ≡ (if limits.now.reuse
+            then 4 * (limits.now.tickets + limits.now.currencies + limits.now.threads) + 4 else 0) }
+        ensures few { result ≤ 4 * (limits.now.tickets + limits.now.currencies + limits.now.threads) + 4 }
+    {
+        if !limits.reuse {
+            return 0;
+        }
+        PLACE_BYTES * (limits.tickets as u64 + limits.currencies as u64 + limits.threads as u64 + 1)
+    }
+}
+
+/// Room for this many places if numbers are given again, otherwise for none.
+fn room_for(limits: &Limits, places: u32) -> u32
+    ensures { result ≡ (if limits.now.reuse then places else 0) }
+{
+    if limits.reuse { places } else { 0 }
+}
