@@ -59,8 +59,7 @@ static lot_kernel made(void) {
     sizes.processors = WORKERS;
     CHECK(lot_kernel_new(&sizes, &kernel) == LOT_DONE);
     for (uint32_t i = 0; i < THREADS; i++) {
-        lot_name name = {1, {(uint8_t)('a' + i)}};
-        lot_event event = lot_make_funded(10 + i, lot_name_of("base"), name, 1);
+        lot_event event = lot_make_funded(10 + i, lot_name_of("base"), lot_no_name(), 1);
         lot_reply reply;
         CHECK(lot_kernel_event(&kernel, &event, &reply) == LOT_DONE && reply.thread == i + 1);
     }
@@ -292,8 +291,11 @@ static void own_kernels(void) {
 
 // ---- readers
 
-// What the calls for a `const lot_kernel *` store.
+// What the calls for a `const lot_kernel *` store, of a settled kernel.
 struct seen {
+    lot_thread_row threads[THREADS];
+    lot_currency_row base;
+    lot_ticket_row tickets_of[THREADS]; // each thread has one
     lot_runner runners[WORKERS];
     lot_sizes sizes;
     lot_meter meter;
@@ -309,7 +311,10 @@ static void see(const lot_kernel *kernel, struct seen *seen) {
     }
     for (uint32_t i = 0; i < THREADS; i++) {
         CHECK(lot_kernel_script_of(kernel, i + 1, &seen->scripts[i]) == LOT_DONE);
+        CHECK(lot_kernel_settled_thread_row(kernel, i + 1, &seen->threads[i]) == LOT_DONE);
+        CHECK(lot_kernel_settled_ticket_row(kernel, i + 1, &seen->tickets_of[i]) == LOT_DONE);
     }
+    CHECK(lot_kernel_settled_currency_row(kernel, 0, &seen->base) == LOT_DONE);
     CHECK(lot_kernel_ticket_count(kernel, &seen->tickets) == LOT_DONE);
     CHECK(lot_kernel_currency_count(kernel, &seen->currencies) == LOT_DONE);
     CHECK(lot_kernel_limits(kernel, &seen->sizes) == LOT_DONE);
@@ -340,6 +345,7 @@ static void readers(void) {
             play_and_note(&players[i]);
         }
     }
+    CHECK(lot_kernel_settle(&kernel) == LOT_DONE);
     see(&kernel, &before_reading);
     CHECK(before_reading.runners[0].thread != 0 && before_reading.meter.tree_visits > 0);
     run_workers(read_all, players);

@@ -14,7 +14,8 @@
 //   - A draw and an unlock have the reply that this file's own lottery comes to, over the rows that the kernel showed
 //     before. A thread is removed if these rows say so, and is gone then.
 //   - A command by number is refused if these rows have nothing of that number. Otherwise the ticket that it made or
-//     that it funds by has the currency or the target with that number.
+//     that it funds by has the currency or the target with that number. Each ticket's row has the name of what it funds
+//     by its number, and no name for a thread without one.
 //   - A sleep, a wake, a preemption and an overrun have the reply that these rows lead to, and the thread's row
 //     follows. Each thread weighs what its value makes with the compensation that this file has kept for it.
 //   - Who waits at a port or for a mutex, and whom a thread serves, comes in the order in which this file has it.
@@ -25,8 +26,8 @@
 //     longest for each of its mutexes. No other row of a thread and no other processor has changed but for values.
 //
 // At the end of a kernel a fresh one gets all events that were done, with 0 in the fields that they don't read, and
-// with the name in place of the number that was given of a currency or a thread. It gives the same replies and shows
-// the same rows, though its blocks held other bytes at first and nobody read its rows between.
+// with the name in place of the number that was given of a currency, or of a thread that has a name. It gives the same
+// replies and shows the same rows, though its blocks held other bytes at first and nobody read its rows between.
 //
 // The steps depend on the seed alone. A kernel that begins after SECONDS isn't begun, so that a slow machine ends the
 // test early, and says so.
@@ -338,17 +339,18 @@ struct numbers {
 
 // Who owns a mutex, and who waits for it; whose calls wait at a port, and who waits there for a call; whom a thread
 // serves; which number a thread is given when it next wins a draw, and which it sent with its call; how many ticks it
-// has used since it won, and its compensation, 0 for none; its name and that of a currency, of length 0 if there is
-// none; and the numbers of what comes next.
+// has used since it won, and its compensation, 0 for none; whether it is there, and its name, of length 0 if it has
+// none; the name of a currency, of length 0 if there is none; and the numbers of what comes next.
 static struct {
     uint32_t owner[MUTEXES + 1];
     struct queue waiters[MUTEXES + 1], callers[PORTS + 1], receivers[PORTS + 1], clients[THREADS + 1];
     uint32_t delivered[THREADS + 1], sent[THREADS + 1];
     bool has_delivered[THREADS + 1];
     uint32_t used[THREADS + 1], compensation[THREADS + 1];
+    bool has_thread[THREADS + 1];
     lot_name names[THREADS + 1], currency_names[CURRENCIES + 1];
     struct numbers tickets, currencies, threads;
-    bool reuse;
+    bool reuse, plain_names;
 } known;
 
 static void join(struct queue *queue, uint32_t thread) {
@@ -471,7 +473,7 @@ static bool is_equal(const lot_name *name, const lot_name *other) {
     return name->length == other->length && memcmp(name->bytes, other->bytes, other->length) == 0;
 }
 
-static unsigned long tickets_again, currencies_again, threads_again;
+static unsigned long tickets_again, currencies_again, threads_again, unnamed, plainly_named;
 
 // Something was made with this number.
 static void learn_number(struct numbers *numbers, uint32_t number, unsigned long *again) {
@@ -493,6 +495,9 @@ static void learn_removal(struct numbers *numbers, uint32_t number) {
 // A thread was made. It has used nothing, and nothing is delivered to it.
 static void learn_thread(uint32_t thread, const lot_name *name) {
     learn_number(&known.threads, thread, &threads_again);
+    unnamed += name->length == 0;
+    plainly_named += name->length != 0 && known.plain_names;
+    known.has_thread[thread] = true;
     known.names[thread] = *name;
     known.used[thread] = known.compensation[thread] = 0;
     known.has_delivered[thread] = false;
@@ -520,12 +525,13 @@ static uint32_t known_thread(const lot_event *event) {
     while (thread != 0 && !is_equal(&event->name, &known.names[thread])) {
         thread--;
     }
-    CHECK(thread != 0);
+    CHECK(thread != 0 && event->name.length != 0);
     return thread;
 }
 
 static void learn_thread_removed(uint32_t thread) {
     learn_removal(&known.threads, thread);
+    known.has_thread[thread] = false;
     known.names[thread].length = 0;
 }
 
@@ -657,10 +663,45 @@ static lot_reply refused(uint32_t reason) {
 // Each thread has the name with which it was made. Its weight is what our own lottery makes of its value.
 static void check_threads(const struct view *view, const lot_sizes *sizes) {
     for (uint32_t i = 0; i < view->thread_count; i++) {
-        CHECK(view->has_thread[i] == (known.names[i + 1].length != 0));
+        CHECK(view->has_thread[i] == known.has_thread[i + 1]);
         CHECK(!view->has_thread[i] || is_equal(&view->threads[i].name, &known.names[i + 1]));
         wide weight = weight_of(view->threads[i].value, known.compensation[i + 1], sizes->quantum);
         CHECK(!view->has_thread[i] || wide_of(view->threads[i].weight) == weight);
+    }
+}
+
+static bool is_currency(const struct view *view, uint32_t currency) {
+    return currency < view->currency_count && view->has_currency[currency];
+}
+
+static bool is_thread(const struct view *view, uint32_t thread) {
+    return thread != 0 && thread <= view->thread_count && view->has_thread[thread - 1];
+}
+
+// What a ticket funds is there, and its row has its name.
+static void check_target(const struct view *view, const lot_ticket_row *row) {
+    lot_name none = lot_no_name();
+    uint32_t number = row->target_number;
+    CHECK(row->has_target == (row->target_kind != LOT_TARGET_NONE));
+    switch ((lot_target_kind)row->target_kind) {
+    case LOT_TARGET_NONE: CHECK(number == 0 && memcmp(&row->target, &none, sizeof none) == 0); return;
+    case LOT_TARGET_CURRENCY:
+        CHECK(number != 0 && is_currency(view, number));
+        CHECK(memcmp(&row->target, &view->currencies[number].name, sizeof none) == 0);
+        return;
+    case LOT_TARGET_THREAD:
+        CHECK(is_thread(view, number));
+        CHECK(memcmp(&row->target, &view->threads[number - 1].name, sizeof none) == 0);
+        return;
+    }
+    CHECK(false);
+}
+
+static void check_targets(const struct view *view) {
+    for (uint32_t i = 0; i < view->ticket_count; i++) {
+        if (view->has_ticket[i]) {
+            check_target(view, &view->tickets[i]);
+        }
     }
 }
 
@@ -742,7 +783,7 @@ static lot_reply reply_to_unlock(const struct view *view, const lot_sizes *sizes
     return reply;
 }
 
-// Which thread has this name, or 0.
+// Which thread has this name, or 0. An event that comes so far has a name.
 static uint32_t thread_named(const struct view *view, const lot_name *name) {
     for (uint32_t i = 0; i < view->thread_count; i++) {
         if (view->has_thread[i] && is_equal(name, &view->threads[i].name)) {
@@ -752,11 +793,15 @@ static uint32_t thread_named(const struct view *view, const lot_name *name) {
     return 0;
 }
 
-// The place of a ticket that funds what has this name, or how many tickets were made.
-static uint32_t ticket_funding(const struct view *view, const lot_name *target) {
+static bool funds(const lot_ticket_row *row, uint32_t kind, uint32_t number) {
+    return row->target_kind == kind && row->target_number == number;
+}
+
+// The place of a ticket that funds the thread, or how many tickets were made.
+static uint32_t ticket_funding(const struct view *view, uint32_t thread) {
     uint32_t i = 0;
-    while (i < view->ticket_count && !(view->has_ticket[i] && view->tickets[i].has_target &&
-                                       memcmp(&view->tickets[i].target, target, sizeof *target) == 0)) {
+    while (i < view->ticket_count &&
+           !(view->has_ticket[i] && funds(&view->tickets[i], LOT_TARGET_THREAD, thread))) {
         i++;
     }
     return i;
@@ -764,7 +809,7 @@ static uint32_t ticket_funding(const struct view *view, const lot_name *target) 
 
 // Whether a ticket funds the thread, or it has a client or owns a mutex.
 static bool is_in_use(const struct view *view, uint32_t thread) {
-    bool is_used = ticket_funding(view, &view->threads[thread - 1].name) < view->ticket_count;
+    bool is_used = ticket_funding(view, thread) < view->ticket_count;
     for (uint32_t i = 0; i < view->thread_count; i++) {
         lot_thread_status status = view->threads[i].status;
         is_used = is_used || (status.kind == LOT_STATUS_SERVED && status.other == thread);
@@ -829,14 +874,6 @@ static lot_reply reply_to_wake(const struct view *view, const lot_event *event) 
     return (lot_reply){.kind = LOT_REPLY_DONE};
 }
 
-static bool is_currency(const struct view *view, uint32_t currency) {
-    return currency < view->currency_count && view->has_currency[currency];
-}
-
-static bool is_thread(const struct view *view, uint32_t thread) {
-    return thread != 0 && thread <= view->thread_count && view->has_thread[thread - 1];
-}
-
 // The thread that a removal or a kill means, or 0.
 static uint32_t thread_meant(const struct view *view, const lot_event *event) {
     if (event->kind == LOT_REMOVE_THREAD || event->kind == LOT_KILL) {
@@ -880,11 +917,14 @@ static bool is_by_number(const lot_event *event) {
     return (event->kind >= LOT_MAKE_TICKET_IN && event->kind <= LOT_MAKE_FUNDED_IN) || event->kind == LOT_KILL_NUMBERED;
 }
 
+// Whether a command by number refers to a thread.
+static bool is_of_thread(uint32_t kind) {
+    return kind == LOT_FUND_THREAD || kind == LOT_REMOVE_THREAD_NUMBERED || kind == LOT_KILL_NUMBERED;
+}
+
 // Whether what a command by number refers to is there, in the kernel of this view.
 static bool is_number_there(const struct view *view, const lot_event *event) {
-    bool is_of_thread = event->kind == LOT_FUND_THREAD || event->kind == LOT_REMOVE_THREAD_NUMBERED ||
-                        event->kind == LOT_KILL_NUMBERED;
-    return is_of_thread ? is_thread(view, event->object) : is_currency(view, event->object);
+    return is_of_thread(event->kind) ? is_thread(view, event->object) : is_currency(view, event->object);
 }
 
 // The reply that a command by number must have if nothing has the number. The checks before this one are of the amount
@@ -905,11 +945,16 @@ static lot_reply reply_to_no_number(const struct view *view, const lot_event *ev
     }
 }
 
-// The same command by name, if what has the number is there; otherwise the event itself.
+// Whether what a command by number refers to is there and has a name.
+static bool has_name(const struct view *view, const lot_event *event) {
+    return is_number_there(view, event) && (!is_of_thread(event->kind) || known.names[event->object].length != 0);
+}
+
+// The same command by name, if what has the number is there and has a name; otherwise the event itself.
 static lot_event by_name(const struct view *view, const lot_event *event) {
     uint32_t object = event->object;
     uint64_t ticket = event->ticket, amount = event->amount;
-    if (!is_by_number(event) || !is_number_there(view, event)) {
+    if (!is_by_number(event) || !has_name(view, event)) {
         return *event;
     }
     numbered++;
@@ -934,15 +979,19 @@ static bool goes_on_name(uint8_t byte) {
     return is_letter(byte) || (byte >= '0' && byte <= '9') || byte == '_' || byte == '-';
 }
 
-static uint32_t status_of_name(const uint8_t *bytes, size_t length) {
+static uint32_t status_of_name(const uint8_t *bytes, size_t length, bool is_plain) {
     if (length > 16) {
         return LOT_LONG_NAME;
     }
-    bool is_name = length != 0 && is_letter(bytes[0]);
-    for (size_t i = 1; i < length; i++) {
-        is_name = is_name && goes_on_name(bytes[i]);
+    bool is_name = length != 0 && (is_plain || is_letter(bytes[0]));
+    for (size_t i = 0; i < length; i++) {
+        is_name = is_name && (is_plain ? bytes[i] >= 33 && bytes[i] <= 126 : goes_on_name(bytes[i]));
     }
     return is_name ? LOT_DONE : LOT_BAD_NAME;
+}
+
+static bool makes_thread(uint32_t kind) {
+    return kind == LOT_MAKE_THREAD || kind == LOT_MAKE_FUNDED || kind == LOT_MAKE_FUNDED_IN;
 }
 
 // The event with 0 in each field that its kind doesn't read.
@@ -1019,10 +1068,10 @@ static bool deserves(const lot_event *event, uint32_t status) {
         return status == LOT_BAD_KIND;
     }
     if (reads_currency(kind)) {
-        currency = status_of_name(event->currency.bytes, event->currency.length);
+        currency = status_of_name(event->currency.bytes, event->currency.length, known.plain_names);
     }
-    if (reads_name(kind)) {
-        name = status_of_name(event->name.bytes, event->name.length);
+    if (reads_name(kind) && (event->name.length != 0 || !makes_thread(kind))) {
+        name = status_of_name(event->name.bytes, event->name.length, known.plain_names);
     }
     if (currency == LOT_DONE || name == LOT_DONE) {
         return status == (currency != LOT_DONE ? currency : name);
@@ -1052,14 +1101,19 @@ static lot_name new_name(void) {
     static const char bytes[] = "abcdefghijklmnopqrstuvwxyz0123456789-_";
     lot_name name = {one_in(8) ? 16 : from_to(3, 15), {0}};
     for (size_t i = 0; i < name.length; i++) {
-        name.bytes[i] = (uint8_t)bytes[below(i == 0 ? 26 : 38)];
+        name.bytes[i] = known.plain_names ? (uint8_t)from_to(33, 126) : (uint8_t)bytes[below(i == 0 ? 26 : 38)];
     }
     return name;
 }
 
+// Whether the thread at this place has a name; one time in eight one without a name counts too.
+static bool may_be_named(uint64_t i) {
+    return now.has_thread[i] && (now.threads[i].name.length != 0 || one_in(8));
+}
+
 static lot_name name_of_thread(void) {
     uint64_t i = now.thread_count != 0 ? below(now.thread_count) : 0;
-    return now.has_thread[i] ? now.threads[i].name : new_name();
+    return may_be_named(i) ? now.threads[i].name : new_name();
 }
 
 static lot_name name_of_currency(void) {
@@ -1097,9 +1151,9 @@ static lot_event some_removal(void) {
     for (uint32_t i = 0; i < now.thread_count; i++) {
         const lot_thread_row *row = &now.threads[i];
         if (now.has_thread[i] && row->status.kind == LOT_STATUS_DEAD && !one_in(4)) {
-            uint32_t place = ticket_funding(&now, &row->name);
+            uint32_t place = ticket_funding(&now, i + 1);
             return place < now.ticket_count && !one_in(4) ? lot_unfund(place + 1)
-                   : one_in(2)                            ? lot_remove_thread(row->name)
+                   : may_be_named(i) && one_in(2)         ? lot_remove_thread(row->name)
                                                           : lot_remove_thread_numbered(i + 1);
         }
     }
@@ -1138,7 +1192,7 @@ static uint32_t some_awaited(uint32_t otherwise) {
 static lot_event some_kill(void) {
     uint32_t thread = one_in(16) ? (uint32_t)random_bits() : (uint32_t)below((uint64_t)now.thread_count + 2);
     thread = one_in(4) ? some_asleep(thread) : one_in(2) ? some_awaited(thread) : thread;
-    if (is_thread(&now, thread) && one_in(2)) {
+    if (is_thread(&now, thread) && may_be_named(thread - 1) && one_in(2)) {
         return lot_kill(now.threads[thread - 1].name);
     }
     return one_in(16) ? lot_kill(some_name()) : lot_kill_numbered(thread);
@@ -1163,10 +1217,10 @@ static lot_event some_numbered(uint64_t ticket, lot_name name, uint32_t script) 
 static lot_event some_command(void) {
     uint64_t ticket = below((uint64_t)now.ticket_count + 2);
     lot_name currency = one_in(16) ? some_name() : one_in(2) ? lot_name_of("base") : name_of_currency();
-    lot_name name = one_in(16) ? some_name() : new_name();
+    lot_name name = one_in(16) ? some_name() : new_name(), or_none = one_in(4) ? lot_no_name() : name;
     uint32_t script = one_in(16) ? (uint32_t)random_bits() : 1;
     if (one_in(4)) {
-        return some_numbered(ticket, name, script);
+        return some_numbered(ticket, or_none, script);
     }
     switch (below(17)) {
     case 0: return lot_remove_ticket(ticket);
@@ -1174,7 +1228,7 @@ static lot_event some_command(void) {
     case 2: return lot_unfund(ticket);
     case 3: return lot_remove_currency(currency);
     case 4: return lot_event_of(LOT_LIST_TICKETS + (uint32_t)below(3));
-    case 5: return lot_make_thread(name, script);
+    case 5: return lot_make_thread(or_none, script);
     case 6: return lot_make_currency(name);
     case 7:
     case 8: return lot_make_ticket(some_amount(), currency);
@@ -1183,7 +1237,7 @@ static lot_event some_command(void) {
     case 11:
     case 12:
     case 13: return lot_fund(ticket, some_name());
-    default: return lot_make_funded(some_amount(), currency, name, script);
+    default: return lot_make_funded(some_amount(), currency, or_none, script);
     }
 }
 
@@ -1339,6 +1393,7 @@ static void look(lot_kernel *handle, bool stays) {
     CHECK(!stays || memcmp(&now, &after, sizeof now) == 0);
     memcpy(&now, &after, sizeof now);
     check_threads(&now, &sizes);
+    check_targets(&now);
 }
 
 static bool is_trap(uint32_t kind) {
@@ -1402,6 +1457,7 @@ static void compare(const lot_event *event, const lot_reply *reply) {
     default: break;
     }
     CHECK(memcmp(reply, &expected, REPLY_BYTES) == 0);
+    CHECK(reply->reason != LOT_REFUSAL_NAME_TAKEN || event->name.length != 0);
     compare_room(event, reply);
 }
 
@@ -1427,10 +1483,9 @@ static void check_row_follows(const lot_event *event, const lot_reply *reply, ui
         const lot_thread_row *row = &now.threads[reply->thread - 1];
         CHECK(row->status.kind == LOT_STATUS_READY && row->quanta == 0 && row->ticks == 0);
     }
-}
-
-static bool is_same(const lot_name *name, const lot_name *other) {
-    return memcmp(name, other, sizeof *name) == 0;
+    if (reply->kind == LOT_REPLY_FUNDED) {
+        CHECK(funds(&now.tickets[reply->ticket - 1], LOT_TARGET_THREAD, reply->thread));
+    }
 }
 
 // The rows after a command by number that wasn't refused: what it made or changed has to do with what has the number.
@@ -1439,14 +1494,10 @@ static void check_number_follows(const lot_event *event, const lot_reply *reply)
     switch (event->kind) {
     case LOT_MAKE_TICKET_IN:
     case LOT_MAKE_FUNDED_IN:
-        CHECK(is_same(&now.tickets[reply->ticket - 1].issuer, &now.currencies[object].name));
+        CHECK(memcmp(&now.tickets[reply->ticket - 1].issuer, &now.currencies[object].name, sizeof(lot_name)) == 0);
         break;
-    case LOT_FUND_CURRENCY:
-        CHECK(is_same(&now.tickets[event->ticket - 1].target, &now.currencies[object].name));
-        break;
-    case LOT_FUND_THREAD:
-        CHECK(is_same(&now.tickets[event->ticket - 1].target, &now.threads[object - 1].name));
-        break;
+    case LOT_FUND_CURRENCY: CHECK(funds(&now.tickets[event->ticket - 1], LOT_TARGET_CURRENCY, object)); break;
+    case LOT_FUND_THREAD: CHECK(funds(&now.tickets[event->ticket - 1], LOT_TARGET_THREAD, object)); break;
     case LOT_REMOVE_CURRENCY_NUMBERED: CHECK(object != 0 && !is_currency(&now, object)); break;
     case LOT_REMOVE_THREAD_NUMBERED: CHECK(!is_thread(&now, object)); break;
     default: break;
@@ -1579,8 +1630,9 @@ static void check_row(uint32_t status, bool is_shown, const void *row, const voi
     CHECK(!is_shown || memcmp(row, shown, size) == 0);
 }
 
-// A row of any number, there or not.
+// A row of any number, there or not. The kernel is settled, since all rows were read, so that readers see it too.
 static void step_row(void) {
+    bool settled = one_in(2);
     uint32_t number = one_in(4) ? (uint32_t)random_bits() : (uint32_t)below(TICKETS + 2) % (one_in(2) ? 8 : TICKETS);
     uint32_t i = number - 1;
     lot_kernel *handle = PUT(&handle_place, kernel);
@@ -1588,21 +1640,24 @@ static void step_row(void) {
     case 0: {
         lot_ticket_row *row = PUT_OUTPUT(&output, lot_ticket_row);
         bool is_shown = number != 0 && number <= now.ticket_count && now.has_ticket[i];
-        uint32_t status = lot_kernel_ticket_row(handle, number, row);
+        uint32_t status = settled ? lot_kernel_settled_ticket_row(handle, number, row)
+                                  : lot_kernel_ticket_row(handle, number, row);
         check_row(status, is_shown, row, &now.tickets[is_shown ? i : 0], UP_TO(lot_ticket_row, is_active));
         break;
     }
     case 1: {
         lot_currency_row *row = PUT_OUTPUT(&output, lot_currency_row);
         bool is_shown = number < now.currency_count && now.has_currency[number];
-        uint32_t status = lot_kernel_currency_row(handle, number, row);
+        uint32_t status = settled ? lot_kernel_settled_currency_row(handle, number, row)
+                                  : lot_kernel_currency_row(handle, number, row);
         check_row(status, is_shown, row, &now.currencies[is_shown ? number : 0], UP_TO(lot_currency_row, name));
         break;
     }
     case 2: {
         lot_thread_row *row = PUT_OUTPUT(&output, lot_thread_row);
         bool is_shown = number != 0 && number <= now.thread_count && now.has_thread[i];
-        uint32_t status = lot_kernel_thread_row(handle, number, row);
+        uint32_t status = settled ? lot_kernel_settled_thread_row(handle, number, row)
+                                  : lot_kernel_thread_row(handle, number, row);
         check_row(status, is_shown, row, &now.threads[is_shown ? i : 0], UP_TO(lot_thread_row, name));
         break;
     }
@@ -1636,6 +1691,7 @@ static void step_counts(void) {
     lot_sizes *limits = PUT_OUTPUT(&output, lot_sizes);
     lot_sizes expected = sizes;
     expected.reuse = sizes.reuse != 0;
+    expected.plain_names = sizes.plain_names != 0;
     CHECK(lot_kernel_limits(handle, limits) == LOT_DONE && memcmp(limits, &expected, sizeof expected) == 0);
     check_paint(&output);
     lot_meter *meter = PUT_OUTPUT(&output, lot_meter);
@@ -1663,7 +1719,7 @@ static void step_none(void) {
     lot_reply *reply = PUT_OUTPUT(&output, lot_reply);
     void *row = reply;
     size_t *done = PUT(&second_output, count);
-    switch (below(12)) {
+    switch (below(16)) {
     case 0: status = lot_kernel_event(handle, given_event, reply); break;
     case 1: status = lot_kernel_run(handle, given_event, 1, reply, 1, done); break;
     case 2: status = lot_kernel_ticket_row(handle, number, row); break;
@@ -1675,6 +1731,10 @@ static void step_none(void) {
     case 8: status = lot_kernel_currency_count(handle, row); break;
     case 9: status = lot_kernel_limits(handle, row); break;
     case 10: status = lot_kernel_meter(handle, row); break;
+    case 11: status = lot_kernel_settle(handle); break;
+    case 12: status = lot_kernel_settled_ticket_row(handle, number, row); break;
+    case 13: status = lot_kernel_settled_currency_row(handle, number, row); break;
+    case 14: status = lot_kernel_settled_thread_row(handle, number, row); break;
     default:
         status = lot_kernel_free(handle);
         wanted = LOT_DONE;
@@ -1697,7 +1757,8 @@ static lot_sizes some_sizes(void) {
                        .scripts = one_in(16) ? 0 : from_to(1, SCRIPTS),
                        .quantum = quanta[below(8)],
                        .unit = one_in(2) ? 1 : 256,
-                       .reuse = one_in(2) ? 0 : (uint32_t)random_bits()};
+                       .reuse = one_in(2) ? 0 : (uint32_t)random_bits(),
+                       .plain_names = one_in(2) ? 0 : (uint32_t)random_bits()};
 }
 
 // Sizes of any bytes, up to the largest, or such as above with one byte changed.
@@ -1706,7 +1767,7 @@ static lot_sizes any_sizes(void) {
     if (one_in(40)) {
         return (lot_sizes){from_to(1, 65535), from_to(1, 4096), from_to(1, 4096), from_to(0, 256), from_to(0, 256),
                            from_to(1, 64),    from_to(0, 256),  from_to(1, 1000), one_in(2) ? 1 : 256,
-                           (uint32_t)random_bits()};
+                           (uint32_t)random_bits(), (uint32_t)random_bits()};
     }
     if (one_in(2)) {
         fill(&any, sizeof any);
@@ -1815,19 +1876,21 @@ static void step_generator(void) {
     check_output(&output, status);
 }
 
-// A name of any bytes, or one that is mostly a name.
+// A name of any bytes, or one that is mostly a name, or a plain one.
 static void step_name(void) {
-    static const char often[] = "azb-_09";
+    static const char often[] = "azb-_09", often_plain[] = "!/09AZ~";
+    bool is_plain = one_in(2);
     uint8_t bytes[20];
     size_t count = below(19);
     fill(bytes, sizeof bytes);
     for (size_t i = one_in(4) ? count : 0; i < count; i++) {
-        bytes[i] = one_in(20) ? bytes[i] : (uint8_t)often[below(i == 0 ? 3 : 7)];
+        bytes[i] = one_in(20) ? bytes[i] : (uint8_t)(is_plain ? often_plain : often)[below(i == 0 ? 3 : 7)];
     }
     const uint8_t *given_bytes = put(&input, bytes, count, 1);
     lot_name *name = PUT_OUTPUT(&output, lot_name);
-    uint32_t status = lot_name_new(count == 0 ? NULL : given_bytes, count, name);
-    CHECK(status == status_of_name(bytes, count));
+    uint32_t (*call)(const uint8_t *, size_t, lot_name *) = is_plain ? lot_plain_name_new : lot_name_new;
+    uint32_t status = call(count == 0 ? NULL : given_bytes, count, name);
+    CHECK(status == status_of_name(bytes, count, is_plain));
     check_input(&input);
     check_output(&output, status);
     if (status == LOT_DONE) {
@@ -1910,6 +1973,7 @@ static void fuzz_kernel(unsigned long count) {
     memset(&known, 0, sizeof known);
     known.tickets.next = known.currencies.next = known.threads.next = 1;
     known.reuse = sizes.reuse != 0;
+    known.plain_names = sizes.plain_names != 0;
     fresh = 0x5a;
     CHECK(lot_kernel_new(&sizes, &kernel) == LOT_DONE && kernel.at != NULL);
     view_kernel(&kernel, &sizes, &now);
@@ -1948,6 +2012,7 @@ static void check_all_seen(void) {
     }
     CHECK(inherited != 0 && released != 0);
     CHECK(tickets_again != 0 && currencies_again != 0 && threads_again != 0 && full_again != 0);
+    CHECK(unnamed != 0 && plainly_named != 0);
 }
 
 int main(int argc, char **argv) {
@@ -1981,6 +2046,7 @@ int main(int argc, char **argv) {
            preemptions, overruns, numbered);
     printf("ok: fuzz: %lu tickets, %lu currencies and %lu threads with a number given again\n", tickets_again,
            currencies_again, threads_again);
+    printf("ok: fuzz: %lu threads without a name, %lu with a plain one\n", unnamed, plainly_named);
     unsigned long killed = 0;
     for (uint32_t status = 0; status <= LOT_STATUS_ASLEEP; status++) {
         killed += kills[status];

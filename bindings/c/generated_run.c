@@ -6,14 +6,15 @@
 // gets a third of the events: in it threads, tickets and currencies are born and die for as long as it lasts, far more
 // than it has room for at once. The fourth has the largest sizes and gives numbers again; it gets a hundredth of the
 // events, since it fills up with tickets that fund each other, and each draw then settles many. The others are small,
-// with a larger one now and then, until there are EVENTS. A third of them give numbers again. Threads, tickets and
-// currencies come and go all the time, and some events are hostile.
+// with a larger one now and then, until there are EVENTS. A third of them give numbers again, and a third have plain
+// names, as the fourth kernel has. Threads, tickets and currencies come and go all the time, a quarter of the threads
+// have no name, and some events are hostile.
 // Compared with the model are
 //   - of each event the status and the reply. In a small kernel the model holds each lottery itself, over values that
 //     it computes from the tickets. In a larger one it holds one of many, and each in which the kernel finds nobody
 //     worth anything; of the others it takes the winner and the total from the kernel, if that winner may win;
 //   - of each kernel at its end, and of the one at hand after each million events, all rows, runners and counts;
-//   - after some events a single row.
+//   - after some events a single row, half of them by the calls for readers.
 // And a kernel that gives numbers again is full only while as many exist as its sizes say.
 //
 // The events depend on the two arguments alone. The nth kernel has the seed SEED + n - 1, so one that fails comes again
@@ -70,7 +71,10 @@ static struct {
 static struct {
     uint64_t events, kernels, rows, no_events;
     uint64_t births, exits, kills, removals;
-    uint64_t full; // refusals where numbers are given again
+    uint64_t full;         // refusals where numbers are given again
+    uint64_t unnamed;      // threads born without a name
+    uint64_t plain;        // threads born with a plain name
+    uint64_t bad_names[2]; // where names are good names, and where they are plain ones
     uint64_t kinds[KINDS], outcomes[LOT_OUTCOME_SLEPT + 1], reasons[REASONS];
 } total;
 
@@ -112,9 +116,9 @@ static void print_place(const char *what) {
            (unsigned long long)run.events, (unsigned long long)kernel_seed, (unsigned long long)events_wanted,
            (unsigned long long)kernel_seed);
     printf("sizes: %u tickets, %u currencies, %u threads, %u ports, %u mutexes, %u processors, %u scripts, quantum %u, "
-           "unit %u, reuse %u\n",
+           "unit %u, reuse %u, plain names %u\n",
            sizes->tickets, sizes->currencies, sizes->threads, sizes->ports, sizes->mutexes, sizes->processors,
-           sizes->scripts, sizes->quantum, sizes->unit, sizes->reuse);
+           sizes->scripts, sizes->quantum, sizes->unit, sizes->reuse, sizes->plain_names);
 }
 
 static void fail_reply(const lot_event *event, uint32_t status, const lot_reply *got, uint32_t due,
@@ -153,23 +157,30 @@ static void compare_row(const char *what, uint32_t number, uint32_t status, bool
     }
 }
 
+// Whether the next row is read from the settled kernel.
+static bool reads_settled;
+
 static void compare_ticket(uint32_t ticket) {
     lot_ticket_row got = {.amount = 0}, wanted = {.amount = 0};
-    uint32_t status = lot_kernel_ticket_row(&kernel, ticket, &got);
+    uint32_t status = reads_settled ? lot_kernel_settled_ticket_row(&kernel, ticket, &got)
+                                    : lot_kernel_ticket_row(&kernel, ticket, &got);
     bool is_there = model_ticket_row(ticket, &wanted);
     compare_row("a ticket's row", ticket, status, is_there, &got, &wanted, UP_TO(lot_ticket_row, is_active));
 }
 
 static void compare_currency(uint32_t currency) {
     lot_currency_row got = {.value = 0}, wanted = {.value = 0};
-    uint32_t status = lot_kernel_currency_row(&kernel, currency, &got);
+    uint32_t status = reads_settled ? lot_kernel_settled_currency_row(&kernel, currency, &got)
+                                    : lot_kernel_currency_row(&kernel, currency, &got);
     bool is_there = model_currency_row(currency, &wanted);
     compare_row("a currency's row", currency, status, is_there, &got, &wanted, UP_TO(lot_currency_row, name));
 }
 
 static void compare_thread(uint32_t thread) {
     lot_thread_row got = {.value = 0}, wanted = {.value = 0};
-    uint32_t status = lot_kernel_thread_row(&kernel, thread, &got), script = 0;
+    uint32_t status = reads_settled ? lot_kernel_settled_thread_row(&kernel, thread, &got)
+                                    : lot_kernel_thread_row(&kernel, thread, &got);
+    uint32_t script = 0;
     bool is_there = model_thread_row(thread, &wanted);
     compare_row("a thread's row", thread, status, is_there, &got, &wanted, UP_TO(lot_thread_row, name));
     status = lot_kernel_script_of(&kernel, thread, &script);
@@ -212,12 +223,15 @@ static void compare_all(void) {
 }
 
 static void compare_one(void) {
+    reads_settled = one_in(2);
+    check(!reads_settled || lot_kernel_settle(&kernel) == LOT_DONE, "a kernel is settled");
     switch (below(4)) {
     case 0: compare_ticket(from_to(0, machine.ticket_count + 1)); break;
     case 1: compare_currency(from_to(0, machine.currency_count)); break;
     case 2: compare_thread(from_to(0, machine.thread_count + 1)); break;
     default: compare_runner(from_to(0, machine.sizes.processors + 1)); break;
     }
+    reads_settled = false;
 }
 
 // ---- what to name
@@ -272,10 +286,17 @@ static lot_name some_name(void) {
     return names[one_in(200) ? 0 : from_to(1, machine.name_count - 1)];
 }
 
-// A name that no currency and no thread can have.
+// For a new thread.
+static lot_name some_name_or_none(void) {
+    return one_in(4) ? lot_no_name() : some_name();
+}
+
+// A name that no currency can have, and but for the first no thread.
 static lot_name bad_name(void) {
-    static const char *const bad[] = {"", "Upper", "1st", "_x", "a b", "a.b", "-", "sixteen-letters.", "bas\x80"};
-    lot_name name = lot_name_of(bad[below(sizeof bad / sizeof *bad)]);
+    static const char *const bad[2][9] = {
+        {"", "Upper", "1st", "_x", "a b", "a.b", "-", "sixteen-letters.", "bas\x80"},
+        {"", " ", "\x7f", "a b", "tab\t", "\x1f", "sixteen letters-", "bas\x80", "\xff"}};
+    lot_name name = lot_name_of(bad[machine.sizes.plain_names][below(9)]);
     name.length = one_in(3) ? (uint32_t)(17 + below(UINT32_MAX - 17)) : name.length;
     return name;
 }
@@ -285,8 +306,20 @@ static lot_name name_of_currency(uint32_t currency) {
     return currency < machine.currency_count ? names[machine.currencies[currency].name] : some_name();
 }
 
+static bool has_no_name(uint32_t thread) {
+    return thread >= 1 && thread <= machine.thread_count && machine.threads[thread].name == NOTHING;
+}
+
 static lot_name name_of_thread(uint32_t thread) {
+    if (has_no_name(thread)) {
+        return lot_no_name();
+    }
     return thread >= 1 && thread <= machine.thread_count ? names[machine.threads[thread].name] : some_name();
+}
+
+// Whether an event is to have the thread's number: half of them, and nearly all for a thread without a name.
+static bool goes_by_number(uint32_t thread) {
+    return one_in(2) || (has_no_name(thread) && !one_in(50));
 }
 
 static uint64_t some_amount(void) {
@@ -438,7 +471,7 @@ static lot_event fund_currency(uint32_t ticket, uint32_t currency) {
 }
 
 static lot_event fund_thread(uint32_t ticket, uint32_t thread) {
-    return one_in(2) ? lot_fund_thread(ticket, thread) : lot_fund(ticket, name_of_thread(thread));
+    return goes_by_number(thread) ? lot_fund_thread(ticket, thread) : lot_fund(ticket, name_of_thread(thread));
 }
 
 static lot_event fund_something(void) {
@@ -465,7 +498,7 @@ static lot_event make_some_currency(void) {
 }
 
 static lot_event make_some_thread(void) {
-    lot_name name = some_name();
+    lot_name name = some_name_or_none();
     if (one_in(5)) {
         return lot_make_thread(name, some_script());
     }
@@ -476,7 +509,7 @@ static lot_event make_some_thread(void) {
 }
 
 static lot_event kill_thread(uint32_t thread) {
-    return one_in(2) ? lot_kill_numbered(thread) : lot_kill(name_of_thread(thread));
+    return goes_by_number(thread) ? lot_kill_numbered(thread) : lot_kill(name_of_thread(thread));
 }
 
 // The thread that this one waits for, or that that one waits for, and so on, unless it is dead.
@@ -503,7 +536,7 @@ static lot_event kill_some_thread(void) {
 }
 
 static lot_event remove_thread(uint32_t thread) {
-    return one_in(2) ? lot_remove_thread_numbered(thread) : lot_remove_thread(name_of_thread(thread));
+    return goes_by_number(thread) ? lot_remove_thread_numbered(thread) : lot_remove_thread(name_of_thread(thread));
 }
 
 // The ticket loses its target, or is removed if it has none.
@@ -619,7 +652,7 @@ static lot_event hostile(void) {
     event.amount = one_in(2) ? random_bits() : some_amount();
     event.ticket = one_in(8) ? random_bits() : any_number(machine.ticket_count);
     event.currency = one_in(4) ? bad_name() : some_name();
-    event.name = one_in(4) ? bad_name() : some_name();
+    event.name = one_in(4) ? bad_name() : some_name_or_none();
     return event;
 }
 
@@ -688,7 +721,7 @@ static lot_event make_way(void) {
     case 1: return bury_some_thread();
     case 2: return kill_some_thread();
     case 3: return waste_ticket(member(&machine.tickets_there, 1));
-    default: return lot_make_funded_in(up_to(2000), 0, some_name(), one_of(machine.sizes.scripts));
+    default: return lot_make_funded_in(up_to(2000), 0, some_name_or_none(), one_of(machine.sizes.scripts));
     }
 }
 
@@ -756,8 +789,11 @@ static void count(const lot_event *event, const lot_reply *reply) {
     bool is_kill = event->kind == LOT_KILL || event->kind == LOT_KILL_NUMBERED;
     bool is_removal = event->kind == LOT_REMOVE_THREAD || event->kind == LOT_REMOVE_THREAD_NUMBERED;
     bool is_done = reply->kind == LOT_REPLY_DONE;
+    bool is_birth = reply->kind == LOT_REPLY_THREAD || reply->kind == LOT_REPLY_FUNDED;
     total.kinds[event->kind]++;
-    total.births += reply->kind == LOT_REPLY_THREAD || reply->kind == LOT_REPLY_FUNDED;
+    total.births += is_birth;
+    total.unnamed += is_birth && event->name.length == 0;
+    total.plain += is_birth && event->name.length != 0 && machine.sizes.plain_names != 0;
     total.kills += is_kill && is_done;
     total.removals += is_removal && is_done;
     total.reasons[reply->reason] += reply->kind == LOT_REPLY_REFUSED;
@@ -783,6 +819,7 @@ static void make_event(void) {
         count(&event, &got);
     } else {
         total.no_events++;
+        total.bad_names[machine.sizes.plain_names] += status == LOT_BAD_NAME;
     }
     if (one_in(run.row_gap)) {
         compare_one();
@@ -798,7 +835,7 @@ static void say_so_far(void) {
 
 // ---- kernels
 
-static lot_sizes largest_sizes(uint32_t reuse) {
+static lot_sizes largest_sizes(uint32_t reuse, uint32_t plain_names) {
     lot_sizes sizes = {.tickets = MOST_TICKETS, .currencies = MOST_CURRENCIES, .threads = MOST_THREADS};
     sizes.ports = MOST_PORTS;
     sizes.mutexes = MOST_MUTEXES;
@@ -807,6 +844,7 @@ static lot_sizes largest_sizes(uint32_t reuse) {
     sizes.quantum = from_to(50, 1000);
     sizes.unit = one_in(2) ? 1 : 256;
     sizes.reuse = reuse;
+    sizes.plain_names = plain_names;
     return sizes;
 }
 
@@ -823,6 +861,7 @@ static lot_sizes small_sizes(uint32_t scale) {
     sizes.quantum = up_to(1000);
     sizes.unit = one_in(2) ? 1 : 256;
     sizes.reuse = one_in(3);
+    sizes.plain_names = one_in(3);
     return sizes;
 }
 
@@ -909,7 +948,7 @@ static void open_small(void) {
 }
 
 static void open_largest(uint32_t reuse, uint64_t part) {
-    lot_sizes sizes = largest_sizes(reuse);
+    lot_sizes sizes = largest_sizes(reuse, reuse);
     uint64_t events = 1 + events_wanted / part;
     open_kernel(&sizes, events, events, 1000);
 }
@@ -951,7 +990,10 @@ static void say_reasons(void) {
     printf("given again: %llu tickets, %llu currencies, %llu threads; full in spite of that: %llu\n",
            (unsigned long long)machine.free_tickets.taken, (unsigned long long)machine.free_currencies.taken,
            (unsigned long long)machine.free_threads.taken, (unsigned long long)total.full);
-    printf("no event: %llu\n", (unsigned long long)total.no_events);
+    printf("born without a name: %llu threads, with a plain one: %llu\n", (unsigned long long)total.unnamed,
+           (unsigned long long)total.plain);
+    printf("no event: %llu, by bad names: %llu, and %llu where names are plain\n", (unsigned long long)total.no_events,
+           (unsigned long long)total.bad_names[0], (unsigned long long)total.bad_names[1]);
     for (uint32_t reason = 1; reason < REASONS; reason++) {
         if (total.reasons[reason] != 0) {
             printf("refused: %s: %llu\n", lot_refusal_text(reason), (unsigned long long)total.reasons[reason]);
@@ -975,6 +1017,8 @@ static void check_all_seen(void) {
     check(is_seen(total.reasons, LOT_TRAP_REFUSAL_NOTHING_TO_REPLY, REASONS - 1), "each refusal of a trap came up");
     check(machine.free_tickets.taken != 0 && machine.free_currencies.taken != 0 && machine.free_threads.taken != 0 &&
               total.full != 0, "numbers are given again, and kernels that do so are full");
+    check(total.unnamed != 0 && total.plain != 0 && total.bad_names[0] != 0 && total.bad_names[1] != 0,
+          "threads have no name and plain ones, and names are bad");
 }
 
 int main(int argc, char **argv) {

@@ -39,8 +39,9 @@
 //
 // READERS. A call that takes a `const lot_kernel *` writes nothing except through its last pointer: neither the handle
 // nor the kernel's memory. So several threads may make such calls on one kernel at once, while no other call on it
-// runs: order the readers and the other calls by a lock for many readers or one writer, or the like. The rows of
-// listings aren't among these calls, since a row recomputes stale values.
+// runs: order the readers and the other calls by a lock for many readers or one writer, or the like. Three of the calls
+// for rows aren't among them, since they recompute stale values. lot_kernel_settle recomputes all of these, and from
+// then until the next event lot_kernel_settled_thread_row and the other two store the same rows for readers.
 //
 // SIGNAL HANDLERS. lot_kernel_new and lot_kernel_free call malloc and free, so don't call them from signal handlers,
 // nor in the forked child of a process with threads. The other calls take no memory and no lock, and keep no state
@@ -53,9 +54,10 @@
 // gives the number of bytes for any sizes. Events, rows and counts allocate nothing. lot_kernel_free frees the memory.
 // No other call allocates.
 //
-// STACK. Measured on x86-64 by bindings/c/stack_tests.c: an event takes at most 1.5 kilobytes of stack at any size of
-// the kernel, a row 0.3, lot_winner 0.2, lot_kernel_new 12.4, lot_kernel_free 5.2. The last two include glibc's malloc,
-// and the first the dynamic linker, which runs at malloc's first call. Without the linker it is 9.8.
+// STACK. Measured on x86-64 by bindings/c/stack_tests.c: an event takes at most 1.6 kilobytes of stack at any size of
+// the kernel, a row 0.3, lot_kernel_settle and lot_winner 0.2, lot_kernel_new 12.4, lot_kernel_free 5.2. The last two
+// include glibc's malloc, and lot_kernel_new the dynamic linker, which runs at malloc's first call. Without the linker
+// it is 9.8.
 //
 // SYMBOLS. The archive's member lot_c.o calls memcpy and memset, __udivti3 and __umodti3 (divisions of 128 bits, in the
 // compiler's own library), and the three functions at the end of this header. Its member heap.o defines these three,
@@ -73,16 +75,23 @@
 // holds for the old one now names the new one: forget it with the removal. A dead thread keeps its number until it is
 // removed.
 //
-// NAMES. Currencies and threads share one set of names. A dead thread keeps its name and its row until it is removed:
-// the kernel refuses to make a currency or another thread with that name, LOT_REFUSAL_NAME_TAKEN. LOT_REMOVE_THREAD
-// frees the name of a thread, and LOT_REMOVE_CURRENCY that of a currency. The limits of lot_sizes are on all that were
-// ever made, including removed ones; with `reuse`, on what exists at once.
+// NAMES. Currencies and threads share one set of names. A name is a letter a to z, followed by letters a to z, digits,
+// '_' or '-', 1 to 16 bytes in all. If the kernel was made with `plain_names` of lot_sizes, a name may have any
+// printable ASCII but the space: 1 to 16 bytes, each 33 to 126. An event with any other name has the status
+// LOT_BAD_NAME or LOT_LONG_NAME. A dead thread keeps its name and its row until it is removed: the kernel refuses to
+// make a currency or another thread with that name, LOT_REFUSAL_NAME_TAKEN. LOT_REMOVE_THREAD frees the name of a
+// thread, and LOT_REMOVE_CURRENCY that of a currency. The limits of lot_sizes are on all that were ever made, including
+// removed ones; with `reuse`, on what exists at once.
+//
+// NO NAME. A thread needs no name: make it with lot_no_name(), whose length is 0. Any number of threads may have none.
+// Refer to such a thread by its number. Except where a thread is made, a name of length 0 has the status LOT_BAD_NAME.
+// A currency always has a name.
 //
 // BY NAME OR BY NUMBER. A command refers to a currency or a thread by its name or by its number. lot_fund takes the
 // name of either. lot_fund_currency and lot_fund_thread take a number, and so do lot_make_ticket_in,
 // lot_make_funded_in, lot_remove_currency_numbered, lot_remove_thread_numbered and lot_kill_numbered. Each has the
 // effect and the refusals of the event by name. A lookup by number reads one place of a table; a lookup by name
-// compares the name with those in its bucket of an index.
+// compares the name with those in its bucket of an index. A ticket's row has both of what the ticket funds.
 //
 // SLEEP AND WAKE. A thread that runs goes to sleep by a trap, LOT_SLEEP, and no draw picks it until LOT_WAKE names its
 // number. It is ready then, with the compensation of a thread that blocks: if it used 20 of 100 ticks it weighs 5 times
@@ -137,8 +146,8 @@ extern "C" {
 
 // ---- the version
 
-// The version of this header, 0.2.0: major << 16 | minor << 8 | patch.
-#define LOT_VERSION 0x000200u
+// The version of this header, 0.3.0: major << 16 | minor << 8 | patch.
+#define LOT_VERSION 0x000300u
 
 // Returns the version of the library, to compare with LOT_VERSION.
 uint32_t lot_version(void);
@@ -153,12 +162,13 @@ typedef enum lot_status LOT_OF_UINT32 {
     LOT_NO_MEMORY = 4,     // out of memory
     LOT_BAD_KIND = 5,      // an event of a nonexistent kind
     LOT_LONG_NAME = 6,     // a name of more than 16 bytes
-    LOT_BAD_NAME = 7,      // a name that isn't a letter a to z, followed by letters a to z, digits, '_' or '-'
+    LOT_BAD_NAME = 7,      // a name of length 0 where one is needed, or with a byte that the kernel's names can't have
     LOT_NOT_THERE = 8,     // nothing exists with this number
     LOT_COUNTS_DIFFER = 9, // the numbers of events and replies differ
     LOT_BAD_SEED = 10,     // a seed or a generator's value that is 0 or above 2147483646
     LOT_NO_WINNER = 11,    // the weights sum to 0
-    LOT_TOO_LARGE = 12     // the weights sum to 2 ^ 128 or more
+    LOT_TOO_LARGE = 12,    // the weights sum to 2 ^ 128 or more
+    LOT_NOT_SETTLED = 13   // a value is stale: an event came since lot_kernel_settle
 } lot_status;
 
 // Returns the status in words, for printing: a static string, "unknown status" for any other number.
@@ -171,27 +181,33 @@ static inline const char *lot_status_text(uint32_t status) {
     case LOT_NO_MEMORY: return "out of memory";
     case LOT_BAD_KIND: return "no such kind of event";
     case LOT_LONG_NAME: return "a name has more than 16 bytes";
-    case LOT_BAD_NAME: return "a name has bytes that no name has";
+    case LOT_BAD_NAME: return "a name is empty, or has a byte that names may not have";
     case LOT_NOT_THERE: return "nothing has this number";
     case LOT_COUNTS_DIFFER: return "not as many replies as events";
     case LOT_BAD_SEED: return "a seed is out of its range";
     case LOT_NO_WINNER: return "the weights sum to 0";
     case LOT_TOO_LARGE: return "the weights sum to 2 ^ 128 or more";
+    case LOT_NOT_SETTLED: return "the kernel isn't settled";
     }
     return "unknown status";
 }
 
 // ---- names and wide numbers
 
-// A name of a currency or a thread: the first `length` of the bytes, at most 16, without a terminating 0. The library
-// pads the names that it stores with 0.
+// A name of a currency or a thread: the first `length` of the bytes, at most 16, without a terminating 0. One of length
+// 0 is no name, for a thread that has none. The library pads the names that it stores with 0.
 typedef struct lot_name {
     uint32_t length;
     uint8_t bytes[16];
 } lot_name;
 
-// Stores the name with these bytes. LOT_LONG_NAME, LOT_BAD_NAME.
+// Stores the name with these bytes, if every kernel takes it: a letter a to z, followed by letters a to z, digits, '_'
+// or '-'. LOT_LONG_NAME, LOT_BAD_NAME.
 uint32_t lot_name_new(const uint8_t *bytes, size_t count, lot_name *name);
+
+// Stores the name with these bytes, if a kernel with `plain_names` takes it: 1 to 16 bytes, each 33 to 126.
+// LOT_LONG_NAME, LOT_BAD_NAME.
+uint32_t lot_plain_name_new(const uint8_t *bytes, size_t count, lot_name *name);
 
 // Returns the name with the bytes of a string. If it is too long, the call to which you pass it refuses it.
 static inline lot_name lot_name_of(const char *text) {
@@ -202,6 +218,12 @@ static inline lot_name lot_name_of(const char *text) {
         }
         name.length++;
     }
+    return name;
+}
+
+// Returns no name: that of a thread without one, which only its number refers to. So does lot_name_of("").
+static inline lot_name lot_no_name(void) {
+    lot_name name = {0, {0}};
     return name;
 }
 
@@ -251,12 +273,14 @@ typedef struct lot_sizes {
     uint32_t reuse;      // 0 if each number is given once. Otherwise the numbers of removed tickets, currencies and
                          // threads are given again, the last removed first, and the first three sizes count what
                          // exists at once. The kernel keeps it as 0 or 1
+    uint32_t plain_names; // 0 if a name is a letter a to z, followed by letters a to z, digits, '_' or '-'. Otherwise
+                          // it may have any printable ASCII but the space. The kernel keeps it as 0 or 1
 } lot_sizes;
 
 // Returns sizes to begin with, for 16 threads: 64 tickets, 16 currencies, 2 ports, mutexes and processors, 1 script, a
-// quantum of 100 ticks and a unit of 1; no number is given again. Change any of them.
+// quantum of 100 ticks and a unit of 1; no number is given again, and no plain names. Change any of them.
 static inline lot_sizes lot_sizes_small(void) {
-    lot_sizes sizes = {64, 16, 16, 2, 2, 2, 1, 100, 1, 0};
+    lot_sizes sizes = {64, 16, 16, 2, 2, 2, 1, 100, 1, 0, 0};
     return sizes;
 }
 
@@ -282,8 +306,8 @@ typedef enum lot_event_kind LOT_OF_UINT32 {
     LOT_REMOVE_CURRENCY = 4, // currency
     LOT_FUND = 5,            // ticket, name: the currency or thread to be funded
     LOT_UNFUND = 6,          // ticket
-    LOT_MAKE_THREAD = 7,     // name, script (1 to `scripts`)
-    LOT_MAKE_FUNDED = 8,     // amount, currency, name, script: a thread, and a new ticket that funds it
+    LOT_MAKE_THREAD = 7,     // name (or none), script (1 to `scripts`)
+    LOT_MAKE_FUNDED = 8,     // amount, currency, name (or none), script: a thread, and a new ticket that funds it
     LOT_LIST_TICKETS = 9,    // no field; read a listing row by row with the calls below
     LOT_LIST_CURRENCIES = 10,
     LOT_LIST_THREADS = 11,
@@ -309,7 +333,7 @@ typedef enum lot_event_kind LOT_OF_UINT32 {
     LOT_FUND_CURRENCY = 30,            // ticket, object: the currency to fund
     LOT_FUND_THREAD = 31,              // ticket, object: the thread to fund
     LOT_REMOVE_THREAD_NUMBERED = 32,   // object: the thread
-    LOT_MAKE_FUNDED_IN = 33,           // amount, object: the currency, name, script
+    LOT_MAKE_FUNDED_IN = 33,           // amount, object: the currency, name (or none), script
     LOT_KILL = 34,                     // name: a thread that isn't dead
     LOT_KILL_NUMBERED = 35             // object: such a thread, by its number
 } lot_event_kind;
@@ -410,13 +434,13 @@ static inline lot_event lot_unfund(uint64_t ticket) {
     return LOT_EVENT(LOT_UNFUND, 0, 0, 0, 0, 0, {0, 0}, 0, ticket, {0, {0}}, {0, {0}});
 }
 
-// Makes a thread with this name and script, 1 to `scripts`. Nothing funds it yet.
+// Makes a thread with this name, or lot_no_name(), and this script, 1 to `scripts`. Nothing funds it yet.
 static inline lot_event lot_make_thread(lot_name name, uint32_t script) {
     return LOT_EVENT(LOT_MAKE_THREAD, 0, 0, 0, 0, script, {0, 0}, 0, 0, {0, {0}}, name);
 }
 
-// Makes a thread with this name and script, 1 to `scripts`, and a ticket of this amount, 1 to 4294967295, which is
-// issued in the currency and funds the thread.
+// Makes a thread with this name, or lot_no_name(), and this script, 1 to `scripts`, and a ticket of this amount, 1 to
+// 4294967295, which is issued in the currency and funds the thread.
 static inline lot_event lot_make_funded(uint64_t amount, lot_name currency, lot_name name, uint32_t script) {
     return LOT_EVENT(LOT_MAKE_FUNDED, 0, 0, 0, 0, script, {0, 0}, amount, 0, currency, name);
 }
@@ -589,7 +613,8 @@ static inline const char *lot_outcome_text(uint32_t outcome) {
 }
 
 // The reasons for refusing an event or a trap. The numbers are those of docs/FORMATS.md, as in the program's output.
-// The kernel checks in this order, and the first check that fails is the reason:
+// The kernel checks in this order, and the first check that fails is the reason. For a thread without a name it
+// leaves out NAME_TAKEN:
 //
 //     LOT_MAKE_TICKET        BAD_AMOUNT, NO_CURRENCY, FULL
 //     LOT_REMOVE_TICKET      NO_TICKET, FUNDING
@@ -713,8 +738,8 @@ static inline bool lot_goes_on(const lot_reply *reply) {
     return reply->kind == LOT_REPLY_TRAPPED && reply->goes_on;
 }
 
-// Makes one event and stores its reply. LOT_NO_KERNEL, LOT_BAD_KIND, LOT_LONG_NAME, LOT_BAD_NAME. Of two bad names the
-// status is the currency's.
+// Makes one event and stores its reply. LOT_NO_KERNEL, LOT_BAD_KIND, LOT_LONG_NAME, LOT_BAD_NAME: the kernel's sizes
+// say which names it takes. Of two bad names the status is the currency's.
 uint32_t lot_kernel_event(lot_kernel *kernel, const lot_event *event, lot_reply *reply);
 
 // Makes events in order and stores the reply to each at its index, up to the first event with a status other than
@@ -725,12 +750,21 @@ uint32_t lot_kernel_run(lot_kernel *kernel, const lot_event *events, size_t even
 
 // ---- rows of listings
 
+// What a ticket funds.
+typedef enum lot_target_kind LOT_OF_UINT32 {
+    LOT_TARGET_NONE = 0,     // nothing; target_number is 0
+    LOT_TARGET_CURRENCY = 1, // target_number: the currency, from 0
+    LOT_TARGET_THREAD = 2    // target_number: the thread, from 1
+} lot_target_kind;
+
 typedef struct lot_ticket_row {
     uint64_t value; // in base units; 0 if it is inactive
     uint32_t amount;
-    lot_name issuer; // the currency that issues it
-    lot_name target; // the currency or thread that it funds, if has_target
-    bool has_target;
+    lot_name issuer;        // the currency that issues it
+    lot_name target;        // the name of what it funds, if has_target; of length 0 for a thread without a name
+    uint32_t target_kind;   // lot_target_kind
+    uint32_t target_number; // the currency or thread that it funds
+    bool has_target;        // whether it funds anything
     bool is_active;
 } lot_ticket_row;
 
@@ -767,7 +801,7 @@ typedef struct lot_thread_row {
     uint64_t quanta; // the draws that it has won
     uint64_t ticks;  // the total of ticks that it has run
     lot_thread_status status;
-    lot_name name;
+    lot_name name; // of length 0 if it has none
 } lot_thread_row;
 
 // Store the row of the ticket, currency or thread with this number. LOT_NO_KERNEL, LOT_NOT_THERE. They recompute stale
@@ -776,6 +810,15 @@ typedef struct lot_thread_row {
 uint32_t lot_kernel_ticket_row(lot_kernel *kernel, uint32_t ticket, lot_ticket_row *row);
 uint32_t lot_kernel_currency_row(lot_kernel *kernel, uint32_t currency, lot_currency_row *row);
 uint32_t lot_kernel_thread_row(lot_kernel *kernel, uint32_t thread, lot_thread_row *row);
+
+// Recomputes all stale values, and counts that; later replies don't depend on it. LOT_NO_KERNEL.
+uint32_t lot_kernel_settle(lot_kernel *kernel);
+
+// Store the same rows, and only read. LOT_NO_KERNEL, LOT_NOT_SETTLED, LOT_NOT_THERE. A kernel is settled after
+// lot_kernel_settle, and stays so at least until an event that isn't refused.
+uint32_t lot_kernel_settled_ticket_row(const lot_kernel *kernel, uint32_t ticket, lot_ticket_row *row);
+uint32_t lot_kernel_settled_currency_row(const lot_kernel *kernel, uint32_t currency, lot_currency_row *row);
+uint32_t lot_kernel_settled_thread_row(const lot_kernel *kernel, uint32_t thread, lot_thread_row *row);
 
 typedef struct lot_runner {
     uint32_t thread;

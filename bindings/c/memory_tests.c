@@ -94,19 +94,21 @@ static uint64_t takes_what_it_says(const lot_sizes *sizes) {
     return bytes;
 }
 
-// To give numbers again takes 4 bytes for each ticket, currency and thread, and for base.
+// To give numbers again takes 4 bytes for each ticket, currency and thread, and for base. Plain names take nothing.
 static void takes_as_much(lot_sizes sizes) {
-    sizes.reuse = 0;
+    sizes.reuse = sizes.plain_names = 0;
     uint64_t once = takes_what_it_says(&sizes);
+    sizes.plain_names = UINT32_MAX;
+    CHECK(takes_what_it_says(&sizes) == once);
     sizes.reuse = UINT32_MAX;
     CHECK(takes_what_it_says(&sizes) == once + 4 * (sizes.tickets + sizes.currencies + sizes.threads + UINT64_C(1)));
 }
 
 // The smallest sizes, those of lot_sizes_small, some between and the largest; none for sizes out of their bounds.
 static void bytes_of_kernels(void) {
-    const lot_sizes least = {1, 1, 1, 0, 0, 1, 0, 1, 1, 0}, small = lot_sizes_small();
-    const lot_sizes between = {3001, 77, 1023, 5, 19, 7, 256, 1000, 256, 0};
-    const lot_sizes largest = {65535, 4096, 4096, 256, 256, 64, 256, 1000, 256, 0};
+    const lot_sizes least = {1, 1, 1, 0, 0, 1, 0, 1, 1, 0, 0}, small = lot_sizes_small();
+    const lot_sizes between = {3001, 77, 1023, 5, 19, 7, 256, 1000, 256, 0, 0};
+    const lot_sizes largest = {65535, 4096, 4096, 256, 256, 64, 256, 1000, 256, 0, 0};
     lot_sizes bad = small;
     uint64_t bytes = 77;
     bad.threads = 4097;
@@ -137,6 +139,7 @@ static void no_more(void) {
     event = lot_lock(1, 0, 1);
     CHECK(lot_kernel_event(&kernel, &event, &reply) == LOT_DONE && reply.outcome == LOT_OUTCOME_LOCKED);
     CHECK(lot_kernel_thread_row(&kernel, 1, &row) == LOT_DONE && row.value == 3);
+    CHECK(lot_kernel_settle(&kernel) == LOT_DONE && lot_kernel_settled_thread_row(&kernel, 1, &row) == LOT_DONE);
     const lot_event again[4] = {lot_make_ticket_in(5, 0), lot_remove_ticket(2), lot_make_ticket_in(5, 0),
                                 lot_remove_ticket(2)};
     for (int i = 0; i < 1000; i++) {
@@ -145,6 +148,16 @@ static void no_more(void) {
     CHECK(asked == before);
     CHECK(lot_kernel_free(&kernel) == LOT_DONE && held == 0);
     puts("ok: nothing takes memory after the start");
+}
+
+// Reads each row of a kernel with one thread and its ticket of 7 base by the calls for readers. They have this status.
+static void read_settled_rows(const lot_kernel *kernel, uint32_t status) {
+    lot_ticket_row ticket = {.value = 7};
+    lot_currency_row currency = {.value = 7};
+    lot_thread_row thread = {.value = 7};
+    CHECK(lot_kernel_settled_ticket_row(kernel, 1, &ticket) == status && ticket.value == 7);
+    CHECK(lot_kernel_settled_currency_row(kernel, 0, &currency) == status && currency.value == 7);
+    CHECK(lot_kernel_settled_thread_row(kernel, 1, &thread) == status && thread.value == 7);
 }
 
 // The kernel and its handle lie in pages that can't be written to while they are read. The last event leaves stale
@@ -159,7 +172,7 @@ static void readers_write_nothing(void) {
     *kernel = lot_kernel_none();
     CHECK(lot_kernel_new(&SIZES, kernel) == LOT_DONE);
     const lot_event events[3] = {lot_make_funded(3, lot_name_of("base"), lot_name_of("a"), 1),
-                                 lot_draw(1, lot_wide_of(1)), lot_make_ticket(7, lot_name_of("base"))};
+                                 lot_draw(1, lot_wide_of(1)), lot_set_ticket(1, 7)};
     lot_reply replies[3];
     size_t done;
     CHECK(lot_kernel_run(kernel, events, 3, replies, 3, &done) == LOT_DONE && done == 3);
@@ -171,10 +184,15 @@ static void readers_write_nothing(void) {
     CHECK(lot_kernel_runner(kernel, 1, &runner) == LOT_DONE && runner.thread == 1 && runner.used == 0);
     CHECK(lot_kernel_script_of(kernel, 1, &script) == LOT_DONE && script == 1);
     CHECK(lot_kernel_script_of(kernel, 2, &script) == LOT_NOT_THERE && script == 1);
-    CHECK(lot_kernel_ticket_count(kernel, &tickets) == LOT_DONE && tickets == 2);
+    CHECK(lot_kernel_ticket_count(kernel, &tickets) == LOT_DONE && tickets == 1);
     CHECK(lot_kernel_currency_count(kernel, &currencies) == LOT_DONE && currencies == 1);
     CHECK(lot_kernel_limits(kernel, &sizes) == LOT_DONE && sizes.quantum == 100);
     CHECK(lot_kernel_meter(kernel, &meter) == LOT_DONE && meter.ticket_reads > 0);
+    read_settled_rows(kernel, LOT_NOT_SETTLED);
+    CHECK(mprotect(pages.first, pages.size, PROT_READ | PROT_WRITE) == 0);
+    CHECK(lot_kernel_settle(kernel) == LOT_DONE);
+    CHECK(mprotect(pages.first, pages.size, PROT_READ) == 0);
+    read_settled_rows(kernel, LOT_DONE);
     CHECK(mprotect(pages.first, pages.size, PROT_READ | PROT_WRITE) == 0);
     CHECK(lot_kernel_free(kernel) == LOT_DONE && held == 0);
     CHECK(munmap(pages.first, pages.size) == 0);

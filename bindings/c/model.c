@@ -6,7 +6,9 @@
 #include <string.h>
 
 struct machine machine;
-lot_name names[MOST_NAMES];
+const lot_name *names;
+
+static lot_name good_names[MOST_NAMES], plain_names[MOST_NAMES];
 
 static struct neighbours issued_tickets[MOST_TICKETS + 1], backing_tickets[MOST_TICKETS + 1];
 static struct neighbours waiting_threads[MOST_THREADS + 1], owned_mutexes[MOST_MUTEXES + 1];
@@ -98,29 +100,43 @@ static bool is_digit(uint8_t byte) {
     return byte >= '0' && byte <= '9';
 }
 
-// A letter, the name's place, and up to ten bytes more.
-static void spell(uint32_t place) {
-    static const char more[] = "_-x_y-0z_9";
+// A byte, the name's place, and up to eleven bytes more, of which the first is no digit.
+static lot_name spelled(char first, uint32_t place, const char *more) {
     char text[32];
-    int length = snprintf(text, sizeof text, "%c%u_%.*s", (int)('a' + place % 26), (unsigned)place,
-                          (int)(place / 3 % 11), more);
-    names[place].length = length < 16 ? (uint32_t)length : 16;
-    memcpy(names[place].bytes, text, names[place].length);
+    int length = snprintf(text, sizeof text, "%c%u%.*s", first, (unsigned)place, (int)(1 + place / 3 % 11), more);
+    lot_name name = {length < 16 ? (uint32_t)length : 16, {0}};
+    memcpy(name.bytes, text, name.length);
+    return name;
+}
+
+// Each byte that a plain name may have is a name of its own, or begins one.
+static lot_name plain_name(uint32_t place) {
+    if (place <= 94 && place % 3 == 1) {
+        return (lot_name){1, {(uint8_t)(32 + place)}};
+    }
+    return spelled((char)(33 + place % 94), place, "/~!A.Z{`@|#");
 }
 
 void model_spell(void) {
-    names[0] = lot_name_of("base");
+    good_names[0] = plain_names[0] = lot_name_of("base");
     for (uint32_t place = 1; place < MOST_NAMES; place++) {
-        spell(place);
+        good_names[place] = spelled((char)('a' + place % 26), place, "__-x_y-0z_9");
+        plain_names[place] = plain_name(place);
     }
 }
 
-// The place of a name, or NOTHING.
-static uint32_t place_of(const lot_name *name) {
-    uint32_t place = 0;
+// The place that a name has if it is one of the names.
+static uint32_t place_meant(const lot_name *name) {
+    uint32_t place = name->length == 1 ? name->bytes[0] - 32u : 0;
     for (uint32_t i = 1; i < name->length && is_digit(name->bytes[i]) && place < MOST_NAMES; i++) {
         place = 10 * place + (uint32_t)(name->bytes[i] - '0');
     }
+    return place;
+}
+
+// The place of a name, or NOTHING, also for no name.
+static uint32_t place_of(const lot_name *name) {
+    uint32_t place = place_meant(name);
     bool is_it = place < machine.name_count && names[place].length == name->length &&
                  memcmp(names[place].bytes, name->bytes, name->length) == 0;
     return is_it ? place : NOTHING;
@@ -140,11 +156,27 @@ static bool is_good_name(const lot_name *name) {
     return name->length > 0 && is_letter(name->bytes[0]) && i >= name->length;
 }
 
+// Commands.is_plain_name
+static bool is_plain_name(const lot_name *name) {
+    uint32_t i = 0;
+    while (i < name->length && name->bytes[i] > ' ' && name->bytes[i] <= '~') {
+        i++;
+    }
+    return name->length > 0 && i == name->length;
+}
+
+// Commands.is_name
 static uint32_t status_of_name(const lot_name *name) {
     if (name->length > sizeof name->bytes) {
         return LOT_LONG_NAME;
     }
-    return is_good_name(name) ? LOT_DONE : LOT_BAD_NAME;
+    bool is_name = machine.sizes.plain_names != 0 ? is_plain_name(name) : is_good_name(name);
+    return is_name ? LOT_DONE : LOT_BAD_NAME;
+}
+
+// Commands.is_thread_name
+static uint32_t status_of_thread_name(const lot_name *name) {
+    return name->length == 0 ? LOT_DONE : status_of_name(name);
 }
 
 // Commands.target_named
@@ -489,12 +521,19 @@ static uint32_t new_ticket(uint64_t amount, uint32_t issuer) {
     return ticket;
 }
 
+// What has the name at this place from now on; of a thread without a name it is NOTHING.
+static void hold(uint32_t place, struct target holder) {
+    if (place != NOTHING) {
+        machine.holders[place] = holder;
+    }
+}
+
 static uint32_t new_thread(const lot_name *name, uint32_t script) {
     uint32_t thread = give(&machine.free_threads, &machine.thread_count, machine.thread_count + 1);
     uint32_t place = place_of(name);
     machine.threads[thread] =
         (struct thread){.exists = true, .name = place, .script = script, .status = LOT_STATUS_READY};
-    machine.holders[place] = (struct target){TO_THREAD, thread};
+    hold(place, (struct target){TO_THREAD, thread});
     add(&machine.threads_there, thread);
     return thread;
 }
@@ -503,7 +542,7 @@ static uint32_t new_currency(const lot_name *name) {
     uint32_t currency = give(&machine.free_currencies, &machine.currency_count, machine.currency_count);
     uint32_t place = place_of(name);
     machine.currencies[currency] = (struct currency){.exists = true, .name = place};
-    machine.holders[place] = (struct target){TO_CURRENCY, currency};
+    hold(place, (struct target){TO_CURRENCY, currency});
     add(&machine.currencies_there, currency);
     return currency;
 }
@@ -583,7 +622,7 @@ static uint32_t remove_currency_of(uint32_t currency, lot_reply *reply) {
         return LOT_REFUSAL_IN_USE;
     }
     it->exists = false;
-    machine.holders[it->name] = (struct target){UNFUNDED, 0};
+    hold(it->name, (struct target){UNFUNDED, 0});
     drop(&machine.currencies_there, currency);
     give_back(&machine.free_currencies, currency);
     reply->kind = LOT_REPLY_DONE;
@@ -739,7 +778,7 @@ static uint32_t remove_thread_of(uint32_t thread, lot_reply *reply) {
         return LOT_REFUSAL_IN_USE;
     }
     it->exists = false;
-    machine.holders[it->name] = (struct target){UNFUNDED, 0};
+    hold(it->name, (struct target){UNFUNDED, 0});
     drop(&machine.threads_there, thread);
     drop(&machine.dead_there, thread);
     give_back(&machine.free_threads, thread);
@@ -1250,12 +1289,12 @@ static uint32_t status_of(const lot_event *event) {
     case LOT_REMOVE_CURRENCY: return status_of_name(&event->currency);
     case LOT_MAKE_FUNDED:
         status = status_of_name(&event->currency);
-        return status != LOT_DONE ? status : status_of_name(&event->name);
+        return status != LOT_DONE ? status : status_of_thread_name(&event->name);
+    case LOT_MAKE_THREAD:
+    case LOT_MAKE_FUNDED_IN: return status_of_thread_name(&event->name);
     case LOT_MAKE_CURRENCY:
     case LOT_FUND:
-    case LOT_MAKE_THREAD:
     case LOT_REMOVE_THREAD:
-    case LOT_MAKE_FUNDED_IN:
     case LOT_KILL: return status_of_name(&event->name);
     default: break;
     }
@@ -1293,6 +1332,7 @@ void model_open(const lot_sizes *sizes, uint64_t every) {
     memset(machine.ports, 0, (sizes->ports + 1) * sizeof *machine.ports);
     memset(machine.mutexes, 0, (sizes->mutexes + 1) * sizeof *machine.mutexes);
     memset(machine.runners, 0, sizeof machine.runners);
+    names = sizes->plain_names != 0 ? plain_names : good_names;
     machine.name_count = 2 + 3 * (sizes->threads + sizes->currencies);
     memset(machine.holders, 0, machine.name_count * sizeof *machine.holders);
     new_currency(&names[0]);
@@ -1301,16 +1341,22 @@ void model_open(const lot_sizes *sizes, uint64_t every) {
 
 // ---- rows (Rows)
 
+static lot_name name_at(uint32_t place) {
+    return place == NOTHING ? (lot_name){0, {0}} : names[place];
+}
+
 static lot_name name_of(struct target target) {
     switch (target.kind) {
     case UNFUNDED: break;
-    case TO_CURRENCY: return names[machine.currencies[target.number].name];
-    case TO_THREAD: return names[machine.threads[target.number].name];
+    case TO_CURRENCY: return name_at(machine.currencies[target.number].name);
+    case TO_THREAD: return name_at(machine.threads[target.number].name);
     }
     return (lot_name){0, {0}};
 }
 
 bool model_ticket_row(uint32_t ticket, lot_ticket_row *row) {
+    static const uint32_t kinds[] = {
+        [UNFUNDED] = LOT_TARGET_NONE, [TO_CURRENCY] = LOT_TARGET_CURRENCY, [TO_THREAD] = LOT_TARGET_THREAD};
     if (!is_ticket(ticket)) {
         return false;
     }
@@ -1321,6 +1367,8 @@ bool model_ticket_row(uint32_t ticket, lot_ticket_row *row) {
     row->amount = it->amount;
     row->issuer = name_of((struct target){TO_CURRENCY, it->issuer});
     row->target = name_of(it->target);
+    row->target_kind = kinds[it->target.kind];
+    row->target_number = it->target.number;
     row->has_target = it->target.kind != UNFUNDED;
     row->is_active = is_active(ticket);
     return true;

@@ -73,7 +73,7 @@ struct currency {
 
 struct thread {
     bool exists;
-    uint32_t name; // its place among the names
+    uint32_t name; // its place among the names, NOTHING if it has none
     uint32_t script;
     lot_thread_status_kind status;
     uint32_t place;        // the processor, port, server or mutex of its status, 0 if it has none
@@ -118,8 +118,8 @@ struct machine {
 
 extern struct machine machine;
 
-// All names, base first; model_spell fills them in.
-extern lot_name names[MOST_NAMES];
+// The names that the kernel at hand takes, base first; model_spell fills them in, and model_open picks them.
+extern const lot_name *names;
 void model_spell(void);
 
 // The opening state of a kernel with these sizes.

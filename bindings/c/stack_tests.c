@@ -54,6 +54,8 @@ static void new_kernel(void) { status = lot_kernel_new(&sizes, &kernel); }
 static void free_kernel(void) { status = lot_kernel_free(&kernel); }
 static void do_event(void) { status = lot_kernel_event(&kernel, &event, &reply); }
 static void read_row(void) { status = lot_kernel_thread_row(&kernel, 1, &row); }
+static void settle(void) { status = lot_kernel_settle(&kernel); }
+static void read_settled_row(void) { status = lot_kernel_settled_thread_row(&kernel, 1, &row); }
 
 static void hold_lottery(void) {
     lot_wide number = lot_wide_of(7);
@@ -144,11 +146,13 @@ int main(void) {
     must_be_at_most("lot_kernel_event", taken_by_events(), 3 * 1024);
     must_be_at_most("lot_kernel_thread_row", taken_by(read_row), 2 * 1024);
     must_be_at_most("lot_kernel_free", taken_by(free_kernel), 6 * 1024);
-    sizes = (lot_sizes){65535, 4096, 4096, 256, 256, 64, 256, 1000, 256, 1};
+    sizes = (lot_sizes){65535, 4096, 4096, 256, 256, 64, 256, 1000, 256, 1, 1};
     must_be_at_most("lot_kernel_new, largest", taken_by(new_kernel), 14 * 1024);
     must_be_at_most("lot_kernel_event, largest", taken_by_chain(), 3 * 1024);
     must_be_at_most("lot_kernel_thread_row, largest", taken_by(read_row), 2 * 1024);
     must_be_at_most("lot_kernel_event, a kill", taken_by_kill(), 3 * 1024);
+    must_be_at_most("lot_kernel_settle", taken_by(settle), 2 * 1024);
+    must_be_at_most("lot_kernel_settled_thread_row", taken_by(read_settled_row), 2 * 1024);
     must_be_at_most("lot_kernel_free, largest", taken_by(free_kernel), 6 * 1024);
     weights[0] = lot_wide_of(1);
     must_be_at_most("lot_winner", taken_by(hold_lottery), 1024);

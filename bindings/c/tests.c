@@ -76,6 +76,19 @@ static bool is_name(lot_name name, const char *text) {
     return memcmp(&name, &meant, sizeof name) == 0;
 }
 
+// The status of an event, whose reply doesn't matter.
+static uint32_t status_of(lot_kernel *kernel, lot_event event) {
+    lot_reply reply;
+    return lot_kernel_event(kernel, &event, &reply);
+}
+
+// Whether the ticket funds what has this number.
+static bool funds(lot_kernel *kernel, uint32_t ticket, uint32_t kind, uint32_t number) {
+    lot_ticket_row row;
+    CHECK(lot_kernel_ticket_row(kernel, ticket, &row) == LOT_DONE && row.has_target == (kind != LOT_TARGET_NONE));
+    return row.target_kind == kind && row.target_number == number;
+}
+
 // ---- rows of worked kernels
 
 // Five threads with 10, 2, 5, 1 and 2 tickets: who holds which number.
@@ -141,7 +154,8 @@ static void currency_graph(void) {
     CHECK(lot_kernel_ticket_row(&kernel, 3, &ticket) == LOT_DONE);
     CHECK(is_name(ticket.issuer, "alice") && ticket.has_target && is_name(ticket.target, "task1"));
     CHECK(!ticket.is_active && ticket.value == 0 && ticket.amount == 100);
-    CHECK(answer(&kernel, lot_unfund(3)).kind == LOT_REPLY_DONE);
+    CHECK(funds(&kernel, 3, LOT_TARGET_CURRENCY, 3) && funds(&kernel, 8, LOT_TARGET_THREAD, 3));
+    CHECK(answer(&kernel, lot_unfund(3)).kind == LOT_REPLY_DONE && funds(&kernel, 3, LOT_TARGET_NONE, 0));
     CHECK(lot_kernel_ticket_row(&kernel, 3, &ticket) == LOT_DONE && !ticket.has_target && ticket.target.length == 0);
     CHECK(answer(&kernel, lot_remove_ticket(3)).kind == LOT_REPLY_DONE);
     CHECK(lot_kernel_ticket_row(&kernel, 3, &ticket) == LOT_NOT_THERE);
@@ -245,7 +259,7 @@ static void numbered(void) {
 
 // Sizes for two tickets, currencies and threads at once. The next one gets the number that was given up last.
 static void given_again(void) {
-    const lot_sizes sizes = {2, 2, 2, 0, 0, 1, 1, 100, 1, 1};
+    const lot_sizes sizes = {2, 2, 2, 0, 0, 1, 1, 100, 1, 1, 0};
     const lot_name c = lot_name_of("c"), d = lot_name_of("d");
     lot_kernel kernel = made(&sizes);
     CHECK(funded(&kernel, 10, "base", "a").thread == 1 && funded(&kernel, 5, "base", "b").thread == 2);
@@ -273,6 +287,108 @@ static void given_again(void) {
     CHECK(answer(&kernel, lot_make_currency(d)).currency == 1);
     CHECK(lot_kernel_free(&kernel) == LOT_DONE);
     puts("ok: given again");
+}
+
+// Three threads without a name. Their numbers refer to them, and a name of length 0 refers to nothing.
+static void no_names(void) {
+    const lot_name none = lot_no_name();
+    lot_kernel kernel = made(&SMALL);
+    CHECK(answer(&kernel, lot_make_thread(none, 1)).thread == 1 && funded(&kernel, 10, "base", "").thread == 2);
+    lot_reply reply = answer(&kernel, lot_make_funded_in(5, 0, none, 1));
+    CHECK(reply.kind == LOT_REPLY_FUNDED && reply.ticket == 2 && reply.thread == 3);
+    CHECK(answer(&kernel, lot_make_ticket_in(20, 0)).ticket == 3 && funds(&kernel, 3, LOT_TARGET_NONE, 0));
+    const lot_event naming[8] = {lot_make_ticket(1, none), lot_make_currency(none), lot_remove_currency(none),
+                                 lot_fund(3, none), lot_remove_thread(none), lot_kill(none),
+                                 lot_make_funded(1, none, none, 1), lot_make_funded(1, none, lot_name_of("t"), 1)};
+    for (size_t i = 0; i < 8; i++) {
+        CHECK(status_of(&kernel, naming[i]) == LOT_BAD_NAME);
+    }
+    CHECK(answer(&kernel, lot_fund_thread(3, 1)).kind == LOT_REPLY_DONE);
+    for (uint32_t i = 1; i <= 3; i++) {
+        lot_ticket_row ticket;
+        CHECK(is_name(row_of(&kernel, i).name, "") && funds(&kernel, i, LOT_TARGET_THREAD, i == 3 ? 1 : i + 1));
+        CHECK(lot_kernel_ticket_row(&kernel, i, &ticket) == LOT_DONE && is_name(ticket.target, ""));
+    }
+    CHECK(is_worth(&kernel, 1, 20) && is_worth(&kernel, 2, 10) && is_worth(&kernel, 3, 5));
+    CHECK(has_won(drawn(&kernel, 1, 19), 1, 19, 35) && has_won(drawn(&kernel, 2, 9), 2, 9, 15));
+    CHECK(came_to(answer(&kernel, lot_exit(1, 0)), 1, LOT_OUTCOME_EXITED, 0));
+    CHECK(is_refused(answer(&kernel, lot_remove_thread_numbered(1)), LOT_REFUSAL_IN_USE));
+    CHECK(answer(&kernel, lot_unfund(3)).kind == LOT_REPLY_DONE);
+    CHECK(answer(&kernel, lot_remove_thread_numbered(1)).kind == LOT_REPLY_DONE && is_gone(&kernel, 1));
+    CHECK(answer(&kernel, lot_kill_numbered(2)).kind == LOT_REPLY_DONE);
+    CHECK(row_of(&kernel, 2).status.kind == LOT_STATUS_DEAD && is_name(row_of(&kernel, 2).name, ""));
+    CHECK(answer(&kernel, lot_make_thread(none, 1)).thread == 4 && has_won(drawn(&kernel, 1, 4), 3, 4, 5));
+    CHECK(lot_kernel_free(&kernel) == LOT_DONE);
+    puts("ok: no names");
+}
+
+// Room for two threads: the first one stays, and a thousand without a name come and go.
+static void no_names_given_again(void) {
+    const lot_sizes sizes = {2, 1, 2, 0, 0, 1, 1, 100, 1, 1, 0};
+    lot_kernel kernel = made(&sizes);
+    CHECK(funded(&kernel, 3, "base", "stays").thread == 1);
+    for (int i = 0; i < 1000; i++) {
+        lot_reply reply = answer(&kernel, lot_make_funded_in(7, 0, lot_no_name(), 1));
+        CHECK(reply.kind == LOT_REPLY_FUNDED && reply.ticket == 2 && reply.thread == 2);
+        CHECK(funds(&kernel, 1, LOT_TARGET_THREAD, 1) && funds(&kernel, 2, LOT_TARGET_THREAD, 2));
+        CHECK(has_won(drawn(&kernel, 1, 9), 2, 9, 10) && row_of(&kernel, 2).quanta == 1);
+        CHECK(answer(&kernel, lot_kill_numbered(2)).kind == LOT_REPLY_DONE);
+        CHECK(answer(&kernel, lot_unfund(2)).kind == LOT_REPLY_DONE);
+        CHECK(answer(&kernel, lot_remove_ticket(2)).kind == LOT_REPLY_DONE);
+        CHECK(answer(&kernel, lot_remove_thread_numbered(2)).kind == LOT_REPLY_DONE && is_gone(&kernel, 2));
+    }
+    CHECK(lot_kernel_free(&kernel) == LOT_DONE);
+    puts("ok: no names given again");
+}
+
+static bool is_good_byte(uint32_t byte, bool is_first) {
+    bool is_letter = byte >= 'a' && byte <= 'z';
+    return is_letter || (!is_first && ((byte >= '0' && byte <= '9') || byte == '_' || byte == '-'));
+}
+
+// Each byte as a name, and as its second byte: which of two kernels takes it, and which of the calls for names.
+static void bytes_of_names(lot_kernel *good, lot_kernel *plain) {
+    for (uint32_t byte = 0; byte < 256; byte++) {
+        const lot_name names[2] = {{1, {(uint8_t)byte}}, {2, {'a', (uint8_t)byte}}};
+        for (size_t i = 0; i < 2; i++) {
+            uint32_t as_good = is_good_byte(byte, i == 0) ? LOT_DONE : LOT_BAD_NAME;
+            uint32_t as_plain = byte >= 33 && byte <= 126 ? LOT_DONE : LOT_BAD_NAME;
+            lot_name name = lot_name_of("kept");
+            CHECK(status_of(good, lot_fund(99, names[i])) == as_good);
+            CHECK(lot_name_new(names[i].bytes, names[i].length, &name) == as_good);
+            CHECK(memcmp(&name, &names[i], sizeof name) == 0 || (as_good != LOT_DONE && is_name(name, "kept")));
+            name = lot_name_of("kept");
+            CHECK(status_of(plain, lot_fund(99, names[i])) == as_plain);
+            CHECK(lot_plain_name_new(names[i].bytes, names[i].length, &name) == as_plain);
+            CHECK(memcmp(&name, &names[i], sizeof name) == 0 || (as_plain != LOT_DONE && is_name(name, "kept")));
+        }
+    }
+}
+
+// With plain names the names of currencies and threads have any printable bytes, and all else is as with others.
+static void plain_names(void) {
+    lot_sizes sizes = SMALL;
+    sizes.plain_names = 7;
+    lot_kernel good = made(&SMALL), plain = made(&sizes);
+    bytes_of_names(&good, &plain);
+    const lot_name job = lot_name_of("Job#1"), bang = lot_name_of("!"), long_name = lot_name_of("~sixteen/bytes.~");
+    CHECK(answer(&plain, lot_make_currency(bang)).currency == 1);
+    CHECK(answer(&plain, lot_make_ticket(8, bang)).ticket == 1);
+    CHECK(answer(&plain, lot_make_thread(job, 1)).thread == 1 && is_name(row_of(&plain, 1).name, "Job#1"));
+    CHECK(is_refused(answer(&plain, lot_make_currency(job)), LOT_REFUSAL_NAME_TAKEN));
+    CHECK(is_refused(answer(&plain, lot_make_thread(bang, 1)), LOT_REFUSAL_NAME_TAKEN));
+    CHECK(is_refused(answer(&plain, lot_kill(lot_name_of("job#1"))), LOT_REFUSAL_NO_THREAD));
+    CHECK(answer(&plain, lot_fund(1, job)).kind == LOT_REPLY_DONE && funds(&plain, 1, LOT_TARGET_THREAD, 1));
+    CHECK(funded(&plain, 4, "base", "~sixteen/bytes.~").thread == 2 && funded(&plain, 2, "!", "").thread == 3);
+    CHECK(has_won(drawn(&plain, 1, 3), 2, 3, 4) && answer(&plain, lot_kill(long_name)).kind == LOT_REPLY_DONE);
+    CHECK(status_of(&plain, lot_make_currency(lot_no_name())) == LOT_BAD_NAME);
+    CHECK(status_of(&plain, lot_make_thread(lot_name_of("a b"), 1)) == LOT_BAD_NAME);
+    CHECK(status_of(&plain, lot_make_thread(lot_name_of("~seventeen/bytes~"), 1)) == LOT_LONG_NAME);
+    CHECK(status_of(&good, lot_kill(job)) == LOT_BAD_NAME);
+    CHECK(status_of(&good, lot_make_ticket(8, bang)) == LOT_BAD_NAME);
+    CHECK(lot_kernel_limits(&plain, &sizes) == LOT_DONE && sizes.plain_names == 1 && sizes.reuse == 0);
+    CHECK(lot_kernel_free(&plain) == LOT_DONE && lot_kernel_free(&good) == LOT_DONE);
+    puts("ok: plain names");
 }
 
 // A dead thread with a client, or with a mutex, stays.
@@ -922,7 +1038,7 @@ static bool is_unknown(const char *text) {
 static void texts(void) {
     for (uint32_t i = 0; i < 100; i++) {
         bool is_refusal = (i >= 1 && i <= 16) || (i >= 20 && i <= 24) || i == 30 || (i >= 32 && i <= 36);
-        CHECK(is_unknown(lot_status_text(i)) == (i > LOT_TOO_LARGE));
+        CHECK(is_unknown(lot_status_text(i)) == (i > LOT_NOT_SETTLED));
         CHECK(is_unknown(lot_outcome_text(i)) == (i < 1 || i > 14));
         CHECK(is_unknown(lot_refusal_text(i)) == !is_refusal);
     }
@@ -1052,6 +1168,51 @@ static void server_without_tickets(void) {
     puts("ok: server without tickets");
 }
 
+// A settled kernel shows its rows to calls that only read, until an event leaves a value stale.
+static void settled_rows(void) {
+    lot_kernel kernel = made(&SMALL);
+    const lot_kernel *reader = &kernel;
+    make_graph(&kernel);
+    lot_thread_row thread, other_thread;
+    lot_currency_row currency, other_currency;
+    lot_ticket_row ticket, other_ticket;
+    memset(&thread, 0x5a, sizeof thread);
+    other_thread = thread;
+    CHECK(lot_kernel_settled_thread_row(reader, 1, &thread) == LOT_NOT_SETTLED);
+    CHECK(lot_kernel_settled_thread_row(reader, 99, &thread) == LOT_NOT_SETTLED);
+    CHECK(lot_kernel_settled_currency_row(reader, 0, &currency) == LOT_NOT_SETTLED);
+    CHECK(lot_kernel_settled_ticket_row(reader, 1, &ticket) == LOT_NOT_SETTLED);
+    CHECK(memcmp(&thread, &other_thread, sizeof thread) == 0);
+    CHECK(lot_kernel_settle(&kernel) == LOT_DONE && lot_kernel_settle(&kernel) == LOT_DONE);
+    lot_meter before, behind;
+    CHECK(lot_kernel_meter(reader, &before) == LOT_DONE);
+    for (uint32_t i = 1; i <= 3; i++) {
+        CHECK(lot_kernel_settled_thread_row(reader, i, &thread) == LOT_DONE);
+        CHECK(lot_kernel_thread_row(&kernel, i, &other_thread) == LOT_DONE && SAME(thread, other_thread, name));
+    }
+    for (uint32_t i = 0; i <= 5; i++) {
+        CHECK(lot_kernel_settled_currency_row(reader, i, &currency) == LOT_DONE);
+        CHECK(lot_kernel_currency_row(&kernel, i, &other_currency) == LOT_DONE);
+        CHECK(SAME(currency, other_currency, name));
+    }
+    CHECK(lot_kernel_meter(reader, &behind) == LOT_DONE && before.ticket_reads == behind.ticket_reads);
+    for (uint32_t i = 1; i <= 8; i++) {
+        CHECK(lot_kernel_settled_ticket_row(reader, i, &ticket) == LOT_DONE);
+        CHECK(lot_kernel_ticket_row(&kernel, i, &other_ticket) == LOT_DONE && SAME(ticket, other_ticket, is_active));
+    }
+    CHECK(lot_kernel_settled_thread_row(reader, 4, &thread) == LOT_NOT_THERE);
+    CHECK(lot_kernel_settled_currency_row(reader, 6, &currency) == LOT_NOT_THERE);
+    CHECK(lot_kernel_settled_ticket_row(reader, 0, &ticket) == LOT_NOT_THERE);
+    CHECK(is_refused(answer(&kernel, lot_set_ticket(99, 1)), LOT_REFUSAL_NO_TICKET));
+    CHECK(lot_kernel_settled_thread_row(reader, 2, &thread) == LOT_DONE && thread.value == 600);
+    CHECK(answer(&kernel, lot_set_ticket(6, 1)).kind == LOT_REPLY_DONE);
+    CHECK(lot_kernel_settled_thread_row(reader, 2, &thread) == LOT_NOT_SETTLED && thread.value == 600);
+    CHECK(lot_kernel_settle(&kernel) == LOT_DONE);
+    CHECK(lot_kernel_settled_thread_row(reader, 2, &thread) == LOT_DONE && thread.value == 996);
+    CHECK(lot_kernel_free(&kernel) == LOT_DONE);
+    puts("ok: settled rows");
+}
+
 // ---- what no call takes
 
 // A lot_kernel that holds none: each call but lot_kernel_free says so, and all of them write nothing.
@@ -1071,6 +1232,10 @@ static void no_kernel(void) {
     CHECK(lot_kernel_ticket_row(&none, 1, (lot_ticket_row *)(void *)room) == LOT_NO_KERNEL);
     CHECK(lot_kernel_currency_row(&none, 0, (lot_currency_row *)(void *)room) == LOT_NO_KERNEL);
     CHECK(lot_kernel_thread_row(&none, 1, (lot_thread_row *)(void *)room) == LOT_NO_KERNEL);
+    CHECK(lot_kernel_settle(&none) == LOT_NO_KERNEL && none.at == NULL);
+    CHECK(lot_kernel_settled_ticket_row(&none, 1, (lot_ticket_row *)(void *)room) == LOT_NO_KERNEL);
+    CHECK(lot_kernel_settled_currency_row(&none, 0, (lot_currency_row *)(void *)room) == LOT_NO_KERNEL);
+    CHECK(lot_kernel_settled_thread_row(&none, 1, (lot_thread_row *)(void *)room) == LOT_NO_KERNEL);
     CHECK(lot_kernel_runner(&none, 1, (lot_runner *)(void *)room) == LOT_NO_KERNEL);
     CHECK(lot_kernel_script_of(&none, 1, (uint32_t *)(void *)room) == LOT_NO_KERNEL);
     CHECK(lot_kernel_ticket_count(&none, (uint32_t *)(void *)room) == LOT_NO_KERNEL);
@@ -1126,9 +1291,10 @@ static void kinds_and_names(void) {
     } names[9] = {{"", 0, LOT_BAD_NAME},          {"a b", 3, LOT_BAD_NAME},  {"Base", 4, LOT_BAD_NAME},
                   {"9a", 2, LOT_BAD_NAME},        {"a\xff", 2, LOT_BAD_NAME}, {"-a", 2, LOT_BAD_NAME},
                   {"base", 17, LOT_LONG_NAME},    {"base", UINT32_MAX, LOT_LONG_NAME}, {"base", 5, LOT_BAD_NAME}};
+    // The first three have it in the currency's place. The last three make threads, which need no name.
     static const uint32_t naming[10] = {LOT_MAKE_TICKET, LOT_REMOVE_CURRENCY, LOT_MAKE_FUNDED, LOT_MAKE_CURRENCY,
-                                        LOT_FUND, LOT_MAKE_THREAD, LOT_MAKE_FUNDED, LOT_REMOVE_THREAD,
-                                        LOT_MAKE_FUNDED_IN, LOT_KILL};
+                                        LOT_FUND, LOT_REMOVE_THREAD, LOT_KILL, LOT_MAKE_THREAD, LOT_MAKE_FUNDED,
+                                        LOT_MAKE_FUNDED_IN};
     lot_kernel kernel = made(&SMALL);
     lot_reply reply;
     memset(&reply, 0x5a, sizeof reply);
@@ -1139,7 +1305,7 @@ static void kinds_and_names(void) {
         CHECK(memcmp(&reply, &before, sizeof reply) == 0);
     }
     for (size_t k = 0; k < 10; k++) {
-        for (size_t i = 0; i < 9; i++) {
+        for (size_t i = k < 7 ? 0 : 1; i < 9; i++) {
             lot_event event = lot_make_funded(1, lot_name_of("base"), lot_name_of("fresh"), 1);
             event.kind = naming[k];
             event.ticket = 1;
@@ -1165,6 +1331,13 @@ static void names(void) {
     CHECK(lot_name_new((const uint8_t *)"sixteen-bytes-ok", 16, &name) == LOT_DONE);
     CHECK(is_name(name, "sixteen-bytes-ok"));
     CHECK(lot_name_of("a-very-long-name-indeed").length == 17);
+    CHECK(lot_name_new((const uint8_t *)"", 0, &name) == LOT_BAD_NAME && is_name(name, "sixteen-bytes-ok"));
+    CHECK(lot_plain_name_new((const uint8_t *)"", 0, &name) == LOT_BAD_NAME && is_name(name, "sixteen-bytes-ok"));
+    CHECK(lot_plain_name_new((const uint8_t *)"A.very/long=name!", 17, &name) == LOT_LONG_NAME);
+    CHECK(lot_plain_name_new((const uint8_t *)"A.very long=name", 16, &name) == LOT_BAD_NAME);
+    CHECK(is_name(name, "sixteen-bytes-ok"));
+    CHECK(lot_plain_name_new((const uint8_t *)"A.very/long=name", 16, &name) == LOT_DONE);
+    CHECK(is_name(name, "A.very/long=name") && is_name(lot_no_name(), ""));
     puts("ok: names");
 }
 
@@ -1201,7 +1374,7 @@ static uint64_t random_bits(void) {
 
 // Half of the events are bytes alone; in the others some fields are such as to mean something.
 static lot_event random_event(void) {
-    static const char *const names[8] = {"base", "a", "b", "c", "d", "e", "f", "g"};
+    static const char *const names[9] = {"base", "a", "b", "c", "d", "e", "f", "g", ""};
     lot_event event;
     for (size_t i = 0; i < sizeof event; i += 8) {
         uint64_t bits = random_bits();
@@ -1219,7 +1392,7 @@ static lot_event random_event(void) {
     event.amount = random_bits() % 1000;
     if (random_bits() % 8 != 0) {
         event.currency = lot_name_of(names[random_bits() % 8]);
-        event.name = lot_name_of(names[random_bits() % 8]);
+        event.name = lot_name_of(names[random_bits() % 9]);
     }
     // Ends and sleeps are rare, so that there is somebody to run.
     bool is_end = event.kind == LOT_EXIT || event.kind == LOT_KILL || event.kind == LOT_KILL_NUMBERED;
@@ -1326,6 +1499,9 @@ int main(int argc, char **argv) {
     removal();
     numbered();
     given_again();
+    no_names();
+    no_names_given_again();
+    plain_names();
     removal_in_use();
     killed_runner();
     killed_server();
@@ -1353,6 +1529,7 @@ int main(int argc, char **argv) {
     sleep_with_a_client();
     owner_without_tickets();
     server_without_tickets();
+    settled_rows();
     no_kernel();
     limits();
     kinds_and_names();

@@ -58,6 +58,12 @@ public:
         return row;
     }
 
+    lot_ticket_row ticket(std::uint32_t number) {
+        lot_ticket_row row;
+        must(lot_kernel_ticket_row(&kernel, number, &row));
+        return row;
+    }
+
 private:
     lot_kernel kernel = LOT_KERNEL_NONE;
 
@@ -134,6 +140,35 @@ static void kills() {
     std::puts("ok: kills");
 }
 
+// What a ticket funds, by its number where it has no name.
+static std::uint32_t funded_thread(const lot_ticket_row &row) {
+    switch (static_cast<lot_target_kind>(row.target_kind)) {
+    case LOT_TARGET_THREAD:
+        return row.target_number;
+    case LOT_TARGET_NONE:
+    case LOT_TARGET_CURRENCY:
+        break;
+    }
+    return 0;
+}
+
+// Two threads without a name, in a kernel with plain names.
+static void names() {
+    lot_sizes sizes = lot_sizes_small();
+    sizes.plain_names = 1;
+    Kernel kernel(sizes);
+    const lot_name base = lot_name_of("base");
+    CHECK(kernel.event(lot_make_funded(10, base, lot_no_name(), 1)).thread == 1);
+    CHECK(kernel.event(lot_make_funded(5, base, lot_no_name(), 1)).thread == 2);
+    CHECK(kernel.event(lot_make_currency(lot_name_of("Web/1"))).currency == 1);
+    CHECK(kernel.event(lot_make_ticket(7, base)).ticket == 3 && funded_thread(kernel.ticket(3)) == 0);
+    CHECK(kernel.event(lot_fund(3, lot_name_of("Web/1"))).kind == LOT_REPLY_DONE);
+    CHECK(funded_thread(kernel.ticket(2)) == 2 && funded_thread(kernel.ticket(3)) == 0);
+    CHECK(kernel.ticket(3).target_number == 1 && kernel.thread(2).name.length == 0);
+    CHECK(kernel.event(lot_draw(1, lot_wide_of(14))).thread == 2);
+    std::puts("ok: names");
+}
+
 static void refused_events() {
     Kernel kernel = two_threads();
     const lot_reply reply = kernel.event(lot_fund(1, lot_name_of("second")));
@@ -168,6 +203,7 @@ static void ownership() {
 int main() {
     draws_and_traps();
     kills();
+    names();
     refused_events();
     ownership();
     return 0;

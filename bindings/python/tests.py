@@ -15,7 +15,7 @@ from pathlib import Path
 from unittest import mock
 
 import lot
-from lot import EventKind, Outcome, Refusal, Refused, Reply, ReplyKind, Status, ThreadState, ThreadStatus
+from lot import EventKind, Outcome, Refusal, Refused, Reply, ReplyKind, Status, TargetKind, ThreadState, ThreadStatus
 
 NARROW, WIDE, WIDEST = 1 << 32, 1 << 64, 1 << 128
 
@@ -90,7 +90,7 @@ class Worked(unittest.TestCase):
             row = lot.CurrencyRow("task2", value=1000, active_amount=500, backing=1, issued=2)
             self.assertEqual(kernel.currency_row(4), row)
             self.assertEqual(kernel.currency_row(0).name, "base")
-            row = lot.TicketRow(0, 100, issuer="alice", target="task1", is_active=False)
+            row = lot.TicketRow(0, 100, "alice", "task1", TargetKind.CURRENCY, target_number=3, is_active=False)
             self.assertEqual(kernel.ticket_row(3), row)
             self.assertEqual((kernel.ticket_count(), kernel.currency_count(), kernel.script_of(1)), (8, 6, 1))
             self.assertEqual(kernel.sizes(), lot.Sizes(64, 16, 16, 2, 2, 2, 1, 100, 1))
@@ -130,7 +130,8 @@ class Worked(unittest.TestCase):
             self.assertEqual(drawn(50), (ReplyKind.WINNER, 2, 200))
             # More of alice's tickets for a: it takes a share of b's, and none of c's.
             self.assertEqual(kernel.set_ticket(2, 30), Reply(ReplyKind.DONE))
-            self.assertEqual(kernel.ticket_row(2), lot.TicketRow(75, 30, issuer="alice", target="a", is_active=True))
+            row = lot.TicketRow(75, 30, "alice", "a", TargetKind.THREAD, target_number=1, is_active=True)
+            self.assertEqual(kernel.ticket_row(2), row)
             self.assertEqual(drawn(50), (ReplyKind.WINNER, 1, 200))
             # Fewer of base's for alice: 20 for a and b, whose shares of them stay 3 to 1.
             self.assertEqual(kernel.set_ticket(1, 20), Reply(ReplyKind.DONE))
@@ -173,6 +174,40 @@ class Worked(unittest.TestCase):
             self.assertIs(kernel.sizes().reuse, True)
         self.assertIs(dataclasses.replace(lot.Sizes(1, 1, 1, 0, 0, 1, 0, 1, 1), reuse=2).reuse, True)
         self.assertRaises(TypeError, lot.Kernel, reuse="yes")
+
+    def test_no_names(self):
+        """Threads without a name come and go, in room for two; a number refers to each."""
+        done = Reply(ReplyKind.DONE)
+        with lot.Kernel(tickets=2, threads=2, reuse=True) as kernel:
+            self.assertEqual(kernel.make_thread(), Reply(ReplyKind.THREAD, thread=1))
+            kernel.make_ticket(3)
+            row = lot.TicketRow(0, 3, "base", None, TargetKind.NONE, target_number=None, is_active=False)
+            self.assertEqual(kernel.ticket_row(1), row)
+            self.assertEqual(kernel.fund_thread(1, 1), done)
+            for _ in range(100):
+                self.assertEqual(kernel.make_funded(None, 7, 0), Reply(ReplyKind.FUNDED, ticket=2, thread=2))
+                row = lot.TicketRow(7, 7, "base", None, TargetKind.THREAD, target_number=2, is_active=True)
+                self.assertEqual(kernel.ticket_row(2), row)
+                rows = [kernel.thread_row(thread) for thread in (1, 2)]
+                self.assertEqual([(row.name, row.value) for row in rows], [(None, 3), (None, 7)])
+                make = lot.events
+                ends = [make.kill(2), make.unfund(2), make.remove_ticket(2), make.remove_thread(2)]
+                self.assertEqual(kernel.run(ends), [done] * 4)
+            self.assertEqual(kernel.make_funded(None, amount=7, currency="base").thread, 2)
+
+    def test_plain_names(self):
+        with lot.Kernel(plain_names=True) as kernel:
+            self.assertIs(kernel.sizes().plain_names, True)
+            kernel.make_currency("~")
+            kernel.make_funded("Job#1", 4, "~")
+            self.assertEqual(kernel.thread_row(1).name, "Job#1")
+            row = lot.TicketRow(0, 4, "~", "Job#1", TargetKind.THREAD, target_number=1, is_active=True)
+            self.assertEqual(kernel.ticket_row(1), row)
+            self.assertEqual(kernel.make_currency("Job#1", check=False), refused_for(Refusal.NAME_TAKEN))
+            self.assertEqual(kernel.kill("job#1", check=False), refused_for(Refusal.NO_THREAD))
+            self.assertEqual(kernel.kill("Job#1"), Reply(ReplyKind.DONE))
+        self.assertIs(dataclasses.replace(lot.Sizes(1, 1, 1, 0, 0, 1, 0, 1, 1), plain_names=2).plain_names, True)
+        self.assertRaises(TypeError, lot.Kernel, plain_names="yes")
 
     def test_numbered(self):
         """Commands by number, where 1 is a currency and a thread. 100 of base back alice, whose 40 are a's and b's."""
@@ -315,7 +350,8 @@ class Worked(unittest.TestCase):
             self.assertEqual(kernel.draw(1, 0), Reply(ReplyKind.WINNER, thread=1, number=0, total=199))
             kernel.sleep(1)
             self.assertEqual([kernel.thread_row(thread).value for thread in (1, 2)], [0, 200])
-            self.assertEqual(kernel.ticket_row(2), lot.TicketRow(0, 2, issuer="g", target="a", is_active=False))
+            row = lot.TicketRow(0, 2, "g", "a", TargetKind.THREAD, target_number=1, is_active=False)
+            self.assertEqual(kernel.ticket_row(2), row)
             kernel.wake(1)
             self.assertEqual([kernel.thread_row(thread).value for thread in (1, 2)], [133, 66])
 
@@ -676,8 +712,27 @@ class Taken(unittest.TestCase):
                 self.assertEqual(self.status_of(kernel.make_currency, name), Status.LONG_NAME)
             for name in ["", "Base", "1a", "é", "a\0", "a\0b", "\udc80"]:
                 self.assertEqual(self.status_of(kernel.make_currency, name), Status.BAD_NAME)
+                self.assertEqual(self.status_of(kernel.make_thread, name), Status.BAD_NAME)
+                self.assertEqual(self.status_of(kernel.kill, name), Status.BAD_NAME)
             kernel.make_currency("a-16-bytes-name_")
             self.assertEqual(kernel.currency_row(1).name, "a-16-bytes-name_")
+        for byte in range(256):
+            with lot.Kernel() as good, lot.Kernel(plain_names=True) as plain:
+                for kernel, is_taken in (good, chr(byte) in "abcdefghijklmnopqrstuvwxyz"), (plain, 33 <= byte <= 126):
+                    if is_taken:
+                        kernel.make_thread(chr(byte))
+                        self.assertEqual(kernel.thread_row(1).name, chr(byte))
+                    else:
+                        self.assertEqual(self.status_of(kernel.make_thread, chr(byte)), Status.BAD_NAME)
+        with lot.Kernel(plain_names=True) as kernel:
+            for name in ["", "a b", "é", "a\0"]:
+                self.assertEqual(self.status_of(kernel.make_funded, name, 1), Status.BAD_NAME)
+            for event in [lot.events.make_currency, lot.events.kill, lot.events.remove_thread]:
+                self.assertRaises(TypeError, event, None)
+            self.assertRaises(TypeError, lot.Event, EventKind.MAKE_THREAD)
+            self.assertRaises(TypeError, lot.Event, EventKind.MAKE_THREAD, name="a")
+            self.assertRaises(TypeError, lot.Event, EventKind.FUND, ticket=1)
+            self.assertRaises(TypeError, lot.events.make_thread, 5)
 
     def test_what_no_call_takes(self):
         self.assertEqual(self.status_of(lot.Kernel, threads=4097), Status.BAD_LIMITS)
@@ -833,6 +888,7 @@ class Values(unittest.TestCase):
             (Reply(ReplyKind.DONE), "Reply(kind=ReplyKind.DONE)"),
             (lot.events.call(1, 2, 0), "Event(kind=EventKind.CALL, processor=1, ticks=0, port=2, sent=0)"),
             (lot.events.kill(3), "Event(kind=EventKind.KILL_NUMBERED, thread=3)"),
+            (lot.events.make_thread(script=2), "Event(kind=EventKind.MAKE_THREAD, script=2)"),
             (lot.Runner(1, 0), "Runner(thread=1, used=0)"),
             (ThreadStatus(ThreadState.QUEUED, other=2), "ThreadStatus(state=ThreadState.QUEUED, other=2)"),
         ]:

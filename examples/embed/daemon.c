@@ -2,7 +2,8 @@
 // processor by the tickets of their currencies, however many jobs each has.
 //
 // A million jobs come, and at most 24 are there at once. The sizes have room for no more, and `reuse` lets the next job
-// have the numbers of one that was buried: of its ticket and its thread, which are removed. It has the name too.
+// have the numbers of one that was buried: of its ticket and its thread, which are removed. A job has no name: its
+// number refers to it.
 //
 // One burst in a hundred is stuck: it would go on for ever. The daemon kills its job once it has worked for 450 ticks
 // without sleep. At that time the job runs, in the middle of a quantum. So the daemon preempts it first, which charges
@@ -74,11 +75,9 @@ static uint32_t burst(void) {
     return from_to(1, 100) == 1 ? UINT32_MAX : from_to(10, 150);
 }
 
-// Starts a job at a place, with the place's name.
+// Starts a job at a place.
 static void start(struct job *job) {
-    char name[sizeof "job-00"];
-    snprintf(name, sizeof name, "job-%u", (unsigned)(job - jobs) % 100);
-    lot_reply reply = answer(lot_make_funded_in(100, job->user->currency, lot_name_of(name), 1));
+    lot_reply reply = answer(lot_make_funded_in(100, job->user->currency, lot_no_name(), 1));
     *job = (struct job){job->user, reply.thread, reply.ticket, from_to(1, 2), burst(), 0, 0};
     job_of[job->thread] = job;
     job->user->jobs++;

@@ -26,10 +26,9 @@ WORKERS = 4
 
 @dataclass
 class Worker:
-    """A client of the server. The kernel has a thread for it from its first job on."""
+    """A client of the server. The kernel has a thread for it from its first job on, without a name."""
 
     tenant: str
-    name: str
     thread: Optional[int] = None
 
 
@@ -59,13 +58,13 @@ class Server:
 
     def add_worker(self, tenant):
         self.workers[tenant] += 1
-        return Worker(tenant, f"{tenant}-{self.workers[tenant]}")
+        return Worker(tenant)
 
     def submit(self, worker, ticks):
         """Makes or wakes a worker's thread for a job of so many ticks. The event that is triggered when it is done."""
         job = Job(worker, ticks, self.env.event())
         if worker.thread is None:
-            worker.thread = self.kernel.make_funded(worker.name, 100, worker.tenant).thread
+            worker.thread = self.kernel.make_funded(None, 100, worker.tenant).thread
         else:
             self.kernel.wake(worker.thread)
         self.jobs[worker.thread] = job

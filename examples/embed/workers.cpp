@@ -10,7 +10,6 @@
 #include <functional>
 #include <mutex>
 #include <stdexcept>
-#include <string>
 #include <thread>
 #include <vector>
 
@@ -106,8 +105,7 @@ int main() {
     sizes.processors = PROCESSORS;
     Kernel kernel(sizes);
     for (std::uint32_t task = 1; task <= TASKS; task++) {
-        const std::string name = "task-" + std::to_string(task);
-        kernel.event(lot_make_funded(tickets_of(task), lot_name_of("base"), lot_name_of(name.c_str()), 1));
+        kernel.event(lot_make_funded(tickets_of(task), lot_name_of("base"), lot_no_name(), 1));
     }
     std::vector<std::thread> processors;
     for (std::uint32_t processor = 1; processor <= PROCESSORS; processor++) {

@@ -29,10 +29,10 @@ from .events import Event
 from .kernel import Kernel
 from .library import library_version
 from .lottery import ParkMiller, weight, winner
-from .numbers import EventKind, Outcome, Refusal, ReplyKind, Status, ThreadState
+from .numbers import EventKind, Outcome, Refusal, ReplyKind, Status, TargetKind, ThreadState
 from .records import CurrencyRow, Drawn, Meter, Reply, Runner, Sizes, ThreadRow, ThreadStatus, TicketRow
 
-__version__ = "0.2.0"
+__version__ = "0.3.0"
 
 __all__ = [
     "CurrencyRow",
@@ -53,6 +53,7 @@ __all__ = [
     "Runner",
     "Sizes",
     "Status",
+    "TargetKind",
     "ThreadRow",
     "ThreadState",
     "ThreadStatus",

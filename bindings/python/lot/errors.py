@@ -18,12 +18,13 @@ _TEXTS = {
     Status.NO_MEMORY: "out of memory",
     Status.BAD_KIND: "there is no such kind of event",
     Status.LONG_NAME: "a name has more than 16 bytes",
-    Status.BAD_NAME: "a name isn't a letter a to z, and then letters a to z, digits, '_' or '-'",
+    Status.BAD_NAME: "a name is empty, or has a byte that the kernel's names may not have",
     Status.NOT_THERE: "nothing has this number",
     Status.COUNTS_DIFFER: "there are not as many replies as events",
     Status.BAD_SEED: "a seed is 1 to 2147483646",
     Status.NO_WINNER: "the weights sum to 0",
     Status.TOO_LARGE: "the weights sum to 2 ** 128 or more",
+    Status.NOT_SETTLED: "the kernel isn't settled",
 }
 
 

@@ -8,6 +8,8 @@ Event(kind=EventKind.MAKE_TICKET, amount=5, currency='alice')
 Event(kind=EventKind.MAKE_TICKET_IN, amount=5, currency_number=3)
 >>> draw(processor=1, number=9)
 Event(kind=EventKind.DRAW, processor=1, number=9)
+>>> make_thread(None)  # without a name
+Event(kind=EventKind.MAKE_THREAD, script=1)
 >>> draw(processor=-1, number=9)
 Traceback (most recent call last):
 OverflowError: processor is 0 to 4294967295, and -1 was given
@@ -58,6 +60,11 @@ READS = {
     EventKind.KILL: ("name",),
     EventKind.KILL_NUMBERED: ("thread",),
 }
+# The same without the name, for the kinds that make a thread, which may have none.
+READS_NO_NAME = {
+    kind: tuple(field for field in READS[kind] if field != "name")
+    for kind in (EventKind.MAKE_THREAD, EventKind.MAKE_FUNDED, EventKind.MAKE_FUNDED_IN)
+}
 # The exclusive upper bound of each numeric field. The others are names.
 ENDS = {
     "processor": NARROW,
@@ -80,7 +87,8 @@ class Event:
     """An event: its kind, and the fields that this kind reads. The functions below make them.
 
     Raises `TypeError` if one of these is missing or of another type, or if another field is given; `OverflowError` for
-    a number out of its field's range; `ValueError` for a nonexistent kind.
+    a number out of its field's range; `ValueError` for a nonexistent kind. The name of a new thread may be missing:
+    then it has none.
     """
 
     kind: EventKind
@@ -105,8 +113,10 @@ class Event:
         if type(self.kind) is not EventKind:
             fields["kind"] = EventKind(self.kind)
         reads = READS[self.kind]
+        if self.name is None:
+            reads = READS_NO_NAME.get(self.kind, reads)
         if list(fields.values()).count(None) != len(fields) - 1 - len(reads):
-            raise TypeError(f"the fields of {self.kind.name} are {reads}, and {self!r} was given")
+            raise TypeError(f"the fields of {self.kind.name} are {READS[self.kind]}, and {self!r} was given")
         for field in reads:
             end = ENDS.get(field)
             if end is None:
@@ -180,12 +190,14 @@ def unfund(ticket: int) -> Event:
     return Event(EventKind.UNFUND, ticket=ticket)
 
 
-def make_thread(name: str, script: int = 1) -> Event:
+def make_thread(name: Optional[str] = None, script: int = 1) -> Event:
     """The event of `Kernel.make_thread`."""
     return Event(EventKind.MAKE_THREAD, name=name, script=script)
 
 
-def make_funded(name: str, amount: int, currency: Union[str, int] = "base", script: int = 1) -> Event:
+def make_funded(
+    name: Optional[str], amount: int, currency: Union[str, int] = "base", script: int = 1
+) -> Event:
     """The event of `Kernel.make_funded`."""
     if not isinstance(currency, str):
         return Event(EventKind.MAKE_FUNDED_IN, amount=amount, currency_number=currency, name=name, script=script)

@@ -22,8 +22,9 @@ class Kernel:
     Refusals: a refused event raises `Refused`, and so does a refused trap. With `check=False`, for the kernel or for
     one event, the method returns the reply instead.
 
-    Names have 1 to 16 bytes: a letter a to z, followed by letters a to z, digits, '_' or '-'. Other names raise
-    `LotError`, with `Status.LONG_NAME` or `Status.BAD_NAME`.
+    Names have 1 to 16 bytes: a letter a to z, followed by letters a to z, digits, '_' or '-'; with `plain_names` any
+    printable ASCII but the space. Other names raise `LotError`, with `Status.LONG_NAME` or `Status.BAD_NAME`. A thread
+    needs no name: make it with `None`. Any number of threads may have none, and their numbers refer to them.
 
     Numbers: `TypeError` for a value that is no integer, or a bool, and `OverflowError` for a number that is negative or
     too large for its field: it must be below 2 ** 32, or below 2 ** 64 for amounts and tickets, or below 2 ** 128 for
@@ -42,6 +43,17 @@ class Kernel:
     Reply(kind=ReplyKind.DONE)
     Reply(kind=ReplyKind.FUNDED, ticket=2, thread=1)
     100
+
+    >>> with Kernel(plain_names=True) as kernel:
+    ...     kernel.make_funded("Job#1", 10)
+    ...     kernel.make_funded(None, 5)
+    ...     kernel.thread_row(1).name, kernel.thread_row(2).name
+    ...     row = kernel.ticket_row(2)
+    ...     row.target, row.target_kind, row.target_number
+    Reply(kind=ReplyKind.FUNDED, ticket=1, thread=1)
+    Reply(kind=ReplyKind.FUNDED, ticket=2, thread=2)
+    ('Job#1', None)
+    (None, TargetKind.THREAD, 2)
 
     Python threads may share a kernel: calls wait for each other. A signal handler must not call one, since the call
     that it interrupts may hold the lock. Each call of a closed kernel raises `LotError` with `Status.NO_KERNEL`.
@@ -71,9 +83,11 @@ class Kernel:
         quantum: int = 100,
         unit: int = 1,
         reuse: bool = False,
+        plain_names: bool = False,
         check: bool = True,
     ) -> None:
-        sizes = Sizes(tickets, currencies, threads, ports, mutexes, processors, scripts, quantum, unit, reuse)
+        flags = reuse, plain_names
+        sizes = Sizes(tickets, currencies, threads, ports, mutexes, processors, scripts, quantum, unit, *flags)
         self.check = check
         self._lock = threading.Lock()
         self._handle = library.Handle()
@@ -221,8 +235,8 @@ class Kernel:
         """Takes away a ticket's target. Replies `DONE`. Refused: NO_TICKET, NOT_FUNDING."""
         return self.event(events.unfund(ticket), check=check)
 
-    def make_thread(self, name: str, script: int = 1, *, check: Optional[bool] = None) -> Reply:
-        """Makes an unfunded thread. Replies `THREAD`.
+    def make_thread(self, name: Optional[str] = None, script: int = 1, *, check: Optional[bool] = None) -> Reply:
+        """Makes an unfunded thread, with this name or none. Replies `THREAD`.
 
         The script is a number that the kernel keeps for its caller. Refused: NAME_TAKEN, NO_SCRIPT, FULL.
         """
@@ -266,7 +280,7 @@ class Kernel:
 
     def make_funded(
         self,
-        name: str,
+        name: Optional[str],
         amount: int,
         currency: Union[str, int] = "base",
         script: int = 1,
@@ -275,7 +289,7 @@ class Kernel:
     ) -> Reply:
         """Makes a thread, and a ticket of this amount of the currency, which funds the thread. Replies `FUNDED`.
 
-        Refused: BAD_AMOUNT, NO_CURRENCY, NAME_TAKEN, NO_SCRIPT, FULL.
+        The thread has this name, or none for `None`. Refused: BAD_AMOUNT, NO_CURRENCY, NAME_TAKEN, NO_SCRIPT, FULL.
         """
         return self.event(events.make_funded(name, amount, currency, script), check=check)
 

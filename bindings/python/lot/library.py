@@ -17,25 +17,28 @@ from typing import Dict, List, Optional, Tuple
 from . import records
 from .errors import LotError
 from .events import READS, Event
-from .numbers import Outcome, Refusal, ReplyKind, Status, ThreadState
+from .numbers import Outcome, Refusal, ReplyKind, Status, TargetKind, ThreadState
 
 LOW_BITS = (1 << 64) - 1
 LONGEST_NAME = 16
 
 
 class Name(Structure):
-    """lot_name. For a name that is too long, only the fact that it is remains."""
+    """lot_name. For a name that is too long, only the fact that it is remains. No name has length 0."""
 
     _fields_ = [("length", c_uint32), ("bytes", c_char * LONGEST_NAME)]
 
-    def set(self, text: str) -> None:
-        """Stores a text, which the library then accepts or refuses."""
-        raw = text.encode("utf-8", "surrogatepass")
+    def set(self, text: Optional[str]) -> None:
+        """Stores a text, which the library then accepts or refuses, or no name.
+
+        An empty text isn't no name, so it becomes a byte that the library refuses.
+        """
+        raw = b"" if text is None else text.encode("utf-8", "surrogatepass") or b"\0"
         self.length = min(len(raw), LONGEST_NAME + 1)
         self.bytes = raw[:LONGEST_NAME]
 
     def plain(self) -> str:
-        """The text of a name from the library."""
+        """The text of a name from the library, which is empty for no name."""
         return bytes(self.bytes).decode("ascii")
 
 
@@ -74,6 +77,7 @@ class RawSizes(Structure):
         ("quantum", c_uint32),
         ("unit", c_uint32),
         ("reuse", c_uint32),
+        ("plain_names", c_uint32),
     ]
 
     def set(self, sizes: records.Sizes) -> None:
@@ -189,14 +193,17 @@ class RawTicketRow(Structure):
         ("amount", c_uint32),
         ("issuer", Name),
         ("target", Name),
+        ("target_kind", c_uint32),
+        ("target_number", c_uint32),
         ("has_target", c_bool),
         ("is_active", c_bool),
     ]
 
     def plain(self) -> records.TicketRow:
         """The row."""
-        target = self.target.plain() if self.has_target else None
-        return records.TicketRow(self.value, self.amount, self.issuer.plain(), target, self.is_active)
+        kind, issuer, target = TargetKind(self.target_kind), self.issuer.plain(), self.target.plain() or None
+        number = self.target_number if self.has_target else None
+        return records.TicketRow(self.value, self.amount, issuer, target, kind, number, self.is_active)
 
 
 class RawCurrencyRow(Structure):
@@ -242,7 +249,7 @@ class RawThreadRow(Structure):
 
     def plain(self) -> records.ThreadRow:
         """The row."""
-        name, status = self.name.plain(), self.status.plain()
+        name, status = self.name.plain() or None, self.status.plain()
         return records.ThreadRow(name, status, self.value, self.weight.plain(), self.quanta, self.ticks)
 
 
@@ -351,7 +358,7 @@ def library_version() -> str:
     """The version of the shared object.
 
     >>> library_version()
-    '0.2.0'
+    '0.3.0'
     """
     version = calls.lot_version()
     return f"{version >> 16}.{version >> 8 & 255}.{version & 255}"

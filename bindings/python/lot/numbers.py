@@ -28,12 +28,13 @@ class Status(Number):
     NO_MEMORY = 4
     BAD_KIND = 5  # never returned here: an `Event` has one of the kinds
     LONG_NAME = 6  # a name of more than 16 bytes
-    BAD_NAME = 7  # a name that isn't a letter a to z, followed by letters a to z, digits, '_' or '-'
+    BAD_NAME = 7  # an empty name, or one with a byte that the kernel's names can't have
     NOT_THERE = 8  # never raised here: the result is `None`
     COUNTS_DIFFER = 9  # never returned here: a run has room for as many replies as events
     BAD_SEED = 10  # a seed that is 0 or above 2147483646
     NO_WINNER = 11  # never raised here: the result is `None`
     TOO_LARGE = 12  # the weights sum to 2 ** 128 or more
+    NOT_SETTLED = 13  # never returned here: a row recomputes stale values
 
 
 class EventKind(Number):
@@ -149,6 +150,14 @@ class Refusal(Number):
     NOT_OWNER = 34  # the thread doesn't own the mutex
     ALREADY_OWNER = 35  # the thread owns it
     LOCK_CYCLE = 36  # waiting would close a cycle of lends
+
+
+class TargetKind(Number):
+    """What a ticket funds. `TicketRow` has it, with the number."""
+
+    NONE = 0
+    CURRENCY = 1
+    THREAD = 2
 
 
 class ThreadState(Number):

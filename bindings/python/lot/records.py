@@ -4,7 +4,7 @@ import dataclasses
 from dataclasses import dataclass
 from typing import Any, NamedTuple, Optional
 
-from .numbers import Outcome, Refusal, ReplyKind, ThreadState
+from .numbers import Outcome, Refusal, ReplyKind, TargetKind, ThreadState
 from .ranges import NARROW, checked
 
 
@@ -22,6 +22,9 @@ class Sizes:
     limits count what exists at once. A number that was kept of what is removed then comes to mean another thing, so
     forget it with the removal.
 
+    With `plain_names` a name may have any printable ASCII but the space. Otherwise it is a letter a to z, followed by
+    letters a to z, digits, '_' or '-'.
+
     Raises `TypeError` or `OverflowError` for a value that is no number of 32 bits. The kernel checks the bounds.
     """
 
@@ -35,12 +38,16 @@ class Sizes:
     quantum: int  # in ticks, 1 to 1000
     unit: int  # the value of one of base: 1, or 256 for finer shares
     reuse: bool = False  # whether numbers are given again; any number but 0 counts as `True`
+    plain_names: bool = False  # whether there are plain names; likewise
 
     def __post_init__(self) -> None:
-        reuse = self.reuse if isinstance(self.reuse, bool) else checked(self.reuse, NARROW, "reuse") != 0
-        object.__setattr__(self, "reuse", reuse)
-        for field in dataclasses.fields(self)[:-1]:
-            object.__setattr__(self, field.name, checked(getattr(self, field.name), NARROW, field.name))
+        for field in dataclasses.fields(self):
+            value = getattr(self, field.name)
+            if field.name not in ("reuse", "plain_names"):
+                value = checked(value, NARROW, field.name)
+            elif not isinstance(value, bool):
+                value = checked(value, NARROW, field.name) != 0
+            object.__setattr__(self, field.name, value)
 
 
 @dataclass(frozen=True, repr=False)
@@ -76,7 +83,9 @@ class TicketRow:
     value: int  # in base units; 0 if it is inactive
     amount: int
     issuer: str  # the currency that issues it
-    target: Optional[str]  # the currency or thread that it funds
+    target: Optional[str]  # the name of what it funds; `None` for nothing, and for a thread without a name
+    target_kind: TargetKind
+    target_number: Optional[int]  # the currency or thread that it funds
     is_active: bool
 
 
@@ -107,7 +116,7 @@ class ThreadStatus:
 class ThreadRow:
     """A thread."""
 
-    name: str
+    name: Optional[str]
     status: ThreadStatus
     value: int  # in base units
     weight: int  # its weight in a draw, in base units

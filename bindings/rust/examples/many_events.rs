@@ -49,8 +49,8 @@ fn main() -> Result<(), Box<dyn Error>> {
     make_user(&mut kernel, 2, bob, 125 * u64::from(threads))?;
     for i in 0..threads / 2 {
         let amount = 100 * u64::from(i % 4 + 1);
-        kernel.event(&Event::make_funded(amount, alice, format!("a{i}").parse()?, 1)).ok()?;
-        kernel.event(&Event::make_funded(amount, bob, format!("b{i}").parse()?, 1)).ok()?;
+        kernel.event(&Event::make_funded(amount, alice, Some(format!("a{i}").parse()?), 1)).ok()?;
+        kernel.event(&Event::make_funded(amount, bob, Some(format!("b{i}").parse()?), 1)).ok()?;
     }
     let mut sum = 0;
     for (round, number) in (0..rounds).zip(ParkMiller::new(1)?) {

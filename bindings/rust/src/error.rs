@@ -15,7 +15,9 @@ pub enum Error {
     NoMemory,
     /// A name has more than 16 bytes.
     LongName,
-    /// A name isn't a letter a to z followed by letters a to z, digits, `_` or `-`.
+    /// A name is empty, or has a byte that such a name may not have: [`Name::new`](crate::Name::new) takes a letter a to
+    /// z followed by letters a to z, digits, `_` or `-`, and [`Name::plain`](crate::Name::plain) any printable ASCII but
+    /// the space.
     BadName,
     /// A generator's seed is 0 or above 2147483646.
     BadSeed,
@@ -45,7 +47,7 @@ impl fmt::Display for Error {
             Error::BadLimits => "a size of the kernel is out of its bounds",
             Error::NoMemory => "the system gave no memory",
             Error::LongName => "the name has more than 16 bytes",
-            Error::BadName => "the name isn't a letter a to z followed by letters a to z, digits, '_' or '-'",
+            Error::BadName => "the name is empty, or has a byte that names may not have",
             Error::BadSeed => "the seed is 0 or above 2147483646",
             Error::TooLarge => "the weights sum to 2 ^ 128 or more",
         })

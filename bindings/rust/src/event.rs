@@ -19,7 +19,8 @@ pub enum Listing {
 /// the checks: the first check that fails is the refusal.
 ///
 /// Amounts of tickets are 1 to 4294967295, scripts are numbered from 1 to [`Sizes::scripts`](crate::Sizes::scripts).
-/// Give a currency or a thread by its name or by its number; effects and refusals are equal.
+/// Give a currency or a thread by its name or by its number; effects and refusals are equal. But a name that the kernel
+/// doesn't take ([`Sizes::plain_names`](crate::Sizes::plain_names)) is `BadName`, before all other checks.
 #[derive(Clone, Copy, Debug, PartialEq, Eq, Hash)]
 pub enum Command {
     /// Makes a ticket, which funds nothing yet. Reply: [`Reply::Ticket`](crate::Reply::Ticket).
@@ -105,8 +106,9 @@ pub enum Command {
     ///
     /// Refusals: `NameTaken`, `NoScript`, `Full`.
     MakeThread {
-        /// A name that no currency and no thread has, ended threads included.
-        name: Name,
+        /// A name that no currency and no thread has, ended threads included; or `None`. Any number of threads may have
+        /// no name, and their numbers refer to them.
+        name: Option<Name>,
         /// The number of its script, from 1.
         script: u32,
     },
@@ -118,8 +120,9 @@ pub enum Command {
         amount: u64,
         /// The currency that issues the ticket.
         currency: CurrencyRef,
-        /// A name that no currency and no thread has, ended threads included.
-        name: Name,
+        /// A name that no currency and no thread has, ended threads included; or `None`. Any number of threads may have
+        /// no name, and their numbers refer to them.
+        name: Option<Name>,
         /// The number of its script, from 1.
         script: u32,
     },
@@ -377,7 +380,7 @@ impl Event {
     ///
     /// let mut kernel = Kernel::new(Sizes::default())?;
     /// let stuck = "stuck".parse()?;
-    /// kernel.run(&[Event::make_funded(10, Name::BASE, stuck, 1), Event::draw(1, 0)])?;
+    /// kernel.run(&[Event::make_funded(10, Name::BASE, Some(stuck), 1), Event::draw(1, 0)])?;
     /// // It ran 30 ticks, for which it is charged: it is preempted, and then killed.
     /// kernel.run(&[Event::preempt(1, 30), Event::kill(stuck)])?;
     /// let row = kernel.thread_row(1).expect("its row stays until it is removed");
@@ -398,19 +401,34 @@ impl Event {
 
     /// [`Command::MakeThread`].
     #[must_use]
-    pub const fn make_thread(name: Name, script: u32) -> Event {
+    pub const fn make_thread(name: Option<Name>, script: u32) -> Event {
         Event::Command(Command::MakeThread { name, script })
     }
 
     /// [`Command::MakeFunded`] by a ticket of the currency with this name.
+    ///
+    /// ```
+    /// use lot::{Event, Kernel, Name, Reply, Sizes, Target};
+    ///
+    /// let mut kernel = Kernel::new(Sizes::default())?;
+    /// kernel.event(&Event::make_funded(10, Name::BASE, Some("first".parse()?), 1)).ok()?;
+    /// // A thread without a name has its number, like any other.
+    /// let made = kernel.event(&Event::make_funded(5, Name::BASE, None, 1)).ok()?;
+    /// assert_eq!(made, Reply::Funded { ticket: 2, thread: 2 });
+    /// let names: Vec<_> = kernel.threads().map(|(_, row)| row.name).collect();
+    /// assert_eq!(names, [Some("first".parse()?), None]);
+    /// assert_eq!(kernel.ticket_row(2).and_then(|row| row.target), Some(Target::Thread(2)));
+    /// kernel.event(&Event::kill_numbered(2)).ok()?;
+    /// # Ok::<(), Box<dyn std::error::Error>>(())
+    /// ```
     #[must_use]
-    pub const fn make_funded(amount: u64, currency: Name, name: Name, script: u32) -> Event {
+    pub const fn make_funded(amount: u64, currency: Name, name: Option<Name>, script: u32) -> Event {
         Event::Command(Command::MakeFunded { amount, currency: CurrencyRef::Named(currency), name, script })
     }
 
     /// [`Command::MakeFunded`] by a ticket of the currency with this number.
     #[must_use]
-    pub const fn make_funded_in(amount: u64, currency: u32, name: Name, script: u32) -> Event {
+    pub const fn make_funded_in(amount: u64, currency: u32, name: Option<Name>, script: u32) -> Event {
         Event::Command(Command::MakeFunded { amount, currency: CurrencyRef::Numbered(currency), name, script })
     }
 
@@ -444,7 +462,7 @@ impl Event {
     /// use lot::{Event, Kernel, Name, Reply, Sizes, Status};
     ///
     /// let mut kernel = Kernel::new(Sizes::default())?;
-    /// let made = Event::make_funded(10, Name::BASE, "driver".parse()?, 1);
+    /// let made = Event::make_funded(10, Name::BASE, Some("driver".parse()?), 1);
     /// kernel.run(&[made, Event::draw(1, 0), Event::sleep(1, 49)])?;
     /// assert_eq!(kernel.thread_row(1).map(|row| row.status), Some(Status::Asleep));
     /// assert_eq!(kernel.event(&Event::draw(1, 0)), Reply::Idle);
@@ -471,7 +489,7 @@ impl Event {
     /// use lot::{Event, Kernel, Name, Reply, Sizes};
     ///
     /// let mut kernel = Kernel::new(Sizes::default())?;
-    /// let made = Event::make_funded(10, Name::BASE, "slow".parse()?, 1);
+    /// let made = Event::make_funded(10, Name::BASE, Some("slow".parse()?), 1);
     /// kernel.run(&[made, Event::draw(1, 0)])?;
     /// // The quantum is 100 ticks: it ran for twice as many, and so it weighs half.
     /// assert_eq!(kernel.event(&Event::overrun(1, 100)), Reply::Expired { thread: 1, ticks: 200 });
@@ -496,6 +514,11 @@ impl From<Command> for Event {
     }
 }
 
+/// The name of a new thread in the archive's form: no bytes for none.
+fn raw(name: Option<Name>) -> ffi::Name {
+    name.map_or_else(ffi::Name::default, Name::raw)
+}
+
 impl Command {
     /// The event in the archive's form.
     fn plain(&self) -> ffi::Event {
@@ -504,7 +527,7 @@ impl Command {
                 ffi::Event { amount, ..currency.event(EventKind::MakeTicket, EventKind::MakeTicketIn) }
             }
             Command::RemoveTicket { ticket } => ffi::Event { ticket, ..EventKind::RemoveTicket.event() },
-            Command::MakeCurrency { name } => ffi::Event { name: name.plain(), ..EventKind::MakeCurrency.event() },
+            Command::MakeCurrency { name } => ffi::Event { name: name.raw(), ..EventKind::MakeCurrency.event() },
             Command::RemoveCurrency { currency } => {
                 currency.event(EventKind::RemoveCurrency, EventKind::RemoveCurrencyNumbered)
             }
@@ -514,11 +537,11 @@ impl Command {
             Command::RemoveThread { thread } => thread.event(EventKind::RemoveThread, EventKind::RemoveThreadNumbered),
             Command::Kill { thread } => thread.event(EventKind::Kill, EventKind::KillNumbered),
             Command::MakeThread { name, script } => {
-                ffi::Event { name: name.plain(), script, ..EventKind::MakeThread.event() }
+                ffi::Event { name: raw(name), script, ..EventKind::MakeThread.event() }
             }
             Command::MakeFunded { amount, currency, name, script } => {
                 let event = currency.event(EventKind::MakeFunded, EventKind::MakeFundedIn);
-                ffi::Event { script, amount, name: name.plain(), ..event }
+                ffi::Event { script, amount, name: raw(name), ..event }
             }
             Command::List(Listing::Tickets) => EventKind::ListTickets.event(),
             Command::List(Listing::Currencies) => EventKind::ListCurrencies.event(),

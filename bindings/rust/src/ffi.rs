@@ -1,7 +1,6 @@
 //! The archive's calls and structs, as declared in `bindings/c/lot.h`.
 //!
-//! `lot_kernel_run` is left out: it stops only at an event of no kind or with a bad name, and this crate has no such
-//! events.
+//! `lot_kernel_run` is left out: it goes on after a refused event, and `Kernel::run` doesn't.
 
 use crate::numbers::CallStatus;
 use crate::{Error, Meter, Runner, Sizes};
@@ -84,6 +83,8 @@ pub struct TicketRow {
     pub amount: u32,
     pub issuer: Name,
     pub target: Name,
+    pub target_kind: u32,
+    pub target_number: u32,
     pub has_target: bool,
     pub is_active: bool,
 }
@@ -132,16 +133,21 @@ pub struct Drawn {
     pub place: u64,
 }
 
-// The sizes in lot.h of the structs of one call.
+// The sizes in lot.h of the structs of one call, and of those that have grown.
 const _: () = assert!(size_of::<Event>() == 96 && size_of::<Reply>() == 80);
+const _: () = assert!(size_of::<Sizes>() == 44 && size_of::<TicketRow>() == 64);
 
 // A `u128` lies in memory as a `Wide` does, so a slice of them crosses as it is.
 const _: () = assert!(cfg!(target_endian = "little") && size_of::<Wide>() == size_of::<u128>());
 const _: () = assert!(align_of::<Wide>() <= align_of::<u128>());
 
+/// A call that stores the name with these bytes, if it takes them.
+pub type NewName = unsafe extern "C" fn(bytes: *const u8, count: usize, name: *mut Name) -> u32;
+
 extern "C" {
     pub fn lot_version() -> u32;
     pub fn lot_name_new(bytes: *const u8, count: usize, name: *mut Name) -> u32;
+    pub fn lot_plain_name_new(bytes: *const u8, count: usize, name: *mut Name) -> u32;
     pub fn lot_kernel_new(sizes: *const Sizes, kernel: *mut Handle) -> u32;
     pub fn lot_kernel_bytes(sizes: *const Sizes, bytes: *mut u64) -> u32;
     pub fn lot_kernel_free(kernel: *mut Handle) -> u32;
@@ -149,6 +155,10 @@ extern "C" {
     pub fn lot_kernel_ticket_row(kernel: *mut Handle, ticket: u32, row: *mut TicketRow) -> u32;
     pub fn lot_kernel_currency_row(kernel: *mut Handle, currency: u32, row: *mut CurrencyRow) -> u32;
     pub fn lot_kernel_thread_row(kernel: *mut Handle, thread: u32, row: *mut ThreadRow) -> u32;
+    pub fn lot_kernel_settle(kernel: *mut Handle) -> u32;
+    pub fn lot_kernel_settled_ticket_row(kernel: *const Handle, ticket: u32, row: *mut TicketRow) -> u32;
+    pub fn lot_kernel_settled_currency_row(kernel: *const Handle, currency: u32, row: *mut CurrencyRow) -> u32;
+    pub fn lot_kernel_settled_thread_row(kernel: *const Handle, thread: u32, row: *mut ThreadRow) -> u32;
     pub fn lot_kernel_runner(kernel: *const Handle, processor: u32, runner: *mut Runner) -> u32;
     pub fn lot_kernel_script_of(kernel: *const Handle, thread: u32, script: *mut u32) -> u32;
     pub fn lot_kernel_ticket_count(kernel: *const Handle, count: *mut u32) -> u32;
@@ -171,6 +181,11 @@ pub fn done(status: u32) -> Result<(), Error> {
     }
     assert_eq!(status, CallStatus::Done, "a status that this call of the archive never has");
     Ok(())
+}
+
+/// Whether the status is that of a name that the kernel doesn't take.
+pub fn is_bad_name(status: u32) -> bool {
+    status == CallStatus::BadName as u32
 }
 
 /// Checks the status of a call that cannot fail with the arguments that this crate passes.

@@ -1,6 +1,6 @@
 //! The kernel.
 
-use crate::{ffi, CurrencyRow, Error, Event, Reply, Sizes, Stopped, ThreadRow, TicketRow};
+use crate::{ffi, CurrencyRow, Error, Event, EventRefusal, Reply, Settled, Sizes, Stopped, ThreadRow, TicketRow};
 use std::cell::UnsafeCell;
 use std::fmt;
 use std::iter::FusedIterator;
@@ -30,7 +30,7 @@ pub struct Meter {
 /// A lottery-scheduled kernel. [`Kernel::new`] allocates all its memory, and dropping it frees that.
 ///
 /// It may move to another thread. Threads that share one need a lock around it, such as a [`Mutex`](std::sync::Mutex),
-/// since rows recompute stale values inside:
+/// since rows recompute stale values inside. Or they read it at once, after [`Kernel::settle`].
 ///
 /// ```compile_fail,E0277
 /// fn needs_sync<T: Sync>() {}
@@ -109,7 +109,7 @@ impl Kernel {
     /// use lot::{Event, Kernel, Name, Reply, Sizes};
     ///
     /// let mut kernel = Kernel::new(Sizes::default())?;
-    /// kernel.event(&Event::make_funded(10, Name::BASE, "first".parse()?, 1)).ok()?;
+    /// kernel.event(&Event::make_funded(10, Name::BASE, Some("first".parse()?), 1)).ok()?;
     /// let reply = kernel.event(&Event::draw(1, 9)).ok()?;
     /// assert_eq!(reply, Reply::Winner { thread: 1, number: 9, total: 10, delivered: None });
     /// # Ok::<(), Box<dyn std::error::Error>>(())
@@ -128,7 +128,11 @@ impl Kernel {
     pub fn event(&mut self, event: &Event) -> Reply {
         let mut reply = ffi::Reply::default();
         // SAFETY: for the handle see `here`; the event and the reply are whole, and the three are apart.
-        ffi::must_be_done(unsafe { ffi::lot_kernel_event(self.here(), &event.plain(), &mut reply) });
+        let status = unsafe { ffi::lot_kernel_event(self.here(), &event.plain(), &mut reply) };
+        if ffi::is_bad_name(status) {
+            return Reply::Refused(EventRefusal::BadName);
+        }
+        ffi::must_be_done(status);
         Reply::of(&reply)
     }
 
@@ -138,7 +142,7 @@ impl Kernel {
     /// use lot::{Event, EventRefusal, Kernel, Name, Refusal, Sizes};
     ///
     /// let mut kernel = Kernel::new(Sizes::default())?;
-    /// let make = Event::make_funded(10, Name::BASE, "first".parse()?, 1);
+    /// let make = Event::make_funded(10, Name::BASE, Some("first".parse()?), 1);
     /// let stopped = kernel.run(&[make, make, Event::draw(1, 9)]).unwrap_err();
     /// assert_eq!(stopped.done(), 1);
     /// assert_eq!(stopped.refusal, Refusal::Event(EventRefusal::NameTaken));
@@ -199,10 +203,10 @@ impl Kernel {
     /// use lot::{Event, Kernel, Name, Runner, Sizes, Status};
     ///
     /// let mut kernel = Kernel::new(Sizes::default())?;
-    /// kernel.event(&Event::make_funded(10, Name::BASE, "first".parse()?, 1)).ok()?;
+    /// kernel.event(&Event::make_funded(10, Name::BASE, Some("first".parse()?), 1)).ok()?;
     /// kernel.event(&Event::draw(2, 9)).ok()?;
     /// let row = kernel.thread_row(1).expect("it was made");
-    /// assert_eq!((row.name.as_str(), row.status), ("first", Status::Running { processor: 2, used: 0 }));
+    /// assert_eq!((row.name, row.status), (Some("first".parse()?), Status::Running { processor: 2, used: 0 }));
     /// assert_eq!(kernel.runner(2), Some(Runner { thread: 1, used: 0 }));
     /// assert_eq!(kernel.thread_row(2), None);
     /// # Ok::<(), Box<dyn std::error::Error>>(())
@@ -232,14 +236,37 @@ impl Kernel {
     /// use lot::{Event, Kernel, Name, Sizes};
     ///
     /// let mut kernel = Kernel::new(Sizes::default())?;
-    /// kernel.event(&Event::make_funded(10, Name::BASE, "first".parse()?, 1)).ok()?;
-    /// kernel.event(&Event::make_funded(5, Name::BASE, "second".parse()?, 1)).ok()?;
+    /// kernel.event(&Event::make_funded(10, Name::BASE, Some("first".parse()?), 1)).ok()?;
+    /// kernel.event(&Event::make_funded(5, Name::BASE, Some("second".parse()?), 1)).ok()?;
     /// let values: Vec<u64> = kernel.threads().map(|(_, row)| row.value).collect();
     /// assert_eq!(values, [10, 5]);
     /// # Ok::<(), Box<dyn std::error::Error>>(())
     /// ```
     pub fn threads(&self) -> impl Iterator<Item = (u32, ThreadRow)> + '_ {
         (1..=self.sizes().threads).filter_map(|thread| Some((thread, self.thread_row(thread)?)))
+    }
+
+    /// Recomputes all stale values, and returns the settled kernel: threads may share it, and read its rows at once.
+    ///
+    /// ```
+    /// use lot::{Event, Kernel, Name, Sizes};
+    /// use std::thread;
+    ///
+    /// let mut kernel = Kernel::new(Sizes::default())?;
+    /// kernel.event(&Event::make_funded(10, Name::BASE, None, 1)).ok()?;
+    /// kernel.event(&Event::make_funded(5, Name::BASE, None, 1)).ok()?;
+    /// let settled = kernel.settle();
+    /// let values = thread::scope(|scope| {
+    ///     let value = |thread| move || settled.thread_row(thread).map(|row| row.value);
+    ///     [1, 2].map(|thread| scope.spawn(value(thread))).map(|read| read.join().expect("no panic"))
+    /// });
+    /// assert_eq!(values, [Some(10), Some(5)]);
+    /// # Ok::<(), Box<dyn std::error::Error>>(())
+    /// ```
+    pub fn settle(&mut self) -> Settled<'_> {
+        // SAFETY: for the handle see `here`.
+        ffi::must_be_done(unsafe { ffi::lot_kernel_settle(self.here()) });
+        Settled::of(self)
     }
 
     /// The thread that runs on the processor with this number, from 1. `None` if it is idle or there is no such
@@ -301,7 +328,7 @@ impl Kernel {
 
     /// The handle, for one call of the archive: it is whole, holds a kernel from `new` to `drop`, and there is never a
     /// reference to it. No two calls overlap, since the kernel isn't `Sync` and no call comes back into this crate.
-    fn here(&self) -> *mut ffi::Handle {
+    pub(crate) fn here(&self) -> *mut ffi::Handle {
         self.handle.get()
     }
 }

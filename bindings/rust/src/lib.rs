@@ -13,6 +13,7 @@ mod reference;
 mod refusal;
 mod reply;
 mod rows;
+mod settled;
 mod sizes;
 
 pub use error::Error;
@@ -24,13 +25,14 @@ pub use numbers::{EventRefusal, TrapRefusal};
 pub use reference::{CurrencyRef, TargetRef, ThreadRef};
 pub use refusal::{Refusal, Stopped};
 pub use reply::{Outcome, Reply};
-pub use rows::{CurrencyRow, Status, ThreadRow, TicketRow};
+pub use rows::{CurrencyRow, Status, Target, ThreadRow, TicketRow};
+pub use settled::Settled;
 pub use sizes::Sizes;
 
 /// The version of the archive: the major number times 65536, the minor times 256, and the patch.
 ///
 /// ```
-/// assert_eq!(lot::version(), 0x00_02_00); // 0.2.0
+/// assert_eq!(lot::version(), 0x00_03_00); // 0.3.0
 /// ```
 #[must_use]
 pub fn version() -> u32 {

@@ -7,7 +7,8 @@ use std::hash::{Hash, Hasher};
 use std::str::FromStr;
 
 /// A name of a currency or a thread: a letter a to z, followed by letters a to z, digits, `_` or `-`, 1 to 16 bytes in
-/// all. Names compare, sort and hash as their texts do.
+/// all. [`Name::plain`] also makes others, which only kernels with [`Sizes::plain_names`](crate::Sizes::plain_names)
+/// take. Names compare, sort and hash as their texts do.
 ///
 /// ```
 /// use lot::{Error, Name};
@@ -16,6 +17,7 @@ use std::str::FromStr;
 /// assert_eq!(name, "web-server");
 /// assert_eq!(Name::try_from(&b"web-server"[..])?, name);
 /// assert_eq!(Name::new("Web"), Err(Error::BadName));
+/// assert_eq!(Name::plain("Web")?, "Web");
 /// # Ok::<(), lot::Error>(())
 /// ```
 // The bytes after the name are 0, and no name contains a 0. So the derived order, by bytes first, is that of the texts.
@@ -38,6 +40,27 @@ impl Name {
         Name::try_from(text.as_bytes())
     }
 
+    /// The name with this text, which may have any printable ASCII but the space: 1 to 16 bytes, each 33 to 126. Kernels
+    /// with [`Sizes::plain_names`](crate::Sizes::plain_names) take it. Others do if [`Name::new`] takes the text, and
+    /// otherwise refuse it with [`EventRefusal::BadName`](crate::EventRefusal::BadName).
+    ///
+    /// ```
+    /// use lot::{Error, Name};
+    ///
+    /// assert_eq!(Name::plain("Job#1")?, "Job#1");
+    /// assert_eq!(Name::plain("web")?, Name::new("web")?);
+    /// assert_eq!(Name::plain("a job"), Err(Error::BadName));
+    /// # Ok::<(), lot::Error>(())
+    /// ```
+    ///
+    /// # Errors
+    ///
+    /// [`Error::LongName`] if the text has more than 16 bytes, otherwise [`Error::BadName`] if it has none, or one that
+    /// isn't such ASCII.
+    pub fn plain(text: &str) -> Result<Name, Error> {
+        Name::read(text.as_bytes(), ffi::lot_plain_name_new)
+    }
+
     /// The text of the name.
     #[must_use]
     pub fn as_str(&self) -> &str {
@@ -50,8 +73,22 @@ impl Name {
         Name { bytes: name.bytes, length }
     }
 
-    pub(crate) fn plain(self) -> ffi::Name {
+    /// The same, or `None` for a name without bytes, which the archive has where there is no name.
+    pub(crate) fn of_any(name: ffi::Name) -> Option<Name> {
+        (name.length != 0).then(|| Name::of(name))
+    }
+
+    /// The name in the archive's form.
+    pub(crate) fn raw(self) -> ffi::Name {
         ffi::Name { length: u32::from(self.length), bytes: self.bytes }
+    }
+
+    /// The name with these bytes, if this call of the archive takes them.
+    fn read(bytes: &[u8], call: ffi::NewName) -> Result<Name, Error> {
+        let mut name = ffi::Name::default();
+        // SAFETY: the pointer and the count are those of one slice, and `name` is whole and apart from it.
+        ffi::done(unsafe { call(bytes.as_ptr(), bytes.len(), &mut name) })?;
+        Ok(Name::of(name))
     }
 }
 
@@ -63,10 +100,7 @@ impl TryFrom<&[u8]> for Name {
     type Error = Error;
 
     fn try_from(bytes: &[u8]) -> Result<Name, Error> {
-        let mut name = ffi::Name::default();
-        // SAFETY: the pointer and the count are those of one slice, and `name` is whole and apart from it.
-        ffi::done(unsafe { ffi::lot_name_new(bytes.as_ptr(), bytes.len(), &mut name) })?;
-        Ok(Name::of(name))
+        Name::read(bytes, ffi::lot_name_new)
     }
 }
 

@@ -44,6 +44,7 @@ numbered! {
         BadSeed = 10,
         NoWinner = 11,
         TooLarge = 12,
+        NotSettled = 13,
     }
 }
 
@@ -139,8 +140,8 @@ numbered! {
     /// The numbers are those of docs/FORMATS.md and of outputs. [`Command`](crate::Command) and [`Event`](crate::Event)
     /// list each event's checks in their order, and the first that fails is the refusal.
     pub enum EventRefusal {
-        /// The name isn't a good one. A [`Name`](crate::Name) always is, so events of this crate never get this
-        /// refusal.
+        /// The kernel doesn't take the name: [`Name::plain`](crate::Name::plain) made it, and the kernel's sizes have no
+        /// [`plain_names`](crate::Sizes::plain_names). This check is the first of any event with a name.
         BadName = 1,
         /// A currency or a thread has the name already. A thread that has ended keeps its name until it is removed.
         NameTaken = 2,
@@ -223,6 +224,15 @@ macro_rules! number {
 }
 
 number!(EventRefusal, TrapRefusal);
+
+numbered! {
+    /// What a ticket funds.
+    pub(crate) enum TargetKind {
+        None = 0,
+        Currency = 1,
+        Thread = 2,
+    }
+}
 
 numbered! {
     /// The status of a thread.

@@ -1,7 +1,7 @@
 //! References of a command to a currency, a thread or a target.
 
 use crate::numbers::EventKind;
-use crate::{ffi, Name};
+use crate::{ffi, Name, Target};
 
 /// A currency, by its name or by its number. A lookup by number takes constant time; a lookup by name searches.
 ///
@@ -44,7 +44,7 @@ impl CurrencyRef {
     /// An event with this currency: of kind `named` with its name, or of kind `numbered` with its number.
     pub(crate) fn event(self, named: EventKind, numbered: EventKind) -> ffi::Event {
         match self {
-            CurrencyRef::Named(name) => ffi::Event { currency: name.plain(), ..named.event() },
+            CurrencyRef::Named(name) => ffi::Event { currency: name.raw(), ..named.event() },
             CurrencyRef::Numbered(object) => ffi::Event { object, ..numbered.event() },
         }
     }
@@ -54,7 +54,7 @@ impl ThreadRef {
     /// The event of the first kind if the thread is named, and of the second if it is numbered.
     pub(crate) fn event(self, named: EventKind, numbered: EventKind) -> ffi::Event {
         match self {
-            ThreadRef::Named(name) => ffi::Event { name: name.plain(), ..named.event() },
+            ThreadRef::Named(name) => ffi::Event { name: name.raw(), ..named.event() },
             ThreadRef::Numbered(object) => ffi::Event { object, ..numbered.event() },
         }
     }
@@ -64,7 +64,7 @@ impl TargetRef {
     /// The event that makes the ticket fund this target.
     pub(crate) fn funding(self, ticket: u64) -> ffi::Event {
         match self {
-            TargetRef::Named(name) => ffi::Event { ticket, name: name.plain(), ..EventKind::Fund.event() },
+            TargetRef::Named(name) => ffi::Event { ticket, name: name.raw(), ..EventKind::Fund.event() },
             TargetRef::Currency(object) => ffi::Event { object, ticket, ..EventKind::FundCurrency.event() },
             TargetRef::Thread(object) => ffi::Event { object, ticket, ..EventKind::FundThread.event() },
         }
@@ -98,5 +98,21 @@ impl From<u32> for ThreadRef {
 impl From<Name> for TargetRef {
     fn from(name: Name) -> TargetRef {
         TargetRef::Named(name)
+    }
+}
+
+/// What a ticket's row says that it funds.
+///
+/// ```
+/// use lot::{Target, TargetRef};
+///
+/// assert_eq!(TargetRef::from(Target::Thread(3)), TargetRef::Thread(3));
+/// ```
+impl From<Target> for TargetRef {
+    fn from(target: Target) -> TargetRef {
+        match target {
+            Target::Currency(number) => TargetRef::Currency(number),
+            Target::Thread(number) => TargetRef::Thread(number),
+        }
     }
 }

@@ -60,7 +60,7 @@ impl fmt::Display for Refusal {
 impl fmt::Display for EventRefusal {
     fn fmt(&self, f: &mut fmt::Formatter<'_>) -> fmt::Result {
         f.write_str(match self {
-            EventRefusal::BadName => "the name isn't a good one",
+            EventRefusal::BadName => "the kernel doesn't take such a name",
             EventRefusal::NameTaken => "a currency or a thread, perhaps a dead one, has the name already",
             EventRefusal::NoCurrency => "no currency has the name or the number",
             EventRefusal::NoTicket => "no ticket has the number",

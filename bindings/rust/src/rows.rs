@@ -1,7 +1,16 @@
 //! Rows of listings.
 
-use crate::numbers::StatusKind;
+use crate::numbers::{StatusKind, TargetKind};
 use crate::{ffi, Name};
+
+/// What a ticket funds, by its number. It is also a [`TargetRef`](crate::TargetRef).
+#[derive(Clone, Copy, Debug, PartialEq, Eq, Hash)]
+pub enum Target {
+    /// The currency with this number, from 1.
+    Currency(u32),
+    /// The thread with this number, from 1.
+    Thread(u32),
+}
 
 /// A ticket as a listing shows it.
 #[derive(Clone, Copy, Debug, PartialEq, Eq, Hash)]
@@ -10,8 +19,10 @@ pub struct TicketRow {
     pub amount: u32,
     /// The currency that issues it.
     pub issuer: Name,
-    /// The currency or thread that it funds. `None` if it funds nothing.
-    pub target: Option<Name>,
+    /// What it funds. `None` if it funds nothing.
+    pub target: Option<Target>,
+    /// The name of what it funds. `None` if it funds nothing, or a thread without a name.
+    pub target_name: Option<Name>,
     /// Whether it is active: a chain of tickets and lends leads from it to a thread that competes or runs.
     pub is_active: bool,
     /// Its value, in base units. 0 if it is inactive.
@@ -62,8 +73,8 @@ pub enum Status {
 /// A thread as a listing shows it.
 #[derive(Clone, Copy, Debug, PartialEq, Eq, Hash)]
 pub struct ThreadRow {
-    /// Its name.
-    pub name: Name,
+    /// Its name. `None` if it has none.
+    pub name: Option<Name>,
     /// Its status.
     pub status: Status,
     /// Its value, including what others lend to it, in base units.
@@ -76,12 +87,23 @@ pub struct ThreadRow {
     pub ticks: u64,
 }
 
+impl Target {
+    fn of(row: &ffi::TicketRow) -> Option<Target> {
+        match TargetKind::of(row.target_kind) {
+            TargetKind::None => None,
+            TargetKind::Currency => Some(Target::Currency(row.target_number)),
+            TargetKind::Thread => Some(Target::Thread(row.target_number)),
+        }
+    }
+}
+
 impl TicketRow {
     pub(crate) fn of(row: ffi::TicketRow) -> TicketRow {
         TicketRow {
             amount: row.amount,
             issuer: Name::of(row.issuer),
-            target: row.has_target.then(|| Name::of(row.target)),
+            target: Target::of(&row),
+            target_name: Name::of_any(row.target),
             is_active: row.is_active,
             value: row.value,
         }
@@ -118,7 +140,7 @@ impl Status {
 impl ThreadRow {
     pub(crate) fn of(row: ffi::ThreadRow) -> ThreadRow {
         ThreadRow {
-            name: Name::of(row.name),
+            name: Name::of_any(row.name),
             status: Status::of(row.status),
             value: row.value,
             weight: row.weight.number(),

@@ -3,7 +3,7 @@
 /// The sizes of a kernel. It never grows.
 ///
 /// The default is enough for a first try: 64 tickets, 16 currencies and 16 threads, 2 ports, 2 mutexes, 2 processors,
-/// 1 script, a quantum of 100 ticks and a unit of 1; no number is given again.
+/// 1 script, a quantum of 100 ticks and a unit of 1; no number is given again, and there are no plain names.
 ///
 /// ```
 /// use lot::Sizes;
@@ -51,6 +51,20 @@ pub struct Sizes {
     /// # Ok::<(), Box<dyn std::error::Error>>(())
     /// ```
     pub reuse: u32,
+    /// 0 if a name is a letter a to z, followed by letters a to z, digits, `_` or `-`. Otherwise it may have any
+    /// printable ASCII but the space, as [`Name::plain`](crate::Name::plain) does. The kernel keeps it as 0 or 1.
+    ///
+    /// ```
+    /// use lot::{Event, EventRefusal, Kernel, Name, Reply, Sizes};
+    ///
+    /// let make = Event::make_currency(Name::plain("Team/1")?);
+    /// let mut plain = Kernel::new(Sizes { plain_names: 1, ..Sizes::default() })?;
+    /// assert_eq!(plain.event(&make), Reply::Currency(1));
+    /// let mut other = Kernel::new(Sizes::default())?;
+    /// assert_eq!(other.event(&make), Reply::Refused(EventRefusal::BadName));
+    /// # Ok::<(), lot::Error>(())
+    /// ```
+    pub plain_names: u32,
 }
 
 impl Sizes {
@@ -66,6 +80,7 @@ impl Sizes {
         quantum: 100,
         unit: 1,
         reuse: 0,
+        plain_names: 0,
     };
 }
 

@@ -15,7 +15,7 @@ fn name(text: &str) -> Name {
 fn kernel_of(amounts: &[u64]) -> Kernel {
     let mut kernel = Kernel::new(Sizes::default()).expect("the default sizes");
     for (amount, letter) in amounts.iter().zip(["a", "b", "c", "d"]) {
-        kernel.event(&Event::make_funded(*amount, Name::BASE, name(letter), 1)).ok().expect("made");
+        kernel.event(&Event::make_funded(*amount, Name::BASE, Some(name(letter)), 1)).ok().expect("made");
     }
     kernel
 }
@@ -49,6 +49,22 @@ fn names_are_read() {
     assert_eq!("sixteen-bytes-ok".parse::<Name>().map(|name| name.as_str().len()), Ok(16));
     assert_eq!("seventeen-bytes-a".parse::<Name>(), Err(Error::LongName));
     assert_eq!(Name::try_from(&[b'a', 0xff][..]), Err(Error::BadName));
+}
+
+#[test]
+fn plain_names_are_read() {
+    for byte in 0..128_u8 {
+        let text = char::from(byte).to_string();
+        let is_plain = (33..=126).contains(&byte);
+        assert_eq!(Name::plain(&text).is_ok_and(|name| name == text.as_str()), is_plain, "{byte}");
+        assert_eq!(Name::new(&text).is_ok(), byte.is_ascii_lowercase(), "{byte}");
+    }
+    assert_eq!(Name::plain("base"), Ok(Name::BASE));
+    assert_eq!(Name::plain("Sixteen/bytes=ok").map(|name| name.to_string()), Ok("Sixteen/bytes=ok".into()));
+    assert_eq!(Name::plain("Seventeen/bytes=a"), Err(Error::LongName));
+    for bad in ["", "a b", "\u{e9}", "a\0", "a\n"] {
+        assert_eq!(Name::plain(bad), Err(Error::BadName), "{bad:?}");
+    }
 }
 
 #[test]
@@ -160,7 +176,8 @@ fn readers_share_a_kernel() {
         assert_eq!(one, other);
     }
     let threads: Vec<_> = kernel.threads().map(|(number, row)| (number, row.name, row.value, row.status)).collect();
-    assert_eq!(threads, [(1, name("a"), 10, Status::Ready), (2, name("b"), 5, Status::Ready)]);
+    let named = [(1, Some(name("a")), 10, Status::Ready), (2, Some(name("b")), 5, Status::Ready)];
+    assert_eq!(threads, named);
     // Ticket 3 is removed, and its number isn't used again.
     let tickets: Vec<_> = kernel.tickets().map(|(number, row)| (number, row.amount, row.is_active)).collect();
     assert_eq!(tickets, [(1, 10, true), (2, 5, true), (4, 8, false)]);
@@ -177,6 +194,31 @@ fn a_row_changes_no_answer() {
     // The row computed the values of two threads, each from one ticket.
     assert!(read.meter().ticket_reads > before.ticket_reads);
     assert_eq!(read.event(&Event::draw(1, 12)), unread.event(&Event::draw(1, 12)));
+}
+
+// Threads read a settled kernel at once, and see what the kernel itself shows.
+#[test]
+fn threads_read_a_settled_kernel() {
+    let mut kernel = kernel_of(&[10, 5]);
+    kernel.event(&Event::make_currency(name("alice"))).ok().expect("made");
+    kernel.event(&Event::draw(2, 12)).ok().expect("thread 2");
+    kernel.event(&Event::make_ticket(7, name("alice"))).ok().expect("made");
+    let wanted: (Vec<_>, Vec<_>, Vec<_>) =
+        (kernel.threads().collect(), kernel.tickets().collect(), kernel.currencies().collect());
+    let settled = kernel.settle();
+    thread::scope(|scope| {
+        for _ in 0..4 {
+            scope.spawn(|| {
+                let seen: (Vec<_>, Vec<_>, Vec<_>) =
+                    (settled.threads().collect(), settled.tickets().collect(), settled.currencies().collect());
+                assert_eq!(seen, wanted);
+                assert_eq!((settled.thread_row(9), settled.script_of(1)), (None, Some(1)));
+                assert_eq!(settled.runner(2).map(|runner| runner.thread), Some(2));
+            });
+        }
+    });
+    kernel.event(&Event::expire(2)).ok().expect("it ran");
+    assert_eq!(kernel.settle().thread_row(2).map(|row| row.status), Some(Status::Ready));
 }
 
 #[test]
@@ -231,8 +273,8 @@ fn constructors_make_the_events() {
         Event::make_currency(name("alice")),
         Event::make_ticket(100, Name::BASE),
         Event::fund(1, name("alice")),
-        Event::make_thread(name("t"), 1),
-        Event::make_funded(10, name("alice"), name("u"), 1),
+        Event::make_thread(Some(name("t")), 1),
+        Event::make_funded(10, name("alice"), Some(name("u")), 1),
         Event::set_ticket(2, 30),
         Event::unfund(1),
         Event::remove_ticket(1),
@@ -240,12 +282,12 @@ fn constructors_make_the_events() {
         Event::remove_ticket(2),
         Event::remove_currency(name("alice")),
         Event::draw(1, 9),
-        Event::make_funded(10, Name::BASE, name("v"), 1),
+        Event::make_funded(10, Name::BASE, Some(name("v")), 1),
         Event::draw(1, 9),
         Event::trap(1, 0, Action::Exit),
         Event::unfund(3),
         Event::remove_thread(name("v")),
-        Event::make_funded(10, Name::BASE, name("v"), 1),
+        Event::make_funded(10, Name::BASE, Some(name("v")), 1),
         Event::draw(1, 9),
         Event::sleep(1, 49),
         Event::wake(4),
@@ -255,7 +297,7 @@ fn constructors_make_the_events() {
         Event::overrun(1, 100),
         Event::draw(1, 4),
         Event::kill(name("v")),
-        Event::make_funded(10, Name::BASE, name("w"), 1),
+        Event::make_funded(10, Name::BASE, Some(name("w")), 1),
         Event::kill_numbered(5),
     ];
     let wanted = [

@@ -2,7 +2,7 @@
 
 use lot::{
     weight, winner, Action, Command, Error, Event, EventRefusal, Kernel, Listing, Name, Outcome, ParkMiller, Reply,
-    Runner, Sizes, Status, TrapRefusal,
+    Runner, Sizes, Status, Target, TrapRefusal,
 };
 use std::num::NonZeroU32;
 
@@ -15,7 +15,8 @@ fn command(kernel: &mut Kernel, command: Command) -> Reply {
 }
 
 fn fund_thread(kernel: &mut Kernel, amount: u64, currency: &str, thread: &str) -> Reply {
-    command(kernel, Command::MakeFunded { amount, currency: name(currency).into(), name: name(thread), script: 1 })
+    let (currency, name) = (name(currency).into(), Some(name(thread)));
+    command(kernel, Command::MakeFunded { amount, currency, name, script: 1 })
 }
 
 fn draw(kernel: &mut Kernel, number: u128) -> Reply {
@@ -76,7 +77,8 @@ fn currency_graph() {
     let row = kernel.currency_row(4).expect("there");
     assert_eq!((row.name, row.backing, row.issued, row.active_amount, row.value), (name("task2"), 1, 2, 500, 1000));
     let row = kernel.ticket_row(3).expect("there");
-    assert_eq!((row.issuer, row.target, row.is_active, row.value), (name("alice"), Some(name("task1")), false, 0));
+    assert_eq!((row.issuer, row.is_active, row.value), (name("alice"), false, 0));
+    assert_eq!((row.target, row.target_name), (Some(Target::Currency(3)), Some(name("task1"))));
     let cycle = Command::MakeTicket { amount: 1, currency: name("task2").into() };
     assert_eq!(command(&mut kernel, cycle), Reply::Ticket(9));
     let cycle = Command::Fund { ticket: 9, target: name("alice").into() };
@@ -102,7 +104,8 @@ fn inflation() {
     // More of alice's tickets for a: it takes a share of b's, and none of c's.
     assert_eq!(command(&mut kernel, Command::SetTicket { ticket: 2, amount: 30 }), Reply::Done);
     let row = kernel.ticket_row(2).expect("there");
-    assert_eq!((row.amount, row.value, row.issuer, row.target), (30, 75, name("alice"), Some(name("a"))));
+    assert_eq!((row.amount, row.value, row.issuer), (30, 75, name("alice")));
+    assert_eq!((row.target, row.target_name), (Some(Target::Thread(1)), Some(name("a"))));
     assert_eq!(draw(&mut kernel, 50), Reply::Winner { thread: 1, number: 50, total: 200, delivered: None });
     expire(&mut kernel);
     // Fewer of base's for alice: 20 for a and b, whose shares of them stay 3 to 1.
@@ -130,7 +133,7 @@ fn removal() {
     assert_eq!(remove(&mut kernel), Reply::Refused(EventRefusal::NoThread));
     assert_eq!(fund_thread(&mut kernel, 20, "base", "a"), Reply::Funded { ticket: 3, thread: 3 });
     let threads: Vec<_> = kernel.threads().map(|(number, row)| (number, row.name, row.value)).collect();
-    assert_eq!(threads, [(2, name("b"), 5), (3, name("a"), 20)]);
+    assert_eq!(threads, [(2, Some(name("b")), 5), (3, Some(name("a")), 20)]);
 }
 
 // Commands by number, where 1 is both a currency and a thread. 100 of base back the currency, whose 40 are a's and b's.
@@ -142,8 +145,8 @@ fn by_number() {
         (Event::make_currency(name("alice")), Reply::Currency(1)),
         (Event::make_ticket_in(100, 0), Reply::Ticket(1)),
         (Event::fund_currency(1, 1), Reply::Done),
-        (Event::make_funded_in(10, 1, a, 1), Reply::Funded { ticket: 2, thread: 1 }),
-        (Event::make_thread(b, 1), Reply::Thread(2)),
+        (Event::make_funded_in(10, 1, Some(a), 1), Reply::Funded { ticket: 2, thread: 1 }),
+        (Event::make_thread(Some(b), 1), Reply::Thread(2)),
         (Event::make_ticket_in(30, 1), Reply::Ticket(3)),
         (Event::fund_thread(3, 2), Reply::Done),
         (Event::fund_currency(3, 9), Reply::Refused(EventRefusal::NoTarget)),
@@ -161,9 +164,14 @@ fn by_number() {
     for (event, reply) in events {
         assert_eq!(kernel.event(&event), reply, "{event:?}");
     }
-    let targets: Vec<_> = kernel.tickets().map(|(number, row)| (number, row.issuer, row.target)).collect();
+    let targets: Vec<_> = kernel.tickets().map(|(_, row)| (row.issuer, row.target, row.target_name)).collect();
     let alice = name("alice");
-    assert_eq!(targets, [(1, Name::BASE, Some(alice)), (2, alice, None), (3, alice, Some(b))]);
+    let wanted = [
+        (Name::BASE, Some(Target::Currency(1)), Some(alice)),
+        (alice, None, None),
+        (alice, Some(Target::Thread(2)), Some(b)),
+    ];
+    assert_eq!(targets, wanted);
 }
 
 // With `reuse`, the next thread gets the number of the last one removed, and a dead thread keeps its number.
@@ -172,7 +180,7 @@ fn given_again() {
     let mut kernel = Kernel::new(Sizes { tickets: 2, threads: 2, reuse: 1, ..Sizes::SMALL }).expect("small");
     fund_thread(&mut kernel, 10, "base", "a");
     fund_thread(&mut kernel, 5, "base", "b");
-    let c = Event::make_thread(name("c"), 1);
+    let c = Event::make_thread(Some(name("c")), 1);
     assert_eq!(kill(&mut kernel, "a"), Reply::Done);
     assert_eq!(kernel.event(&c), Reply::Refused(EventRefusal::Full));
     assert_eq!(kernel.event(&Event::unfund(1)), Reply::Done);
@@ -180,6 +188,59 @@ fn given_again() {
     assert_eq!(kernel.event(&c), Reply::Thread(1));
     assert_eq!(kernel.event(&Event::remove_ticket(1)), Reply::Done);
     assert_eq!(kernel.event(&Event::make_ticket(7, Name::BASE)), Reply::Ticket(1));
+}
+
+// Threads without a name have numbers alone. With `reuse` they come and go, in room for two.
+#[test]
+fn no_names() {
+    let mut kernel = Kernel::new(Sizes { tickets: 2, threads: 2, reuse: 1, ..Sizes::SMALL }).expect("small");
+    assert_eq!(kernel.event(&Event::make_thread(None, 1)), Reply::Thread(1));
+    assert_eq!(kernel.event(&Event::make_ticket_in(3, 0)), Reply::Ticket(1));
+    assert_eq!(kernel.ticket_row(1).map(|row| (row.target, row.target_name)), Some((None, None)));
+    assert_eq!(kernel.event(&Event::fund_thread(1, 1)), Reply::Done);
+    for _ in 0..100 {
+        let made = kernel.event(&Event::make_funded_in(7, 0, None, 1));
+        assert_eq!(made, Reply::Funded { ticket: 2, thread: 2 });
+        let rows: Vec<_> = kernel.threads().map(|(number, row)| (number, row.name, row.value)).collect();
+        assert_eq!(rows, [(1, None, 3), (2, None, 7)]);
+        let targets: Vec<_> = kernel.tickets().map(|(_, row)| (row.target, row.target_name)).collect();
+        assert_eq!(targets, [1, 2].map(|thread| (Some(Target::Thread(thread)), None)));
+        let ends =
+            [Event::kill_numbered(2), Event::unfund(2), Event::remove_ticket(2), Event::remove_thread_numbered(2)];
+        assert_eq!(kernel.run(&ends), Ok(vec![Reply::Done; 4]));
+    }
+}
+
+// A kernel with plain names takes them, and one without refuses each event that has one.
+#[test]
+fn plain_names() {
+    let (job, team) = (Name::plain("Job#1").expect("plain"), Name::plain("~").expect("plain"));
+    let make = Event::make_funded(4, team, Some(job), 1);
+    let mut plain = Kernel::new(Sizes { plain_names: 7, ..Sizes::SMALL }).expect("small");
+    assert_eq!(plain.sizes().plain_names, 1);
+    let run = [Event::make_currency(team), make, Event::make_funded(5, Name::BASE, None, 1), Event::kill(job)];
+    assert!(plain.run(&run).is_ok());
+    assert_eq!(plain.event(&Event::make_currency(job)), Reply::Refused(EventRefusal::NameTaken));
+    assert_eq!(plain.ticket_row(1).map(|row| (row.issuer, row.target_name)), Some((team, Some(job))));
+    assert_eq!(plain.thread_row(1).map(|row| (row.name, row.status)), Some((Some(job), Status::Dead)));
+    let mut strict = Kernel::new(Sizes::SMALL).expect("small");
+    for event in [
+        Event::make_currency(team),
+        Event::make_ticket(1, team),
+        Event::fund(9, job),
+        Event::remove_thread(job),
+        Event::remove_currency(team),
+        Event::kill(job),
+        Event::make_thread(Some(job), 1),
+        Event::make_funded_in(0, 9, Some(job), 1),
+        make,
+    ] {
+        assert_eq!(strict.event(&event), Reply::Refused(EventRefusal::BadName), "{event:?}");
+    }
+    let stopped = strict.run(&[Event::draw(1, 0), make]).expect_err("a plain name");
+    assert_eq!((stopped.done(), stopped.refusal.number()), (1, 1));
+    assert_eq!(stopped.refusal.to_string(), "the kernel doesn't take such a name");
+    assert_eq!((strict.currency_count(), strict.ticket_count()), (1, 0));
 }
 
 fn trapped(thread: u32, ticks: u32, outcome: Outcome, goes_on: bool) -> Reply {
@@ -338,7 +399,7 @@ fn sleepers_tickets() {
     trap(&mut kernel, 0, Action::Sleep);
     assert_eq!(values(&kernel), [0, 200]);
     let row = kernel.ticket_row(2).expect("there");
-    assert_eq!((row.is_active, row.value, row.target), (false, 0, Some(name("a"))));
+    assert_eq!((row.is_active, row.value, row.target_name), (false, 0, Some(name("a"))));
     assert_eq!(kernel.event(&Event::Wake { thread: 1 }), Reply::Done);
     assert_eq!(values(&kernel), [133, 66]);
 }

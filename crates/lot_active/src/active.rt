@@ -105,6 +105,7 @@ impl Active {
     }
 
     /// Makes a thread live, or not.
+    #[inline(always)]
     pub fn set_live(&mut self, graph: &Graph, thread: u32, live: bool)
         requires thread { IsThread graph.now.funding thread }
         requires kept { (before : List Bool) × IsKeptFor self.old graph.now before }
@@ -118,6 +119,7 @@ impl Active {
     }
 
     /// Takes account of an edge added to the graph.
+    #[inline(always)]
     pub fn attach(&mut self, graph: &Graph, edge: Edge)
         requires kept { (before : LimitedFunding) × (ends : EdgeEnds) × (live : List Bool)
             × AddsEdge before graph.now edge ends × IsKeptFor self.old before live }
@@ -134,6 +136,7 @@ impl Active {
     }
 
     /// Takes account of an edge removed from the graph, given its former ends.
+    #[inline(always)]
     pub fn detach(&mut self, graph: &Graph, ends: EdgeEnds)
         requires sound { IsSound graph.now.funding }
         requires fits { FitsLimits graph.now }
@@ -193,6 +196,7 @@ impl Active {
         self.marks.amount(node)
     }
 
+    #[inline(always)]
     fn set_awake(&mut self, graph: &Graph, node: usize, awake: bool)
         requires node { node < node_count (layout_of graph.now) }
         requires graph { IsNet (graph_net graph.now) }
@@ -208,6 +212,7 @@ impl Active {
         self.marks.propagate(graph, awake);
     }
 
+    #[inline(always)]
     fn attach_places(&mut self, graph: &Graph, places: EdgePlaces)
         requires graph { IsNet (graph_net graph.now) }
         requires no_cycle { HasNoCycle (graph_net graph.now) }
@@ -225,6 +230,7 @@ impl Active {
         }
     }
 
+    #[inline(always)]
     fn detach_places(&mut self, graph: &Graph, places: EdgePlaces)
         requires no_cycle { HasNoCycle (graph_net graph.now) }
         requires kept { (before : Net) × (edge : ℕ) × Adds (graph_net graph.now) before edge places × IsNet before

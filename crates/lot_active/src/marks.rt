@@ -1,5 +1,6 @@
 //! The marks, the amounts and the worklist.
-ghost use Rattle.std.specs.Prelude.{◌≡◌, ℕ, ◌+◌, ◌*◌, ◌^◌, ◌<◌, IfOk, IfSome, IfNone, [], length, replicate, false};
+ghost use Rattle.std.specs.Prelude.{◌≡◌, ℕ, ◌+◌, ◌*◌, ◌^◌, ◌<◌, ◌||◌, IfOk, IfSome, IfNone, [], length, replicate};
+ghost use Rattle.std.specs.Prelude.{false, nat_lt};
 ghost use Rattle.lot_lists.specs.NodeLists.{nodes_of, HasSameSize, IsConsistent, empty_lists};
 ghost use Rattle.lot_graph.specs.Places.{layout_of, node_count};
 ghost use Rattle.lot_active.specs.Fundings.{graph_net};
@@ -113,9 +114,11 @@ impl Marks {
         requires node { node < length self.old.amounts }
         ensures sets { SetsAwake self.old self.new node awake }
     {
-        let was = self.is_on(node);
+        let amount = self.amounts[node];
+        let was = is_marked(self.awake[node], amount);
         self.awake[node] = awake;
-        if self.is_on(node) != was {
+        // The mark after the write is computed from what was read before it, since nothing needs to be read twice.
+        if is_marked(awake, amount) != was {
             relist(&mut self.lists, node, PENDING);
         }
     }
@@ -126,14 +129,18 @@ impl Marks {
         requires may { MayMove on (held_at self.old node) amount }
         ensures adjusts { Adjusts self.old self.new node amount on }
     {
-        let was = self.is_on(node);
-        self.amounts[node] = shifted(self.amounts[node], amount, on);
-        let is = self.is_on(node);
+        let awake = self.awake[node];
+        let before = self.amounts[node];
+        let after = shifted(before, amount, on);
+        self.amounts[node] = after;
+        let was = is_marked(awake, before);
+        let is = is_marked(awake, after);
         note(&mut self.lists, node, was, is);
         self.passed = self.passed.saturating_add(1);
     }
 
     /// The next node whose mark isn't published, if there is one; it counts as published afterwards.
+    #[inline(always)]
     fn take_pending(&mut self) -> Option<usize>
         ensures none { IfNone result (nodes_of self.old.lists 0 ≡ []) }
         ensures unchanged { IfNone result (self.new ≡ self.old) }
@@ -185,6 +192,13 @@ impl Marks {
             self.publish(graph, node, on);
         }
     }
+}
+
+/// A node's mark, given whether it is awake, and its amount.
+fn is_marked(awake: bool, amount: u64) -> bool
+    ensures { result ≡ (awake || nat_lt 0 amount) }
+{
+    awake || amount > 0
 }
 
 /// A sum after adding or subtracting one edge's amount.

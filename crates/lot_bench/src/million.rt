@@ -56,6 +56,7 @@ fn opened(alloc: Global) -> Option<Kernel> {
         quantum: 100,
         unit: 1,
         reuse: false,
+        plain_names: false,
     })?;
     let mut kernel = Kernel::new(alloc, limits).ok()?;
     make_user(&mut kernel, 1, "alice", 2000)?;

@@ -101,5 +101,6 @@ pub(crate) fn smallest_limits(workload: Workload) -> Option<Limits> {
         quantum: 100,
         unit: 1,
         reuse: false,
+        plain_names: false,
     })
 }

@@ -4,7 +4,8 @@ use Rattle.std.specs.Prelude.{◌==◌, Option, nat_lt, unwrap_or}
 use Rattle.std.specs.List.{find}
 use Rattle.std.proofs.Math.Seq.{take-append_seam}
 use Rattle.std.proofs.lemmas.Nat.{div-add-mod'}
-use Rattle.lot_machine.specs.Commands.{is_good_name}
+use Rattle.lot_machine.specs.declared.sizes.Sizes.{Sizes}
+use Rattle.lot_machine.specs.Commands.{is_name, is_thread_name}
 use Rattle.lot_machine.specs.declared.action.Action.TheVariants as action
 use Rattle.lot_machine.specs.declared.command.Command.TheVariants.{MakeTicket, RemoveTicket, MakeCurrency, RemoveCurrency, Fund, Unfund, SetTicket, MakeThread, RemoveThread, Kill, MakeFunded, List as Listing}
 use Rattle.lot_machine.specs.declared.command.Kind.TheVariants.{Tickets, Currencies, Threads}
@@ -26,7 +27,7 @@ use Rattle.lot_machine.specs.declared.reply.Reply.TheVariants as reply
 use Rattle.lot_c.specs.declared.reply.PlainReply.{PlainReply}
 use Rattle.lot_c.specs.declared.rows.PlainStatus.{PlainStatus}
 use Rattle.lot_c.specs.Events.{event_meant, result_map, result_and_then}
-use Rattle.lot_c.specs.Names.{name_meant, plain_name, spelled}
+use Rattle.lot_c.specs.Names.{name_meant, name_passing, plain_name, spelled, thread_name_meant}
 use Rattle.lot_c.specs.Numbers.{outcome_number, refusal_number, reply_number, status_number, trap_refusal_number}
 use Rattle.lot_c.specs.Plain.{HasNames, plain_event}
 use Rattle.lot_c.specs.Replies.{plain_reply, plain_outcome}
@@ -41,51 +42,57 @@ spelled-plain name = take-append_seam name _
 fits : (n : ℕ) → n ≤ 16 → nat_lt 16 n ≡ false
 fits n low = search (arith)
 
-pub named : (name : List ℕ) → length name ≤ 16 → is_good_name name ≡ true → name_meant (plain_name name) ≡ Ok name
-named name short good = rw (fits (length name) short) (rw (spelled-plain name) (rw good refl))
+passing : (passes : List ℕ → Bool) (name : List ℕ) → length name ≤ 16 → passes name ≡ true → name_passing passes (plain_name name) ≡ Ok name
+passing passes name short good = rw (fits (length name) short) (rw (spelled-plain name) (rw good refl))
+
+pub named : (sizes : Sizes) (name : List ℕ) → length name ≤ 16 → is_name sizes name ≡ true → name_meant sizes (plain_name name) ≡ Ok name
+named sizes = passing (is_name sizes)
+
+pub thread-named : (sizes : Sizes) (name : List ℕ) → length name ≤ 16 → is_thread_name sizes name ≡ true → thread_name_meant sizes (plain_name name) ≡ Ok name
+thread-named sizes = passing (is_thread_name sizes)
 
 pub wide : (n : ℕ) → wide_meant (plain_wide n) ≡ n
 wide n = div-add-mod' n (2 ^ 64)
 
-pub meant : (e : Event) → HasNames e → event_meant (plain_event e) ≡ Ok e
-meant (event.Command (MakeTicket amount (currency_ref.Named currency))) (short, good) = ap (result_map (λ n. event.Command (MakeTicket amount (currency_ref.Named n)))) (named currency short good)
-meant (event.Command (MakeTicket amount (currency_ref.Numbered currency))) has = refl
-meant (event.Command (RemoveTicket ticket)) has = refl
-meant (event.Command (MakeCurrency name)) (short, good) = ap (result_map (λ n. event.Command (MakeCurrency n))) (named name short good)
-meant (event.Command (RemoveCurrency (currency_ref.Named currency))) (short, good) = ap (result_map (λ n. event.Command (RemoveCurrency (currency_ref.Named n)))) (named currency short good)
-meant (event.Command (RemoveCurrency (currency_ref.Numbered currency))) has = refl
-meant (event.Command (Fund ticket (target_ref.Named target))) (short, good) = ap (result_map (λ n. event.Command (Fund ticket (target_ref.Named n)))) (named target short good)
-meant (event.Command (Fund ticket (target_ref.Currency currency))) has = refl
-meant (event.Command (Fund ticket (target_ref.Thread thread))) has = refl
-meant (event.Command (Unfund ticket)) has = refl
-meant (event.Command (SetTicket ticket amount)) has = refl
-meant (event.Command (MakeThread name script)) (short, good) = ap (result_map (λ n. event.Command (MakeThread n script))) (named name short good)
-meant (event.Command (RemoveThread (thread_ref.Named thread))) (short, good) = ap (result_map (λ n. event.Command (RemoveThread (thread_ref.Named n)))) (named thread short good)
-meant (event.Command (RemoveThread (thread_ref.Numbered thread))) has = refl
-meant (event.Command (Kill (thread_ref.Named thread))) (short, good) = ap (result_map (λ n. event.Command (Kill (thread_ref.Named n)))) (named thread short good)
-meant (event.Command (Kill (thread_ref.Numbered thread))) has = refl
-meant (event.Command (MakeFunded amount (currency_ref.Named currency) name script)) ((short, good), (short', good')) =
-    ap (λ m. result_and_then m (λ c. result_map (λ n. event.Command (MakeFunded amount (currency_ref.Named c) n script)) (name_meant (plain_name name)))) (named currency short good)
-    ∙ ap (result_map (λ n. event.Command (MakeFunded amount (currency_ref.Named currency) n script))) (named name short' good')
-meant (event.Command (MakeFunded amount (currency_ref.Numbered currency) name script)) (has, (short, good)) =
-    ap (result_map (λ n. event.Command (MakeFunded amount (currency_ref.Numbered currency) n script))) (named name short good)
-meant (event.Command (Listing Tickets)) has = refl
-meant (event.Command (Listing Currencies)) has = refl
-meant (event.Command (Listing Threads)) has = refl
-meant (event.Draw p d) has = ap (λ n. Ok (event.Draw p n)) (wide d)
-meant (event.Expire p) has = refl
-meant (event.Trap p ran action.Yield) has = refl
-meant (event.Trap p ran (action.Call port number)) has = refl
-meant (event.Trap p ran (action.Receive port)) has = refl
-meant (event.Trap p ran (action.Reply number)) has = refl
-meant (event.Trap p ran (action.Lock mutex)) has = refl
-meant (event.Trap p ran (action.Serve port number)) has = refl
-meant (event.Trap p ran (action.Unlock mutex d)) has = ap (λ n. Ok (event.Trap p ran (action.Unlock mutex n))) (wide d)
-meant (event.Trap p ran action.Exit) has = refl
-meant (event.Trap p ran action.Sleep) has = refl
-meant (event.Preempt p ticks) has = refl
-meant (event.Overrun p ticks) has = refl
-meant (event.Wake t) has = refl
+pub meant : (sizes : Sizes) (e : Event) → HasNames sizes e → event_meant sizes (plain_event e) ≡ Ok e
+meant sizes (event.Command (MakeTicket amount (currency_ref.Named currency))) (short, good) = ap (result_map (λ n. event.Command (MakeTicket amount (currency_ref.Named n)))) (named sizes currency short good)
+meant sizes (event.Command (MakeTicket amount (currency_ref.Numbered currency))) has = refl
+meant sizes (event.Command (RemoveTicket ticket)) has = refl
+meant sizes (event.Command (MakeCurrency name)) (short, good) = ap (result_map (λ n. event.Command (MakeCurrency n))) (named sizes name short good)
+meant sizes (event.Command (RemoveCurrency (currency_ref.Named currency))) (short, good) = ap (result_map (λ n. event.Command (RemoveCurrency (currency_ref.Named n)))) (named sizes currency short good)
+meant sizes (event.Command (RemoveCurrency (currency_ref.Numbered currency))) has = refl
+meant sizes (event.Command (Fund ticket (target_ref.Named target))) (short, good) = ap (result_map (λ n. event.Command (Fund ticket (target_ref.Named n)))) (named sizes target short good)
+meant sizes (event.Command (Fund ticket (target_ref.Currency currency))) has = refl
+meant sizes (event.Command (Fund ticket (target_ref.Thread thread))) has = refl
+meant sizes (event.Command (Unfund ticket)) has = refl
+meant sizes (event.Command (SetTicket ticket amount)) has = refl
+meant sizes (event.Command (MakeThread name script)) (short, good) = ap (result_map (λ n. event.Command (MakeThread n script))) (thread-named sizes name short good)
+meant sizes (event.Command (RemoveThread (thread_ref.Named thread))) (short, good) = ap (result_map (λ n. event.Command (RemoveThread (thread_ref.Named n)))) (named sizes thread short good)
+meant sizes (event.Command (RemoveThread (thread_ref.Numbered thread))) has = refl
+meant sizes (event.Command (Kill (thread_ref.Named thread))) (short, good) = ap (result_map (λ n. event.Command (Kill (thread_ref.Named n)))) (named sizes thread short good)
+meant sizes (event.Command (Kill (thread_ref.Numbered thread))) has = refl
+meant sizes (event.Command (MakeFunded amount (currency_ref.Named currency) name script)) ((short, good), (short', good')) =
+    ap (λ m. result_and_then m (λ c. result_map (λ n. event.Command (MakeFunded amount (currency_ref.Named c) n script)) (thread_name_meant sizes (plain_name name)))) (named sizes currency short good)
+    ∙ ap (result_map (λ n. event.Command (MakeFunded amount (currency_ref.Named currency) n script))) (thread-named sizes name short' good')
+meant sizes (event.Command (MakeFunded amount (currency_ref.Numbered currency) name script)) (has, (short, good)) =
+    ap (result_map (λ n. event.Command (MakeFunded amount (currency_ref.Numbered currency) n script))) (thread-named sizes name short good)
+meant sizes (event.Command (Listing Tickets)) has = refl
+meant sizes (event.Command (Listing Currencies)) has = refl
+meant sizes (event.Command (Listing Threads)) has = refl
+meant sizes (event.Draw p d) has = ap (λ n. Ok (event.Draw p n)) (wide d)
+meant sizes (event.Expire p) has = refl
+meant sizes (event.Trap p ran action.Yield) has = refl
+meant sizes (event.Trap p ran (action.Call port number)) has = refl
+meant sizes (event.Trap p ran (action.Receive port)) has = refl
+meant sizes (event.Trap p ran (action.Reply number)) has = refl
+meant sizes (event.Trap p ran (action.Lock mutex)) has = refl
+meant sizes (event.Trap p ran (action.Serve port number)) has = refl
+meant sizes (event.Trap p ran (action.Unlock mutex d)) has = ap (λ n. Ok (event.Trap p ran (action.Unlock mutex n))) (wide d)
+meant sizes (event.Trap p ran action.Exit) has = refl
+meant sizes (event.Trap p ran action.Sleep) has = refl
+meant sizes (event.Preempt p ticks) has = refl
+meant sizes (event.Overrun p ticks) has = refl
+meant sizes (event.Wake t) has = refl
 
 -- ---- replies
 

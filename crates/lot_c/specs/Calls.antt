@@ -1,9 +1,10 @@
 -- The effect of C's calls on a kernel.
-use Rattle.std.specs.Prelude.{◌≡◌, ◌⊎◌, ℕ, Option, None, Some, IfSome, IsSomeAnd, Ok, Err, List, [], ◌∷◌, Result, length, ◌+◌, ◌<◌, ◌≤◌}
+use Rattle.std.specs.Prelude.{◌≡◌, ◌≢◌, ◌⊎◌, ℕ, Option, None, Some, IfSome, IsSomeAnd, Ok, Err, List, [], ◌∷◌, Result, length, ◌+◌, ◌<◌, ◌≤◌}
 use Rattle.lot_machine.specs.declared.event.Event.{Event}
 use Rattle.lot_machine.specs.declared.row.TicketRow.{TicketRow}
 use Rattle.lot_machine.specs.declared.row.CurrencyRow.{CurrencyRow}
 use Rattle.lot_machine.specs.declared.row.ThreadRow.{ThreadRow}
+use Rattle.lot_machine.specs.declared.sizes.Sizes.{Sizes}
 use Rattle.lot_machine.specs.declared.ticket.Ticket.{Ticket}
 use Rattle.lot_machine.specs.Bounds.{IsWithinBounds}
 use Rattle.lot_machine.specs.Facts.{IsSound}
@@ -24,7 +25,7 @@ use Rattle.lot_c.specs.declared.rows.PlainThreadRow.{PlainThreadRow}
 use Rattle.lot_c.specs.declared.sizes.PlainRunner.{PlainRunner}
 use Rattle.lot_c.specs.declared.sizes.PlainSizes.{PlainSizes}
 use Rattle.lot_c.specs.declared.status.Status.{Status}
-use Rattle.lot_c.specs.declared.status.Status.TheVariants.{Done, KernelThere, BadLimits, NoMemory, NotThere}
+use Rattle.lot_c.specs.declared.status.Status.TheVariants.{Done, KernelThere, BadLimits, NoMemory, NotThere, NotSettled}
 use Rattle.lot_c.specs.Counts.{sizes_meant}
 use Rattle.lot_c.specs.Events.{event_meant}
 use Rattle.lot_c.specs.Replies.{plain_reply}
@@ -64,9 +65,9 @@ pub record Answers (e : Event) (old new : Snapshot) : Type 0 where
 -- The call with these fields: for a valid event it stores the reply; otherwise it changes nothing, and the status
 -- gives the reason.
 pub record IsAnswered (fields : PlainEvent) (status : ℕ) (old new : Snapshot) (before after : PlainReply) : Type 0 where
-  pub reply : (e : Event) → event_meant fields ≡ Ok e → (status ≡ code Done) × (after ≡ plain_reply (step old.state e).reply)
-  pub kernel : (e : Event) → event_meant fields ≡ Ok e → Answers e old new
-  pub fault : (why : Status) → event_meant fields ≡ Err why → (status ≡ code why) × (new ≡ old) × (after ≡ before)
+  pub reply : (e : Event) → event_meant old.state.limits fields ≡ Ok e → (status ≡ code Done) × (after ≡ plain_reply (step old.state e).reply)
+  pub kernel : (e : Event) → event_meant old.state.limits fields ≡ Ok e → Answers e old new
+  pub fault : (why : Status) → event_meant old.state.limits fields ≡ Err why → (status ≡ code why) × (new ≡ old) × (after ≡ before)
 
 -- ---- many events
 
@@ -75,10 +76,10 @@ abbrev pub in_front : Result Event Status → List Event → List Event
 in_front (Ok e) events = e ∷ events
 in_front (Err why) events = []
 
--- the events up to the first invalid fields
-abbrev pub events_meant : List PlainEvent → List Event
-events_meant [] = []
-events_meant (fields ∷ others) = in_front (event_meant fields) (events_meant others)
+-- the events up to the first invalid fields, for a kernel with these sizes
+abbrev pub events_meant : Sizes → List PlainEvent → List Event
+events_meant sizes [] = []
+events_meant sizes (fields ∷ others) = in_front (event_meant sizes fields) (events_meant sizes others)
 
 -- the status for an invalid event, or otherwise the given one
 abbrev pub fault_or : Result Event Status → Status → Status
@@ -86,9 +87,9 @@ fault_or (Ok e) other = other
 fault_or (Err why) other = why
 
 -- the status for the first invalid fields, or `Done`
-abbrev pub first_fault : List PlainEvent → Status
-first_fault [] = Done
-first_fault (fields ∷ others) = fault_or (event_meant fields) (first_fault others)
+abbrev pub first_fault : Sizes → List PlainEvent → Status
+first_fault sizes [] = Done
+first_fault sizes (fields ∷ others) = fault_or (event_meant sizes fields) (first_fault sizes others)
 
 -- the machine's replies to an event and to those after it if it is valid, and otherwise the old replies
 abbrev pub written_by : State → Result Event Status → PlainReply → (State → List PlainReply) → List PlainReply → List PlainReply
@@ -97,17 +98,17 @@ written_by s (Err why) reply next others = reply ∷ others
 
 -- the replies to events in order up to the first invalid fields, followed by the old contents
 abbrev pub replies_written : State → List PlainEvent → List PlainReply → List PlainReply
-replies_written s (fields ∷ events) (reply ∷ others) = written_by s (event_meant fields) reply (λ after. replies_written after events others) others
+replies_written s (fields ∷ events) (reply ∷ others) = written_by s (event_meant s.limits fields) reply (λ after. replies_written after events others) others
 replies_written s events others = others
 
 -- The call with these fields in order: it makes the valid events before the first invalid one in turn, each as
 -- `Kernel::event` does.
 pub record AreAnswered (fields : List PlainEvent) (status done : ℕ) (old new : Snapshot) (before after : List PlainReply) : Type 0 where
-  pub status_is : status ≡ code (first_fault fields)
-  pub done_are : done ≡ length (events_meant fields)
+  pub status_is : status ≡ code (first_fault old.state.limits fields)
+  pub done_are : done ≡ length (events_meant old.state.limits fields)
   pub replies : after ≡ replies_written old.state fields before
-  pub state : new.state ≡ state_after old.state (events_meant fields)
-  pub kernel : AreDone (events_meant fields) (machine.replies old.state (events_meant fields)) old new
+  pub state : new.state ≡ state_after old.state (events_meant old.state.limits fields)
+  pub kernel : AreDone (events_meant old.state.limits fields) (machine.replies old.state (events_meant old.state.limits fields)) old new
 
 -- ---- rows and queries
 
@@ -129,6 +130,30 @@ pub record ShowsThread (thread status : ℕ) (old new : Snapshot) (before after 
   pub row : (r : ThreadRow) → rows.thread_row old.state thread ≡ Some r → (status ≡ code Done) × (after ≡ plain_thread_row r) × HasNoneTwice old.stale × (new ≡ settled old)
   pub not_there : rows.thread_row old.state thread ≡ None → (status ≡ code NotThere) × (new ≡ old) × (after ≡ before)
   pub state : new.state ≡ old.state
+
+-- all values are recomputed: none is stale, and each edge into a stale node was counted once
+pub record IsSettledBy (status : ℕ) (old new : Snapshot) : Type 0 where
+  pub done : status ≡ code Done
+  pub kernel : new ≡ settled old
+  pub once : HasNoneTwice old.stale
+
+-- the row of a ticket of a kernel that a call only reads, if it exists and no value is stale
+pub record ShowsSettledTicket (ticket status : ℕ) (k : Snapshot) (before after : PlainTicketRow) : Type 0 where
+  pub stale : k.stale ≢ [] → (status ≡ code NotSettled) × (after ≡ before)
+  pub row : (r : TicketRow) → k.stale ≡ [] → rows.ticket_row k.state ticket ≡ Some r → (status ≡ code Done) × (after ≡ plain_ticket_row r)
+  pub not_there : k.stale ≡ [] → rows.ticket_row k.state ticket ≡ None → (status ≡ code NotThere) × (after ≡ before)
+
+-- the row of a currency in the same way
+pub record ShowsSettledCurrency (currency status : ℕ) (k : Snapshot) (before after : PlainCurrencyRow) : Type 0 where
+  pub stale : k.stale ≢ [] → (status ≡ code NotSettled) × (after ≡ before)
+  pub row : (r : CurrencyRow) → k.stale ≡ [] → rows.currency_row k.state currency ≡ Some r → (status ≡ code Done) × (after ≡ plain_currency_row r)
+  pub not_there : k.stale ≡ [] → rows.currency_row k.state currency ≡ None → (status ≡ code NotThere) × (after ≡ before)
+
+-- the row of a thread in the same way
+pub record ShowsSettledThread (thread status : ℕ) (k : Snapshot) (before after : PlainThreadRow) : Type 0 where
+  pub stale : k.stale ≢ [] → (status ≡ code NotSettled) × (after ≡ before)
+  pub row : (r : ThreadRow) → k.stale ≡ [] → rows.thread_row k.state thread ≡ Some r → (status ≡ code Done) × (after ≡ plain_thread_row r)
+  pub not_there : k.stale ≡ [] → rows.thread_row k.state thread ≡ None → (status ≡ code NotThere) × (after ≡ before)
 
 -- the thread that runs on a processor, if there is one
 pub record ShowsRunner (processor status : ℕ) (k : Snapshot) (before after : PlainRunner) : Type 0 where

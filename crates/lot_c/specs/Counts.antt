@@ -20,6 +20,7 @@ plain_sizes s = record {
   quantum = s.quantum;
   unit = s.unit;
   reuse = if s.reuse then 1 else 0;
+  plain_names = if s.plain_names then 1 else 0;
 }
 
 -- the sizes in these fields
@@ -35,6 +36,7 @@ sizes_meant s = record {
   quantum = s.quantum;
   unit = s.unit;
   reuse = not (s.reuse == 0);
+  plain_names = not (s.plain_names == 0);
 }
 
 -- the counts of a kernel in plain fields

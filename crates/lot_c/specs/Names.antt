@@ -1,6 +1,7 @@
 -- Names in plain fields.
-use Rattle.std.specs.Prelude.{ℕ, ◌-◌, List, ◌++◌, Result, Ok, Err, nat_lt, length, take, replicate, if◌then◌else◌}
-use Rattle.lot_machine.specs.Commands.{is_good_name}
+use Rattle.std.specs.Prelude.{ℕ, ◌-◌, Bool, List, ◌++◌, Result, Ok, Err, nat_lt, length, take, replicate, if◌then◌else◌}
+use Rattle.lot_machine.specs.declared.sizes.Sizes.{Sizes}
+use Rattle.lot_machine.specs.Commands.{is_name, is_thread_name}
 use Rattle.lot_c.specs.declared.name.PlainName.{PlainName}
 use Rattle.lot_c.specs.declared.status.Status.{Status}
 use Rattle.lot_c.specs.declared.status.Status.TheVariants.{LongName, BadName}
@@ -13,6 +14,14 @@ plain_name name = record { length = length name; bytes = name ++ replicate (16 -
 abbrev pub spelled : PlainName → List ℕ
 spelled n = take n.length n.bytes
 
--- The name in these fields, or the status for one that is too long or has invalid bytes.
-abbrev pub name_meant : PlainName → Result (List ℕ) Status
-name_meant n = if nat_lt 16 n.length then Err LongName else if is_good_name (spelled n) then Ok (spelled n) else Err BadName
+-- the name in these fields if it passes the test, or the status for one that is too long or fails it
+abbrev pub name_passing : (List ℕ → Bool) → PlainName → Result (List ℕ) Status
+name_passing passes n = if nat_lt 16 n.length then Err LongName else if passes (spelled n) then Ok (spelled n) else Err BadName
+
+-- the name in these fields, or the status for one that a kernel with these sizes doesn't take
+abbrev pub name_meant : Sizes → PlainName → Result (List ℕ) Status
+name_meant sizes = name_passing (is_name sizes)
+
+-- the name of a new thread in these fields, which may have none, or the status for one that the kernel doesn't take
+abbrev pub thread_name_meant : Sizes → PlainName → Result (List ℕ) Status
+thread_name_meant sizes = name_passing (is_thread_name sizes)

@@ -12,13 +12,15 @@ use Rattle.lot_machine.specs.declared.reply.Outcome.{Outcome}
 use Rattle.lot_machine.specs.declared.reply.Outcome.TheVariants as outcome
 use Rattle.lot_machine.specs.declared.reply.Reply.{Reply}
 use Rattle.lot_machine.specs.declared.reply.Reply.TheVariants as reply
+use Rattle.lot_machine.specs.declared.ticket.Target.{Target}
+use Rattle.lot_machine.specs.declared.ticket.Target.TheVariants as target
 use Rattle.lot_c.specs.declared.status.Status.{Status}
 use Rattle.lot_c.specs.declared.status.Status.TheVariants as status
 use Rattle.lot_c.specs.Kinds.{EventKind}
 
--- the version of the library, 0.2.0
+-- the version of the library, 0.3.0
 abbrev pub version : ℕ
-version = 0 * 2 ^ 16 + 2 * 2 ^ 8 + 0
+version = 0 * 2 ^ 16 + 3 * 2 ^ 8 + 0
 
 -- the number of a call's status
 abbrev pub code : Status → ℕ
@@ -35,6 +37,7 @@ code status.CountsDiffer = 9
 code status.BadSeed = 10
 code status.NoWinner = 11
 code status.TooLarge = 12
+code status.NotSettled = 13
 
 -- the number of a kind of events; 0 is none
 abbrev pub event_number : EventKind → ℕ
@@ -150,3 +153,9 @@ status_number (thread.Served server) = 5
 status_number (thread.Waiting mutex) = 6
 status_number thread.Dead = 7
 status_number thread.Asleep = 8
+
+-- the number of a kind of targets; 0 is none
+abbrev pub target_kind : Target → ℕ
+target_kind target.Unfunded = 0
+target_kind (target.Currency c) = 1
+target_kind (target.Thread t) = 2

@@ -1,6 +1,6 @@
 -- The plain fields of an event.
 use Rattle.std.specs.Prelude.{◌≡◌, ◌≤◌, ℕ, List, [], true, length}
-use Rattle.lot_machine.specs.Commands.{is_good_name}
+use Rattle.lot_machine.specs.Commands.{is_name, is_thread_name}
 use Rattle.lot_machine.specs.declared.action.Action.{Action}
 use Rattle.lot_machine.specs.declared.action.Action.TheVariants as action
 use Rattle.lot_machine.specs.declared.command.Command.{Command}
@@ -14,6 +14,7 @@ use Rattle.lot_machine.specs.declared.reference.ThreadRef.{ThreadRef}
 use Rattle.lot_machine.specs.declared.reference.ThreadRef.TheVariants as thread_ref
 use Rattle.lot_machine.specs.declared.reference.TargetRef.{TargetRef}
 use Rattle.lot_machine.specs.declared.reference.TargetRef.TheVariants as target_ref
+use Rattle.lot_machine.specs.declared.sizes.Sizes.{Sizes}
 use Rattle.lot_c.specs.declared.event.PlainEvent.{PlainEvent}
 use Rattle.lot_c.specs.Kinds.{EventKind}
 use Rattle.lot_c.specs.Names.{plain_name}
@@ -36,42 +37,46 @@ of_kind k = record {
   name = plain_name [];
 }
 
--- a good name of at most 16 bytes
-abbrev IsName : List ℕ → Type 0
-IsName name = (length name ≤ 16) × (is_good_name name ≡ true)
+-- a name of at most 16 bytes that a kernel with these sizes takes
+abbrev IsName : Sizes → List ℕ → Type 0
+IsName sizes name = (length name ≤ 16) × (is_name sizes name ≡ true)
 
--- a currency referred to by name has a good name of at most 16 bytes
-abbrev HasCurrencyName : CurrencyRef → Type 0
-HasCurrencyName (currency_ref.Named name) = IsName name
-HasCurrencyName (currency_ref.Numbered currency) = Unit {0}
+-- the same of the name of a thread, which may have none
+abbrev IsThreadName : Sizes → List ℕ → Type 0
+IsThreadName sizes name = (length name ≤ 16) × (is_thread_name sizes name ≡ true)
 
--- a thread referred to by name has a good name of at most 16 bytes
-abbrev HasThreadName : ThreadRef → Type 0
-HasThreadName (thread_ref.Named name) = IsName name
-HasThreadName (thread_ref.Numbered thread) = Unit {0}
+-- a currency referred to by name has such a name
+abbrev HasCurrencyName : Sizes → CurrencyRef → Type 0
+HasCurrencyName sizes (currency_ref.Named name) = IsName sizes name
+HasCurrencyName sizes (currency_ref.Numbered currency) = Unit {0}
 
--- a target referred to by name has a good name of at most 16 bytes
-abbrev HasTargetName : TargetRef → Type 0
-HasTargetName (target_ref.Named name) = IsName name
-HasTargetName (target_ref.Currency currency) = Unit {0}
-HasTargetName (target_ref.Thread thread) = Unit {0}
+-- a thread referred to by name has one, and such a name
+abbrev HasThreadName : Sizes → ThreadRef → Type 0
+HasThreadName sizes (thread_ref.Named name) = IsName sizes name
+HasThreadName sizes (thread_ref.Numbered thread) = Unit {0}
 
--- each name of the command is good and has at most 16 bytes
-abbrev HasCommandNames : Command → Type 0
-HasCommandNames (MakeTicket amount currency) = HasCurrencyName currency
-HasCommandNames (MakeCurrency name) = IsName name
-HasCommandNames (RemoveCurrency currency) = HasCurrencyName currency
-HasCommandNames (Fund ticket target) = HasTargetName target
-HasCommandNames (MakeThread name script) = IsName name
-HasCommandNames (RemoveThread thread) = HasThreadName thread
-HasCommandNames (Kill thread) = HasThreadName thread
-HasCommandNames (MakeFunded amount currency name script) = HasCurrencyName currency × IsName name
-HasCommandNames other = Unit {0}
+-- a target referred to by name has such a name
+abbrev HasTargetName : Sizes → TargetRef → Type 0
+HasTargetName sizes (target_ref.Named name) = IsName sizes name
+HasTargetName sizes (target_ref.Currency currency) = Unit {0}
+HasTargetName sizes (target_ref.Thread thread) = Unit {0}
 
--- each name of the event is good and has at most 16 bytes
-abbrev pub HasNames : Event → Type 0
-HasNames (event.Command command) = HasCommandNames command
-HasNames other = Unit {0}
+-- a kernel with these sizes takes each name of the command
+abbrev HasCommandNames : Sizes → Command → Type 0
+HasCommandNames sizes (MakeTicket amount currency) = HasCurrencyName sizes currency
+HasCommandNames sizes (MakeCurrency name) = IsName sizes name
+HasCommandNames sizes (RemoveCurrency currency) = HasCurrencyName sizes currency
+HasCommandNames sizes (Fund ticket target) = HasTargetName sizes target
+HasCommandNames sizes (MakeThread name script) = IsThreadName sizes name
+HasCommandNames sizes (RemoveThread thread) = HasThreadName sizes thread
+HasCommandNames sizes (Kill thread) = HasThreadName sizes thread
+HasCommandNames sizes (MakeFunded amount currency name script) = HasCurrencyName sizes currency × IsThreadName sizes name
+HasCommandNames sizes other = Unit {0}
+
+-- a kernel with these sizes takes each name of the event
+abbrev pub HasNames : Sizes → Event → Type 0
+HasNames sizes (event.Command command) = HasCommandNames sizes command
+HasNames sizes other = Unit {0}
 
 -- a command in plain fields
 abbrev pub plain_command : Command → PlainEvent

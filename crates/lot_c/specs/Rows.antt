@@ -3,6 +3,8 @@ use Rattle.std.specs.Prelude.{ℕ, List, [], Option, is_some, unwrap_or}
 use Rattle.lot_machine.specs.declared.record.Status.{Status}
 use Rattle.lot_machine.specs.declared.record.Status.TheVariants.{Ready, Running, Receiving, Queued, Served, Waiting, Asleep, Dead}
 use Rattle.lot_machine.specs.declared.row.TicketRow.{TicketRow}
+use Rattle.lot_machine.specs.declared.ticket.Target.{Target}
+use Rattle.lot_machine.specs.declared.ticket.Target.TheVariants.{Unfunded, Currency, Thread}
 use Rattle.lot_machine.specs.declared.row.CurrencyRow.{CurrencyRow}
 use Rattle.lot_machine.specs.declared.row.ThreadRow.{ThreadRow}
 use Rattle.lot_c.specs.declared.name.PlainName.{PlainName}
@@ -11,12 +13,18 @@ use Rattle.lot_c.specs.declared.rows.PlainCurrencyRow.{PlainCurrencyRow}
 use Rattle.lot_c.specs.declared.rows.PlainStatus.{PlainStatus}
 use Rattle.lot_c.specs.declared.rows.PlainThreadRow.{PlainThreadRow}
 use Rattle.lot_c.specs.Names.{plain_name}
-use Rattle.lot_c.specs.Numbers.{status_number}
+use Rattle.lot_c.specs.Numbers.{status_number, target_kind}
 use Rattle.lot_c.specs.Wides.{plain_wide}
 
 -- the name of a target, or no bytes without one
 abbrev pub plain_target : Option (List ℕ) → PlainName
 plain_target target = plain_name (unwrap_or target [])
+
+-- the number of a target, 0 for none
+abbrev pub target_number : Target → ℕ
+target_number Unfunded = 0
+target_number (Currency c) = c
+target_number (Thread t) = t
 
 -- a ticket's row in plain fields
 abbrev pub plain_ticket_row : TicketRow → PlainTicketRow
@@ -25,6 +33,8 @@ plain_ticket_row row = record {
   amount = row.amount;
   issuer = plain_name row.issuer;
   target = plain_target row.target;
+  target_kind = target_kind row.funds;
+  target_number = target_number row.funds;
   has_target = is_some row.target;
   is_active = row.is_active;
 }

@@ -2,12 +2,14 @@
 ghost use Rattle.std.specs.Prelude.{◌≡◌, ◌⊎◌, Ok};
 ghost use Rattle.lot_machine.specs.Bounds.{IsBetween};
 ghost use Rattle.lot_machine.specs.declared.event.Event.TheVariants as event;
+ghost use Rattle.lot_machine.specs.declared.sizes.Sizes.{Sizes};
+ghost use Rattle.lot_machine.specs.State.{sizes_of};
 ghost use Rattle.lot_c.specs.Events.{event_meant, result_map};
 
 use crate::name::PlainName;
 use crate::status::Status;
 use crate::wide::Wide;
-use lot_machine::{Action, Command, CurrencyRef, Event, Kind, TargetRef, ThreadRef};
+use lot_machine::{Action, Command, CurrencyRef, Event, Kind, Limits, TargetRef, ThreadRef};
 
 /// The kinds of events.
 const MAKE_TICKET: u32 = 1;
@@ -102,21 +104,22 @@ pub struct PlainEvent {
     pub ticket: u64,
     /// The name of the currency that issues a ticket, or of the currency to remove.
     pub currency: PlainName,
-    /// The name of a new currency or thread, of the target to fund, or of the thread to remove or to kill.
+    /// The name of a new currency or thread, of the target to fund, or of the thread to remove or to kill. A new thread
+    /// without a name has a name without bytes.
     pub name: PlainName,
 }
 
 impl PlainEvent {
-    /// The event in these fields, or the status for invalid fields.
-    pub(crate) fn read(&self) -> Result<Event, Status>
-        ensures { result ≡ event_meant self.now }
+    /// The event in these fields for a kernel with these limits, or the status for invalid fields.
+    pub(crate) fn read(&self, limits: &Limits) -> Result<Event, Status>
+        ensures { result ≡ event_meant (sizes_of limits.now) self.now }
     {
         match self.kind {
             MAKE_TICKET..=LIST_THREADS | SET_TICKET | REMOVE_THREAD => {
-                Ok(Event::Command(self.read_command()?))
+                Ok(Event::Command(self.read_command(limits)?))
             }
-            MAKE_TICKET_IN..=MAKE_FUNDED_IN => Ok(Event::Command(self.read_numbered()?)),
-            KILL..=KILL_NUMBERED => Ok(Event::Command(self.read_kill()?)),
+            MAKE_TICKET_IN..=MAKE_FUNDED_IN => Ok(Event::Command(self.read_numbered(limits)?)),
+            KILL..=KILL_NUMBERED => Ok(Event::Command(self.read_kill(limits)?)),
             DRAW..=SERVE | SLEEP => Ok(self.read_turn()),
             PREEMPT => Ok(Event::Preempt {
                 processor: self.processor,
@@ -134,39 +137,39 @@ impl PlainEvent {
     }
 
     /// The command in these fields, or the status for invalid fields. It refers to a currency or a thread by name.
-    fn read_command(&self) -> Result<Command, Status>
+    fn read_command(&self, limits: &Limits) -> Result<Command, Status>
         requires kind { IsBetween MAKE_TICKET LIST_THREADS self.now.kind
             ⊎ IsBetween SET_TICKET REMOVE_THREAD self.now.kind }
-        ensures { event_meant self.now ≡ result_map event.Command result }
+        ensures { event_meant (sizes_of limits.now) self.now ≡ result_map event.Command result }
     {
         let ticket = self.ticket;
         let amount = self.amount;
         match self.kind {
             MAKE_TICKET => Ok(Command::MakeTicket {
                 amount,
-                currency: CurrencyRef::Named(self.currency.read()?),
+                currency: CurrencyRef::Named(self.currency.read(limits)?),
             }),
             REMOVE_TICKET => Ok(Command::RemoveTicket { ticket }),
             MAKE_CURRENCY => Ok(Command::MakeCurrency {
-                name: self.name.read()?,
+                name: self.name.read(limits)?,
             }),
             REMOVE_CURRENCY => Ok(Command::RemoveCurrency {
-                currency: CurrencyRef::Named(self.currency.read()?),
+                currency: CurrencyRef::Named(self.currency.read(limits)?),
             }),
             FUND => Ok(Command::Fund {
                 ticket,
-                target: TargetRef::Named(self.name.read()?),
+                target: TargetRef::Named(self.name.read(limits)?),
             }),
             UNFUND => Ok(Command::Unfund { ticket }),
             SET_TICKET => Ok(Command::SetTicket { ticket, amount }),
             MAKE_THREAD => Ok(Command::MakeThread {
-                name: self.name.read()?,
+                name: self.name.read_thread(limits)?,
                 script: self.script,
             }),
             REMOVE_THREAD => Ok(Command::RemoveThread {
-                thread: ThreadRef::Named(self.name.read()?),
+                thread: ThreadRef::Named(self.name.read(limits)?),
             }),
-            MAKE_FUNDED => self.read_funded(),
+            MAKE_FUNDED => self.read_funded(limits),
             LIST_TICKETS => Ok(Command::List(Kind::Tickets)),
             LIST_CURRENCIES => Ok(Command::List(Kind::Currencies)),
             LIST_THREADS => Ok(Command::List(Kind::Threads)),
@@ -175,22 +178,22 @@ impl PlainEvent {
     }
 
     /// The command that makes a thread with its ticket, or the status for invalid fields.
-    fn read_funded(&self) -> Result<Command, Status>
+    fn read_funded(&self, limits: &Limits) -> Result<Command, Status>
         requires kind { self.now.kind ≡ MAKE_FUNDED }
-        ensures { event_meant self.now ≡ result_map event.Command result }
+        ensures { event_meant (sizes_of limits.now) self.now ≡ result_map event.Command result }
     {
         Ok(Command::MakeFunded {
             amount: self.amount,
-            currency: CurrencyRef::Named(self.currency.read()?),
-            name: self.name.read()?,
+            currency: CurrencyRef::Named(self.currency.read(limits)?),
+            name: self.name.read_thread(limits)?,
             script: self.script,
         })
     }
 
     /// The command in these fields, which refers to a currency or a thread by number, or the status for invalid fields.
-    fn read_numbered(&self) -> Result<Command, Status>
+    fn read_numbered(&self, limits: &Limits) -> Result<Command, Status>
         requires kind { IsBetween MAKE_TICKET_IN MAKE_FUNDED_IN self.now.kind }
-        ensures { event_meant self.now ≡ result_map event.Command result }
+        ensures { event_meant (sizes_of limits.now) self.now ≡ result_map event.Command result }
     {
         let ticket = self.ticket;
         let amount = self.amount;
@@ -217,7 +220,7 @@ impl PlainEvent {
             MAKE_FUNDED_IN => Ok(Command::MakeFunded {
                 amount,
                 currency: CurrencyRef::Numbered(number),
-                name: self.name.read()?,
+                name: self.name.read_thread(limits)?,
                 script: self.script,
             }),
             _ => unreachable!(),
@@ -225,13 +228,13 @@ impl PlainEvent {
     }
 
     /// The kill of a thread by name or by number, or the status for invalid fields.
-    fn read_kill(&self) -> Result<Command, Status>
+    fn read_kill(&self, limits: &Limits) -> Result<Command, Status>
         requires kind { IsBetween KILL KILL_NUMBERED self.now.kind }
-        ensures { event_meant self.now ≡ result_map event.Command result }
+        ensures { event_meant (sizes_of limits.now) self.now ≡ result_map event.Command result }
     {
         match self.kind {
             KILL => Ok(Command::Kill {
-                thread: ThreadRef::Named(self.name.read()?),
+                thread: ThreadRef::Named(self.name.read(limits)?),
             }),
             KILL_NUMBERED => Ok(Command::Kill {
                 thread: ThreadRef::Numbered(self.object),
@@ -243,7 +246,7 @@ impl PlainEvent {
     /// The draw, expiry or trap in these fields.
     fn read_turn(&self) -> Event
         requires kind { IsBetween DRAW SERVE self.now.kind ⊎ self.now.kind ≡ SLEEP }
-        ensures { event_meant self.now ≡ Ok result }
+        ensures { (sizes : Sizes) → event_meant sizes self.now ≡ Ok result }
     {
         match self.kind {
             DRAW => Event::Draw(self.processor, self.number.number()),

@@ -30,7 +30,7 @@ pub extern "C" fn lot_kernel_event(
 fn answer(kernel: &mut Kernel, event: &PlainEvent, reply: &mut PlainReply) -> u32
     ensures { IsAnswered event.now result kernel.old kernel.new reply.old reply.new }
 {
-    match event.read() {
+    match event.read(&kernel.limits()) {
         Err(why) => why.code(),
         Ok(event) => {
             *reply = PlainReply::of(kernel.event(&event));
@@ -75,8 +75,9 @@ fn answer_all(
     ensures { AreAnswered events.now result done.new kernel.old kernel.new replies.old replies.new }
 {
     *done = 0;
+    let limits = kernel.limits();
     for i in 0..events.len() {
-        match events[i].read() {
+        match events[i].read(&limits) {
             Err(why) => return why.code(),
             Ok(event) => {
                 replies[i] = PlainReply::of(kernel.event(&event));

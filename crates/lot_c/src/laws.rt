@@ -4,21 +4,24 @@ ghost use Rattle.lot_machine.specs.Commands as names;
 ghost use Rattle.lot_machine.specs.declared.event.Event.{Event};
 ghost use Rattle.lot_machine.specs.declared.record.Status.{Status};
 ghost use Rattle.lot_machine.specs.declared.reply.Reply.{Reply};
+ghost use Rattle.lot_machine.specs.declared.sizes.Sizes.{Sizes};
 ghost use Rattle.lot_machine.specs.Named.{processor_of, thread_in};
 ghost use Rattle.lot_machine.specs.Order.{IsInOrder};
 ghost use Rattle.lot_machine.specs.State.{State, thread_on};
 ghost use Rattle.lot_machine.specs.Step.{step};
 ghost use Rattle.lot_c.specs.Events.{event_meant};
-ghost use Rattle.lot_c.specs.Names.{name_meant, plain_name};
+ghost use Rattle.lot_c.specs.Names.{name_meant, plain_name, thread_name_meant};
 ghost use Rattle.lot_c.specs.Plain.{HasNames, plain_event};
 ghost use Rattle.lot_c.specs.Replies.{plain_reply};
 ghost use Rattle.lot_c.specs.Rows.{plain_status};
 ghost use Rattle.lot_c.specs.Wides.{plain_wide, wide_meant};
 
-/// A name that C receives keeps its meaning when C passes it back.
+/// A name that C receives keeps its meaning when C passes it back, to a kernel with the same sizes.
 pub fn names_come_back()
-    ensures { (name : List ℕ) → length name ≤ 16 → names.is_good_name name ≡ true
-        → name_meant (plain_name name) ≡ Ok name }
+    ensures named { (sizes : Sizes) (name : List ℕ) → length name ≤ 16 → names.is_name sizes name ≡ true
+        → name_meant sizes (plain_name name) ≡ Ok name }
+    ensures thread { (sizes : Sizes) (name : List ℕ) → length name ≤ 16 → names.is_thread_name sizes name ≡ true
+        → thread_name_meant sizes (plain_name name) ≡ Ok name }
 {}
 
 /// A number of 128 bits that C receives keeps its meaning when C passes it back.
@@ -26,9 +29,9 @@ pub fn wides_come_back()
     ensures { (n : ℕ) → wide_meant (plain_wide n) ≡ n }
 {}
 
-/// C can pass each event with good names.
+/// C can pass each event whose names the kernel takes.
 pub fn each_event_can_be_meant()
-    ensures { (e : Event) → HasNames e → event_meant (plain_event e) ≡ Ok e }
+    ensures { (sizes : Sizes) (e : Event) → HasNames sizes e → event_meant sizes (plain_event e) ≡ Ok e }
 {}
 
 /// No two replies have equal plain fields.

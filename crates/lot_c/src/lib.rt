@@ -16,6 +16,7 @@ mod parts;
 mod reader;
 mod reply;
 mod rows;
+mod settled;
 mod sizes;
 mod status;
 mod version;

@@ -1,12 +1,13 @@
 //! Names in plain fields.
-ghost use Rattle.std.specs.Prelude.{◌≡◌, ◌<◌, ◌≤◌, true, false, length};
+ghost use Rattle.std.specs.Prelude.{◌≡◌, ◌<◌, ◌≤◌, true, false, length, nat_lt, Ok, Err, if◌then◌else◌};
+ghost use Rattle.lot_machine.specs.State.{sizes_of};
 ghost use Rattle.lot_machine.specs.Commands as names;
 ghost use Rattle.lot_c.specs.declared.status.Status.TheVariants.{BadName, Done, LongName};
-ghost use Rattle.lot_c.specs.Names.{plain_name, name_meant};
+ghost use Rattle.lot_c.specs.Names.{plain_name, name_meant, spelled, thread_name_meant};
 ghost use Rattle.lot_c.specs.Numbers.{code};
 
 use crate::status::Status;
-use lot_machine::{Name, is_good_name};
+use lot_machine::{Limits, Name, is_good_name, is_plain_name};
 
 /// A name in plain fields: the first `length` of the bytes.
 #[repr(C)]
@@ -31,22 +32,41 @@ impl PlainName {
         }
     }
 
-    /// The name in these fields, or the status for an invalid one.
-    pub(crate) fn read(&self) -> Result<Name, Status>
-        ensures { result ≡ name_meant self.now }
+    /// The name in these fields, or the status for one that a kernel with these limits doesn't take.
+    pub(crate) fn read(&self, limits: &Limits) -> Result<Name, Status>
+        ensures { result ≡ name_meant (sizes_of limits.now) self.now }
+    {
+        let name = self.spelled()?;
+        if !limits.allow_name(name.as_bytes()) {
+            return Err(Status::BadName);
+        }
+        Ok(name)
+    }
+
+    /// The name of a new thread in these fields, which may have none, or the status for one that a kernel with these
+    /// limits doesn't take.
+    pub(crate) fn read_thread(&self, limits: &Limits) -> Result<Name, Status>
+        ensures { result ≡ thread_name_meant (sizes_of limits.now) self.now }
+    {
+        let name = self.spelled()?;
+        if !limits.allow_thread_name(name.as_bytes()) {
+            return Err(Status::BadName);
+        }
+        Ok(name)
+    }
+
+    /// The bytes of the name, or the status for too many.
+    fn spelled(&self) -> Result<Name, Status>
+        ensures { result ≡ (if nat_lt 16 self.now.length then Err LongName else Ok (spelled self.now)) }
     {
         if self.length > 16 {
             return Err(Status::LongName);
         }
-        let text = &self.bytes[..self.length as usize];
-        if !is_good_name(text) {
-            return Err(Status::BadName);
-        }
-        Name::from_bytes(text).ok_or(Status::LongName)
+        Name::from_bytes(&self.bytes[..self.length as usize]).ok_or(Status::LongName)
     }
 }
 
-/// Stores the name with these bytes.
+/// Stores the name with these bytes, a good name.
 #[unsafe(no_mangle)]
 pub extern "C" fn lot_name_new(bytes: &[u8], name: &mut PlainName) -> u32
     ensures good { length bytes.now ≤ 16 → names.is_good_name bytes.now ≡ true
@@ -59,6 +79,26 @@ pub extern "C" fn lot_name_new(bytes: &[u8], name: &mut PlainName) -> u32
         return Status::LongName.code();
     };
     if !is_good_name(bytes) {
+        return Status::BadName.code();
+    }
+    *name = PlainName::of(&text);
+    Status::Done.code()
+}
+
+/// Stores the name with these bytes, a plain name: any printable ASCII but the space. A kernel takes it if its sizes
+/// ask for plain names, or if it is a good name too.
+#[unsafe(no_mangle)]
+pub extern "C" fn lot_plain_name_new(bytes: &[u8], name: &mut PlainName) -> u32
+    ensures plain { length bytes.now ≤ 16 → names.is_plain_name bytes.now ≡ true
+        → (result ≡ code Done) × (name.new ≡ plain_name bytes.now) }
+    ensures bad { length bytes.now ≤ 16 → names.is_plain_name bytes.now ≡ false
+        → (result ≡ code BadName) × (name.new ≡ name.old) }
+    ensures long { 16 < length bytes.now → (result ≡ code LongName) × (name.new ≡ name.old) }
+{
+    let Some(text) = Name::from_bytes(bytes) else {
+        return Status::LongName.code();
+    };
+    if !is_plain_name(bytes) {
         return Status::BadName.code();
     }
     *name = PlainName::of(&text);

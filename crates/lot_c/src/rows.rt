@@ -1,10 +1,12 @@
 //! Rows of listings in plain fields.
 ghost use Rattle.std.specs.Prelude.{◌≡◌};
+ghost use Rattle.lot_c.specs.Numbers.{target_kind};
+ghost use Rattle.lot_c.specs.Rows as rows;
 ghost use Rattle.lot_c.specs.Rows.{plain_ticket_row, plain_currency_row, plain_thread_row, plain_status, plain_target};
 
 use crate::name::PlainName;
 use crate::wide::Wide;
-use lot_machine::{CurrencyRow, Name, Status, ThreadRow, TicketRow};
+use lot_machine::{CurrencyRow, Name, Status, Target, ThreadRow, TicketRow};
 
 /// The statuses of threads.
 const READY: u32 = 1;
@@ -31,8 +33,12 @@ pub struct PlainTicketRow {
     pub amount: u32,
     /// The currency that issues it.
     pub issuer: PlainName,
-    /// The currency or thread that it funds, if it has a target.
+    /// The name of the currency or thread that it funds, without bytes for a thread without a name or no target.
     pub target: PlainName,
+    /// What it funds: 0 for nothing, 1 for a currency, 2 for a thread.
+    pub target_kind: u32,
+    /// The number of the currency or thread that it funds, and 0 if it funds nothing.
+    pub target_number: u32,
     pub has_target: bool,
     pub is_active: bool,
 }
@@ -47,9 +53,32 @@ impl PlainTicketRow {
             amount: row.amount,
             issuer: PlainName::of(&row.issuer),
             target: name_of_target(&row.target),
+            target_kind: target_kind(row.funds),
+            target_number: target_number(row.funds),
             has_target: row.target.is_some(),
             is_active: row.is_active,
         }
+    }
+}
+
+/// The kind of a target: 0 for none, 1 for a currency, 2 for a thread.
+fn target_kind(target: Target) -> u32
+    ensures { result ≡ target_kind target }
+{
+    match target {
+        Target::Unfunded => 0,
+        Target::Currency(_) => 1,
+        Target::Thread(_) => 2,
+    }
+}
+
+/// The number of a target, and 0 without one.
+fn target_number(target: Target) -> u32
+    ensures { result ≡ rows.target_number target }
+{
+    match target {
+        Target::Unfunded => 0,
+        Target::Currency(number) | Target::Thread(number) => number,
     }
 }
 

@@ -22,6 +22,8 @@ pub struct PlainSizes {
     pub unit: u32,
     /// 0 if each number is given once, otherwise numbers are given again.
     pub reuse: u32,
+    /// 0 if names are good names, otherwise any printable ASCII but the space is good in a name.
+    pub plain_names: u32,
 }
 
 impl PlainSizes {
@@ -41,6 +43,7 @@ impl PlainSizes {
             quantum: self.quantum,
             unit: self.unit,
             reuse: self.reuse != 0,
+            plain_names: self.plain_names != 0,
         })
     }
 
@@ -59,6 +62,7 @@ impl PlainSizes {
             quantum: limits.quantum,
             unit: limits.unit,
             reuse: u32::from(limits.reuse),
+            plain_names: u32::from(limits.plain_names),
         }
     }
 }

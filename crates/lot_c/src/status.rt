@@ -18,7 +18,7 @@ pub(crate) enum Status {
     BadKind = 5,
     /// A name of more than 16 bytes.
     LongName = 6,
-    /// A name that isn't a letter a to z, followed by letters a to z, digits, `_` or `-`.
+    /// A name that the kernel doesn't take, or that isn't of the kind to be made.
     BadName = 7,
     /// Nothing exists with this number.
     NotThere = 8,
@@ -30,6 +30,8 @@ pub(crate) enum Status {
     NoWinner = 11,
     /// The weights sum to 2 ^ 128 or more.
     TooLarge = 12,
+    /// A value is stale.
+    NotSettled = 13,
 }
 
 impl Status {

@@ -112,15 +112,15 @@ fn names_of(alloc: Global, system: &mut System) -> Result<Vec<Name>, AllocError>
     Ok(names)
 }
 
-/// The name of the last thread with this number, or the number itself if that thread was removed.
+/// The name of the last thread with this number, or the number itself if that thread was removed or has no name.
 fn name_of(system: &mut System, thread: u32) -> Name
     requires { IsBetween 1 (length (world_of system.old).state.records) thread }
     ensures same { system.new ≡ system.old }
     ensures name { result ≡ name_in (world_of system.old).state thread }
 {
     match system.thread_row(thread) {
-        Some(row) => row.name,
-        None => number_name(thread),
+        Some(row) if !row.name.is_none() => row.name,
+        _ => number_name(thread),
     }
 }
 

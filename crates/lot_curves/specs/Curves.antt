@@ -1,7 +1,8 @@
 -- Each thread's ticks or draws at each sample.
-use Rattle.std.specs.Prelude.{ℕ, ◌+◌, ◌*◌, ◌/◌, min, max, Option, Some, None, List, map, unwrap_or}
+use Rattle.std.specs.Prelude.{ℕ, ◌+◌, ◌*◌, ◌/◌, min, max, Option, Some, None, List, [], map, unwrap_or, if◌then◌else◌}
 use Rattle.std.specs.Fmt.{decimal}
 use Rattle.std.specs.List.{range_with_len}
+use Rattle.lot_machine.specs.Commands.{is_no_name}
 use Rattle.lot_machine.specs.Numbered.{numbers}
 use Rattle.lot_machine.specs.Rows.{thread_name}
 use Rattle.lot_machine.specs.State.{State}
@@ -18,9 +19,13 @@ pub record Curves : Type 0 where
   pub names : List (List ℕ)
   pub stretches : List Stretch
 
--- the name of the last thread with this number, or the number itself if that thread was removed
+-- a thread's name, or its number if it has no name
+abbrev pub name_or_number : List ℕ → ℕ → List ℕ
+name_or_number name thread = if is_no_name name then decimal thread else name
+
+-- the name of the last thread with this number, or the number itself if that thread was removed or has no name
 abbrev pub name_in : State → ℕ → List ℕ
-name_in s thread = unwrap_or (thread_name s thread) (decimal thread)
+name_in s thread = name_or_number (unwrap_or (thread_name s thread) []) thread
 
 -- the columns' names in a state, in ascending order of number: those of the last thread with each number
 abbrev pub names_in : State → List (List ℕ)

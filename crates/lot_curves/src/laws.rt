@@ -1,5 +1,5 @@
 //! Laws of the definitions of curves, without executable code.
-ghost use Rattle.std.specs.Prelude.{◌≡◌, ◌<◌, ◌≤◌, ◌^◌, ℕ, List, length, sum_by};
+ghost use Rattle.std.specs.Prelude.{◌≡◌, ◌<◌, ◌≤◌, ◌^◌, ℕ, List, false, length, sum_by};
 ghost use Rattle.lot_simulation.specs.World.{Program, system_run};
 ghost use Rattle.lot_curves.specs.declared.stretch.Measure.{Measure as Measured};
 ghost use Rattle.lot_curves.specs.declared.stretch.Measure.TheVariants.{Draws, Ticks};
@@ -31,8 +31,10 @@ pub fn curves_rise()
         → had_at measure earlier stretches ≤ had_at measure later stretches }
 {}
 
-/// No two curves have one name, those of removed threads included. Numbers of threads have at most 32 bits.
+/// No two curves have one name, those of removed threads and of threads without a name included, unless the program has
+/// plain names, which may look like numbers; no text has them. Numbers of threads have at most 32 bits.
 pub fn names_are_different()
-    ensures { (program : Program) (history : List ℕ) (t u : ℕ) → t < 2 ^ 32 → u < 2 ^ 32
+    ensures { (program : Program) (history : List ℕ) (t u : ℕ) → program.limits.plain_names ≡ false
+        → t < 2 ^ 32 → u < 2 ^ 32
         → name_in (system_run program history).state t ≡ name_in (system_run program history).state u → t ≡ u }
 {}

@@ -19,7 +19,7 @@ use Rattle.lot_machine.specs.Order.{IsInOrder}
 use Rattle.lot_machine.specs.Places.{is_none_free, placed}
 use Rattle.lot_machine.specs.declared.record.Thread.{Thread}
 use Rattle.lot_machine.specs.State.{State, free_threads, next_thread, status_of, thread_at, ready_threads, weight_of}
-use Rattle.lot_machine.specs.Commands.{Step, is_bad_amount, is_good_name, is_taken, is_no_script, are_tickets_full, are_threads_full, currency_meant, thread_meant, newborn, with_thread, command_refusal, command_effect, command_step, unless_refused}
+use Rattle.lot_machine.specs.Commands.{Step, is_bad_amount, is_thread_name, is_taken, is_no_script, are_tickets_full, are_threads_full, currency_meant, thread_meant, newborn, with_thread, command_refusal, command_effect, command_step, unless_refused}
 use Rattle.lot_machine.specs.Step.{draw, thread_there, event_refusal, event_effect, step}
 use Rattle.lot_machine.proofs.CommandsKept.{all-pass}
 use Rattle.lot_machine.proofs.EachOnce.{contains-at}
@@ -27,7 +27,8 @@ use Rattle.lot_machine.proofs.StepSizes.{killed-length}
 use Rattle.lot_machine.proofs.Tickets.{at_number-suc}
 use Rattle.lot_simulation.proofs.DrawnThreads.{drawn-numbered}
 use Rattle.lot_simulation.specs.World.{Program, World, contexts_after_command, new_context}
-use Rattle.lot_engine.specs.Steps.{MakesNone, OneMore, MakesThread, OfDraw, OfRun, contexts_with, made_thread, script_in}
+use Rattle.lot_machine.specs.Named.{thread_given}
+use Rattle.lot_engine.specs.Steps.{MakesNone, OneMore, MakesThread, OfDraw, OfRun, contexts_with, script_in}
 use Rattle.lot_engine.proofs.PlaceFacts.{number-placed}
 
 -- ---- commands
@@ -77,11 +78,11 @@ unchanged s = record { threads = inl refl; records = refl; limits = refl }
 pub command-makes : (s : State) (c : Command) → IsInOrder s → MakesThread s (command_step s c).state (command_step s c).reply
 command-makes s (MakeThread name script) order =
     kept-same s (MakeThread name script) _ (command_effect s (MakeThread name script)) (unchanged s) (λ e.
-    let passed = all-pass ((not (is_good_name name), BadName) ∷ (is_taken s name, NameTaken) ∷ (is_no_script s script, NoScript) ∷ (are_threads_full s, Full) ∷ []) e in
+    let passed = all-pass ((not (is_thread_name s.limits name), BadName) ∷ (is_taken s name, NameTaken) ∷ (is_no_script s script, NoScript) ∷ (are_threads_full s, Full) ∷ []) e in
     with_thread-more s name script order passed.1.1.0 passed.1.1.1.0)
 command-makes s (MakeFunded amount currency name script) order =
     kept-same s (MakeFunded amount currency name script) _ (command_effect s (MakeFunded amount currency name script)) (unchanged s) (λ e.
-    let passed = all-pass ((is_bad_amount amount, BadAmount) ∷ (is_none (currency_meant s currency), NoCurrency) ∷ (not (is_good_name name), BadName) ∷ (is_taken s name, NameTaken) ∷ (is_no_script s script, NoScript) ∷ (are_tickets_full s || are_threads_full s, Full) ∷ []) e in
+    let passed = all-pass ((is_bad_amount amount, BadAmount) ∷ (is_none (currency_meant s currency), NoCurrency) ∷ (not (is_thread_name s.limits name), BadName) ∷ (is_taken s name, NameTaken) ∷ (is_no_script s script, NoScript) ∷ (are_tickets_full s || are_threads_full s, Full) ∷ []) e in
     let more = with_thread-more s name script order passed.1.1.1.1.0 (or_parts (are_tickets_full s) (are_threads_full s) passed.1.1.1.1.1.0).1 in
     record { next = more.next; thread = more.thread; threads = more.threads; records = more.records; script = more.script; limits = more.limits; room = more.room })
 command-makes s (RemoveThread thread) order =
@@ -92,11 +93,11 @@ command-makes s other order = kept-same s other (command_refusal s other) (comma
 
 -- the contexts after a command are those of the threads before it, and of the thread that it makes
 pub command-contexts : (program : Program) (w : World) (c : Command) → IsInOrder w.state
-    → contexts_with program w.state (command_step w.state c).state w.contexts (made_thread (command_step w.state c).reply) ≡ contexts_after_command program w c (command_step w.state c).reply
+    → contexts_with program w.state (command_step w.state c).state w.contexts (thread_given (command_step w.state c).reply) ≡ contexts_after_command program w c (command_step w.state c).reply
 command-contexts program w (MakeThread name script) order = at (command_refusal w.state (MakeThread name script)) refl
   where
     at : (o : Option Refusal) → command_refusal w.state (MakeThread name script) ≡ o
-        → contexts_with program w.state (unless_refused w.state o (command_effect w.state (MakeThread name script))).state w.contexts (made_thread (unless_refused w.state o (command_effect w.state (MakeThread name script))).reply)
+        → contexts_with program w.state (unless_refused w.state o (command_effect w.state (MakeThread name script))).state w.contexts (thread_given (unless_refused w.state o (command_effect w.state (MakeThread name script))).reply)
         ≡ contexts_after_command program w (MakeThread name script) (unless_refused w.state o (command_effect w.state (MakeThread name script))).reply
     at None is = made-context program w name script order
     at (Some why) is = refl
@@ -104,13 +105,13 @@ command-contexts program w (MakeFunded amount currency name script) order = at (
   where
     at : (o : Option Refusal) → command_refusal w.state (MakeFunded amount currency name script) ≡ o
         → contexts_with program w.state (unless_refused w.state o (command_effect w.state (MakeFunded amount currency name script))).state w.contexts
-        (made_thread (unless_refused w.state o (command_effect w.state (MakeFunded amount currency name script))).reply)
+        (thread_given (unless_refused w.state o (command_effect w.state (MakeFunded amount currency name script))).reply)
         ≡ contexts_after_command program w (MakeFunded amount currency name script) (unless_refused w.state o (command_effect w.state (MakeFunded amount currency name script))).reply
     at None is = made-context program w name script order
     at (Some why) is = refl
 command-contexts program w c order = at (command_refusal w.state c) refl
   where
-    at : (o : Option Refusal) → command_refusal w.state c ≡ o → contexts_with program w.state (unless_refused w.state o (command_effect w.state c)).state w.contexts (made_thread (unless_refused w.state o (command_effect w.state c)).reply)
+    at : (o : Option Refusal) → command_refusal w.state c ≡ o → contexts_with program w.state (unless_refused w.state o (command_effect w.state c)).state w.contexts (thread_given (unless_refused w.state o (command_effect w.state c)).reply)
         ≡ contexts_after_command program w c (unless_refused w.state o (command_effect w.state c)).reply
     at None is = refl
     at (Some why) is = refl

@@ -35,7 +35,8 @@ use Rattle.lot_script.specs.Places.{Place, context_at, first_place}
 use Rattle.lot_script.specs.Slices.{Parts, IsSlice}
 use Rattle.lot_engine.specs.declared.turn.Work.{Work}
 use Rattle.lot_engine.specs.Held.{script_lines, IsAt, AreAt, IsKept, IsHeld}
-use Rattle.lot_engine.specs.Steps.{KeepsThreads, MakesIn, MakesThread, contexts_with, made_thread, OfDraw, OfRun, OfGiven, done_of, event_given, delivered_to_place, place_of, places_after}
+use Rattle.lot_machine.specs.Named.{thread_given}
+use Rattle.lot_engine.specs.Steps.{KeepsThreads, MakesIn, MakesThread, contexts_with, OfDraw, OfRun, OfGiven, done_of, event_given, delivered_to_place, place_of, places_after}
 use Rattle.lot_engine.specs.Turns.{IsWork, IsWorkIn, IsSliceOf, Matches}
 use Rattle.lot_engine.proofs.StepFacts.{draws-same, expires-same, traps-same}
 use Rattle.lot_engine.proofs.InOrder.{run-in-order}
@@ -66,7 +67,7 @@ kept-in program s after (Some n) kept is =
     few (inr same) = omega (arith, ap length is.threads, same, kept.count, ap (λ (sizes : Sizes). sizes.threads) is.limits)
 
 pub kept-made : (program : Program) (s after : State) (r : Reply) → IsKept program s → MakesThread s after r → IsKept program after
-kept-made program s after r kept makes = kept-in program s after (made_thread r) kept makes
+kept-made program s after r kept makes = kept-in program s after (thread_given r) kept makes
 
 -- ---- the console
 
@@ -108,12 +109,12 @@ module _ (program : Program) (w : World) (s : State) (places : List Place) (seed
     pub command-answer : (system_turn program w 0).answer ≡ Answered (event.Command c) r
     command-answer = let world : system_turn program w 0 ≡ console_turn program w (c ∷ cs) = rw is refl in rw (world, replied, held.state) refl
 
-    pub command-held : IsInOrder s → cs ≡ drop (spent + 1) program.commands → (now : List Place) → AreAt program after.threads now (contexts_with program s after w.contexts (made_thread r))
+    pub command-held : IsInOrder s → cs ≡ drop (spent + 1) program.commands → (now : List Place) → AreAt program after.threads now (contexts_with program s after w.contexts (thread_given r))
         → IsHeld program (system_turn program w 0).world after now seeds (spent + 1)
     command-held order left now at =
         let world : system_turn program w 0 ≡ console_turn program w (c ∷ cs) = rw is refl in
         let ends : after ≡ (step w.state (event.Command c)).state = state ∙ ap (λ (x : State). (step x (event.Command c)).state) held.state in
-        let same : contexts_with program s after w.contexts (made_thread r) ≡ contexts_after_command program w c (command_step w.state c).reply =
+        let same : contexts_with program s after w.contexts (thread_given r) ≡ contexts_after_command program w c (command_step w.state c).reply =
         rw (state, replied, held.state) (command-contexts program w c (subst IsInOrder held.state order)) in
         rw world (record {
           state = ends;

@@ -7,6 +7,7 @@ use Rattle.lot_machine.specs.declared.record.Thread.{Thread}
 use Rattle.lot_machine.specs.declared.reply.Reply.{Reply}
 use Rattle.lot_machine.specs.declared.reply.Reply.TheVariants as reply
 use Rattle.lot_machine.specs.Bounds.{IsBetween}
+use Rattle.lot_machine.specs.Named.{thread_given}
 use Rattle.lot_machine.specs.Numbered.{at_number, set_number}
 use Rattle.lot_simulation.specs.declared.script.Line.{Line}
 use Rattle.lot_simulation.specs.declared.script.ScriptTrap.{ScriptTrap}
@@ -50,12 +51,6 @@ pub record OneMore (s after : State) (n : ℕ) : Type 0 where
   pub limits : after.limits ≡ s.limits
   pub room : free_threads s ≡ [] → length s.threads + 1 ≤ s.limits.threads
 
--- the number of the new thread, if the reply names one
-abbrev pub made_thread : Reply → Option ℕ
-made_thread (reply.Thread n) = Some n
-made_thread (reply.Funded ticket n) = Some n
-made_thread other = None
-
 -- a command that makes no thread leaves the threads unchanged, or removes one
 abbrev pub MakesIn : State → State → Option ℕ → Type 0
 MakesIn s after None = MakesNone s after
@@ -63,7 +58,7 @@ MakesIn s after (Some n) = OneMore s after n
 
 -- the reply to a command names the new thread, if there is one
 abbrev pub MakesThread : State → State → Reply → Type 0
-MakesThread s after r = MakesIn s after (made_thread r)
+MakesThread s after r = MakesIn s after (thread_given r)
 
 -- the script of the thread with this number, if it is there
 abbrev pub script_in : State → ℕ → ℕ

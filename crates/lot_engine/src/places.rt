@@ -2,6 +2,7 @@
 ghost use Rattle.std.specs.Prelude.{◌≡◌, ◌+◌, ◌≤◌, ℕ, List, [], Some, None, IfOk, length, vec_capacity};
 ghost use Rattle.lot_machine.specs.declared.record.Thread.{Thread};
 ghost use Rattle.lot_machine.specs.Bounds.{IsBetween};
+ghost use Rattle.lot_machine.specs.Named as named;
 ghost use Rattle.lot_machine.specs.Numbered.{set_number};
 ghost use Rattle.lot_script.specs.Places.{Fits};
 ghost use Rattle.lot_script.specs.Slices.{IsSlice};
@@ -10,7 +11,6 @@ ghost use Rattle.lot_machine.specs.State.{State};
 ghost use Rattle.lot_machine.specs.Places.{placed};
 ghost use Rattle.lot_simulation.specs.World.{number_delivered as number_delivered_in};
 ghost use Rattle.lot_engine.specs.Held.{AreAt, IsAt, script_lines};
-ghost use Rattle.lot_engine.specs.Steps as steps;
 ghost use Rattle.lot_engine.specs.Steps.{IsNext, MakesThread, OfDraw, OfRun, OfGiven, contexts_with};
 ghost use Rattle.lot_engine.specs.Steps.{delivered_to_place, place_of};
 ghost use Rattle.lot_engine.specs.Steps.{places_after, places_received, slice_between};
@@ -44,10 +44,10 @@ pub(crate) fn follow_command(
     ensures at { (s : State) (before : List Context) → MakesThread s kernel.now.state reply
         → AreAt program.now s.threads places.old.items before
         → AreAt program.now kernel.now.state.threads places.new.items
-        (contexts_with program.now s kernel.now.state before (steps.made_thread reply)) }
+        (contexts_with program.now s kernel.now.state before (named.thread_given reply)) }
     ensures room { vec_capacity places.new ≡ vec_capacity places.old }
 {
-    if let Some(thread) = made_thread(reply) {
+    if let Some(thread) = thread_given(reply) {
         let script = kernel.script_of(ThreadNumber { number: thread }).unwrap();
         put_place(places, thread, begin(program, script));
     }
@@ -69,9 +69,9 @@ fn put_place(places: &mut Vec<Place>, thread: u32, place: Place)
     }
 }
 
-/// The new thread, if there is one.
-fn made_thread(reply: Reply) -> Option<u32>
-    ensures { result ≡ steps.made_thread reply }
+/// The thread to which the reply gives a number, if there is one.
+fn thread_given(reply: Reply) -> Option<u32>
+    ensures { result ≡ named.thread_given reply }
 {
     match reply {
         Reply::Thread(thread) | Reply::Funded { thread, .. } => Some(thread),

@@ -16,7 +16,7 @@ use Rattle.lot_machine.specs.declared.refusal.Refusal.TheVariants.{BadName, Name
 use Rattle.lot_machine.specs.declared.reply.Reply.TheVariants as reply
 use Rattle.lot_machine.specs.declared.sizes.Sizes.{Sizes}
 use Rattle.lot_machine.specs.Bounds.{IsWithinBounds}
-use Rattle.lot_machine.specs.Commands.{are_threads_full, are_tickets_full, command_effect, command_refusal, command_step, currency_meant, is_bad_amount, is_good_name, is_no_script, is_taken, thread_meant, unless_refused}
+use Rattle.lot_machine.specs.Commands.{are_threads_full, are_tickets_full, command_effect, command_refusal, command_step, currency_meant, is_bad_amount, is_thread_name, is_no_script, is_taken, thread_meant, unless_refused}
 use Rattle.lot_machine.specs.Named.{processor_of}
 use Rattle.lot_machine.specs.Order.{IsInOrder}
 use Rattle.lot_machine.specs.Places.{is_none_free, placed}
@@ -123,7 +123,7 @@ command-threads : (s : State) (c : Command) → HasShortName c → All IsShortPl
 command-threads s (MakeThread name script) short names room =
     let c = MakeThread name script in
     unrefused (HasRoom s) s (command_refusal s c) (command_effect s c) (names, room) (λ passes.
-    let checks = all-pass ((not (is_good_name name), BadName) ∷ (is_taken s name, NameTaken) ∷ (is_no_script s script, NoScript) ∷ (are_threads_full s, Full) ∷ []) passes in
+    let checks = all-pass ((not (is_thread_name s.limits name), BadName) ∷ (is_taken s name, NameTaken) ∷ (is_no_script s script, NoScript) ∷ (are_threads_full s, Full) ∷ []) passes in
     thread-more s (record { name = name; script = script }) short checks.1.1.1.0 names room)
 command-threads s (RemoveThread thread) short names room =
     let c = RemoveThread thread in
@@ -133,7 +133,7 @@ command-threads s (RemoveThread thread) short names room =
 command-threads s (MakeFunded amount currency name script) short names room =
     let c = MakeFunded amount currency name script in
     unrefused (HasRoom s) s (command_refusal s c) (command_effect s c) (names, room) (λ passes.
-    let checks = all-pass ((is_bad_amount amount, BadAmount) ∷ (is_none (currency_meant s currency), NoCurrency) ∷ (not (is_good_name name), BadName)
+    let checks = all-pass ((is_bad_amount amount, BadAmount) ∷ (is_none (currency_meant s currency), NoCurrency) ∷ (not (is_thread_name s.limits name), BadName)
     ∷ (is_taken s name, NameTaken) ∷ (is_no_script s script, NoScript) ∷ (are_tickets_full s || are_threads_full s, Full) ∷ []) passes in
     thread-more s (record { name = name; script = script }) short (or_parts (are_tickets_full s) (are_threads_full s) checks.1.1.1.1.1.0).1 names room)
 command-threads s c short names room = unrefused (HasRoom s) s (command_refusal s c) (command_effect s c) (names, room) (λ _. (names, room))

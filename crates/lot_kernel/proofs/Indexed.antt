@@ -1,8 +1,8 @@
 -- An index after a name is added or removed, and what it finds.
-use Rattle.std.proofs.Common.{◌≡◌, ◌∙◌, ◌⊎◌, inl, inr, ℕ, zero, suc, ◌+◌, ◌-◌, ◌<◌, ◌≤◌, min, Bool, true, false, Option, Some, None, List, [], ◌∷◌, ◌++◌, Contains, length, filter, fold, get_or, is_some, map, position, cond, nat_lt, option_map, slice_get, slice_set, ap, sym, refl, subst, arith}
+use Rattle.std.proofs.Common.{◌≡◌, ◌∙◌, ◌&&◌, ◌⊎◌, inl, inr, ℕ, zero, suc, ◌+◌, ◌-◌, ◌%◌, ◌<◌, ◌≤◌, min, Bool, true, false, not, Option, Some, None, List, [], ◌∷◌, ◌++◌, Contains, IfNone, IfSome, length, filter, fold, get_or, is_some, position, cond, nat_lt, option_and_then, option_map, slice_get, slice_set, ap, sym, refl, subst, arith}
 use Rattle.std.specs.List.{reduce}
 use Rattle.std.specs.Option.{option_flatten}
-use Rattle.std.proofs.lemmas.Bool.{le-ltb, lt-ltb, cases_lt}
+use Rattle.std.proofs.lemmas.Bool.{le-ltb, lt-ltb, cases_lt, cases_eq}
 use Rattle.std.specs.Str.{bytes_eq}
 use Rattle.std.proofs.lemmas.Slice.Eq.{bytes_eq-Decides}
 use Rattle.std.proofs.lemmas.List.Quantifiers.{position-Some}
@@ -11,16 +11,16 @@ use Rattle.std.proofs.lemmas.Option.{slice_get_past, slice_get_within, slice_get
 use Rattle.std.proofs.Math.Nat.{min-le_left, min-le_right}
 use Rattle.lot_machine.specs.declared.record.Thread.{Thread}
 use Rattle.lot_machine.specs.Numbered.{at_number, option_any}
-use Rattle.lot_machine.specs.Commands.{thread_meant}
+use Rattle.lot_machine.specs.Commands.{is_meant_by, is_no_name, thread_meant}
 use Rattle.lot_machine.specs.State.{State, thread_at}
 use Rattle.lot_machine.specs.declared.reference.ThreadRef.{ThreadRef}
 use Rattle.lot_machine.specs.declared.reference.ThreadRef.TheVariants as thread_ref
 use Rattle.lot_machine.proofs.Changes.{place-set_other, place-set_same}
 use Rattle.lot_machine.proofs.Tickets.{at_number-suc, flatten-some, some-injective}
 use Rattle.lot_machine.proofs.EachOnce.{contains-filter, contains-nothing, filter-contains}
-use Rattle.lot_lists.specs.NodeLists.{NodeLists, node_at, nodes_of, IsFree, IsListed, IsConsistent, HasSameSize, with_pushed, with_removed}
-use Rattle.lot_graph.proofs.MirrorLemmas.{mirror-free, mirror-listed, mirror-push, mirror-remove}
-use Rattle.lot_kernel.specs.Names.{IsIndexOf, bucket_of, bucket_at, names_of}
+use Rattle.lot_lists.specs.NodeLists.{NodeLists, node_at, nodes_of, IsFree, IsConsistent, HasSameSize, with_pushed, with_removed}
+use Rattle.lot_graph.proofs.MirrorLemmas.{mirror-free, mirror-push, mirror-remove, mirror-same}
+use Rattle.lot_kernel.specs.Names.{IsIndexOf, bucket_of, bucket_at, hash_of, names_of}
 
 -- ---- tables
 
@@ -41,49 +41,79 @@ none-here (y ∷ ys) (suc i) = none-here ys i
 
 -- ---- names that are added and removed
 
+-- the bucket of what stands at a place
+abbrev bucket_in : ℕ → Option (Option (List ℕ)) → Option ℕ
+bucket_in buckets o = option_and_then (bucket_of buckets) (option_flatten o)
+
 module _ (v : NodeLists) (names : List (Option (List ℕ))) (index : IsIndexOf v names) where
   next-none : bucket_at (length v.lists) names (length names) ≡ None
-  next-none = ap (λ (o : Option (Option (List ℕ))). option_map (bucket_of (length v.lists)) (option_flatten o)) (slice_get_past names (length names) (omega arith))
+  next-none = ap (bucket_in (length v.lists)) (slice_get_past names (length names) (omega arith))
 
   -- the next place is in no list
   pub next-free : IsFree v (length names)
   next-free = mirror-free index (length names) next-none
 
   gap-none : (place : ℕ) → slice_get names place ≡ Some None → bucket_at (length v.lists) names place ≡ None
-  gap-none place gap = ap (λ (o : Option (Option (List ℕ))). option_map (bucket_of (length v.lists)) (option_flatten o)) gap
+  gap-none place gap = ap (bucket_in (length v.lists)) gap
 
   -- nor is a place whose name was removed
   pub gap-free : (place : ℕ) → slice_get names place ≡ Some None → IsFree v place
   gap-free place gap = mirror-free index place (gap-none place gap)
 
+  -- a table that differs at one place alone, and has no bucket there before and after
+  same-index : (table : List (Option (List ℕ))) (place : ℕ) → ((other : ℕ) → ¬ (other ≡ place) → slice_get table other ≡ slice_get names other)
+      → bucket_at (length v.lists) table place ≡ None → bucket_at (length v.lists) names place ≡ None → IsIndexOf v table
+  same-index table place others now was = mirror-same index (bucket_at (length v.lists) table) (λ other. elim (cases_eq other place) [
+    | inl same ↦ ap (bucket_at (length v.lists) table) same ∙ now ∙ sym (ap (bucket_at (length v.lists) names) same ∙ was)
+    | inr off ↦ ap (bucket_in (length v.lists)) (others other off)
+  ])
+
+  -- no bytes are added
+  pub index-nameless : (name : List ℕ) → None ≡ bucket_of (length v.lists) name → IsIndexOf v (names ++ Some name ∷ [])
+  index-nameless name none =
+      same-index (names ++ Some name ∷ []) (length names) (push-other names (Some name))
+      (ap (bucket_in (length v.lists)) (push-here names (Some name)) ∙ sym none) next-none
+
+  pub index-nameless_again : (name : List ℕ) (place : ℕ) → None ≡ bucket_of (length v.lists) name → slice_get names place ≡ Some None → IsIndexOf v (slice_set names place (Some name))
+  index-nameless_again name place none gap =
+      same-index (slice_set names place (Some name)) place (place-set_other names place (Some name))
+      (ap (bucket_in (length v.lists)) (place-set_same names place (Some name) None gap) ∙ sym none) (gap-none place gap)
+
+  -- nothing is removed from a place that is in no list
+  pub index-unlisted : (place : ℕ) → IsFree v place → IsIndexOf v (slice_set names place None)
+  index-unlisted place free =
+      same-index (slice_set names place None) place (place-set_other names place None) (ap (option_and_then (bucket_of (length v.lists))) (none-here names place)) (by (bucket_at (length v.lists) names place) refl)
+    where
+      by : (o : Option ℕ) → bucket_at (length v.lists) names place ≡ o → bucket_at (length v.lists) names place ≡ None
+      by None is = is
+      by (Some list) is = absurd (free list (index.all list place is))
+
   module _ (w : NodeLists) (size : HasSameSize v w) (consistent : IsConsistent w) where
     -- where the same stands, the bucket is the same
     same-bucket : (table : List (Option (List ℕ))) (place : ℕ) → slice_get table place ≡ slice_get names place → bucket_at (length w.lists) table place ≡ bucket_at (length v.lists) names place
-    same-bucket table place is =
-        ap (λ (o : Option (Option (List ℕ))). option_map (bucket_of (length w.lists)) (option_flatten o)) is
-        ∙ ap (λ n. option_map (bucket_of n) (option_flatten (slice_get names place))) size.1
+    same-bucket table place is = ap (bucket_in (length w.lists)) is ∙ ap (λ n. bucket_in n (slice_get names place)) size.1
 
-    pub index-added : (name : List ℕ) → bucket_of (length v.lists) name < length v.lists → w ≡ with_pushed v (bucket_of (length v.lists) name) (length names) → IsIndexOf w (names ++ Some name ∷ [])
-    index-added name low is =
-        mirror-push index (bucket_at (length w.lists) (names ++ Some name ∷ [])) (bucket_of (length v.lists) name) (length names)
+    pub index-added : (name : List ℕ) (bucket : ℕ) → Some bucket ≡ bucket_of (length v.lists) name → bucket < length v.lists → w ≡ with_pushed v bucket (length names) → IsIndexOf w (names ++ Some name ∷ [])
+    index-added name bucket has low is =
+        mirror-push index (bucket_at (length w.lists) (names ++ Some name ∷ [])) bucket (length names)
         (λ other off. same-bucket (names ++ Some name ∷ []) other (push-other names (Some name) other off)) w consistent low next-none here is
       where
-        here : bucket_at (length w.lists) (names ++ Some name ∷ []) (length names) ≡ Some (bucket_of (length v.lists) name)
-        here = ap (λ (o : Option (Option (List ℕ))). option_map (bucket_of (length w.lists)) (option_flatten o)) (push-here names (Some name)) ∙ ap (λ n. Some (bucket_of n name)) size.1
+        here : bucket_at (length w.lists) (names ++ Some name ∷ []) (length names) ≡ Some bucket
+        here = ap (bucket_in (length w.lists)) (push-here names (Some name)) ∙ ap (λ n. bucket_of n name) size.1 ∙ sym has
 
-    pub index-again : (name : List ℕ) (place : ℕ) → slice_get names place ≡ Some None → bucket_of (length v.lists) name < length v.lists → w ≡ with_pushed v (bucket_of (length v.lists) name) place → IsIndexOf w (slice_set names place (Some name))
-    index-again name place gap low is =
-        mirror-push index (bucket_at (length w.lists) (slice_set names place (Some name))) (bucket_of (length v.lists) name) place
+    pub index-again : (name : List ℕ) (place bucket : ℕ) → Some bucket ≡ bucket_of (length v.lists) name → slice_get names place ≡ Some None → bucket < length v.lists → w ≡ with_pushed v bucket place → IsIndexOf w (slice_set names place (Some name))
+    index-again name place bucket has gap low is =
+        mirror-push index (bucket_at (length w.lists) (slice_set names place (Some name))) bucket place
         (λ other off. same-bucket (slice_set names place (Some name)) other (place-set_other names place (Some name) other off)) w consistent low (gap-none place gap) here is
       where
-        here : bucket_at (length w.lists) (slice_set names place (Some name)) place ≡ Some (bucket_of (length v.lists) name)
-        here = ap (λ (o : Option (Option (List ℕ))). option_map (bucket_of (length w.lists)) (option_flatten o)) (place-set_same names place (Some name) None gap) ∙ ap (λ n. Some (bucket_of n name)) size.1
+        here : bucket_at (length w.lists) (slice_set names place (Some name)) place ≡ Some bucket
+        here = ap (bucket_in (length w.lists)) (place-set_same names place (Some name) None gap) ∙ ap (λ n. bucket_of n name) size.1 ∙ sym has
 
-    pub index-removed : (place : ℕ) → IsListed v place → IsFree w place → ((k p : ℕ) → node_at v k p ≡ Some place → w ≡ with_removed v k p) → IsIndexOf w (slice_set names place None)
-    index-removed place listed free is =
-        mirror-remove index (bucket_at (length w.lists) (slice_set names place None)) listed.list place
+    pub index-removed : (place list : ℕ) → Contains (nodes_of v list) place → IsFree w place → ((k p : ℕ) → node_at v k p ≡ Some place → w ≡ with_removed v k p) → IsIndexOf w (slice_set names place None)
+    index-removed place list listed free is =
+        mirror-remove index (bucket_at (length w.lists) (slice_set names place None)) list place
         (λ other off. same-bucket (slice_set names place None) other (place-set_other names place None other off)) w consistent
-        (index.each listed.list place listed.contains) (ap (option_map (bucket_of (length w.lists))) (none-here names place)) free is
+        (index.each list place listed) (ap (option_and_then (bucket_of (length w.lists))) (none-here names place)) free is
 
 -- ---- the least
 
@@ -117,6 +147,15 @@ fold-min_in a (y ∷ ys) = by (fold-min_in (min a y) ys)
         first (inr right) = (suc zero, omega arith, sym right ∙ is)
     by (suc i, there, is) = (suc (suc i), omega (arith, there), is)
 
+-- if none passes, none is the first
+none-first : {A : Type 0} (test : A → Bool) (table : List A) (default : A) → ((k : ℕ) → k < length table → test (get_or table k default) ≡ false) → position test table ≡ None
+none-first test table default none =
+    ap at (position_or_len_is test table (length table) default (omega arith) none (λ low. absurd (omega (arith, low))))
+    ∙ ap (λ b. cond b (Some (length table)) None) (le-ltb (length table) (length table) (omega arith))
+  where
+    at : ℕ → Option ℕ
+    at n = cond (nat_lt n (length table)) (Some n) None
+
 -- The places that pass are those of a list that pass: so the least of these is the first that passes.
 module _ {A : Type 0} (test : A → Bool) (table : List A) (default : A) (xs : List ℕ) (all : (place : ℕ) → option_any test (slice_get table place) ≡ true → Contains xs place) where
   -- a place that passes
@@ -144,11 +183,7 @@ module _ {A : Type 0} (test : A → Bool) (table : List A) (default : A) (xs : L
       at n = cond (nat_lt n (length table)) (Some n) None
 
       by : (ys : List ℕ) → filter (λ place. option_any test (slice_get table place)) xs ≡ ys → reduce min ys ≡ position test table
-      by [] is = sym (
-          ap at (position_or_len_is test table (length table) default (omega arith)
-          (λ k low. failed k low (λ c. contains-nothing k (subst (λ (zs : List ℕ). Contains zs k) is c)))
-          (λ low. absurd (omega (arith, low))))
-          ∙ ap (λ b. cond b (Some (length table)) None) (le-ltb (length table) (length table) (omega arith)))
+      by [] is = sym (none-first test table default (λ k low. failed k low (λ c. contains-nothing k (subst (λ (zs : List ℕ). Contains zs k) is c))))
       by (y ∷ ys) is =
           let least = fold min y ys in
           let so = passed least (contains-filter (λ place. option_any test (slice_get table place)) xs least (subst (λ (zs : List ℕ). Contains zs least) (sym is) (fold-min_in y ys))).1 in
@@ -160,18 +195,71 @@ module _ {A : Type 0} (test : A → Bool) (table : List A) (default : A) (xs : L
 
 -- ---- what is found
 
-module _ (v : NodeLists) (names : List (Option (List ℕ))) (index : IsIndexOf v names) (name : List ℕ) where
+module _ (v : NodeLists) (names : List (Option (List ℕ))) (index : IsIndexOf v names) (name : List ℕ) (bucket : ℕ) (has : bucket_of (length v.lists) name ≡ Some bucket) where
   -- a place with the name is in the list of its bucket
-  pub named-listed : (place : ℕ) → option_any (option_any (bytes_eq name)) (slice_get names place) ≡ true → Contains (nodes_of v (bucket_of (length v.lists) name)) place
+  pub named-listed : (place : ℕ) → option_any (option_any (bytes_eq name)) (slice_get names place) ≡ true → Contains (nodes_of v bucket) place
   named-listed place is = by (slice_get names place) refl is
     where
-      by : (o : Option (Option (List ℕ))) → slice_get names place ≡ o → option_any (option_any (bytes_eq name)) o ≡ true → Contains (nodes_of v (bucket_of (length v.lists) name)) place
+      by : (o : Option (Option (List ℕ))) → slice_get names place ≡ o → option_any (option_any (bytes_eq name)) o ≡ true → Contains (nodes_of v bucket) place
       by None at so = cc
       by (Some None) at so = cc
       by (Some (Some other)) at so =
           let same = (bytes_eq-Decides name other).0 so in
-          index.all (bucket_of (length v.lists) name) place
-          (ap (λ (o : Option (Option (List ℕ))). option_map (bucket_of (length v.lists)) (option_flatten o)) at ∙ ap (λ n. Some (bucket_of (length v.lists) n)) (sym same))
+          index.all bucket place (ap (bucket_in (length v.lists)) at ∙ ap (bucket_of (length v.lists)) (sym same) ∙ has)
+
+-- what has a bucket has bytes
+has-bytes : (buckets : ℕ) (name : List ℕ) (bucket : ℕ) → bucket_of buckets name ≡ Some bucket → is_no_name name ≡ false
+has-bytes buckets name bucket has = by (is_no_name name) refl
+  where
+    by : (b : Bool) → is_no_name name ≡ b → is_no_name name ≡ false
+    by false is = is
+    by true is = let none : None ≡ Some bucket = sym (ap (λ b. cond b None (Some (hash_of name % buckets))) is) ∙ has in cc
+
+-- and what has none has none
+no-bytes : (buckets : ℕ) (name : List ℕ) → bucket_of buckets name ≡ None → is_no_name name ≡ true
+no-bytes buckets name none = by (is_no_name name) refl
+  where
+    by : (b : Bool) → is_no_name name ≡ b → is_no_name name ≡ true
+    by true is = is
+    by false is = let some : Some (hash_of name % buckets) ≡ None = sym (ap (λ b. cond b None (Some (hash_of name % buckets))) is) ∙ none in cc
+
+-- the bucket whose places these are
+pub bucket-of : (v : NodeLists) (name : List ℕ) (places : List ℕ) → Some places ≡ option_map (nodes_of v) (bucket_of (length v.lists) name) → (bucket : ℕ) × (bucket_of (length v.lists) name ≡ Some bucket) × (nodes_of v bucket ≡ places)
+bucket-of v name places is = by (bucket_of (length v.lists) name) refl is
+  where
+    by : (o : Option ℕ) → bucket_of (length v.lists) name ≡ o → Some places ≡ option_map (nodes_of v) o → (bucket : ℕ) × (bucket_of (length v.lists) name ≡ Some bucket) × (nodes_of v bucket ≡ places)
+    by None has so = cc
+    by (Some bucket) has so = (bucket, has, cc)
+
+pub no-bucket : (v : NodeLists) (name : List ℕ) → None ≡ option_map (nodes_of v) (bucket_of (length v.lists) name) → bucket_of (length v.lists) name ≡ None
+no-bucket v name is = by (bucket_of (length v.lists) name) refl is
+  where
+    by : (o : Option ℕ) → bucket_of (length v.lists) name ≡ o → None ≡ option_map (nodes_of v) o → bucket_of (length v.lists) name ≡ None
+    by None has so = has
+    by (Some bucket) has so = cc
+
+-- where it is told whether there is one
+pub when-some : {A : Type 0} {P : A → Type 0} (o : Option A) → is_some o ≡ true → IfSome o P → (x : A) × P x
+when-some None some is = cc
+when-some (Some x) some is = (x, is)
+
+pub when-none : {A P : Type 0} (o : Option A) → is_some o ≡ false → IfNone o P → P
+when-none None none is = is
+when-none (Some x) none is = cc
+
+-- by a name, what has it is meant
+pub meant-named : {A : Type 0} (buckets : ℕ) (name : List ℕ) (bucket : ℕ) (name_of : A → List ℕ) (table : List (Option A)) → bucket_of buckets name ≡ Some bucket
+    → position (option_any (λ x. bytes_eq name (name_of x))) table ≡ position (option_any (λ x. is_meant_by name (name_of x))) table
+meant-named buckets name bucket name_of table has = ap (λ b. position (option_any (λ x. not b && bytes_eq name (name_of x))) table) (sym (has-bytes buckets name bucket has))
+
+-- by no bytes, nothing is
+pub none-meant : {A : Type 0} (buckets : ℕ) (name : List ℕ) (name_of : A → List ℕ) (table : List (Option A)) → bucket_of buckets name ≡ None → None ≡ position (option_any (λ x. is_meant_by name (name_of x))) table
+none-meant {A = A} buckets name name_of table none =
+    sym (none-first (option_any (λ x. is_meant_by name (name_of x))) table None (λ k low. by (get_or table k None)))
+  where
+    by : (o : Option A) → option_any (λ x. is_meant_by name (name_of x)) o ≡ false
+    by None = refl
+    by (Some x) = ap (λ b. not b && bytes_eq name (name_of x)) (no-bytes buckets name none)
 
 -- the thread has the name that the table of names has at its place
 pub thread-named : (threads : List (Option Thread)) (name : List ℕ) (place : ℕ) → option_any (option_any (λ t. bytes_eq name t.name)) (slice_get threads place) ≡ true → option_any (option_any (bytes_eq name)) (slice_get (names_of threads) place) ≡ true
@@ -182,32 +270,23 @@ thread-named threads name place is = ap (option_any (option_any (bytes_eq name))
     by (Some None) so = so
     by (Some (Some t)) so = so
 
--- ---- what has a name is listed
-
--- a currency that is there
-pub currency-listed : (v : NodeLists) (names : List (Option (List ℕ))) (place : ℕ) → IsIndexOf v names → slice_get (map is_some names) place ≡ Some true → IsListed v place
-currency-listed v names place index there = by (slice_get names place) refl (sym (slice_get-map is_some names place) ∙ there)
-  where
-    by : (o : Option (Option (List ℕ))) → slice_get names place ≡ o → option_map is_some o ≡ Some true → IsListed v place
-    by None at is = cc
-    by (Some None) at is = cc
-    by (Some (Some name)) at is = mirror-listed index (bucket_of (length v.lists) name) place (ap (λ (o : Option (Option (List ℕ))). option_map (bucket_of (length v.lists)) (option_flatten o)) at)
+-- ---- threads that are meant
 
 -- a thread that is there has its number
 pub thread-there : (s : State) (thread : ThreadRef) (n : ℕ) → thread_meant s thread ≡ Some n → (place : ℕ) × (t : Thread) × (n ≡ suc place) × (slice_get s.threads place ≡ Some (Some t))
 thread-there s (thread_ref.Named name) n is = by (position named s.threads) refl is
   where
     named : Option Thread → Bool
-    named = option_any (λ t. bytes_eq name t.name)
+    named = option_any (λ t. is_meant_by name t.name)
 
-    there : (place : ℕ) (o : Option Thread) → slice_get s.threads place ≡ Some o → option_any (λ t. bytes_eq name t.name) o ≡ true → n ≡ suc place → (place : ℕ) × (t : Thread) × (n ≡ suc place) × (slice_get s.threads place ≡ Some (Some t))
+    there : (place : ℕ) (o : Option Thread) → slice_get s.threads place ≡ Some o → option_any (λ t. is_meant_by name t.name) o ≡ true → n ≡ suc place → (place : ℕ) × (t : Thread) × (n ≡ suc place) × (slice_get s.threads place ≡ Some (Some t))
     there place None at so same = cc
     there place (Some t) at so same = (place, t, same, at)
 
-    by : (o : Option ℕ) → position (option_any (λ (t : Thread). bytes_eq name t.name)) s.threads ≡ o → option_map (λ place. place + 1) o ≡ Some n → (place : ℕ) × (t : Thread) × (n ≡ suc place) × (slice_get s.threads place ≡ Some (Some t))
+    by : (o : Option ℕ) → position (option_any (λ (t : Thread). is_meant_by name t.name)) s.threads ≡ o → option_map (λ place. place + 1) o ≡ Some n → (place : ℕ) × (t : Thread) × (n ≡ suc place) × (slice_get s.threads place ≡ Some (Some t))
     by None at so = cc
     by (Some place) at so =
-        let found = position-Some (option_any (λ (t : Thread). bytes_eq name t.name)) s.threads place None at in
+        let found = position-Some (option_any (λ (t : Thread). is_meant_by name t.name)) s.threads place None at in
         let number = some-injective (place + 1) n so in
         there place (get_or s.threads place None) (slice_get-get_or s.threads place None found.0) found.1 (omega (arith, number))
 thread-there s (thread_ref.Numbered m) n is = by (thread_at s.threads m) refl is
@@ -221,11 +300,6 @@ thread-there s (thread_ref.Numbered m) n is = by (thread_at s.threads m) refl is
     by (Some t) at so =
         let same : m ≡ n = some-injective m n so in
         at-place n t (ap (thread_at s.threads) (sym same) ∙ at)
-
-pub thread-listed : (v : NodeLists) (threads : List (Option Thread)) (place : ℕ) (t : Thread) → IsIndexOf v (names_of threads) → slice_get threads place ≡ Some (Some t) → IsListed v place
-thread-listed v threads place t index at =
-    mirror-listed index (bucket_of (length v.lists) t.name) place
-    (ap (λ (o : Option (Option (List ℕ))). option_map (bucket_of (length v.lists)) (option_flatten o)) (slice_get-map (option_map (λ (x : Thread). x.name)) threads place ∙ ap (option_map (option_map (λ (x : Thread). x.name))) at))
 
 -- the place of a thread that is meant
 pub meant-place : (s : State) (thread : ThreadRef) (n k : ℕ) → Some n ≡ thread_meant s thread → k ≡ n - 1 → (t : Thread) × (n ≡ suc k) × (slice_get s.threads k ≡ Some (Some t))

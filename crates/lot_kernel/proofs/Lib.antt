@@ -11,6 +11,7 @@ pub mod Drawing
 pub mod Commanding
 pub mod Counting
 pub mod Rows
+pub mod SettledRows
 pub mod Opening
 pub mod Killing
 pub mod Freeing

@@ -21,7 +21,7 @@ module _ (s : State) where
 
   pub ticket-row-of : (n : ℕ) (t : Ticket) (issuer : List ℕ) (target : Option (List ℕ)) (active : Bool) (value : ℕ) → ticket_in s.tickets n ≡ Some t → unwrap_or (currency_name s t.issuer) [] ≡ issuer → target ≡ target_name s t.target
       → active ≡ is_active (funding_of s) (live_of s) t → value ≡ ticket_value s.limits.unit (funding_of s) (live_of s) t
-      → ◌≡◌ {A = Option TicketRow} (Some (record { amount = t.amount; issuer = issuer; target = target; is_active = active; value = value })) (ticket_row s n)
+      → ◌≡◌ {A = Option TicketRow} (Some (record { amount = t.amount; issuer = issuer; target = target; funds = t.target; is_active = active; value = value })) (ticket_row s n)
   ticket-row-of n t issuer target active value found named targeted is worth = rw (found, named, targeted, is, worth) refl
 
 -- what is so if and only if the other is, is the same

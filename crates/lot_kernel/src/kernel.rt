@@ -1,6 +1,6 @@
 //! The kernel and its events.
-ghost use Rattle.std.specs.Prelude.{◌≡◌, ◌<◌, ◌≤◌, ◌^◌, All, None, Some, IfNone, IfOk, IfSome, MatchOption, length};
-ghost use Rattle.std.specs.Prelude.{option_map, vec_len, vec_capacity};
+ghost use Rattle.std.specs.Prelude.{◌≡◌, ◌↔◌, ◌<◌, ◌≤◌, ◌^◌, [], All, None, Some, IfNone, IfOk, IfSome, IsTrue};
+ghost use Rattle.std.specs.Prelude.{MatchOption, length, option_map, vec_len, vec_capacity};
 ghost use Rattle.lot_machine.specs.Bounds.{IsBetween};
 ghost use Rattle.lot_machine.specs.Mutexes.{mutex_at};
 ghost use Rattle.lot_machine.specs.State.{sizes_of, thread_at, thread_on, used_by};
@@ -185,6 +185,48 @@ impl Kernel {
         ensures unchanged { IfNone result (self.new ≡ self.old) }
     {
         self.tables.thread_row(thread)
+    }
+
+    /// Recomputes all stale values and counts that, so that rows can be read by `&self` until the next event. Changes
+    /// nothing else, and allocates nothing.
+    pub fn settle(&mut self)
+        ensures settled { self.new ≡ settled self.old }
+        ensures once { HasNoneTwice self.old.stale }
+    {
+        self.tables.settle();
+    }
+
+    /// Whether no value is stale.
+    pub fn is_settled(&self) -> bool
+        ensures { IsTrue result ↔ (self.now.stale ≡ []) }
+    {
+        self.tables.is_settled()
+    }
+
+    /// The row of the ticket with this number of a settled kernel, or `None` if and only if it doesn't exist. It
+    /// changes nothing, so it counts nothing, and several threads may read rows at once.
+    pub fn settled_ticket_row(&self, ticket: TicketNumber) -> Option<TicketRow>
+        requires settled { self.now.stale ≡ [] }
+        ensures row { result ≡ rows.ticket_row self.now.state ticket.number }
+    {
+        self.tables.settled_ticket_row(ticket)
+    }
+
+    /// The row of the currency with this number of a settled kernel, or `None` if and only if it doesn't exist; base
+    /// is worth its active amount.
+    pub fn settled_currency_row(&self, currency: CurrencyNumber) -> Option<CurrencyRow>
+        requires settled { self.now.stale ≡ [] }
+        ensures row { result ≡ rows.currency_row self.now.state currency.number }
+    {
+        self.tables.settled_currency_row(currency)
+    }
+
+    /// The row of the thread with this number of a settled kernel, or `None` if and only if it doesn't exist.
+    pub fn settled_thread_row(&self, thread: ThreadNumber) -> Option<ThreadRow>
+        requires settled { self.now.stale ≡ [] }
+        ensures row { result ≡ rows.thread_row self.now.state thread.number }
+    {
+        self.tables.settled_thread_row(thread)
     }
 
     /// The thread that runs on the processor, or `None` if and only if it is idle. The ticks used are below the

@@ -13,8 +13,8 @@ mod tables;
 pub use kernel::Kernel;
 pub use lot_machine::{
     Action, Command, CurrencyNumber, CurrencyRef, CurrencyRow, Event, Kind, Limits, MutexNumber,
-    Name, Outcome, Processor, Refusal, Reply, Sizes, Status, TargetRef, ThreadNumber, ThreadRef,
-    ThreadRow, TicketNumber, TicketRow, TrapRefusal,
+    Name, Outcome, Processor, Refusal, Reply, Sizes, Status, Target, TargetRef, ThreadNumber,
+    ThreadRef, ThreadRow, TicketNumber, TicketRow, TrapRefusal,
 };
 pub use lot_threads::Runner;
 pub use lot_value::Meter;

@@ -1,16 +1,82 @@
 //! The index of names, and lookup of names by it.
 ghost use Rattle.std.specs.Prelude.{◌≡◌, ◌+◌, ◌*◌, ◌<◌, ◌++◌, ◌∷◌, [], ℕ, List, Option, None, Some, IfOk};
-ghost use Rattle.std.specs.Prelude.{length, position, slice_get, slice_set};
+ghost use Rattle.std.specs.Prelude.{IfSome, length, option_map, position, slice_get, slice_set};
 ghost use Rattle.std.specs.Str.{bytes_eq};
+ghost use Rattle.lot_machine.specs.Commands.{is_meant_by};
 ghost use Rattle.lot_machine.specs.Numbered.{option_any};
-ghost use Rattle.lot_lists.specs.NodeLists.{IsFree, IsListed, nodes_of};
-ghost use Rattle.lot_kernel.specs.Names.{IsIndexOf, bucket_of, hash_of, names_of};
+ghost use Rattle.lot_lists.specs.NodeLists.{IsFree, nodes_of};
+ghost use Rattle.lot_kernel.specs.Names.{IsIndexOf, bucket_of, names_of};
 
 use lot_lists::{Lists, Nodes};
 use lot_machine::{Name, Thread};
 use std::alloc::{AllocError, Global};
 use std::hash::{FoldHasher, Hasher};
 use std::marker::Model;
+
+/// A name with its hash, so that one hash serves each index that the name is looked up in or added to. Contracts see
+/// the name.
+#[derive(Drop)]
+pub(crate) struct Hashed<'a> {
+    name: &'a Name,
+    hash: u64,
+}
+
+impl<'a> Model for Hashed<'a> {
+    ghost use Rattle.std.specs.Prelude.{◌≡◌, List, ℕ};
+    ghost use Rattle.lot_kernel.specs.Names.{hash_of};
+
+    ghost Value = { List ℕ };
+
+    ghost view = { λ h. h.name.now };
+
+    ghost invariant = { λ h. h.hash ≡ hash_of h.name.now };
+}
+
+impl<'a> Hashed<'a> {
+    pub(crate) fn new(name: &'a Name) -> Self
+        ensures { result ≡ name.now }
+    {
+        let mut hasher = FoldHasher::default();
+        hasher.write(name.as_bytes());
+        Hashed {
+            name,
+            hash: hasher.finish(),
+        }
+    }
+
+    /// The bytes of the name.
+    pub(crate) fn as_bytes(&self) -> &[u8]
+        ensures { result.now ≡ self.now }
+    {
+        self.name.as_bytes()
+    }
+
+    /// A copy of the name.
+    pub(crate) fn copied(&self) -> Name
+        ensures { result ≡ self.now }
+    {
+        self.name.copied()
+    }
+
+    /// Whether this is the name.
+    fn is(&self, name: &Name) -> bool
+        ensures { result ≡ bytes_eq self.now name.now }
+    {
+        self.name == name
+    }
+
+    /// The bucket of the name, of this many, or `None` if the name has no bytes.
+    fn bucket_of(&self, buckets: u32) -> Option<usize>
+        requires { 0 < buckets }
+        ensures bucket { result ≡ bucket_of buckets self.now }
+        ensures within { IfSome result (λ bucket. bucket < buckets) }
+    {
+        if self.name.is_none() {
+            return None;
+        }
+        Some((self.hash % u64::from(buckets)) as usize)
+    }
+}
 
 /// An index of a table of names, such as those of the currencies: each place of the table that has a name is in the
 /// list of the name's bucket, and any other place is in no list.
@@ -51,8 +117,8 @@ impl NameIndex {
         Lists::bytes(places as usize, places as usize)
     }
 
-    /// Adds the name of the table's next place, or of one whose name was removed.
-    pub(crate) fn add(&mut self, place: usize, name: &Name)
+    /// Adds the name of the table's next place, or of one whose name was removed. It isn't added if it has no bytes.
+    pub(crate) fn add(&mut self, place: usize, name: &Hashed<'_>)
         requires place { place < self.old.nodes }
         requires free { IsFree self.old place }
         ensures added { (names : List (Option (List ℕ))) → IsIndexOf self.old names → length names ≡ place
@@ -61,89 +127,78 @@ impl NameIndex {
             → IsIndexOf self.new (slice_set names place (Some name.now)) }
         ensures places { self.new.nodes ≡ self.old.nodes }
     {
-        let bucket = self.bucket_of(name);
-        self.lists.push_back(bucket, place);
+        if let Some(bucket) = name.bucket_of(self.buckets) {
+            self.lists.push_back(bucket, place);
+        }
     }
 
-    /// Removes the name of a place that has one.
+    /// Removes the name of a place, if it has one.
     pub(crate) fn remove(&mut self, place: usize)
-        requires { IsListed self.old place }
+        requires { place < self.old.nodes }
         ensures removed { (names : List (Option (List ℕ))) → IsIndexOf self.old names
             → IsIndexOf self.new (slice_set names place None) }
         ensures places { self.new.nodes ≡ self.old.nodes }
     {
-        self.lists.remove(place);
+        if self.lists.list_of(place).is_some() {
+            self.lists.remove(place);
+        }
     }
 
-    /// The places in the bucket of this name.
-    fn places(&self, name: &Name) -> Nodes<'_>
-        ensures { result ≡ nodes_of self.now (bucket_of (length self.now.lists) name.now) }
+    /// The places in the bucket of this name, or `None` if the name has no bytes.
+    fn places(&self, name: &Hashed<'_>) -> Option<Nodes<'_>>
+        ensures { result ≡ option_map (nodes_of self.now) (bucket_of (length self.now.lists) name.now) }
     {
-        self.lists.iter(self.bucket_of(name))
-    }
-
-    fn bucket_of(&self, name: &Name) -> usize
-        ensures bucket { result ≡ bucket_of (length self.now.lists) name.now }
-        ensures within { result < length self.now.lists }
-    {
-        (hash_of(name) % u64::from(self.buckets)) as usize
+        let bucket = name.bucket_of(self.buckets)?;
+        Some(self.lists.iter(bucket))
     }
 }
 
-fn hash_of(name: &Name) -> u64
-    ensures { result ≡ hash_of name.now }
-{
-    let mut hasher = FoldHasher::default();
-    hasher.write(name.as_bytes());
-    hasher.finish()
-}
-
-/// The index of the currency with this name.
+/// The index of the currency with this name; none has a name without bytes.
 pub(crate) fn currency_place(
     index: &NameIndex,
     currencies: &[Option<Name>],
-    name: &Name,
+    name: &Hashed<'_>,
 ) -> Option<usize>
     requires { IsIndexOf index.now currencies.now }
-    ensures { result ≡ position (option_any (bytes_eq name.now)) currencies.now }
+    ensures { result ≡ position (option_any (is_meant_by name.now)) currencies.now }
 {
-    index
-        .places(name)
+    let places = index.places(name)?;
+    places
         .filter(|place| is_currency_named(currencies, *place, name))
         .min()
 }
 
-/// The index of the thread with this name, even a dead one.
+/// The index of the thread with this name, even a dead one; none has a name without bytes.
 pub(crate) fn thread_place(
     index: &NameIndex,
     threads: &[Option<Thread>],
-    name: &Name,
+    name: &Hashed<'_>,
 ) -> Option<usize>
     requires { IsIndexOf index.now (names_of threads.now) }
-    ensures { result ≡ position (option_any (λ t. bytes_eq name.now t.name)) threads.now }
+    ensures { result ≡ position (option_any (λ t. is_meant_by name.now t.name)) threads.now }
 {
-    index
-        .places(name)
+    let places = index.places(name)?;
+    places
         .filter(|place| is_thread_named(threads, *place, name))
         .min()
 }
 
 /// Whether the currency at this place has the name.
-fn is_currency_named(currencies: &[Option<Name>], place: usize, name: &Name) -> bool
+fn is_currency_named(currencies: &[Option<Name>], place: usize, name: &Hashed<'_>) -> bool
     ensures { result ≡ option_any (option_any (bytes_eq name.now)) (slice_get currencies.now place) }
 {
     match currencies.get(place) {
-        Some(Some(other)) => name == other,
+        Some(Some(other)) => name.is(other),
         _ => false,
     }
 }
 
 /// Whether the thread at this place has the name.
-fn is_thread_named(threads: &[Option<Thread>], place: usize, name: &Name) -> bool
+fn is_thread_named(threads: &[Option<Thread>], place: usize, name: &Hashed<'_>) -> bool
     ensures { result ≡ option_any (option_any (λ t. bytes_eq name.now t.name)) (slice_get threads.now place) }
 {
     match threads.get(place) {
-        Some(Some(other)) => name == &other.name,
+        Some(Some(other)) => name.is(&other.name),
         _ => false,
     }
 }

@@ -17,7 +17,7 @@ mod stops;
 mod traps;
 
 use crate::freed::Freed;
-use crate::names::NameIndex;
+use crate::names::{Hashed, NameIndex};
 use lot_machine::{Event, Limits, MutexNumber, Name, Processor, Reply, ThreadNumber};
 use lot_mutex::Lottery;
 use lot_queues::Queues;
@@ -199,7 +199,7 @@ fn opening_currencies(
     let Some(base) = Name::new("base") else {
         unreachable!()
     };
-    index.add(0, &base);
+    index.add(0, &Hashed::new(&base));
     names.push_reserved(Some(base));
     Ok((names, index))
 }

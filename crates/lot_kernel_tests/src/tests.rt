@@ -3,6 +3,7 @@ mod bounds;
 mod helpers;
 mod kills;
 mod mutexes;
+mod nameless;
 mod names;
 mod pauses;
 mod ports;
@@ -16,7 +17,7 @@ mod traps;
 use crate::{trapped, won};
 use lot_kernel::{
     Action, Command, CurrencyNumber, CurrencyRef, CurrencyRow, Event, Kernel, Kind, Limits, Name,
-    Outcome, Refusal, Reply, Sizes, Status, TargetRef, ThreadNumber, ThreadRef, ThreadRow,
+    Outcome, Refusal, Reply, Sizes, Status, Target, TargetRef, ThreadNumber, ThreadRef, ThreadRow,
     TicketNumber, TicketRow, TrapRefusal,
 };
 use same::{check_same, check_same_at};
@@ -37,6 +38,10 @@ enum Line<'a> {
     Rmthr(&'a str),
     Kill(&'a str),
     Fundx(u64, &'a str, &'a str, u32),
+    /// `fund`, `rmthr` and `kill` of the thread with this number.
+    FundThread(u64, u32),
+    RemoveThread(u32),
+    KillThread(u32),
     List(Kind),
 }
 
@@ -75,8 +80,8 @@ enum Pause {
 /// A thread that wins a draw, the number drawn, and the total.
 type Winner = (u32, u128, u128);
 
-/// A ticket's number, amount, issuer, target or `-`, whether it is active, and its value.
-type TicketShown<'a> = (u32, u32, &'a str, &'a str, bool, u64);
+/// A ticket's number, amount, issuer, target or `-`, what it funds by number, whether it is active, and its value.
+type TicketShown<'a> = (u32, u32, &'a str, &'a str, Target, bool, u64);
 
 /// A currency's number, name, backing, issued, active amount and value.
 type CurrencyShown<'a> = (u32, &'a str, u32, u32, u64, u64);
@@ -123,6 +128,16 @@ fn command(rt: &impl Abort, line: Line<'_>) -> Command {
             name: name(rt, text),
             script,
         },
+        Line::FundThread(ticket, number) => Command::Fund {
+            ticket,
+            target: TargetRef::Thread(number),
+        },
+        Line::RemoveThread(number) => Command::RemoveThread {
+            thread: ThreadRef::Numbered(number),
+        },
+        Line::KillThread(number) => Command::Kill {
+            thread: ThreadRef::Numbered(number),
+        },
         Line::List(kind) => Command::List(kind),
     }
 }
@@ -160,25 +175,25 @@ fn target_of(rt: &impl Abort, text: &str) -> Option<Name> {
 }
 
 fn ticket_row(rt: &impl Abort, shown: TicketShown<'_>) -> TicketRow {
-    let (_, amount, issuer, target, is_active, value) = shown;
+    let (_, amount, issuer, target, funds, is_active, value) = shown;
     let issuer = name(rt, issuer);
     let target = target_of(rt, target);
     TicketRow {
         amount,
         issuer,
         target,
+        funds,
         is_active,
         value,
     }
 }
 
+/// Compares the row, and what a reader of the settled kernel is shown.
 fn check_ticket(rt: &impl Abort, kernel: &mut Kernel, number: u32, row: Option<TicketRow>) {
-    check_same_at(
-        rt,
-        &number,
-        &kernel.ticket_row(TicketNumber { number }),
-        &row,
-    );
+    let number = TicketNumber { number };
+    check_same_at(rt, &number, &kernel.ticket_row(number), &row);
+    kernel.settle();
+    check_same_at(rt, &number, &kernel.settled_ticket_row(number), &row);
 }
 
 fn currency_row(rt: &impl Abort, shown: CurrencyShown<'_>) -> CurrencyRow {
@@ -192,13 +207,12 @@ fn currency_row(rt: &impl Abort, shown: CurrencyShown<'_>) -> CurrencyRow {
     }
 }
 
+/// Compares the row, and what a reader of the settled kernel is shown.
 fn check_currency(rt: &impl Abort, kernel: &mut Kernel, number: u32, row: Option<CurrencyRow>) {
-    check_same_at(
-        rt,
-        &number,
-        &kernel.currency_row(CurrencyNumber { number }),
-        &row,
-    );
+    let number = CurrencyNumber { number };
+    check_same_at(rt, &number, &kernel.currency_row(number), &row);
+    kernel.settle();
+    check_same_at(rt, &number, &kernel.settled_currency_row(number), &row);
 }
 
 fn thread_row(rt: &impl Abort, shown: ThreadShown<'_>) -> ThreadRow {
@@ -213,13 +227,12 @@ fn thread_row(rt: &impl Abort, shown: ThreadShown<'_>) -> ThreadRow {
     }
 }
 
+/// Compares the row, and what a reader of the settled kernel is shown.
 fn check_thread(rt: &impl Abort, kernel: &mut Kernel, number: u32, row: Option<ThreadRow>) {
-    check_same_at(
-        rt,
-        &number,
-        &kernel.thread_row(ThreadNumber { number }),
-        &row,
-    );
+    let number = ThreadNumber { number };
+    check_same_at(rt, &number, &kernel.thread_row(number), &row);
+    kernel.settle();
+    check_same_at(rt, &number, &kernel.settled_thread_row(number), &row);
 }
 
 /// Compares what a thread is worth.
@@ -326,6 +339,7 @@ fn largest_limits(quantum: u32, unit: u32) -> Option<Limits> {
         quantum,
         unit,
         reuse: false,
+        plain_names: false,
     })
 }
 
@@ -337,15 +351,20 @@ fn largest(rt: &impl Abort, alloc: Global, unit: u32) -> Kernel {
 
 /// A kernel of this many tickets, currencies and threads.
 fn small(rt: &impl Abort, alloc: Global, tickets: u32, currencies: u32, threads: u32) -> Kernel {
-    let limits = Limits::new(Sizes {
+    let sizes = Sizes {
         tickets,
         currencies,
         threads,
         scripts: 1,
         quantum: 100,
         ..Sizes::SMALLEST
-    })
-    .expect(rt, "limits");
+    };
+    kernel_of(rt, alloc, sizes)
+}
+
+/// A kernel of these sizes.
+fn kernel_of(rt: &impl Abort, alloc: Global, sizes: Sizes) -> Kernel {
+    let limits = Limits::new(sizes).expect(rt, "limits");
     Kernel::new(alloc, limits).expect(rt, "memory")
 }
 
@@ -608,14 +627,14 @@ const PAPERS_GRAPH: [Step<'_>; 38] = [
     Step::Currency((3, "task1", 1, 0, 0, 0)),
     Step::Currency((4, "task2", 1, 2, 500, 1000)),
     Step::Currency((5, "task3", 1, 1, 100, 2000)),
-    Step::Ticket((1, 1000, "base", "alice", true, 1000)),
-    Step::Ticket((2, 2000, "base", "bob", true, 2000)),
-    Step::Ticket((3, 100, "alice", "task1", false, 0)),
-    Step::Ticket((4, 200, "alice", "task2", true, 1000)),
-    Step::Ticket((5, 100, "bob", "task3", true, 2000)),
-    Step::Ticket((6, 200, "task2", "thread2", true, 400)),
-    Step::Ticket((7, 300, "task2", "thread3", true, 600)),
-    Step::Ticket((8, 100, "task3", "thread4", true, 2000)),
+    Step::Ticket((1, 1000, "base", "alice", Target::Currency(1), true, 1000)),
+    Step::Ticket((2, 2000, "base", "bob", Target::Currency(2), true, 2000)),
+    Step::Ticket((3, 100, "alice", "task1", Target::Currency(3), false, 0)),
+    Step::Ticket((4, 200, "alice", "task2", Target::Currency(4), true, 1000)),
+    Step::Ticket((5, 100, "bob", "task3", Target::Currency(5), true, 2000)),
+    Step::Ticket((6, 200, "task2", "thread2", Target::Thread(1), true, 400)),
+    Step::Ticket((7, 300, "task2", "thread3", Target::Thread(2), true, 600)),
+    Step::Ticket((8, 100, "task3", "thread4", Target::Thread(3), true, 2000)),
     Step::Thread((1, "thread2", Status::Ready, 400, 400, 0, 0)),
     Step::Thread((2, "thread3", Status::Ready, 600, 600, 0, 0)),
     Step::Thread((3, "thread4", Status::Ready, 2000, 2000, 0, 0)),
@@ -643,7 +662,7 @@ const ROWS_OF_NOTHING: [Step<'_>; 18] = [
     Step::NoThread(0),
     Step::NoThread(2),
     Step::NoThread(u32::MAX),
-    Step::Ticket((2, 1, "base", "-", false, 0)),
+    Step::Ticket((2, 1, "base", "-", Target::Unfunded, false, 0)),
     Step::Thread((1, "a", Status::Ready, 0, 0, 0, 0)),
 ];
 
@@ -811,8 +830,8 @@ const ONE_LEVEL: [Step<'_>; 9] = [
     Step::Currency((0, "base", 0, 1, 100, 100)),
     Step::Currency((1, "g", 1, 2, 1, 100)),
     Step::Currency((2, "h", 1, 1, 0, 0)),
-    Step::Ticket((2, 1, "g", "h", false, 0)),
-    Step::Ticket((3, 1, "h", "a", false, 0)),
+    Step::Ticket((2, 1, "g", "h", Target::Currency(2), false, 0)),
+    Step::Ticket((3, 1, "h", "a", Target::Thread(1), false, 0)),
     Step::Thread((1, "a", Status::Dead, 0, 0, 1, 1)),
     Step::Thread((
         2,
@@ -1032,7 +1051,7 @@ const REFUSED: [Step<'_>; 41] = [
     Step::Gives(Line::Rmcur("base"), Reply::Refused(Refusal::BaseFixed)),
     Step::Gives(Line::Mktkt(4294967295, "g"), Reply::Ticket(1)),
     Step::Gives(Line::Rmcur("g"), Reply::Refused(Refusal::InUse)),
-    Step::Gives(Line::Mkthr("", 0), Reply::Refused(Refusal::BadName)),
+    Step::Gives(Line::Mkthr("A", 0), Reply::Refused(Refusal::BadName)),
     Step::Gives(Line::Mkthr("g", 0), Reply::Refused(Refusal::NameTaken)),
     Step::Gives(Line::Mkthr("a", 0), Reply::Refused(Refusal::NoScript)),
     Step::Gives(Line::Mkthr("a", 2), Reply::Refused(Refusal::NoScript)),

@@ -16,7 +16,7 @@ use Rattle.lot_machine.specs.Numbered.{at_number, set_number, option_any}
 use Rattle.lot_machine.specs.Places.{placed}
 use Rattle.lot_machine.specs.Funding.{ticket_in, without_ticket, with_target, retargeted, with_amount, reissued, is_currency}
 use Rattle.lot_machine.specs.State.{State, free_tickets, next_thread, opening, funding_of}
-use Rattle.lot_machine.specs.Commands.{currency_meant, is_good_name, is_taken, is_bad_amount, is_no_script, are_tickets_full, are_threads_full, is_dead_thread, is_funding, is_cycle, command_refusal, command_effect, command_step, currency_or_base, target_meant}
+use Rattle.lot_machine.specs.Commands.{currency_meant, is_thread_name, is_taken, is_bad_amount, is_no_script, are_tickets_full, are_threads_full, is_dead_thread, is_funding, is_cycle, command_refusal, command_effect, command_step, currency_or_base, target_meant}
 use Rattle.lot_machine.specs.Order.{IsInOrder}
 use Rattle.lot_machine.specs.Step.{step, state_after}
 use Rattle.lot_machine.proofs.Tickets.{some-injective, ticket_in-suc}
@@ -102,7 +102,7 @@ module _ (IsSo : Ticket → Type 0)
       one-set s.tickets n amount (all-pass ((is_bad_amount amount, BadAmount) ∷ (is_none (ticket_in s.tickets n), NoTicket) ∷ []) e).0 each)
   command-each s (MakeFunded amount currency name script) each =
       unrefused EachIn s _ (command_effect s (MakeFunded amount currency name script)) each (λ e.
-      let passed = all-pass ((is_bad_amount amount, BadAmount) ∷ (is_none (currency_meant s currency), NoCurrency) ∷ (not (is_good_name name), BadName)
+      let passed = all-pass ((is_bad_amount amount, BadAmount) ∷ (is_none (currency_meant s currency), NoCurrency) ∷ (not (is_thread_name s.limits name), BadName)
       ∷ (is_taken s name, NameTaken) ∷ (is_no_script s script, NoScript) ∷ (are_tickets_full s || are_threads_full s, Full) ∷ []) e in
       one-more s.tickets (free_tickets s) amount (currency_or_base s currency) (target.Thread (next_thread s)) passed.0 (λ same. cc) each)
   command-each s other each = unrefused EachIn s (command_refusal s other) (command_effect s other) each (λ _. each)

@@ -1,5 +1,5 @@
 -- Each ticket's issuer exists; so a removed currency issues no ticket, and none funds it.
-use Rattle.std.proofs.Common.{◌≡◌, ◌≢◌, ℕ, zero, suc, ◌+◌, ◌-◌, ◌==◌, ◌||◌, ◌⊎◌, inl, inr, not, true, false, is_none, is_some, nat_lt, Option, Some, None, List, [], ◌∷◌, length, map, refl, sym, ◌∙◌, ap, subst, eq-eqb, option_map, unwrap_or, slice_get, slice_set}
+use Rattle.std.proofs.Common.{◌≡◌, ◌≢◌, ℕ, zero, suc, ◌-◌, ◌==◌, ◌||◌, ◌⊎◌, inl, inr, not, true, false, is_none, is_some, nat_lt, Option, Some, None, List, [], ◌∷◌, length, map, refl, sym, ◌∙◌, ap, subst, eq-eqb, option_map, unwrap_or, slice_get, slice_set}
 use Rattle.std.specs.Option.{option_flatten}
 use Rattle.std.proofs.lemmas.Bool.{or_parts}
 use Rattle.std.proofs.lemmas.Option.{slice_get-map}
@@ -15,7 +15,7 @@ use Rattle.lot_machine.specs.Numbered.{at_number, set_number, option_any}
 use Rattle.lot_machine.specs.Places.{placed}
 use Rattle.lot_machine.specs.Funding.{Funding, ticket_in, ticket_at, issuer_of, target_of, issued_in, all_tickets, retargeted, reissued}
 use Rattle.lot_machine.specs.State.{State, opening, free_tickets, free_currencies, next_thread, funding_of}
-use Rattle.lot_machine.specs.Commands.{currency_meant, target_meant, currency_or_base, is_bad_amount, is_good_name, is_taken, is_no_script, is_in_use, are_tickets_full, are_threads_full, command_refusal, command_effect, command_step}
+use Rattle.lot_machine.specs.Commands.{currency_meant, target_meant, currency_or_base, is_bad_amount, is_thread_name, is_taken, is_no_script, is_in_use, are_tickets_full, are_threads_full, command_refusal, command_effect, command_step}
 use Rattle.lot_machine.specs.Step.{step, state_after}
 use Rattle.lot_machine.specs.Change.{NewCurrency, DropCurrency}
 use Rattle.lot_machine.proofs.Tickets.{some-injective, ticket_in-suc, place_of, any_from}
@@ -107,7 +107,7 @@ command-issuers s (Unfund n) have = unrefused HasIssuers s _ (command_effect s (
 command-issuers s (SetTicket n amount) have = unrefused HasIssuers s _ (command_effect s (SetTicket n amount)) have (λ _. issuers-changed s.currencies s.tickets n (reissued amount) (λ t. refl) have)
 command-issuers s (MakeFunded amount currency name script) have =
     unrefused HasIssuers s _ (command_effect s (MakeFunded amount currency name script)) have (λ e.
-    let passed = all-pass ((is_bad_amount amount, BadAmount) ∷ (is_none (currency_meant s currency), NoCurrency) ∷ (not (is_good_name name), BadName)
+    let passed = all-pass ((is_bad_amount amount, BadAmount) ∷ (is_none (currency_meant s currency), NoCurrency) ∷ (not (is_thread_name s.limits name), BadName)
     ∷ (is_taken s name, NameTaken) ∷ (is_no_script s script, NoScript) ∷ (are_tickets_full s || are_threads_full s, Full) ∷ []) e in
     issuers-placed s.currencies s.tickets (free_tickets s) (record { amount = amount; issuer = currency_or_base s currency; target = target.Thread (next_thread s) }) (currency-there s currency passed.1.0) have)
 command-issuers s other have = unrefused HasIssuers s (command_refusal s other) (command_effect s other) have (λ _. have)

@@ -1,29 +1,24 @@
 -- What is left of a killed thread, and of those who waited for it.
-use Rattle.std.proofs.Common.{◌≡◌, ℕ, zero, suc, ◌+◌, ◌-◌, ◌<◌, ◌≤◌, ◌==◌, Bool, true, false, not, ◌⊎◌, inl, inr, Option, Some, None, is_none, List, [], ◌∷◌, Contains, length, map, drop, filter_map, position, refl, sym, ◌∙◌, ap, subst, arith, cond, option_map, unwrap_or, get_or, slice_get}
+use Rattle.std.proofs.Common.{◌≡◌, ℕ, zero, suc, ◌-◌, ◌<◌, ◌≤◌, ◌==◌, Bool, true, false, ◌⊎◌, inl, inr, Option, Some, None, is_none, List, [], ◌∷◌, Contains, length, map, drop, filter_map, refl, sym, ◌∙◌, ap, subst, arith, cond, option_map, unwrap_or, get_or, slice_get}
 use Rattle.std.specs.Option.{option_flatten}
-use Rattle.std.specs.Str.{bytes_eq}
-use Rattle.std.proofs.lemmas.Bool.{eqb-true, eq-eqb, cases_eq}
-use Rattle.std.proofs.lemmas.List.Quantifiers.{position-Some}
-use Rattle.std.proofs.lemmas.Option.{slice_get_cases, slice_get_within}
+use Rattle.std.proofs.lemmas.Bool.{eqb-true, eq-eqb}
+use Rattle.std.proofs.lemmas.Option.{slice_get_cases}
 use Rattle.lot_machine.specs.declared.record.Record.{Record}
-use Rattle.lot_machine.specs.declared.record.Thread.{Thread as ThreadRecord}
 use Rattle.lot_machine.specs.declared.record.Status.{Status}
 use Rattle.lot_machine.specs.declared.record.Status.TheVariants as status
 use Rattle.lot_machine.specs.declared.command.Command.TheVariants.{Kill}
 use Rattle.lot_machine.specs.declared.event.Event.{Event}
 use Rattle.lot_machine.specs.declared.event.Event.TheVariants as event
 use Rattle.lot_machine.specs.declared.reference.ThreadRef.{ThreadRef}
-use Rattle.lot_machine.specs.declared.reference.ThreadRef.TheVariants as thread_ref
 use Rattle.lot_machine.specs.declared.refusal.Refusal.{Refusal}
 use Rattle.lot_machine.specs.declared.refusal.Refusal.TheVariants.{NoThread, DeadThread}
-use Rattle.lot_machine.specs.declared.reply.Reply.{Reply}
 use Rattle.lot_machine.specs.declared.reply.Reply.TheVariants as reply
 use Rattle.lot_machine.specs.declared.sizes.Sizes.{Sizes}
 use Rattle.lot_machine.specs.Numbered.{at_number, set_number, option_any}
 use Rattle.lot_machine.specs.Funding.{owner_of}
 use Rattle.lot_machine.specs.Lends.{borrower, LendsTo}
-use Rattle.lot_machine.specs.State.{State, Port, Mutex, QueuedCall, opening, funding_of, lend_of, status_of, thread_at, is_dead, change_each}
-use Rattle.lot_machine.specs.Commands.{Step, first_failing, unless_refused, thread_meant, is_dead_in, command_step}
+use Rattle.lot_machine.specs.State.{State, Port, Mutex, opening, funding_of, lend_of, status_of, change_each}
+use Rattle.lot_machine.specs.Commands.{Step, first_failing, unless_refused, thread_meant, is_dead_in}
 use Rattle.lot_machine.specs.Ports.{clients_of}
 use Rattle.lot_machine.specs.Kill.{without, port_without, is_owned_by, passed_on, mutex_without, heir, released_by, released, ended, killed}
 use Rattle.lot_machine.specs.Step.{step, state_after}
@@ -33,7 +28,7 @@ use Rattle.lot_machine.proofs.Changes.{number-set}
 use Rattle.lot_machine.proofs.Queues.{IsAbsent, number-set_same}
 use Rattle.lot_machine.proofs.TrapCycles.{at_number-map}
 use Rattle.lot_machine.proofs.EachOnce.{place-in, contains-at}
-use Rattle.lot_machine.proofs.Killed.{IsAmong, IsHeir, among-append_left, heir-released, released-why, client-waits, heir-waits, without-absent, calls-absent, record-now, record-other, each-record, each-record_either, each-record_other, owner-either, without-other, killed-dead}
+use Rattle.lot_machine.proofs.Killed.{IsAmong, IsHeir, among-append_left, heir-released, released-why, client-waits, without-absent, calls-absent, record-now, record-other, each-record, each-record_either, each-record_other, owner-either, without-other}
 use Rattle.lot_machine.proofs.KillKept.{lends-by, lends-of, number-mapped}
 use Rattle.lot_machine.proofs.OrderKept.{meant-number, meant-within, step-order}
 use Rattle.lot_machine.proofs.StepSizes.{step-grown}

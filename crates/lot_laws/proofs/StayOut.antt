@@ -2,7 +2,6 @@
 use Rattle.std.proofs.Common.{◌≡◌, ◌≢◌, cond, slice_set, ℕ, zero, suc, ◌+◌, ◌-◌, ◌⊎◌, inl, inr, Bool, true, false, not, Option, Some, None, is_none, List, [], ◌∷◌, ◌++◌, Contains, length, map, position, refl, sym, ◌∙◌, ap, subst, arith, nat_lt, option_map, option_and_then, unwrap_or, get_or, slice_get, slice_index}
 use Rattle.std.specs.Prelude.{remove}
 use Rattle.std.specs.Option.{option_flatten, option_or}
-use Rattle.std.specs.Str.{bytes_eq}
 use Rattle.std.proofs.lemmas.Bool.{ltb-false}
 use Rattle.std.proofs.lemmas.List.Quantifiers.{position-Some}
 use Rattle.std.proofs.lemmas.Option.{slice_get-get_or}
@@ -41,7 +40,7 @@ use Rattle.lot_machine.specs.Funding.{Funding, ticket_in, ticket_at, target_node
 use Rattle.lot_machine.specs.Equations.{edges_into}
 use Rattle.lot_machine.specs.Lottery.{winner}
 use Rattle.lot_machine.specs.State.{State, free_tickets, free_threads, next_thread, Mutex, QueuedCall, opening, funding_of, lend_of, status_of, thread_at, thread_on, ready_threads, change_record, value_of, weight_of}
-use Rattle.lot_machine.specs.Commands.{currency_meant, currency_named, thread_meant, thread_named, target_meant, target_named, currency_or_base, is_dead_in, is_thread_in_use, newborn, with_thread, drop_thread, command_refusal, command_effect, unless_refused, command_step}
+use Rattle.lot_machine.specs.Commands.{is_meant_by, currency_meant, currency_named, thread_meant, thread_named, target_meant, target_named, currency_or_base, is_dead_in, is_thread_in_use, newborn, with_thread, drop_thread, command_refusal, command_effect, unless_refused, command_step}
 use Rattle.lot_machine.specs.Traps.{after_trap, with_ticks}
 use Rattle.lot_machine.specs.Ports.{port_at, first_client, call, receive, reply}
 use Rattle.lot_machine.specs.Mutexes.{mutex_at, lock, unlock}
@@ -67,7 +66,8 @@ use Rattle.lot_machine.proofs.StepSizes.{other-sizes, other-tickets, step-limits
 use Rattle.lot_machine.proofs.OrderKept.{step-order, opening-order}
 use Rattle.lot_machine.specs.Change.{NewThread, PutRecord}
 use Rattle.lot_laws.specs.Reachable.{IsReachable}
-use Rattle.lot_laws.specs.Removed.{IsRemoved, thread_given, IsNotGiven, NothingLeadsTo, NothingLeadsToRemoved, StandsNowhere}
+use Rattle.lot_machine.specs.Named.{thread_given}
+use Rattle.lot_laws.specs.Removed.{IsRemoved, IsNotGiven, NothingLeadsTo, NothingLeadsToRemoved, StandsNowhere}
 
 -- ---- whom a state refers to
 
@@ -413,17 +413,17 @@ in-last threads free x gone =
     last (place ∷ places) none = put place (slice_get threads place) refl none
 
 -- who has a name is there
-named-in : (name : List ℕ) (threads : List (Option ThreadRecord)) (t : ℕ) → option_map (λ place. place + 1) (position (option_any (λ (x : ThreadRecord). bytes_eq name x.name)) threads) ≡ Some t → IsIn threads t
-named-in name threads t = by (position (option_any (λ (x : ThreadRecord). bytes_eq name x.name)) threads) refl
+named-in : (name : List ℕ) (threads : List (Option ThreadRecord)) (t : ℕ) → option_map (λ place. place + 1) (position (option_any (λ (x : ThreadRecord). is_meant_by name x.name)) threads) ≡ Some t → IsIn threads t
+named-in name threads t = by (position (option_any (λ (x : ThreadRecord). is_meant_by name x.name)) threads) refl
   where
-    passes : (o : Option ThreadRecord) → option_any (λ (x : ThreadRecord). bytes_eq name x.name) o ≡ true → ¬ (o ≡ None)
+    passes : (o : Option ThreadRecord) → option_any (λ (x : ThreadRecord). is_meant_by name x.name) o ≡ true → ¬ (o ≡ None)
     passes None e none = cc
     passes (Some x) e none = cc
 
-    by : (o : Option ℕ) → position (option_any (λ (x : ThreadRecord). bytes_eq name x.name)) threads ≡ o → option_map (λ place. place + 1) o ≡ Some t → IsIn threads t
+    by : (o : Option ℕ) → position (option_any (λ (x : ThreadRecord). is_meant_by name x.name)) threads ≡ o → option_map (λ place. place + 1) o ≡ Some t → IsIn threads t
     by None is e gone = cc
     by (Some place) is e gone =
-        let found = position-Some (option_any (λ (x : ThreadRecord). bytes_eq name x.name)) threads place None is in
+        let found = position-Some (option_any (λ (x : ThreadRecord). is_meant_by name x.name)) threads place None is in
         let number : suc place ≡ t = let next : suc place ≡ place + 1 = omega arith in next ∙ some-injective (place + 1) t e in
         let there : at_number threads t ≡ Some (get_or threads place None) = ap (at_number threads) (sym number) ∙ at_number-suc threads place ∙ slice_get-get_or threads place None found.0 in
         passes (get_or threads place None) found.1 (some-injective (get_or threads place None) None (sym there ∙ gone))

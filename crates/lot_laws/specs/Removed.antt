@@ -1,11 +1,10 @@
 -- Removed threads, and the places that could refer to them.
-use Rattle.std.specs.Prelude.{◌≡◌, ◌≢◌, ℕ, Option, Some, None, List, All, Contains, map}
+use Rattle.std.specs.Prelude.{◌≡◌, ◌≢◌, ℕ, Some, None, List, All, Contains, map}
 use Rattle.lot_machine.specs.declared.record.Status.TheVariants.{Dead}
 use Rattle.lot_machine.specs.declared.funding.Node.{Node}
 use Rattle.lot_machine.specs.declared.funding.Node.TheVariants.{Thread}
 use Rattle.lot_machine.specs.declared.event.Event.{Event}
-use Rattle.lot_machine.specs.declared.reply.Reply.{Reply}
-use Rattle.lot_machine.specs.declared.reply.Reply.TheVariants as reply
+use Rattle.lot_machine.specs.Named.{thread_given}
 use Rattle.lot_machine.specs.Numbered.{at_number}
 use Rattle.lot_machine.specs.Funding.{Funding, IsEdge}
 use Rattle.lot_machine.specs.State.{State, Port, Mutex, funding_of, status_of}
@@ -14,12 +13,6 @@ use Rattle.lot_machine.specs.Step.{replies}
 -- the thread was removed: its number was used, and its slot is a gap
 abbrev pub IsRemoved : State → ℕ → Type 0
 IsRemoved s t = at_number s.threads t ≡ Some None
-
--- the number that the reply gives to a new thread
-abbrev pub thread_given : Reply → Option ℕ
-thread_given (reply.Thread t) = Some t
-thread_given (reply.Funded ticket t) = Some t
-thread_given other = None
 
 -- no event of the run gives this number to a new thread
 abbrev pub IsNotGiven : State → List Event → ℕ → Type 0

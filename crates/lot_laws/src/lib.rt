@@ -6,6 +6,7 @@ pub mod conservation;
 pub mod fairness;
 pub mod insulation;
 pub mod kills;
+pub mod named;
 pub mod pauses;
 pub mod reachable;
 pub mod removed;

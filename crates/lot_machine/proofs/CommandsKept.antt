@@ -1,7 +1,6 @@
 -- No command makes a cycle, or leaves a ticket that funds a currency which isn't there.
 use Rattle.std.proofs.Common.{◌≡◌, ℕ, suc, ◌+◌, Bool, true, false, Option, Some, None, is_some, is_none, List, [], ◌∷◌, length, map, position, refl, sym, subst, ◌∙◌, ap, arith, nat_lt, option_map, get_or, slice_get}
 use Rattle.std.specs.Option.{option_flatten, option_or}
-use Rattle.std.specs.Str.{bytes_eq}
 use Rattle.std.proofs.lemmas.Bool.{ltb-false}
 use Rattle.std.proofs.lemmas.List.Quantifiers.{position-Some}
 use Rattle.std.proofs.lemmas.Option.{slice_get-get_or, slice_get-map}
@@ -20,7 +19,7 @@ use Rattle.lot_machine.specs.Numbered.{option_any}
 use Rattle.lot_machine.specs.Funding.{ticket_in, without_ticket, with_target, issuer_of, currency_funded, would_cycle}
 use Rattle.lot_machine.specs.Facts.{HasNoCycle, FundsThere}
 use Rattle.lot_machine.specs.State.{State, funding_of, thread_at}
-use Rattle.lot_machine.specs.Commands.{Step, first_failing, currency_meant, currency_named, thread_meant, thread_named, target_meant, target_named, is_cycle, unless_refused}
+use Rattle.lot_machine.specs.Commands.{Step, first_failing, currency_meant, currency_named, is_meant_by, thread_meant, thread_named, target_meant, target_named, is_cycle, unless_refused}
 use Rattle.lot_machine.proofs.Tickets.{at_number-suc, some-injective}
 use Rattle.lot_machine.proofs.FundingKept.{HasNoCycle-without_ticket, FundsThere-without_ticket, HasNoCycle-target, FundsThere-target, HasNoCycle-funds_tested, FundsThere-funds}
 
@@ -58,12 +57,12 @@ pub none-of : {A : Type 0} (xs : List A) → nat_lt 0 (length xs) ≡ false → 
 none-of xs e = omega (arith, ltb-false 0 (length xs) e)
 
 -- a currency that has the name is there
-pub named-there : (name : List ℕ) (names : List (Option (List ℕ))) (c : ℕ) → position (option_any (bytes_eq name)) names ≡ Some c → slice_get (map is_some names) c ≡ Some true
+pub named-there : (name : List ℕ) (names : List (Option (List ℕ))) (c : ℕ) → position (option_any (is_meant_by name)) names ≡ Some c → slice_get (map is_some names) c ≡ Some true
 named-there name names c named =
-    let found = position-Some (option_any (bytes_eq name)) names c None named in
+    let found = position-Some (option_any (is_meant_by name)) names c None named in
     slice_get-map is_some names c ∙ ap (option_map is_some) (slice_get-get_or names c None found.0) ∙ ap Some (passes (get_or names c None) found.1)
   where
-    passes : (o : Option (List ℕ)) → option_any (bytes_eq name) o ≡ true → is_some o ≡ true
+    passes : (o : Option (List ℕ)) → option_any (is_meant_by name) o ≡ true → is_some o ≡ true
     passes None e = cc
     passes (Some x) e = refl
 
@@ -103,16 +102,16 @@ target-there s (target_ref.Thread t) c is = from (thread_meant s (thread_ref.Num
 
 -- and a thread that is meant
 pub meant-thread : (s : State) (thread : ThreadRef) (t : ℕ) → thread_meant s thread ≡ Some t → IsThere (thread_at s.threads t)
-meant-thread s (thread_ref.Named name) t is = from (position (option_any (λ (x : ThreadRecord). bytes_eq name x.name)) s.threads) refl is
+meant-thread s (thread_ref.Named name) t is = from (position (option_any (λ (x : ThreadRecord). is_meant_by name x.name)) s.threads) refl is
   where
-    passes : (o : Option ThreadRecord) → option_any (λ (x : ThreadRecord). bytes_eq name x.name) o ≡ true → IsThere o
+    passes : (o : Option ThreadRecord) → option_any (λ (x : ThreadRecord). is_meant_by name x.name) o ≡ true → IsThere o
     passes None e = cc
     passes (Some x) e = (x, refl)
 
-    from : (o : Option ℕ) → position (option_any (λ (x : ThreadRecord). bytes_eq name x.name)) s.threads ≡ o → option_map (λ place. place + 1) o ≡ Some t → IsThere (thread_at s.threads t)
+    from : (o : Option ℕ) → position (option_any (λ (x : ThreadRecord). is_meant_by name x.name)) s.threads ≡ o → option_map (λ place. place + 1) o ≡ Some t → IsThere (thread_at s.threads t)
     from None found e = cc
     from (Some i) found e =
-        let there = position-Some (option_any (λ (x : ThreadRecord). bytes_eq name x.name)) s.threads i None found in
+        let there = position-Some (option_any (λ (x : ThreadRecord). is_meant_by name x.name)) s.threads i None found in
         let (x, is_x) = passes (get_or s.threads i None) there.1 in
         let same : i + 1 ≡ t = some-injective (i + 1) t e in
         let number : suc i ≡ t = omega (arith, same) in

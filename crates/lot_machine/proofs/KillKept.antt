@@ -1,5 +1,5 @@
 -- After a kill nothing makes a cycle, and those who wait stand where their statuses say.
-use Rattle.std.proofs.Common.{◌≡◌, ℕ, zero, suc, ◌-◌, ◌==◌, Bool, true, false, not, ◌⊎◌, inl, inr, Option, Some, None, List, [], ◌∷◌, map, refl, sym, ◌∙◌, ap, subst, cond, option_map, option_and_then, unwrap_or, slice_get}
+use Rattle.std.proofs.Common.{◌≡◌, ℕ, suc, ◌-◌, ◌==◌, Bool, true, false, not, ◌⊎◌, inl, inr, Option, Some, None, List, [], ◌∷◌, map, refl, sym, ◌∙◌, ap, subst, option_map, option_and_then, unwrap_or, slice_get}
 use Rattle.std.specs.Option.{option_flatten}
 use Rattle.std.proofs.lemmas.Bool.{cases_eq}
 use Rattle.lot_machine.specs.declared.record.Record.{Record}
@@ -8,7 +8,7 @@ use Rattle.lot_machine.specs.declared.record.Status.TheVariants as status
 use Rattle.lot_machine.specs.declared.funding.Lend.{Lend}
 use Rattle.lot_machine.specs.declared.funding.Lend.TheVariants.{Nobody, ToThread, ToMutex}
 use Rattle.lot_machine.specs.Numbered.{at_number, set_number}
-use Rattle.lot_machine.specs.Funding.{Funding, owner_of}
+use Rattle.lot_machine.specs.Funding.{owner_of}
 use Rattle.lot_machine.specs.Lends.{borrower, LendsTo}
 use Rattle.lot_machine.specs.State.{State, Port, Mutex, QueuedCall, funding_of, lend_of, status_of, change_each}
 use Rattle.lot_machine.specs.Kill.{without, port_without, mutex_without, is_owned_by, passed_on, released_by, released, ended, killed}
@@ -21,7 +21,7 @@ use Rattle.lot_machine.proofs.Tickets.{some-injective}
 use Rattle.lot_machine.proofs.LendsKept.{no-lend-return, no-lend-back}
 use Rattle.lot_machine.proofs.Queues.{number-set_same, queue-empty, queue-rest, absent-rest, status-other}
 use Rattle.lot_machine.proofs.TrapCycles.{at_number-map, lend-at}
-use Rattle.lot_machine.proofs.Killed.{IsAmong, IsHeir, owner-either, heir-released, without-other, filter-was, queue-filter, queue-kept, callers-without, each-either, each-now, stands-still, killed-either}
+use Rattle.lot_machine.proofs.Killed.{IsAmong, IsHeir, owner-either, heir-released, without-other, queue-filter, queue-kept, callers-without, each-either, each-now, stands-still, killed-either}
 
 -- ---- lends
 

@@ -1,7 +1,6 @@
 -- A state that is in order stays so through each event, and is sound.
 use Rattle.std.proofs.Common.{◌≡◌, ℕ, zero, suc, ◌+◌, ◌-◌, ◌^◌, ◌<◌, ◌≤◌, Bool, true, false, not, ◌⊎◌, inl, inr, Option, Some, None, is_some, is_none, List, [], ◌∷◌, length, map, position, replicate, refl, sym, ◌∙◌, ap, subst, arith, nat_lt, nat_le, option_map, option_and_then, unwrap_or, get_or, slice_get, slice_index}
 use Rattle.std.specs.Option.{option_flatten}
-use Rattle.std.specs.Str.{bytes_eq}
 use Rattle.std.proofs.lemmas.List.{get_or_past}
 use Rattle.std.proofs.lemmas.List.Elements.{All-nil}
 use Rattle.std.proofs.lemmas.List.Quantifiers.{position-Some}
@@ -34,7 +33,7 @@ use Rattle.lot_machine.specs.Funding.{target_of, issuer_of}
 use Rattle.lot_machine.specs.Lends.{lends_on_to, LendsTo, borrower}
 use Rattle.lot_machine.specs.Lottery.{winner}
 use Rattle.lot_machine.specs.State.{State, Port, Mutex, QueuedCall, opening, funding_of, is_asleep, lend_of, status_of, is_ready, ready_threads, thread_at, thread_on, change_record, value_of, weight_of}
-use Rattle.lot_machine.specs.Commands.{thread_meant, is_dead_in, command_effect, command_step}
+use Rattle.lot_machine.specs.Commands.{is_meant_by, thread_meant, is_dead_in, command_effect, command_step}
 use Rattle.lot_machine.specs.Kill.{killed}
 use Rattle.lot_machine.specs.declared.after.After.{After}
 use Rattle.lot_machine.specs.Traps.{after_trap, with_ticks}
@@ -86,12 +85,12 @@ other-order {by} s b other order leads (no_cycle, queues) idle =
 
 -- a thread that a command means was made
 pub meant-within : (s : State) (thread : ThreadRef) (t : ℕ) → thread_meant s thread ≡ Some t → (1 ≤ t) × (t ≤ length s.threads)
-meant-within s (thread_ref.Named name) t e = from (position (option_any (λ (x : Thread). bytes_eq name x.name)) s.threads) refl e
+meant-within s (thread_ref.Named name) t e = from (position (option_any (λ (x : Thread). is_meant_by name x.name)) s.threads) refl e
   where
-    from : (o : Option ℕ) → position (option_any (λ (x : Thread). bytes_eq name x.name)) s.threads ≡ o → option_map (λ place. place + 1) o ≡ Some t → (1 ≤ t) × (t ≤ length s.threads)
+    from : (o : Option ℕ) → position (option_any (λ (x : Thread). is_meant_by name x.name)) s.threads ≡ o → option_map (λ place. place + 1) o ≡ Some t → (1 ≤ t) × (t ≤ length s.threads)
     from None is none = cc
     from (Some place) is some =
-        let found = position-Some (option_any (λ (x : Thread). bytes_eq name x.name)) s.threads place None is in
+        let found = position-Some (option_any (λ (x : Thread). is_meant_by name x.name)) s.threads place None is in
         let next : place + 1 ≡ t = some-injective (place + 1) t some in
         let below : place < length s.threads = found.0 in (omega (arith, next), omega (arith, next, below))
 meant-within s (thread_ref.Numbered zero) t e = cc

@@ -57,6 +57,15 @@ push-last [] x (suc k) past is = cc
 push-last (y ∷ ys) x zero past is = cc
 push-last (y ∷ ys) x (suc k) past is = ap suc (push-last ys x k past is)
 
+-- A place has what it had; or it is the next place, and has the new element.
+pub place-next : {A : Type 0} (xs : List A) (free : List ℕ) (x : A) (k : ℕ) → (slice_get (placed xs free x) k ≡ slice_get xs k) ⊎ ((k ≡ next_place xs free) × (slice_get (placed xs free x) k ≡ Some x))
+place-next xs [] x k = from (place-push xs x k)
+  where
+    from : (slice_get (xs ++ x ∷ []) k ≡ slice_get xs k) ⊎ ((slice_get xs k ≡ None) × (slice_get (xs ++ x ∷ []) k ≡ Some x)) → (slice_get (xs ++ x ∷ []) k ≡ slice_get xs k) ⊎ ((k ≡ length xs) × (slice_get (xs ++ x ∷ []) k ≡ Some x))
+    from (inl same) = inl same
+    from (inr (past, is)) = inr (push-last xs x k past is, is)
+place-next xs (i ∷ free) x k = place-set xs i x k
+
 -- A number has what it had; or it is the next number, and has the new element. Then it had none, or it is the first free place's.
 pub number-next : {A : Type 0} (xs : List A) (free : List ℕ) (x : A) (k : ℕ) → (at_number (placed xs free x) k ≡ at_number xs k)
     ⊎ ((k ≡ next_place xs free + 1) × (at_number (placed xs free x) k ≡ Some x) × ((at_number xs k ≡ None) ⊎ (slice_get free 0 ≡ Some (k - 1))))

@@ -3,7 +3,7 @@ use Rattle.std.specs.Prelude.{ℕ, ◌==◌, Bool, not, Option, Some, None, List
 use Rattle.lot_machine.specs.declared.record.Record.{Record}
 use Rattle.lot_machine.specs.declared.record.Status.TheVariants.{Ready, Dead}
 use Rattle.lot_machine.specs.Numbered.{set_number, option_any}
-use Rattle.lot_machine.specs.State.{State, Port, Mutex, QueuedCall, change_record, change_each}
+use Rattle.lot_machine.specs.State.{State, Port, Mutex, change_record, change_each}
 use Rattle.lot_machine.specs.Ports.{clients_of}
 
 -- the threads without this one

@@ -1,4 +1,4 @@
--- The processor of an event, the thread that it kills, and the thread that its reply names.
+-- The processor of an event, the thread that it kills, and the thread that its reply names or makes.
 use Rattle.std.specs.Prelude.{ℕ, Option, Some, None}
 use Rattle.lot_machine.specs.declared.event.Event.{Event}
 use Rattle.lot_machine.specs.declared.event.Event.TheVariants as event
@@ -29,3 +29,9 @@ thread_in (reply.Winner t number total delivered) = Some t
 thread_in (reply.Expired t ticks) = Some t
 thread_in (reply.Trapped t ticks outcome ends) = Some t
 thread_in other = None
+
+-- the number that the reply gives to a new thread
+abbrev pub thread_given : Reply → Option ℕ
+thread_given (reply.Thread t) = Some t
+thread_given (reply.Funded ticket t) = Some t
+thread_given other = None

@@ -65,6 +65,7 @@ sizes_of l = record {
   quantum = l.quantum;
   unit = l.unit;
   reuse = l.reuse;
+  plain_names = l.plain_names;
 }
 
 -- the opening state: base alone, empty ports and free mutexes

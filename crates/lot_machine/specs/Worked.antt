@@ -12,6 +12,7 @@ use Rattle.lot_machine.specs.declared.row.CurrencyRow.{CurrencyRow}
 use Rattle.lot_machine.specs.declared.row.TicketRow.{TicketRow}
 use Rattle.lot_machine.specs.declared.row.ThreadRow.{ThreadRow}
 use Rattle.lot_machine.specs.declared.sizes.Sizes.{Sizes}
+use Rattle.lot_machine.specs.declared.ticket.Target.{Target}
 use Rattle.lot_machine.specs.Numbered.{numbers}
 use Rattle.lot_machine.specs.State.{State, opening, value_of, weight_of}
 use Rattle.lot_machine.specs.Step.{replies, state_after}
@@ -19,7 +20,7 @@ use Rattle.lot_machine.specs.Rows.{currency_row}
 
 -- the largest tables for tickets, currencies and threads; two ports, mutexes and processors, one script, quantum 100
 abbrev pub largest : Sizes
-largest = record { tickets = 65535; currencies = 4096; threads = 4096; ports = 2; mutexes = 2; processors = 2; scripts = 1; quantum = 100; unit = 1; reuse = false }
+largest = record { tickets = 65535; currencies = 4096; threads = 4096; ports = 2; mutexes = 2; processors = 2; scripts = 1; quantum = 100; unit = 1; reuse = false; plain_names = false }
 
 -- the sizes `largest` with unit 256
 abbrev pub finer : Sizes
@@ -27,11 +28,15 @@ finer = record largest { unit = 256 }
 
 -- at most two tickets, two user currencies and two threads at once: their numbers are given again
 abbrev pub two_of_each : Sizes
-two_of_each = record { tickets = 2; currencies = 2; threads = 2; ports = 0; mutexes = 0; processors = 1; scripts = 1; quantum = 100; unit = 1; reuse = true }
+two_of_each = record { tickets = 2; currencies = 2; threads = 2; ports = 0; mutexes = 0; processors = 1; scripts = 1; quantum = 100; unit = 1; reuse = true; plain_names = false }
 
 -- the same limits on all that are ever made
 abbrev pub two_in_all : Sizes
 two_in_all = record two_of_each { reuse = false }
+
+-- the sizes `largest` with plain names
+abbrev pub any_printable : Sizes
+any_printable = record largest { plain_names = true }
 
 -- ---- commands
 
@@ -124,8 +129,9 @@ abbrev pub currency_shown : List ℕ → ℕ → ℕ → ℕ → ℕ → Option 
 currency_shown name backing issued active value = Some (record { name = name; backing = backing; issued = issued; active_amount = active; value = value })
 
 -- the row of a ticket that has a target, with these fields
-abbrev pub ticket_shown : ℕ → List ℕ → List ℕ → Bool → ℕ → Option TicketRow
-ticket_shown amount issuer to active value = Some (record { amount = amount; issuer = issuer; target = Some to; is_active = active; value = value })
+abbrev pub ticket_shown : ℕ → List ℕ → List ℕ → Target → Bool → ℕ → Option TicketRow
+ticket_shown amount issuer to funds active value =
+    Some (record { amount = amount; issuer = issuer; target = Some to; funds = funds; is_active = active; value = value })
 
 -- a thread's row with these fields
 abbrev pub thread_shown : List ℕ → Status → ℕ → ℕ → ℕ → ℕ → Option ThreadRow

@@ -46,7 +46,7 @@ pub enum Command {
         ticket: u64,
         amount: u64,
     },
-    /// `mkthr`; script 0 means no script
+    /// `mkthr`; script 0 means no script, and a name without bytes no name
     MakeThread {
         name: Name,
         script: u32,
@@ -61,7 +61,7 @@ pub enum Command {
     Kill {
         thread: ThreadRef,
     },
-    /// `fundx`: makes a thread, and a ticket that funds it
+    /// `fundx`: makes a thread, which may have no name, and a ticket that funds it
     MakeFunded {
         amount: u64,
         currency: CurrencyRef,

@@ -29,7 +29,7 @@ pub use drawn::Drawn;
 pub use event::Event;
 pub use funding::{Edge, Lend, Node};
 pub use limits::Limits;
-pub use name::{Name, is_good_name};
+pub use name::{Name, is_good_name, is_plain_name};
 pub use numbers::{
     CurrencyNumber, MutexNumber, PortNumber, Processor, ThreadNumber, TicketNumber, index_of,
 };

@@ -14,6 +14,7 @@ pub struct Limits {
     pub quantum: u32,
     pub unit: u32,
     pub reuse: bool,
+    pub plain_names: bool,
     ghost within_bounds: { IsWithinBounds (record {
       tickets = tickets;
       currencies = currencies;
@@ -25,5 +26,6 @@ pub struct Limits {
       quantum = quantum;
       unit = unit;
       reuse = reuse;
+      plain_names = plain_names;
     }) },
 }

@@ -2,11 +2,13 @@
 ghost use Rattle.std.specs.Prelude.{◌≡◌, ◌≤◌, length, IfSome, IsSome, ◌↔◌};
 ghost use Rattle.std.specs.List.{list_all};
 ghost use Rattle.lot_machine.specs.Commands as names;
+ghost use Rattle.lot_machine.specs.State.{sizes_of};
 
+use crate::Limits;
 use arrayvec::ArrayVec;
 use std::marker::Model;
 
-/// A name of at most 16 bytes, not necessarily a good one.
+/// A name of at most 16 bytes, not necessarily a good one. One without bytes means that there is no name.
 #[derive(Clone, Debug, PartialEq, Eq, Drop)]
 pub struct Name {
     bytes: ArrayVec<u8, 16>,
@@ -57,6 +59,54 @@ impl Name {
     {
         self.bytes.as_slice()
     }
+
+    /// Whether there is no name.
+    pub fn is_none(&self) -> bool
+        ensures { result ≡ names.is_no_name self.now }
+    {
+        self.bytes.is_empty()
+    }
+}
+
+impl Limits {
+    /// Whether a currency may have these bytes as its name.
+    pub fn allow_name(&self, bytes: &[u8]) -> bool
+        ensures { result ≡ names.is_name (sizes_of self.now) bytes.now }
+    {
+        if self.plain_names {
+            is_plain_name(bytes)
+        } else {
+            is_good_name(bytes)
+        }
+    }
+
+    /// Whether a thread may have these bytes as its name. It may also have none.
+    pub fn allow_thread_name(&self, bytes: &[u8]) -> bool
+        ensures { result ≡ names.is_thread_name (sizes_of self.now) bytes.now }
+    {
+        bytes.is_empty() || self.allow_name(bytes)
+    }
+}
+
+/// Whether the bytes are a plain name: at least one, each printable ASCII, except for the space.
+pub fn is_plain_name(bytes: &[u8]) -> bool
+    ensures { result ≡ names.is_plain_name bytes.now }
+{
+    !bytes.is_empty() && are_printable(bytes)
+}
+
+/// Whether each byte is printable ASCII, except for the space.
+fn are_printable(bytes: &[u8]) -> bool
+    ensures { result ≡ list_all names.is_printable bytes.now }
+{
+    bytes.iter().all(|byte| is_printable(*byte))
+}
+
+/// Whether the byte is printable ASCII, except for the space.
+fn is_printable(byte: u8) -> bool
+    ensures { result ≡ names.is_printable byte }
+{
+    33 <= byte && byte <= 126
 }
 
 /// Whether the bytes are a good name: a letter a to z, followed by letters a to z, digits, `_` or `-`.

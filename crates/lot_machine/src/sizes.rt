@@ -5,9 +5,9 @@ ghost use Rattle.lot_machine.specs.State.{sizes_of};
 
 use crate::Limits;
 
-/// The sizes of a kernel: the largest numbers of tickets, user currencies and threads ever made, the numbers of
-/// ports, mutexes, processors and scripts, the ticks of a quantum, the value of one of base, and whether numbers are
-/// given again.
+/// The sizes of a kernel: the largest numbers of tickets, user currencies and threads, the numbers of ports, mutexes,
+/// processors and scripts, the ticks of a quantum, the value of one of base, whether numbers are given again, and
+/// which names are allowed.
 #[derive(Clone, Copy, Debug, PartialEq, Eq)]
 pub struct Sizes {
     /// 1 to 65535.
@@ -29,12 +29,15 @@ pub struct Sizes {
     /// 1, or 256 for finer shares.
     pub unit: u32,
     /// Whether the number of what is removed is given again, that of the last removed first. The limits then count
-    /// what exists at once.
+    /// what exists at once, and otherwise what was ever made.
     pub reuse: bool,
+    /// Whether a name may have any printable ASCII but the space. Otherwise it is a letter a to z, followed by letters
+    /// a to z, digits, `_` or `-`.
+    pub plain_names: bool,
 }
 
 impl Sizes {
-    /// The smallest sizes within their bounds. No number is given again.
+    /// The smallest sizes within their bounds. No number is given again, and names are good names.
     pub const SMALLEST: Sizes = Sizes {
         tickets: 1,
         currencies: 1,
@@ -46,8 +49,9 @@ impl Sizes {
         quantum: 1,
         unit: 1,
         reuse: false,
+        plain_names: false,
     };
-    /// The largest sizes within their bounds. No number is given again.
+    /// The largest sizes within their bounds. No number is given again, and names are good names.
     pub const LARGEST: Sizes = Sizes {
         tickets: 65535,
         currencies: 4096,
@@ -59,6 +63,7 @@ impl Sizes {
         quantum: 1000,
         unit: 256,
         reuse: false,
+        plain_names: false,
     };
 }
 
@@ -82,6 +87,7 @@ impl Limits {
             quantum: sizes.quantum,
             unit: sizes.unit,
             reuse: sizes.reuse,
+            plain_names: sizes.plain_names,
         })
     }
 }

@@ -1,8 +1,9 @@
 -- What the report of turns in time shows is what the definitions say of all of the program's turns.
-use Rattle.std.proofs.Common.{◌≡◌, ℕ, zero, suc, ◌+◌, ◌^◌, ◌<◌, cond, Bool, true, false, Option, Some, None, List, [], ◌∷◌, length, filter, refl, sym, ◌∙◌, ap, subst, arith}
+use Rattle.std.proofs.Common.{◌≡◌, ℕ, zero, suc, ◌+◌, ◌^◌, ◌<◌, cond, Bool, true, false, Option, Some, None, List, [], ◌∷◌, ◌++◌, length, filter, refl, sym, ◌∙◌, ap, subst, arith}
 use Rattle.std.specs.Prelude.{map, sum_by, option_and_then, if◌then◌else◌}
 use Rattle.std.specs.List.{range_with_len}
 use Rattle.std.specs.Option.{option_map, option_map_or}
+use Rattle.std.proofs.lemmas.List.{length-map}
 use Rattle.std.proofs.lemmas.List.Sums.{sum_by-cons}
 use Rattle.lot_machine.specs.declared.record.Record.{Record}
 use Rattle.lot_machine.specs.declared.row.ThreadRow.{ThreadRow}
@@ -12,10 +13,12 @@ use Rattle.lot_machine.specs.Numbered.{at_number}
 use Rattle.lot_machine.specs.Rows.{row_of_thread, thread_name, thread_row}
 use Rattle.lot_machine.specs.State.{State, live_of, value_of}
 use Rattle.lot_print.specs.Totals.{timed_processor_line, timed_thread_line, timed_total_line}
+use Rattle.lot_simulation.specs.declared.timed.Due.{Due}
+use Rattle.lot_simulation.specs.declared.timed.EarlyEnd.{EarlyEnd}
 use Rattle.lot_simulation.specs.declared.timed.Waits.{Waits}
 use Rattle.lot_simulation.specs.Report.{ActorTurn, ticks_in, total_of, turns_made, turns_of}
-use Rattle.lot_simulation.specs.Timed.{Moment, TimedTurn, clock_of, ended_at, last_moment, moment_after_all, opening_moment, timed_turns}
-use Rattle.lot_simulation.specs.TimedReport.{actor_turns, idle_until, live_part, mutex_change, refusals_in, reply_change, timed_processor_total, timed_report, timed_report_of, timed_thread_total, timed_whole_total, waits_in}
+use Rattle.lot_simulation.specs.Timed.{Moment, TimedTurn, clock_of, end_of, ended_at, last_moment, moment_after_all, next_due, opening_moment, timed_turns}
+use Rattle.lot_simulation.specs.TimedReport.{actor_turns, early_end, early_text, idle_until, live_part, mutex_change, refusals_in, reply_change, report_at, timed_processor_total, timed_report, timed_report_of, timed_thread_total, timed_whole_total, waits_in}
 use Rattle.lot_simulation.specs.World.{Program}
 use Rattle.lot_engine.specs.declared.counts.Counts.{Counts}
 use Rattle.lot_playback.specs.declared.timekeeper.Timekeeper.{Timekeeper}
@@ -56,11 +59,33 @@ module _ (seen : Seen) (timekeeper : Timekeeper) (end : IsAtEnd seen timekeeper)
   pub last-is : moment_in seen timekeeper ≡ last_moment seen.setting.program
   last-is = end.followed.moment ∙ ap (moment_after_all (opening_moment seen.setting.program)) end.all
 
+  -- as many as the program makes
+  count-is : length seen.history ≡ length all
+  count-is = ap length history-is ∙ length-map all (λ (turn : TimedTurn). turn.actor)
+
   -- the report of what the system has come to is the program's
-  pub report-is : (program : Program) (ended : ℕ) → seen.setting.program ≡ program → ended ≡ ended_at program (moment_in seen timekeeper) → timed_report_of (moment_in seen timekeeper) ended all ≡ timed_report program
-  report-is program ended same is =
-      ap (λ n. timed_report_of (moment_in seen timekeeper) n all) is ∙ ap (λ (m : Moment). timed_report_of m (ended_at program m) all) last-is
-      ∙ ap (λ (p : Program). timed_report_of (last_moment p) (ended_at program (last_moment p)) (timed_turns p)) same
+  pub report-is : (program : Program) → seen.setting.program ≡ program
+      → timed_report_of (moment_in seen timekeeper) (ended_at program (moment_in seen timekeeper)) all ++ early_text (early_end program (moment_in seen timekeeper) (length seen.history)) ≡ timed_report program
+  report-is program same =
+      let m = moment_in seen timekeeper in
+      ap (λ n. timed_report_of m (ended_at program m) all ++ early_text (early_end program m n)) count-is ∙ ap (λ (m : Moment). report_at program m all) last-is
+      ∙ ap (λ (p : Program). report_at program (last_moment p) (timed_turns p)) same
+
+-- ---- early ends
+
+-- how a play ended early, if a turn is still due
+pub early-is : (program : Program) (m : Moment) (due : Due) (end turns n : ℕ) → Some due ≡ next_due program m → end ≡ end_of program → turns ≡ n → Some (record { time = m.time; end = end; turns = turns }) ≡ early_end program m n
+early-is program m due end turns n is last made = rw (last, made) (ap (option_map (λ (d : Due). record { time = m.time; end = end_of program; turns = n })) is)
+
+-- the line of the early end of a system that stays as it is
+pub early-line : (seen now : Seen) (timekeeper : Timekeeper) (program : Program) (early : Option EarlyEnd) → now ≡ seen → early ≡ early_end program (moment_in now timekeeper) (length now.history)
+    → early_text early ≡ early_text (early_end program (moment_in seen timekeeper) (length seen.history))
+early-line seen now timekeeper program early same is = ap early_text (is ∙ ap (λ (x : Seen). early_end program (moment_in x timekeeper) (length x.history)) same)
+
+-- the lines of a report that ends at this time
+pub lines-are : (seen : Seen) (timekeeper : Timekeeper) (program : Program) (ended : ℕ) → ended ≡ ended_at program (moment_in seen timekeeper)
+    → timed_report_of (moment_in seen timekeeper) ended (timed_turns seen.setting.program) ≡ timed_report_of (moment_in seen timekeeper) (ended_at program (moment_in seen timekeeper)) (timed_turns seen.setting.program)
+lines-are seen timekeeper program ended is = ap (λ n. timed_report_of (moment_in seen timekeeper) n (timed_turns seen.setting.program)) is
 
 -- ---- lines by the numbers that they show
 

@@ -7,10 +7,11 @@ ghost use Rattle.lot_play.specs.Texts.{last_report};
 
 use crate::Warnings;
 use crate::report::write_report;
-use crate::timed_report::write_timed_report;
+use crate::timed_report::{early_end, write_timed_report};
 use lot_engine::System;
 use lot_io::{IoFault, Watched, flush};
 use lot_playback::{Order, Playback, Timekeeper};
+use lot_simulation::EarlyEnd;
 use lot_text::Program;
 use std::io::Write;
 
@@ -32,7 +33,19 @@ pub fn end_play<W: Write>(
     write_last_report(program, &mut system, &order, writer)?;
     flush(writer)?;
     warnings.note_end(&mut system);
+    warnings.early = early_end_of(program, &system, &order);
     Ok(())
+}
+
+/// How the play ended before its time, if it is timed and did.
+fn early_end_of(program: &Program, system: &System, order: &Order) -> Option<EarlyEnd>
+    requires program { system.now.setting.program ≡ program.now }
+    requires order { IsInOrder system.now order.now }
+{
+    match order {
+        Order::Scheduled(_) => None,
+        Order::InTime(timekeeper) => early_end(program, system, timekeeper),
+    }
 }
 
 /// Writes the report of a system that has made all of its program's turns.

@@ -1,5 +1,5 @@
 //! The report of a timed program.
-ghost use Rattle.std.specs.Prelude.{◌≡◌, ◌<◌, ◌^◌, [], false};
+ghost use Rattle.std.specs.Prelude.{◌≡◌, ◌<◌, ◌^◌, [], false, length};
 ghost use Rattle.std.specs.List.{flat_map, range_with_len};
 ghost use Rattle.std.specs.Option.{option_map_or};
 ghost use Rattle.lot_machine.specs.Bounds.{IsBetween};
@@ -11,7 +11,7 @@ ghost use Rattle.lot_simulation.specs.Timed as timed;
 ghost use Rattle.lot_simulation.specs.Timed.{timed_turns};
 ghost use Rattle.lot_simulation.specs.TimedReport as reports;
 ghost use Rattle.lot_simulation.specs.TimedReport.{actor_turns, live_part};
-ghost use Rattle.lot_playback.specs.InTime.{IsAtEnd, moment_in};
+ghost use Rattle.lot_playback.specs.InTime.{IsAtEnd, IsFollowed, moment_in};
 ghost use Rattle.lot_engine.specs.Seen.{world_of};
 ghost use Rattle.lot_io.specs.Writing.{Writes};
 
@@ -20,14 +20,15 @@ use lot_io::{IoFault, Watched};
 use lot_machine::Status;
 use lot_playback::Timekeeper;
 use lot_print::{
-    ThreadShares, TimedProcessorTotal, TimedWholeTotal, write_report_line,
+    ThreadShares, TimedProcessorTotal, TimedWholeTotal, write_early_end, write_report_line,
     write_timed_processor_total, write_timed_thread_total, write_timed_whole_total,
 };
+use lot_simulation::EarlyEnd;
 use lot_text::Program;
 use std::io::Write;
 
 /// Writes the report of a system that has made all of its timed program's turns: a line for each thread, a line for
-/// each processor, and the totals.
+/// each processor, the totals, and, if a turn is still due, the line that says so.
 pub fn write_timed_report<W: Write>(
     program: &Program,
     system: &mut System,
@@ -39,6 +40,55 @@ pub fn write_timed_report<W: Write>(
     requires working { writer.old.failed ≡ false }
     ensures same { system.new ≡ system.old }
     ensures text { Writes W.contents writer.old writer.new result (reports.timed_report program.now) }
+{
+    write_lines(program, system, timekeeper, writer)?;
+    write_early(early_end(program, system, timekeeper), writer)
+}
+
+/// How the play ended before its time, if it did: there was no more room for turns, and one is still due.
+pub(crate) fn early_end(
+    program: &Program,
+    system: &System,
+    timekeeper: &Timekeeper,
+) -> Option<EarlyEnd>
+    requires program { system.now.setting.program ≡ program.now }
+    requires followed { IsFollowed system.now.setting.program system.now timekeeper.now }
+    ensures { result
+        ≡ reports.early_end program.now (moment_in system.now timekeeper.now) (length system.now.history) }
+{
+    timekeeper.next_due(program, system)?;
+    Some(EarlyEnd {
+        time: timekeeper.clocks.time,
+        end: program.duration().unwrap_or(0),
+        turns: system.history().len() as u64,
+    })
+}
+
+/// Writes the line of an early end, if there was one.
+fn write_early<W: Write>(early: Option<EarlyEnd>, writer: &mut Watched<W>) -> Result<(), IoFault>
+    requires { writer.old.failed ≡ false }
+    ensures { Writes W.contents writer.old writer.new result (reports.early_text early) }
+{
+    match early {
+        Some(early) => write_early_end(writer, early),
+        None => Ok(()),
+    }
+}
+
+/// Writes the lines that each report of a timed program has.
+fn write_lines<W: Write>(
+    program: &Program,
+    system: &mut System,
+    timekeeper: &Timekeeper,
+    writer: &mut Watched<W>,
+) -> Result<(), IoFault>
+    requires program { system.old.setting.program ≡ program.now }
+    requires end { IsAtEnd system.old timekeeper.now }
+    requires working { writer.old.failed ≡ false }
+    ensures same { system.new ≡ system.old }
+    ensures text { Writes W.contents writer.old writer.new result
+        (reports.timed_report_of (moment_in system.old timekeeper.now)
+        (timed.ended_at program.now (moment_in system.old timekeeper.now)) (timed_turns system.old.setting.program)) }
 {
     write_report_line(writer)?;
     let end = ended_at(program, system, timekeeper);

@@ -1,6 +1,6 @@
 //! The warnings of a run, which aren't part of its output.
 
-ghost use Rattle.std.specs.Prelude.{◌≡◌, IfOk, length};
+ghost use Rattle.std.specs.Prelude.{◌≡◌, IfOk, None, length};
 ghost use Rattle.lot_play.specs.Kept.{none_kept};
 ghost use Rattle.lot_play.specs.Leaving.{command_noted, noted};
 ghost use Rattle.lot_engine.specs.Seen.{world_of};
@@ -8,6 +8,7 @@ ghost use Rattle.lot_engine.specs.Seen.{world_of};
 use crate::FirstFew;
 use lot_engine::System;
 use lot_machine::{Name, Refusal, Reply, Status, ThreadRow};
+use lot_simulation::EarlyEnd;
 use std::alloc::{AllocError, Global};
 
 /// A command that the kernel refused.
@@ -35,6 +36,8 @@ pub struct Warnings {
     pub refused: FirstFew<RefusedCommand>,
     /// The number of commands never made.
     pub unmade: usize,
+    /// How a timed run ended before its time, if it did.
+    pub early: Option<EarlyEnd>,
     /// The Ready threads with a weight of 0.
     pub weightless: FirstFew<StuckThread>,
     /// The threads that wait for good.
@@ -45,12 +48,20 @@ impl Warnings {
     /// No warnings. It allocates all the memory that recording will ever use.
     pub fn none(alloc: Global) -> Result<Self, AllocError>
         ensures { IfOk result (λ warnings. warnings
-            ≡ record { made = 0; refused = none_kept; unmade = 0; weightless = none_kept; waiting = none_kept }) }
+            ≡ record {
+              made = 0;
+              refused = none_kept;
+              unmade = 0;
+              early = None;
+              weightless = none_kept;
+              waiting = none_kept;
+            }) }
     {
         Ok(Warnings {
             made: 0,
             refused: FirstFew::none(alloc)?,
             unmade: 0,
+            early: None,
             weightless: FirstFew::none(alloc)?,
             waiting: FirstFew::none(alloc)?,
         })

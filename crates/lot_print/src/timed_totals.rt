@@ -1,5 +1,6 @@
 //! The text of a timed report.
 ghost use Rattle.std.specs.Prelude.{◌≡◌, ◌<◌, ◌≤◌, ◌+◌, ◌^◌, ◌++◌, false, length};
+ghost use Rattle.lot_simulation.specs.TimedReport as reports;
 ghost use Rattle.lot_simulation.specs.TimedReport.{percent_text, waits_text};
 ghost use Rattle.lot_print.specs.Totals.{timed_processor_line, timed_thread_line, timed_total_line};
 ghost use Rattle.lot_io.specs.Writing.{Writes};
@@ -9,7 +10,7 @@ use crate::line::Line;
 use crate::rows::{push_counts, push_named};
 use lot_io::{IoFault, Watched};
 use lot_machine::ThreadRow;
-use lot_simulation::Waits;
+use lot_simulation::{EarlyEnd, Waits};
 use std::io::Write;
 
 /// A line of a timed report.
@@ -169,5 +170,25 @@ fn total_line(total: TimedWholeTotal) -> TimedLine
     line.push_field(" refused ", total.refused);
     line.push_field(" left ", total.left);
     line.push_text("\n");
+    line
+}
+
+/// Writes the line that says how a play ended before its time.
+pub fn write_early_end<W: Write>(writer: &mut Watched<W>, early: EarlyEnd) -> Result<(), IoFault>
+    requires { writer.old.failed ≡ false }
+    ensures { Writes W.contents writer.old writer.new result (reports.early_line early) }
+{
+    early_line(early).write_to(writer)
+}
+
+/// The line that says how a play ended before its time.
+fn early_line(early: EarlyEnd) -> TimedLine
+    ensures { result ≡ reports.early_line early }
+{
+    let mut line = TimedLine::new();
+    line.push_field("ended at ", early.time);
+    line.push_field(" of ", early.end);
+    line.push_field(": ", early.turns);
+    line.push_text(" turns made\n");
     line
 }

@@ -7,3 +7,4 @@ pub mod ClocksAddUp
 pub mod DrawnThreads
 pub mod RecordCounts
 pub mod ProcessorCounts
+pub mod EarlyEnds

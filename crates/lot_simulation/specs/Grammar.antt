@@ -346,6 +346,7 @@ limits_of r = record {
   quantum = r.quantum;
   unit = r.unit;
   reuse = r.reuse;
+  plain_names = false;
 }
 
 -- The seeds unless the input gives them: seed p for processor p, or its mixed seed in a timed input.

@@ -10,7 +10,7 @@ use Rattle.std.specs.List.{flat_map}
 use Rattle.lot_simulation.specs.declared.style.LineStyle.{LineStyle}
 use Rattle.lot_simulation.specs.declared.style.LineStyle.TheVariants.{Whole, Timed}
 use Rattle.lot_simulation.specs.Timed.{TimedTurn, timed_turns}
-use Rattle.lot_simulation.specs.TimedReport.{timed_report}
+use Rattle.lot_simulation.specs.TimedReport.{report_after}
 use Rattle.lot_simulation.specs.World.{Program, World, Answer, Turn, opening_world, system_turn, system_run, without_time}
 use Rattle.lot_simulation.specs.World.Answer.{Answered, Ended}
 
@@ -41,9 +41,13 @@ scheduled_output program = turn_texts program (opening_world program) program.sc
 abbrev pub timed_text : TimedTurn → List ℕ
 timed_text done = turn_text (Timed done.time) done.actor done.turn
 
--- the output for a timed program: the lines of its turns, and their report
+-- the output for a timed program that makes these turns: their lines, and their report
+abbrev pub output_after : Program → List TimedTurn → List ℕ
+output_after program turns = flat_map timed_text turns ++ report_after program turns
+
+-- the output for a timed program: that of all its turns
 abbrev pub timed_output : Program → List ℕ
-timed_output program = flat_map timed_text (timed_turns program) ++ timed_report program
+timed_output program = output_after program (timed_turns program)
 
 -- the output of `play` for a program: timed if it has a duration, and by its schedule otherwise
 abbrev pub played_output : Program → Option ℕ → List ℕ

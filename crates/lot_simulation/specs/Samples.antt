@@ -1,5 +1,5 @@
 -- Small inputs, and the output for them.
-use Rattle.std.specs.Prelude.{ℕ, Bool, List, [], ◌∷◌, ◌++◌, codes, replicate}
+use Rattle.std.specs.Prelude.{ℕ, Bool, Result, Ok, Err, List, [], ◌∷◌, ◌++◌, codes, replicate}
 use Rattle.std.specs.List.{flat_map}
 use Rattle.lot_machine.specs.declared.action.Action.{Action}
 use Rattle.lot_machine.specs.declared.event.Event.TheVariants.{Expire, Trap}
@@ -7,8 +7,13 @@ use Rattle.lot_machine.specs.declared.record.Status.{Status}
 use Rattle.lot_machine.specs.declared.refusal.Refusal.{Refusal}
 use Rattle.lot_machine.specs.declared.reply.Outcome.{Outcome}
 use Rattle.lot_machine.specs.declared.reply.Reply.TheVariants.{Refused, Trapped}
+use Rattle.lot_simulation.specs.declared.input.InputFault.{InputFault}
 use Rattle.lot_simulation.specs.declared.style.LineStyle.TheVariants.{Whole}
-use Rattle.lot_simulation.specs.Texts.{newline, plain_text, thread_line}
+use Rattle.lot_simulation.specs.Grammar.{program_in}
+use Rattle.lot_simulation.specs.Output.{output_after}
+use Rattle.lot_simulation.specs.Texts.{fault_line, newline, plain_text, thread_line}
+use Rattle.lot_simulation.specs.Timed.{opening_moment, turns_from}
+use Rattle.lot_simulation.specs.World.{Program}
 
 -- the text with these lines, each followed by byte 10
 abbrev pub text : List (List ℕ) → List ℕ
@@ -183,3 +188,14 @@ trap_line made came ends = plain_text Whole 1 (Trap 1 4 made) (Trapped 1 5 came 
 -- the line of thread 1 in a listing, with this status
 abbrev pub status_line : Status → List ℕ
 status_line status = thread_line Whole 1 1 (record { name = codes "a"; status = status; value = 10; weight = 20; quanta = 3; ticks = 40 })
+
+-- ---- timed inputs with room for few turns
+
+-- the output for a program that makes at most this many timed turns, or the line for a refused input
+abbrev pub few_turns_of : ℕ → Result Program InputFault → List ℕ
+few_turns_of room (Ok program) = output_after program (turns_from program room (opening_moment program))
+few_turns_of room (Err fault) = fault_line fault
+
+-- the output for these bytes if their program makes at most this many timed turns
+abbrev pub few_turns : ℕ → List ℕ → List ℕ
+few_turns room bytes = few_turns_of room (program_in bytes)

@@ -1,7 +1,7 @@
 -- The report of a timed input.
 use Rattle.std.specs.Prelude.{ℕ, ◌+◌, ◌-◌, ◌*◌, max, ◌==◌, Option, Some, None, List, [], ◌++◌, length, map, fold, codes, if◌then◌else◌}
 use Rattle.std.specs.List.{flat_map, range_with_len}
-use Rattle.std.specs.Option.{option_map_or}
+use Rattle.std.specs.Option.{option_map, option_map_or}
 use Rattle.std.specs.Fmt.{decimal}
 use Rattle.lot_machine.specs.declared.action.Action.TheVariants as action
 use Rattle.lot_machine.specs.declared.event.Event.TheVariants as event
@@ -17,10 +17,11 @@ use Rattle.lot_machine.specs.State.{State, live_of}
 use Rattle.lot_simulation.specs.Texts.{newline, quotient_text}
 use Rattle.lot_simulation.specs.Report.{ActorTurn, quanta_in, idles_in, ticks_in, total_of, turns_of}
 use Rattle.lot_simulation.specs.declared.timed.Clock.{Clock}
+use Rattle.lot_simulation.specs.declared.timed.EarlyEnd.{EarlyEnd}
 use Rattle.lot_simulation.specs.declared.timed.WaitChange.{WaitChange}
 use Rattle.lot_simulation.specs.declared.timed.WaitChange.TheVariants.{Nobody, Anew, Begins, Ends}
 use Rattle.lot_simulation.specs.declared.timed.Waits.{Waits}
-use Rattle.lot_simulation.specs.Timed.{Moment, TimedTurn, timed_turns, last_moment, ended_at, clock_of}
+use Rattle.lot_simulation.specs.Timed.{Moment, TimedTurn, clock_of, end_of, ended_at, moment_after_all, next_due, opening_moment, timed_turns}
 use Rattle.lot_simulation.specs.World.{Program, Answer}
 use Rattle.lot_simulation.specs.World.Answer.{Answered}
 
@@ -143,6 +144,27 @@ timed_report_of m end turns =
     ++ (flat_map (timed_processor_total m end (actor_turns turns)) (range_with_len 1 m.world.state.limits.processors)
     ++ timed_whole_total m (actor_turns turns))))
 
+-- How a play that has come to this moment by so many turns ended before its time. It did only if a turn is still due.
+abbrev pub early_end : Program → Moment → ℕ → Option EarlyEnd
+early_end program m made = option_map (λ due. record { time = m.time; end = end_of program; turns = made }) (next_due program m)
+
+-- the line that says so: the time of the last turn, the end that the input gives, and the number of turns
+abbrev pub early_line : EarlyEnd → List ℕ
+early_line early =
+    codes "ended at " ++ (decimal early.time ++ (codes " of " ++ (decimal early.end ++ (codes ": " ++ (decimal early.turns ++ (codes " turns made" ++ newline))))))
+
+-- that line, or nothing if the play came to its end
+abbrev pub early_text : Option EarlyEnd → List ℕ
+early_text early = option_map_or early_line early []
+
+-- the report of a timed program that has come to this moment by these turns; the line of an early end is its last
+abbrev pub report_at : Program → Moment → List TimedTurn → List ℕ
+report_at program m turns = timed_report_of m (ended_at program m) turns ++ early_text (early_end program m (length turns))
+
+-- the report of a timed program that makes these turns
+abbrev pub report_after : Program → List TimedTurn → List ℕ
+report_after program turns = report_at program (moment_after_all (opening_moment program) turns) turns
+
 -- the report of a timed program
 abbrev pub timed_report : Program → List ℕ
-timed_report program = timed_report_of (last_moment program) (ended_at program (last_moment program)) (timed_turns program)
+timed_report program = report_after program (timed_turns program)

@@ -1,13 +1,14 @@
 //! Laws of the definitions, without executable code.
-ghost use Rattle.std.specs.Prelude.{◌≡◌, ◌≤◌, ℕ, ◌+◌, false, List, length, map, sum_by};
+ghost use Rattle.std.specs.Prelude.{◌≡◌, ◌≤◌, ◌<◌, ℕ, ◌+◌, false, List, length, map, sum_by};
 ghost use Rattle.std.specs.List.{range_with_len};
 ghost use Rattle.std.specs.List.Sorted.{IsNonDecreasing};
 ghost use Rattle.lot_machine.specs.Bounds.{IsBetween, IsWithinBounds};
 ghost use Rattle.lot_machine.specs.declared.reply.Reply.{Reply};
 ghost use Rattle.lot_simulation.specs.World.{Program, IsLegal, IsLegalInTime, system_run};
 ghost use Rattle.lot_simulation.specs.Report.{idles_in, quanta_in, ticks_in, total_of, turns_made, turns_of};
-ghost use Rattle.lot_simulation.specs.Timed.{clock_of, ended_at, last_moment, timed_room, timed_schedule, timed_turns};
-ghost use Rattle.lot_simulation.specs.TimedReport.{actor_turns, clock_at, idle_until};
+ghost use Rattle.lot_simulation.specs.Timed.{clock_of, end_of, ended_at, last_moment, timed_room, timed_schedule};
+ghost use Rattle.lot_simulation.specs.Timed.{timed_turns};
+ghost use Rattle.lot_simulation.specs.TimedReport.{actor_turns, clock_at, idle_until, timed_report, timed_report_of};
 
 /// The counts of each actor's turns add up to the counts over all turns of a legal history, and the numbers of turns
 /// do too.
@@ -84,4 +85,11 @@ pub fn timed_processors_add_up()
         → sum_by (λ p. total_of ticks_in (turns_of p (actor_turns (timed_turns program))))
         (range_with_len 1 program.limits.processors)
         ≡ total_of ticks_in (actor_turns (timed_turns program)) }
+{}
+
+/// A timed program that makes fewer turns than there is room for comes to its end, and its report has no line of an
+/// early end.
+pub fn few_turns_come_to_the_end()
+    ensures { (program : Program) → length (timed_turns program) < timed_room
+        → timed_report program ≡ timed_report_of (last_moment program) (end_of program) (timed_turns program) }
 {}

@@ -23,7 +23,7 @@ pub use forms::{Argument, Form, Range};
 pub use input::{BodyWord, HeaderWord, InputFault, InputRefusal, ScriptWord};
 pub use script::{Line, MutexTrap, PortTrap, ScriptTrap};
 pub use style::LineStyle;
-pub use timed::{Clock, Due, Sleeper, WaitChange, Waits};
+pub use timed::{Clock, Due, EarlyEnd, Sleeper, WaitChange, Waits};
 pub use words::{
     BODY_WORDS, FIRST_WORD, HEADER_WORDS, RUNS_WORD, SCHEDULE_WORD, SCRIPT_WORDS, WordRow,
 };

@@ -5,6 +5,7 @@ ghost use Rattle.lot_machine.specs.declared.record.Status.TheVariants as status;
 ghost use Rattle.lot_machine.specs.declared.refusal.Refusal.TheVariants as refusal;
 ghost use Rattle.lot_machine.specs.declared.refusal.TrapRefusal.TheVariants as trap_refusal;
 ghost use Rattle.lot_machine.specs.declared.reply.Outcome.TheVariants as outcome;
+ghost use Rattle.lot_machine.specs.declared.ticket.Target.TheVariants as target;
 ghost use Rattle.lot_simulation.specs.declared.style.LineStyle.TheVariants.{Whole};
 ghost use Rattle.lot_simulation.specs.Samples.{text, refusal_line, trap_line, status_line};
 ghost use Rattle.lot_simulation.specs.Texts.{ticket_line};
@@ -108,6 +109,7 @@ pub fn tickets()
       amount = 30;
       issuer = codes "base";
       target = None;
+      funds = target.Unfunded;
       is_active = false;
       value = 0;
     })
@@ -116,6 +118,7 @@ pub fn tickets()
       amount = 40;
       issuer = codes "base";
       target = Some (codes "g");
+      funds = target.Currency 1;
       is_active = true;
       value = 40;
     })

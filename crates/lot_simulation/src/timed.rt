@@ -1,4 +1,4 @@
-//! Clocks, due turns and waits of a timed input.
+//! Clocks, due turns, waits and early ends of a timed input.
 
 /// A processor's clock. Times are in ticks.
 #[derive(Clone, Copy, Debug, PartialEq, Eq)]
@@ -26,6 +26,17 @@ pub struct Sleeper {
     pub thread: u32,
     /// For how many ticks it sleeps.
     pub ticks: u32,
+}
+
+/// The end of a play before its time. Times are in ticks.
+#[derive(Clone, Copy, Debug, PartialEq, Eq)]
+pub struct EarlyEnd {
+    /// The time of its last turn.
+    pub time: u32,
+    /// The time at which the input ends.
+    pub end: u32,
+    /// The number of its turns.
+    pub turns: u64,
 }
 
 /// A thread's waits for mutexes, or its waits for replies. Times are in ticks.

@@ -2,7 +2,7 @@
 ghost use Rattle.std.specs.Prelude.{◌≡◌, [], ◌∷◌, ◌++◌, codes};
 ghost use Rattle.lot_simulation.specs.Grammar.{program_in};
 ghost use Rattle.lot_simulation.specs.Output.{output};
-ghost use Rattle.lot_simulation.specs.Samples.{text, refused_on_line};
+ghost use Rattle.lot_simulation.specs.Samples.{few_turns, text, refused_on_line};
 
 /// Nothing to do: the processor's draw is idle, and it waits to the end.
 #[tactic(auto, unfolding(crate::specs::OnLiterals::texts_on_literals, crate::specs::Timed::timed_room))]
@@ -550,4 +550,30 @@ pub fn begins_anew()
         ∷ codes "thread 2 v quanta 1 ticks 3 share 9.677% value 0%"
         ∷ codes "processor 1 quanta 8 idle 0 ticks 31 unused 0"
         ∷ codes "total turns 25 quanta 8 ticks 31 refused 0 left 0" ∷ []) }
+{}
+
+/// Without room for another turn the play ends before its time, and the report's last line says so. The draw at tick
+/// 100 isn't made.
+#[tactic(auto, unfolding(crate::specs::OnLiterals::texts_on_literals))]
+pub fn ends_early()
+    ensures cut { few_turns 4 (text (codes "lottery 3" ∷ codes "for 300" ∷ codes "script spin"
+        ∷ codes "compute 1000" ∷ codes "endscript" ∷ codes "fundx 10 base a spin" ∷ codes "fundx 5 base b spin" ∷ []))
+        ≡ text (codes "0 0 funded 1 1" ∷ codes "0 0 funded 2 2" ∷ codes "0 1 draw 12.992 of 15 thread 2"
+        ∷ codes "100 1 thread 2 ticks 100 expire" ∷ codes "report"
+        ∷ codes "thread 1 a quanta 0 ticks 0 share 0% value 66.666%"
+        ∷ codes "thread 2 b quanta 1 ticks 100 share 100% value 33.333%"
+        ∷ codes "processor 1 quanta 1 idle 0 ticks 100 unused 0"
+        ∷ codes "total turns 4 quanta 1 ticks 100 refused 0 left 0"
+        ∷ codes "ended at 100 of 300: 4 turns made" ∷ []) }
+    ensures no_room { few_turns 0 (text (codes "lottery 3" ∷ codes "for 10" ∷ []))
+        ≡ text (codes "report" ∷ codes "processor 1 quanta 0 idle 0 ticks 0 unused 0"
+        ∷ codes "total turns 0 quanta 0 ticks 0 refused 0 left 0" ∷ codes "ended at 0 of 10: 0 turns made" ∷ []) }
+    ensures at_its_end { few_turns 2 (text (codes "lottery 3" ∷ codes "for 10" ∷ codes "at 10" ∷ codes "lstkt"
+        ∷ codes "lscur" ∷ []))
+        ≡ text (codes "0 1 idle" ∷ codes "10 0 lstkt 0" ∷ codes "report"
+        ∷ codes "processor 1 quanta 0 idle 1 ticks 0 unused 10"
+        ∷ codes "total turns 2 quanta 0 ticks 0 refused 0 left 1" ∷ codes "ended at 10 of 10: 2 turns made" ∷ []) }
+    ensures in_time { few_turns 1 (text (codes "lottery 3" ∷ codes "for 10" ∷ []))
+        ≡ text (codes "0 1 idle" ∷ codes "report" ∷ codes "processor 1 quanta 0 idle 1 ticks 0 unused 10"
+        ∷ codes "total turns 1 quanta 0 ticks 0 refused 0 left 0" ∷ []) }
 {}

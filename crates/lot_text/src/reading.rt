@@ -203,6 +203,7 @@ impl Reading {
             quantum: self.quantum,
             unit: self.format.unit(),
             reuse: self.reuse,
+            plain_names: false,
         };
         Limits::new(sizes).unwrap()
     }

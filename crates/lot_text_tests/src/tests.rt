@@ -96,6 +96,7 @@ fn sizes_of(limits: Limits) -> Sizes {
         quantum: limits.quantum,
         unit: limits.unit,
         reuse: limits.reuse,
+        plain_names: limits.plain_names,
     }
 }
 
@@ -168,6 +169,7 @@ const FIRST_RUN_SAYS: Said<'_> = Said {
         quantum: 100,
         unit: 1,
         reuse: false,
+        plain_names: false,
     },
     seeds: &[1],
     turns: 0,
@@ -205,6 +207,7 @@ const HEADERS_SAY: Said<'_> = Said {
         quantum: 7,
         unit: 256,
         reuse: false,
+        plain_names: false,
     },
     seeds: &[2147483646],
     turns: 0,
@@ -240,6 +243,7 @@ const WHOLE_GRAMMAR_SAYS: Said<'_> = Said {
         quantum: 7,
         unit: 256,
         reuse: false,
+        plain_names: false,
     },
     seeds: &[5, 6],
     turns: 10000,
@@ -302,6 +306,7 @@ const TIMED_SAYS: Said<'_> = Said {
         quantum: 100,
         unit: 256,
         reuse: true,
+        plain_names: false,
     },
     seeds: &[48271, 182605794],
     turns: 5,

@@ -367,6 +367,13 @@ impl Threads {
         self.graph.ticket_value(ticket.number)
     }
 
+    /// Whether no node is stale.
+    pub fn is_settled(&self) -> bool
+        ensures { IsTrue result ↔ (self.now.stale ≡ []) }
+    {
+        self.graph.is_settled()
+    }
+
     /// Whether a node is stale: its value is recomputed before it is used.
     pub fn is_stale(&self, node: Node) -> bool
         requires node { IsNodeOf (limited_in self.now) node }

@@ -1,87 +1,113 @@
 -- The descent that narrows the places in question, and where it ends.
-use Rattle.std.proofs.Common.{ℕ, suc, zero, ◌≡◌, ◌+◌, ◌-◌, ◌*◌, ◌^◌, ◌<◌, ◌≤◌, List, [], ◌∷◌, length, sum, take, get_or, ap, sym, ◌∙◌, inl, inr, arith, refl, add-one}
+use Rattle.std.proofs.Common.{ℕ, suc, zero, ◌≡◌, ◌+◌, ◌-◌, ◌*◌, ◌/◌, ◌^◌, ◌<◌, ◌≤◌, List, [], ◌∷◌, length, sum, take, get_or, ap, sym, inl, inr, arith, refl, add-one}
 use Rattle.std.proofs.lemmas.List.{take_all}
 use Rattle.std.proofs.lemmas.List.Sums.{sum_by-cons, sum_by-take-le}
 use Rattle.std.proofs.lemmas.Bool.{cases_lt, lt-ltb, le-ltb}
-use Rattle.std.proofs.Math.Nat.{pow-suc}
+use Rattle.std.proofs.lemmas.Nat.{pow_pos, shr_split, mod_below}
+use Rattle.std.proofs.Math.Nat.{pow-suc, mul-le-mul_right}
 use Rattle.lot_machine.specs.Lottery.{IsFirstAbove, first_above, running_sums}
 use Rattle.lot_tree.specs.Sums.{ArePartialSumsAt}
 use Rattle.lot_tree.proofs.Sums.{sum-take-le}
+use Rattle.lot_tree.proofs.Levels.{level-room}
 
--- the place that a number draws is in the block of 2 ^ level places from `base` on, of whose running sums `rest` is to be passed
-pub record IsNarrowed (ws : List ℕ) (number level base rest : ℕ) : Type 0 where
-  pub block : ℕ
-  pub aligned : base ≡ block * 2 ^ level
-  pub within : base ≤ length ws
-  pub passed : sum (take base ws) + rest ≡ number
-  pub reached : number < sum (take (base + 2 ^ level) ws)
+-- The place that a number draws is in the block with the number `block`, of 2 ^ level places, of whose running sums
+-- `rest` is to be passed. The block is among the first 2 ^ height places.
+pub record IsNarrowed (ws : List ℕ) (number height level block rest : ℕ) : Type 0 where
+  pub inside : (block + 1) * 2 ^ level ≤ 2 ^ height
+  pub within : block * 2 ^ level ≤ length ws
+  pub passed : sum (take (block * 2 ^ level) ws) + rest ≡ number
+  pub reached : number < sum (take ((block + 1) * 2 ^ level) ws)
 
 -- at first that is every place that may have a weight
-pub IsNarrowed_reach : (ws : List ℕ) (number digits : ℕ) → number < sum ws → sum (take (2 ^ digits) ws) ≡ sum ws → IsNarrowed ws number digits 0 number
-IsNarrowed_reach ws number digits drawn all = record {
-  block = 0;
-  aligned = omega arith;
+pub IsNarrowed_reach : (ws : List ℕ) (number height : ℕ) → number < sum ws → sum (take (2 ^ height) ws) ≡ sum ws → IsNarrowed ws number height height 0 number
+IsNarrowed_reach ws number height drawn all = record {
+  inside = omega arith;
   within = omega arith;
-  passed = omega arith;
-  reached = let from : 0 + 2 ^ digits ≡ 2 ^ digits = omega arith in rw (from, all) drawn;
+  passed = let from : 0 * 2 ^ height ≡ 0 = omega arith in rw from (omega arith);
+  reached = let to : (0 + 1) * 2 ^ height ≡ 2 ^ height = omega arith in rw (to, all) drawn;
 }
 
--- ---- one step down, from blocks of 2 ^ upper places to their halves of `size`
-module _ (ws sums : List ℕ) (number upper level size base rest : ℕ) (next : upper ≡ level + 1) (is_size : size ≡ 2 ^ level) (narrowed : IsNarrowed ws number upper base rest) where
-  whole_block : 2 ^ upper ≡ 2 * size
-  whole_block = rw (next, add-one) (omega (arith, pow-suc 2 level))
+-- what is left to be passed is less than the sum of all
+pub rest-within : (ws : List ℕ) (number height level block rest : ℕ) → number < sum ws → IsNarrowed ws number height level block rest → rest < sum ws
+rest-within ws number height level block rest drawn narrowed = omega (arith, narrowed.passed)
 
-  aligned_halves : base ≡ 2 * narrowed.block * size
-  aligned_halves = omega (arith, narrowed.aligned ∙ ap (λ (x : ℕ). narrowed.block * x) whole_block)
+-- ---- one step down, from a block of 2 ^ upper places to one of its halves, of which the left one has twice its number
+module _ (ws sums : List ℕ) (number height upper level block rest : ℕ) (next : upper ≡ level + 1) (narrowed : IsNarrowed ws number height upper block rest) where
+  twice : 2 ^ upper ≡ 2 * 2 ^ level
+  twice = rw (next, add-one) (omega (arith, pow-suc 2 level))
+
+  start : block * 2 ^ upper ≡ block * 2 * 2 ^ level
+  start = omega (arith, ap (λ (x : ℕ). block * x) twice)
+
+  end : (block + 1) * 2 ^ upper ≡ (block * 2 + 1 + 1) * 2 ^ level
+  end = omega (arith, ap (λ (x : ℕ). (block + 1) * x) twice)
+
+  -- the left half is whole if n places are 2 ^ height or more, as they are if n has more binary digits
+  pub whole-half : (n digits : ℕ) → height < digits → 2 ^ digits ≤ 2 * n + 1 → (block * 2 + 1) * 2 ^ level ≤ n
+  whole-half n digits more needed = omega (arith, narrowed.inside, end, level-room n height digits more needed)
 
   -- the left half has the place if its end is past the number
-  in_left : number < sum (take (base + size) ws) → IsNarrowed ws number level base rest
+  in_left : number < sum (take ((block * 2 + 1) * 2 ^ level) ws) → IsNarrowed ws number height level (block * 2) rest
   in_left reached = record {
-    block = 2 * narrowed.block;
-    aligned = rw (← is_size) aligned_halves;
-    within = narrowed.within;
-    passed = narrowed.passed;
-    reached = rw (← is_size) reached;
+    inside = omega (arith, narrowed.inside, end);
+    within = omega (arith, start, narrowed.within);
+    passed = rw start at narrowed.passed;
+    reached = reached;
   }
 
   -- and so it has if it goes to the last place or past it
-  pub IsNarrowed_short : length ws < base + size → IsNarrowed ws number level base rest
+  pub IsNarrowed_short : length ws < (block * 2 + 1) * 2 ^ level → IsNarrowed ws number height level (block * 2) rest
   IsNarrowed_short short = in_left (
-      let all : take (base + size) ws ≡ ws = take_all (base + size) ws (omega arith) in
-      let more : sum (take (base + 2 ^ upper) ws) ≤ sum ws = sum_by-take-le (λ x. x) ws (base + 2 ^ upper) in
+      let all : take ((block * 2 + 1) * 2 ^ level) ws ≡ ws = take_all ((block * 2 + 1) * 2 ^ level) ws (omega arith) in
+      let more : sum (take ((block + 1) * 2 ^ upper) ws) ≤ sum ws = sum_by-take-le (λ x. x) ws ((block + 1) * 2 ^ upper) in
       rw all (omega (arith, narrowed.reached, more))
       )
 
-  module _ (held : ArePartialSumsAt ws sums level) (whole : base + size ≤ length ws) (left : ℕ) (is_left : left ≡ get_or sums (base + size - 1) 0) where
+  module _ (held : ArePartialSumsAt ws sums level) (whole : (block * 2 + 1) * 2 ^ level ≤ length ws) (left : ℕ) (is_left : left ≡ get_or sums ((block * 2 + 1) * 2 ^ level - 1) 0) where
     -- the partial sum of the left half takes the sum before it to the sum up to its end
-    left_half : sum (take base ws) + left ≡ sum (take (base + size) ws)
+    left_half : sum (take (block * 2 * 2 ^ level) ws) + left ≡ sum (take ((block * 2 + 1) * 2 ^ level) ws)
     left_half =
-        let from : base ≡ 2 * narrowed.block * 2 ^ level = rw (← is_size) aligned_halves in
-        let to : base + size ≡ (2 * narrowed.block + 1) * 2 ^ level = rw (← is_size) (omega (arith, aligned_halves)) in
-        let kept = held narrowed.block (omega arith) in
-        rw (is_left, to, from) kept.adds
+        let order : 2 * block ≡ block * 2 = omega arith in
+        rw is_left (rw order at (held block (rw order whole)).adds)
+
+    -- which is no more than the sum of all
+    pub left-within : left ≤ sum ws
+    left-within = omega (arith, left_half, sum_by-take-le (λ x. x) ws ((block * 2 + 1) * 2 ^ level))
 
     -- if the rest passes the left half, the place is in the right half
-    pub IsNarrowed_right : left ≤ rest → IsNarrowed ws number level (base + size) (rest - left)
+    pub IsNarrowed_right : left ≤ rest → IsNarrowed ws number height level (block * 2 + 1) (rest - left)
     IsNarrowed_right past = record {
-      block = 2 * narrowed.block + 1;
-      aligned = rw (← is_size) (omega (arith, aligned_halves));
+      inside = omega (arith, narrowed.inside, end);
       within = whole;
-      passed = omega (arith, narrowed.passed, left_half);
-      reached = let twice : base + size + size ≡ base + 2 ^ upper = omega (arith, whole_block) in rw (← is_size, twice) narrowed.reached;
+      passed = omega (arith, rw start at narrowed.passed, left_half);
+      reached = rw end at narrowed.reached;
     }
 
     -- if it does not, the place is in the left half
-    pub IsNarrowed_left : rest < left → IsNarrowed ws number level base rest
-    IsNarrowed_left short = in_left (omega (arith, narrowed.passed, left_half))
+    pub IsNarrowed_left : rest < left → IsNarrowed ws number height level (block * 2) rest
+    IsNarrowed_left short = in_left (omega (arith, rw start at narrowed.passed, left_half))
+
+-- ---- which blocks are whole
+-- a block ends no later than n if its number is less than the number of whole blocks among n places
+pub whole-block : (n level block : ℕ) → block < n / 2 ^ level → (block + 1) * 2 ^ level ≤ n
+whole-block n level block few = omega (arith, shr_split n level, mul-le-mul_right {m = block + 1} {n = n / 2 ^ level} (2 ^ level) (omega arith))
+
+-- and else it ends later
+pub short-block : (n level block : ℕ) → n / 2 ^ level ≤ block → n < (block + 1) * 2 ^ level
+short-block n level block many =
+    omega (arith, shr_split n level, mod_below n (2 ^ level) (pow_pos level), mul-le-mul_right {m = n / 2 ^ level + 1} {n = block + 1} (2 ^ level) (omega arith))
 
 -- ---- at the end
 -- a block of one place is the first above the number
-IsFirstAbove-from_IsNarrowed : (ws : List ℕ) (number base rest : ℕ) → IsNarrowed ws number 0 base rest → IsFirstAbove ws number base
-IsFirstAbove-from_IsNarrowed ws number base rest narrowed = record {
-  above = let next : base + 2 ^ 0 ≡ suc base = omega arith in rw next at narrowed.reached;
-  first = λ k before. omega (arith, narrowed.passed, sum-take-le ws (suc k) base (omega arith));
-}
+module _ (ws : List ℕ) (number height block rest : ℕ) (narrowed : IsNarrowed ws number height 0 block rest) where
+  one-place : block * 2 ^ 0 ≡ block
+  one-place = omega arith
+
+  IsFirstAbove-from_IsNarrowed : IsFirstAbove ws number block
+  IsFirstAbove-from_IsNarrowed = record {
+    above = let next : (block + 1) * 2 ^ 0 ≡ suc block = omega arith in rw next at narrowed.reached;
+    first = λ k before. omega (arith, rw one-place at narrowed.passed, sum-take-le ws (suc k) block (omega arith));
+  }
 
 -- no place from the length on is the first above a number, since the running sum grows no more
 length-from_IsFirstAbove : (ws : List ℕ) (number place : ℕ) → place ≤ length ws → IsFirstAbove ws number place → sum (take place ws) ≤ number → place < length ws
@@ -117,8 +143,10 @@ pub record IsDrawn (ws : List ℕ) (number place : ℕ) : Type 0 where
   pub first : IsFirstAbove ws number place
   pub walk : place ≡ first_above number (running_sums 0 ws)
 
-pub IsDrawn-from_IsNarrowed : (ws : List ℕ) (number level base rest : ℕ) → level ≡ 0 → IsNarrowed ws number level base rest → IsDrawn ws number base
-IsDrawn-from_IsNarrowed ws number level base rest end narrowed =
-    let found = IsFirstAbove-from_IsNarrowed ws number base rest (rw end at narrowed) in
-    let within = length-from_IsFirstAbove ws number base narrowed.within found (omega (arith, narrowed.passed)) in
-    record { within = within; first = found; walk = sym (first_above-running_sums ws number base within found) }
+pub IsDrawn-from_IsNarrowed : (ws : List ℕ) (number height level block rest : ℕ) → level ≡ 0 → IsNarrowed ws number height level block rest → IsDrawn ws number block
+IsDrawn-from_IsNarrowed ws number height level block rest end narrowed =
+    let last = rw end at narrowed in
+    let one = one-place ws number height block rest last in
+    let found = IsFirstAbove-from_IsNarrowed ws number height block rest last in
+    let within = length-from_IsFirstAbove ws number block (rw one at last.within) found (omega (arith, rw one at last.passed)) in
+    record { within = within; first = found; walk = sym (first_above-running_sums ws number block within found) }

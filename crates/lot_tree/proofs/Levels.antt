@@ -1,5 +1,5 @@
 -- What a write of one weight and of the partial sums over it leaves true, level by level.
-use Rattle.std.proofs.Common.{ℕ, suc, zero, ◌≡◌, ◌≢◌, ◌+◌, ◌-◌, ◌*◌, ◌/◌, ◌%◌, ◌^◌, ◌<◌, ◌≤◌, ◌⊎◌, inl, inr, List, length, sum, take, set, get_or, add-one, ap, sym, subst, ◌∙◌, arith, refl, length-set, w64}
+use Rattle.std.proofs.Common.{ℕ, suc, zero, ◌≡◌, ◌≢◌, ◌+◌, ◌-◌, ◌*◌, ◌/◌, ◌%◌, ◌^◌, ◌<◌, ◌≤◌, ◌⊎◌, inl, inr, List, length, sum, take, set, get_or, add-one, ap, sym, subst, bit_or, ◌∙◌, arith, refl, length-set, w64}
 use Rattle.std.proofs.lemmas.List.{get_or-set_same, get_or-set_other}
 use Rattle.std.proofs.lemmas.List.Sums.{sum_by-set, sum_by-take-le}
 use Rattle.std.proofs.lemmas.Bool.{cases_lt, cases_eq}
@@ -8,6 +8,7 @@ use Rattle.std.proofs.lemmas.Nat.Bits.{bit_at_cat_low, bit_at_ones, bit_at-trail
 use Rattle.std.specs.Int.{bit_at, trailing_ones}
 use Rattle.std.proofs.Math.Nat.{pow-suc, div-div-eq-div-mul, pow-le-pow_right, mul-le-mul_right}
 use Rattle.lot_tree.specs.Sums.{AreKept, ArePartialSumsAt, IsPartialSum, Kept}
+use Rattle.lot_tree.proofs.Digits.{ones-least, or-next}
 use Rattle.lot_tree.proofs.Sums.{sum-take-le, sum-take-set, sum-take-set_past, weight-le}
 
 -- twice an odd multiple, written as an odd multiple of the double
@@ -173,8 +174,8 @@ block_end-grows i level = elim (cases_eq (i / 2 ^ level % 2) 0) [
   | inr odd ↦ omega (arith, block_end-odd i level (omega (arith, odd)))
 ]
 
--- at each level that i needs, its block ends within the first 2 ^ height places
-block_end-within : (i level height : ℕ) → level < height → i < 2 ^ height → block_end i level ≤ 2 ^ height
+-- at each level up to the height, the block of i ends within the first 2 ^ height places
+block_end-within : (i level height : ℕ) → level ≤ height → i < 2 ^ height → block_end i level ≤ 2 ^ height
 block_end-within i level height low reached =
     let more = height - level in
     let split : 2 ^ height ≡ 2 ^ more * 2 ^ level = ap (λ n. 2 ^ n) (omega (arith, low)) ∙ pow-add 2 more level in
@@ -234,6 +235,13 @@ module _ (ws sums : List ℕ) (i w height last : ℕ) (place : i < length ws) wh
       let up : level + (height - level) ≡ height = omega (arith, within) in
       rw up at (IsWrittenBelow_short (height - level) level (omega (arith, up)) (omega (arith, done.ends, past)) done.below)
 
+  -- nor at the last of the first 2 ^ height places, whose digits below the height are all 1
+  pub IsWrittenBelow_top : (level : ℕ) → level ≤ height → IsClimbed ws sums i w height last level → i < 2 ^ height → 2 ^ height - 1 ≤ last → IsWrittenBelow ws sums i w height height
+  IsWrittenBelow_top level within done reached past =
+      let up : level + (height - level) ≡ height = omega (arith, within) in
+      let is : last ≡ 2 ^ height - 1 = omega (arith, past, done.ends, block_end-within i level height within reached) in
+      (rw up at (IsClimbed_ones (height - level) level (omega (arith, up)) (λ k below. rw is (bit_at_ones height k (omega (arith, up, below)))) done)).below
+
   -- the code looks for the lowest digit 0 of `last`
   module _ (level lowest : ℕ) (within : level ≤ height) (done : IsClimbed ws sums i w height last level) (fits : last + 1 < 2 ^ 64)
       (is_lowest : lowest ≡ trailing_ones w64 last) where
@@ -250,13 +258,18 @@ module _ (ws sums : List ℕ) (i w height last : ℕ) (place : i < length ws) wh
       | inr from ↦ from
     ]
 
-    -- if it is at no level below the height either, no level is left with a partial sum over i
-    pub IsWrittenBelow_height : height ≤ lowest → IsWrittenBelow ws sums i w height height
-    IsWrittenBelow_height low =
-        let up : level + (height - level) ≡ height = omega (arith, within) in
-        (rw up at (IsClimbed_ones (height - level) level (omega (arith, up)) (λ k below. ones_to_lowest k (omega (arith, up, below, low))) done)).below
+    -- it is at a level below the height if `last` is not the last of the first 2 ^ height places or past it
+    pub lowest-below : last < 2 ^ height - 1 → lowest < height
+    lowest-below before = elim (cases_lt lowest height) [
+      | inl below ↦ below
+      | inr past ↦ absurd (omega (arith, before, ones-least height last (λ k low. ones_to_lowest k (omega (arith, low, past)))))
+    ]
 
-    -- else the block of i is there an even one, with its partial sum at `last`
+    -- and the code sets it to 1
+    pub next-last : bit_or last (last + 1) ≡ last + 2 ^ lowest
+    next-last = or-next lowest last ones_to_lowest zero_at_lowest
+
+    -- below the height the block of i is there an even one, with its partial sum at `last`
     module _ (low : lowest < height) where
       IsClimbed_lowest : IsClimbed ws sums i w height last lowest
       IsClimbed_lowest =
@@ -277,7 +290,7 @@ module _ (ws sums : List ℕ) (i w height last : ℕ) (place : i < length ws) wh
 
       -- which is one of the first 2 ^ height places
       pub last_below : i < 2 ^ height → last < 2 ^ height
-      last_below reached = omega (arith, IsClimbed_lowest.ends, block_end-within i lowest height low reached)
+      last_below reached = omega (arith, IsClimbed_lowest.ends, block_end-within i lowest height (omega (arith, low)) reached)
 
       module _ (same_length : length sums ≡ length ws) (whole : last < length ws) where
         pub last_sum_within : (get_or ws i 0 ≤ get_or sums last 0) × (get_or sums last 0 - get_or ws i 0 + w ≤ sum (set ws i w))

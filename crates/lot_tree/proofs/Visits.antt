@@ -1,49 +1,42 @@
 -- How many partial sums a descent reads: at most one a level, and one at the top level.
-use Rattle.std.proofs.Common.{ℕ, suc, ◌≡◌, ◌+◌, ◌*◌, ◌^◌, ◌<◌, ◌≤◌, ◌⊎◌, inl, inr, arith, refl, add-one}
+use Rattle.std.proofs.Common.{ℕ, suc, ◌≡◌, ◌+◌, ◌*◌, ◌^◌, ◌<◌, ◌≤◌, ◌⊎◌, inl, inr, arith, add-one}
 use Rattle.std.proofs.lemmas.Bool.{cases_lt}
 use Rattle.std.proofs.Math.Nat.{pow-suc, pow-le-pow_right}
 use Rattle.lot_tree.specs.Visits.{CountsReads, counted_up}
 
 -- a descent that has read nothing is at its start
-pub record IsUncounted (digits level base old new : ℕ) : Type 0 where
+pub record IsUncounted (digits level block reads : ℕ) : Type 0 where
   pub at_top : level ≡ digits
-  pub at_start : base ≡ 0
-  pub same : new ≡ old
+  pub at_start : block ≡ 0
+  pub none : reads ≡ 0
 
--- a descent at `base` with `level` of its levels to go has counted its reads, one or more and at most one a level
-pub record IsCounted (digits level old new : ℕ) : Type 0 where
-  pub reads : ℕ
+-- a descent with `level` of its levels to go has counted its reads, one or more and at most one a level
+pub record IsCounted (digits level reads : ℕ) : Type 0 where
   pub some : 1 ≤ reads
   pub few : reads + level ≤ digits
-  pub counted : new ≡ counted_up old reads
 
-module _ (digits upper level old now : ℕ) (down : upper ≡ level + 1) (within : upper ≤ digits) where
+-- either way it has read no more than one partial sum a level
+pub reads-few : (digits level block reads : ℕ) → IsUncounted digits level block reads ⊎ IsCounted digits level reads → reads + level ≤ digits
+reads-few digits level block reads (inl start) = omega (arith, start.at_top, start.none)
+reads-few digits level block reads (inr before) = before.few
+
+module _ (digits upper level block reads : ℕ) (down : upper ≡ level + 1) (before : IsUncounted digits upper block reads ⊎ IsCounted digits upper reads) where
   -- one level down with a read
-  pub IsCounted_read : (base new : ℕ) → IsUncounted digits upper base old now ⊎ IsCounted digits upper old now → new ≡ counted_up now 1 → IsCounted digits level old new
-  IsCounted_read base new (inl start) more = record {
-    reads = 1;
+  pub IsCounted_read : IsCounted digits level (reads + 1)
+  IsCounted_read = record {
     some = omega arith;
-    few = omega arith;
-    counted = rw more (rw start.same refl);
-  }
-  IsCounted_read base new (inr before) more = record {
-    reads = before.reads + 1;
-    some = omega arith;
-    few = omega (arith, before.few);
-    counted = omega (arith, before.counted);
+    few = omega (arith, reads-few digits upper block reads before);
   }
 
   -- one level down with no read, which the top level always has
-  pub IsCounted_short : (n base size : ℕ) → size ≡ 2 ^ level → 2 ^ digits ≤ 2 * n + 1 → n < base + size → IsUncounted digits upper base old now ⊎ IsCounted digits upper old now → IsCounted digits level old now
-  IsCounted_short n base size is_size needed short (inl start) =
-      let twice : 2 ^ digits ≡ 2 * 2 ^ level = rw (← start.at_top, down, add-one) (omega (arith, pow-suc 2 level)) in
-      absurd (omega (arith, start.at_start))
-  IsCounted_short n base size is_size needed short (inr before) = record {
-    reads = before.reads;
-    some = before.some;
-    few = omega (arith, before.few);
-    counted = before.counted;
-  }
+  pub IsCounted_short : (n : ℕ) → 2 ^ digits ≤ 2 * n + 1 → n < (block * 2 + 1) * 2 ^ level → IsCounted digits level reads
+  IsCounted_short n needed short = elim before [
+    | inl start ↦
+        let twice : 2 ^ digits ≡ 2 * 2 ^ level = rw (← start.at_top, down, add-one) (omega (arith, pow-suc 2 level)) in
+        let first = rw start.at_start at short in
+        absurd (omega (arith, twice, needed, first))
+    | inr counted ↦ record { some = counted.some; few = omega (arith, counted.few) }
+  ]
 
 -- no number of digits in which n can be written is less than the least
 digits_least : (n digits other : ℕ) → 2 ^ digits ≤ 2 * n + 1 → n < 2 ^ other → digits ≤ other
@@ -52,21 +45,13 @@ digits_least n digits other needed enough = elim (cases_lt other digits) [
   | inr more ↦ more
 ]
 
--- at the end of a descent over one level or more
-pub CountsReads-from_IsCounted : (n digits level base old new : ℕ) → level ≡ 0 → 0 < digits → 2 ^ digits ≤ 2 * n + 1 → IsUncounted digits level base old new ⊎ IsCounted digits level old new → CountsReads n old new
-CountsReads-from_IsCounted n digits level base old new end some needed (inl start) = absurd (omega (arith, start.at_top, end, some))
-CountsReads-from_IsCounted n digits level base old new end some needed (inr all) = record {
-  reads = all.reads;
+-- at the end of a descent over one level or more, whose reads are counted besides what was counted before
+pub CountsReads-from_IsCounted : (n digits level block reads old new : ℕ) → level ≡ 0 → 0 < digits → 2 ^ digits ≤ 2 * n + 1 → new ≡ counted_up old reads
+    → IsUncounted digits level block reads ⊎ IsCounted digits level reads → CountsReads n old new
+CountsReads-from_IsCounted n digits level block reads old new end some needed is (inl start) = absurd (omega (arith, start.at_top, end, some))
+CountsReads-from_IsCounted n digits level block reads old new end some needed is (inr all) = record {
+  reads = reads;
   some = all.some;
   few = λ other fits. omega (arith, all.few, digits_least n digits other needed fits);
-  counted = all.counted;
-}
-
--- what was counted from 0 on is counted besides what was counted before
-pub CountsReads-more : (n old reads new : ℕ) → CountsReads n 0 reads → new ≡ counted_up old reads → CountsReads n old new
-CountsReads-more n old reads new counts is = record {
-  reads = counts.reads;
-  some = counts.some;
-  few = counts.few;
-  counted = omega (arith, is, counts.counted);
+  counted = is;
 }

@@ -8,13 +8,14 @@
 #![tactic(auto)]
 
 ghost use Rattle.std.specs.Prelude.{◌≡◌, ℕ, ◌*◌, ◌^◌, ◌<◌, List, length, sum, slice_index, slice_set, IfOk, replicate};
+ghost use Rattle.std.specs.Prelude.{true};
 ghost use Rattle.lot_machine.specs.Lottery.{IsFirstAbove, first_above, running_sums};
 ghost use Rattle.lot_tree.specs.Sums.{IsSumTree};
 ghost use Rattle.lot_tree.specs.Visits.{CountsReads};
 
 mod partial_sums;
 
-use partial_sums::PartialSums;
+use partial_sums::{PartialSums, binary_digits};
 use std::alloc::{AllocError, Global};
 use std::marker::Model;
 use std::mem::size_of;
@@ -110,22 +111,52 @@ impl SumTree {
         ensures walk { result ≡ first_above d (running_sums 0 self.now) }
         ensures counted { CountsReads (length self.now) visits.old visits.new }
     {
+        // Most totals fit 64 bits, and the descent is shorter in those.
+        if self.total <= u64::MAX as u128 {
+            self.descend::<true>(d, visits)
+        } else {
+            self.descend::<false>(d, visits)
+        }
+    }
+
+    // `find`, in numbers of 64 bits if the total is `NARROW`.
+    fn descend<const NARROW: bool>(&self, d: u128, visits: &mut u64) -> usize
+        requires drawn { d < sum self.now }
+        requires narrow { NARROW ≡ true → sum self.now < 2 ^ 64 }
+        ensures within { result < length self.now }
+        ensures first_above { IsFirstAbove self.now d result }
+        ensures walk { result ≡ first_above d (running_sums 0 self.now) }
+        ensures counted { CountsReads (length self.now) visits.old visits.new }
+    {
         let n = self.sums.len();
-        let mut base = 0;
+        let height = self.sums.height();
+        // With 2^height places no block is cut short by the end.
+        let is_whole = height < binary_digits(n);
+        // The number of the block in question, among the blocks of its level.
+        let mut block = 0;
         let mut rest = d;
         let mut reads = 0;
-        for level in (0..self.sums.height()).rev() {
-            let size = 1usize << level;
+        for level in (0..height).rev() {
+            block *= 2;
             // A left half cut short by the end has all the remaining places.
-            if size <= n - base {
-                let left = self.sums.read(base + size - 1, &mut reads);
+            if is_whole || block < n >> level {
+                let left = fitted::<NARROW>(self.sums.read(((block + 1) << level) - 1, &mut reads));
+                rest = fitted::<NARROW>(rest);
                 // The half can't be predicted, so the code has no branch on it.
                 let is_past = left <= rest;
                 rest -= if is_past { left } else { 0 };
-                base += usize::from(is_past) << level;
+                block += usize::from(is_past);
             }
         }
         *visits = visits.saturating_add(reads);
-        base
+        block
     }
+}
+
+// The number `n`. If it is `NARROW`, its upper half is 0, and the code needs only the lower one.
+fn fitted<const NARROW: bool>(n: u128) -> u128
+    requires narrow { NARROW ≡ true → n < 2 ^ 64 }
+    ensures { result ≡ n }
+{
+    if NARROW { n as u64 as u128 } else { n }
 }

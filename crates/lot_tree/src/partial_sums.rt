@@ -1,8 +1,7 @@
 //! The partial sums of a tree, readable only by a call that counts the read.
-ghost use Rattle.std.specs.Prelude.{◌≡◌, ℕ, ◌+◌, ◌*◌, ◌^◌, ◌<◌, ◌≤◌, length, min, sum, slice_index, slice_set, IfOk};
-ghost use Rattle.std.specs.Prelude.{replicate};
+ghost use Rattle.std.specs.Prelude.{◌≡◌, ℕ, ◌+◌, ◌-◌, ◌*◌, ◌^◌, ◌<◌, ◌≤◌, length, min, sum, slice_index, slice_set};
+ghost use Rattle.std.specs.Prelude.{IfOk, replicate};
 ghost use Rattle.lot_tree.specs.Sums.{AreKept, ArePartialSumsAt};
-ghost use Rattle.lot_tree.specs.Visits.{counted_up};
 
 use std::alloc::{AllocError, Global};
 use std::marker::Model;
@@ -62,14 +61,15 @@ impl PartialSums {
         self.height
     }
 
-    /// The partial sum at `place`, which is less than the number of places. Adds one to `visits`, which saturates at
+    /// The partial sum at `place`, which is less than the number of places. Adds one to `visits`, which is less than
     /// the largest `u64`.
     pub(crate) fn read(&self, place: usize, visits: &mut u64) -> u128
-        requires { place < length self.now.sums }
+        requires within { place < length self.now.sums }
+        requires room { visits.old < 2 ^ 64 - 1 }
         ensures value { result ≡ slice_index self.now.sums place }
-        ensures counted { visits.new ≡ counted_up visits.old 1 }
+        ensures counted { visits.new ≡ visits.old + 1 }
     {
-        *visits = visits.saturating_add(1);
+        *visits += 1;
         self.sums[place]
     }
 
@@ -109,18 +109,26 @@ fn set_partial_sums(sums: &mut [u128], weights: &[u128], i: usize, w: u128, heig
     ensures partial { (level : ℕ) → level < height → ArePartialSumsAt (slice_set weights.now i w) sums.new level }
     ensures others { (place : ℕ) → 2 ^ height ≤ place → slice_index sums.new place ≡ slice_index sums.old place }
 {
-    let n = weights.len();
     let old = weights[i];
+    let end = climb_end(weights.len(), height);
     let mut last = i;
-    while last < n {
-        // The levels below the lowest binary digit 0 of `last` are done, or have `i` in an odd block, which keeps no
-        // partial sum.
-        let level = last.trailing_ones();
-        // The blocks at the height and above keep no partial sum.
-        if height <= level {
-            return;
-        }
+    while last < end {
         sums[last] = sums[last] - old + w;
-        last += 1 << level;
+        // The levels up to the lowest binary digit 0 of `last` are done, or have `i` in an odd block, which keeps no
+        // partial sum. With a 1 there `last` is the last place of the block of `i` one level further up.
+        last |= last + 1;
+    }
+}
+
+/// The place at which the climb to partial sums ends: the last of the first 2^height places, since the blocks at the
+/// height and above keep none, or `n` if that is less.
+fn climb_end(n: usize, height: u32) -> usize
+    requires { height ≤ 64 }
+    ensures { result ≡ min n (2 ^ height - 1) }
+{
+    if height < usize::BITS {
+        n.min((1usize << height) - 1)
+    } else {
+        n
     }
 }

@@ -1,5 +1,5 @@
 -- What several touches come to.
-use Rattle.std.proofs.Common.{◌≡◌, ◌⊎◌, inl, inr, Bool, Some, List, [], ◌∷◌, ◌++◌, Contains, ap, sym, ◌∙◌, refl, subst, append-nil}
+use Rattle.std.proofs.Common.{◌≡◌, ◌≢◌, ◌⊎◌, ℕ, inl, inr, Bool, Some, List, [], ◌∷◌, ◌++◌, Contains, ap, sym, ◌∙◌, refl, subst, append-nil}
 use Rattle.std.proofs.lemmas.List.Elements.{Contains-push_cases, Contains-append_right}
 use Rattle.lot_machine.specs.declared.funding.Node.{Node}
 use Rattle.lot_machine.specs.declared.funding.Edge.{Edge}
@@ -11,7 +11,9 @@ use Rattle.lot_graph.specs.Graphs.{LimitedFunding}
 use Rattle.lot_graph.proofs.EndLemmas.{pair}
 use Rattle.lot_value.specs.Caches.{Known, IsStale, IsRightBut, TouchesListed}
 use Rattle.lot_active.specs.Activity.{Activity}
-use Rattle.lot_value.specs.Touched.{Touched, IsUser, IsFundedBy}
+use Rattle.lot_machine.specs.declared.funding.Node.TheVariants.{Currency}
+use Rattle.lot_active.specs.Changes.{switched_nodes, adjusted_nodes}
+use Rattle.lot_value.specs.Touched.{Touched, IsUser, IsFundedBy, IsListed, IsSwitchedOrFunded}
 use Rattle.lot_value.proofs.Listed.{contains-first}
 
 -- more may be pending
@@ -111,3 +113,17 @@ funded-more w old new done node kept before here to (from, c, user, edge) = by (
 -- what was touched stays so
 pub listed-more : (w : LimitedFunding) (v : Activity) (old new : Known) → ((x : Node) → IsStale old x → IsStale new x) → TouchesListed w v old.stale → TouchesListed w v new.stale
 listed-more w v old new kept listed = record { switched = λ node c has. kept node (listed.switched node c has); targets = λ c to user which edge. kept to (listed.targets c to user which edge) }
+
+-- what is touched for the switched nodes is touched for all listed ones
+pub listed-so : (w : LimitedFunding) (v : Activity) (x : Node) → IsSwitchedOrFunded w v x → IsListed w v x
+listed-so w v x (inl switched) = inl switched
+listed-so w v x (inr funded) = inr (inl funded)
+
+-- the targets of what was switched were marked first, and then those of what was adjusted
+pub listed-all : (w : LimitedFunding) (v : Activity) (adjusted : List Node) (mid new : Known) → adjusted ≡ adjusted_nodes w v → ((x : Node) → IsStale mid x → IsStale new x)
+    → ((node : Node) → Contains (switched_nodes w v) node → HasEquation w.funding node → IsStale mid node) → ((to : Node) → IsFundedBy w (switched_nodes w v) to → IsStale mid to) → ((to : Node) → IsFundedBy w adjusted to → IsStale new to) → TouchesListed w v new.stale
+listed-all w v adjusted mid new is kept marked first second = record { switched = λ node c has. kept node (marked node c has); targets = λ c to user which edge. by c to user edge which }
+  where
+    by : (c : ℕ) (to : Node) → c ≢ 0 → IsEdge w.funding (Currency c) to → Contains (switched_nodes w v) (Currency c) ⊎ Contains (adjusted_nodes w v) (Currency c) → IsStale new to
+    by c to user edge (inl switched) = kept to (first to (Currency c, switched, (c, refl, user), edge))
+    by c to user edge (inr listed) = second to (Currency c, subst (λ (xs : List Node). Contains xs (Currency c)) (sym is) listed, (c, refl, user), edge)

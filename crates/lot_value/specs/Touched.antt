@@ -25,6 +25,10 @@ IsUser node = (c : ℕ) × (node ≡ Currency c) × (c ≢ 0)
 abbrev pub IsFundedBy : LimitedFunding → List Node → Node → Type 0
 IsFundedBy w nodes to = (from : Node) × Contains nodes from × IsUser from × IsEdge w.funding from to
 
+-- a call switched the node, and it has an equation; or a ticket of a user currency that the call switched funds it
+abbrev pub IsSwitchedOrFunded : LimitedFunding → Activity → Node → Type 0
+IsSwitchedOrFunded w v node = (Contains (switched_nodes w v) node × HasEquation w.funding node) ⊎ IsFundedBy w (switched_nodes w v) node
+
 -- A call switched the node, and it has an equation; or a ticket of a user currency that the call switched or adjusted
 -- funds it.
 abbrev pub IsListed : LimitedFunding → Activity → Node → Type 0

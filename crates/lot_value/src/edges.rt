@@ -26,11 +26,12 @@ pub(crate) fn attach(graph: &Graph, active: &mut Active, values: &mut Values, ed
     ensures kept { (node : ANode) → IsStale values.old node → IsStale values.new node }
     ensures others { values.new ≡ record values.old { stale = values.new.stale } }
 {
-    active.attach(graph, edge);
-    touch_listed(graph, active, values);
+    // Looked up before anything is written, so that one look serves here and in `attach`, which is compiled in.
     let Some(ends) = ends_of_edge(graph, edge) else {
         unreachable!()
     };
+    active.attach(graph, edge);
+    touch_listed(graph, active, values);
     values.touch(graph, ends.to);
 }
 

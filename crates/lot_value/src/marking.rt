@@ -1,10 +1,10 @@
 //! Marking a node, and all nodes downstream of it, as stale.
 ghost use Rattle.std.specs.Prelude.{◌≡◌, ◌<◌, Contains};
-ghost use Rattle.lot_lists.specs.NodeLists.{nodes_of};
+ghost use Rattle.lot_lists.specs.NodeLists.{IsFree, nodes_of};
 ghost use Rattle.lot_machine.specs.declared.funding.Node.TheVariants.{Currency as CurrencyNode};
 ghost use Rattle.lot_graph.specs.Graphs.{IsNodeOf};
 ghost use Rattle.lot_graph.specs.Places as places;
-ghost use Rattle.lot_graph.specs.Places.{FitsLimits, layout_of};
+ghost use Rattle.lot_graph.specs.Places.{FitsLimits, layout_of, node_place};
 ghost use Rattle.lot_value.specs.Marking.{IsStaleList, LeadsToPlace, Spreads, Marks};
 
 use lot_active::{ends_of_edge, funded_node};
@@ -16,6 +16,7 @@ use lot_machine::Node;
 pub(crate) const STALE: usize = 0;
 
 /// Lists a node at the back, and with it all nodes that it reaches through unlisted nodes.
+#[inline(always)]
 pub(crate) fn mark(graph: &Graph, stale: &mut Lists, node: Node)
     requires list { IsStaleList stale.old (places.node_count (layout_of graph.now)) }
     requires node { IsNodeOf graph.now node }
@@ -25,9 +26,24 @@ pub(crate) fn mark(graph: &Graph, stale: &mut Lists, node: Node)
 {
     let layout = graph.layout();
     let place = layout.list_of(node);
+    // Compiled into the caller, so that no call is made for a node that is listed already.
     if stale.list_of(place).is_some() {
         return;
     }
+    mark_unlisted(graph, stale, node, place);
+}
+
+/// Lists an unlisted node at the back, and with it all nodes that it reaches through unlisted nodes.
+fn mark_unlisted(graph: &Graph, stale: &mut Lists, node: Node, place: usize)
+    requires list { IsStaleList stale.old (places.node_count (layout_of graph.now)) }
+    requires node { IsNodeOf graph.now node }
+    requires place { place ≡ node_place (layout_of graph.now) node }
+    requires free { IsFree stale.old place }
+    ensures list { IsStaleList stale.new (places.node_count (layout_of graph.now)) }
+    ensures marks { Marks (layout_of graph.now) graph.now.funding (nodes_of stale.old 0) (nodes_of stale.new 0) node }
+    ensures fits { FitsLimits graph.now }
+{
+    let layout = graph.layout();
     stale.push_back(STALE, place);
     let mut next = Some(place);
     // As many iterations as there are nodes: each follows the next listed one.

@@ -13,7 +13,10 @@ use lot_machine::Lend;
 
 /// Makes a thread live or not, and sets its lend. A thread that is live before or after stays live in between, so
 /// that a server doesn't become inactive while a client's funding moves to it.
-#[inline(always)]
+///
+/// A draw and an end of a quantum change no thread's lend and leave it live, so they never call it; compiled into them,
+/// it would take registers from them.
+#[inline(never)]
 pub(crate) fn put_thread(graph: &mut ValuedGraph, thread: u32, lend: Lend, live: bool)
     requires allowed { CanApply graph.old.now graph.old.live (PutThread thread lend live) }
     ensures applied { graph.new ≡ applied graph.old (PutThread thread lend live) graph.new.known.stale }

@@ -9,32 +9,48 @@ ghost use Rattle.lot_graph.specs.Places.{layout_of};
 ghost use Rattle.lot_active.specs.Changes.{switched_nodes, adjusted_nodes};
 ghost use Rattle.lot_active.specs.Fundings.{IsKeptFor};
 ghost use Rattle.lot_value.specs.Caches.{IsStale, TouchesListed};
-ghost use Rattle.lot_value.specs.Touched.{Touched, IsUser, IsFundedBy, IsListed};
+ghost use Rattle.lot_value.specs.Touched.{Touched, IsUser, IsFundedBy, IsListed, IsSwitchedOrFunded};
 
 use crate::values::Values;
 use lot_active::{Active, ChangedNodes, ends_of_edge};
 use lot_graph::Graph;
 use lot_machine::Node;
 
-/// Touches the nodes with an equation that the last call of `active` switched.
+/// Touches the nodes with an equation that the last call of `active` switched, and the targets of the tickets that
+/// user currencies among them issue.
 #[inline(always)]
 pub(crate) fn touch_switched(graph: &Graph, active: &Active, values: &mut Values)
     requires layout { values.old.layout ≡ layout_of graph.now }
     requires kept { (live : List Bool) × IsKeptFor active.now graph.now live }
     requires nodes { (node : ANode) → Contains (switched_nodes graph.now active.now) node → IsNodeOf graph.now node }
-    ensures touched { Touched graph.now values.old values.new
-        (λ node. Contains (switched_nodes graph.now active.now) node × HasEquation graph.now.funding node) }
+    requires ends { (from to : ANode) → IsEdge graph.now.funding from to → HasEquation graph.now.funding to }
+    ensures touched { Touched graph.now values.old values.new (IsSwitchedOrFunded graph.now active.now) }
     ensures marked { (node : ANode) → Contains (switched_nodes graph.now active.now) node
         → HasEquation graph.now.funding node → IsStale values.new node }
+    ensures funded { (to : ANode) → IsFundedBy graph.now (switched_nodes graph.now active.now) to
+        → IsStale values.new to }
 {
     for node in active.switched() {
-        if has_equation(graph, node) {
-            values.touch(graph, node);
-        }
+        touch_node(graph, node, values);
+        touch_funded_by(graph, node, values);
     }
 }
 
-/// Touches the targets of the tickets that user currencies among these nodes issue.
+/// Touches a node, if it has an equation.
+#[inline(always)]
+fn touch_node(graph: &Graph, node: Node, values: &mut Values)
+    requires layout { values.old.layout ≡ layout_of graph.now }
+    requires node { IsNodeOf graph.now node }
+    ensures touched { Touched graph.now values.old values.new
+        (λ x. (x ≡ node) × HasEquation graph.now.funding x) }
+    ensures marked { HasEquation graph.now.funding node → IsStale values.new node }
+{
+    if has_equation(graph, node) {
+        values.touch(graph, node);
+    }
+}
+
+/// Touches the targets of the tickets that these nodes issue, as far as they are user currencies.
 #[inline(always)]
 pub(crate) fn touch_funded(graph: &Graph, nodes: ChangedNodes, values: &mut Values)
     requires layout { values.old.layout ≡ layout_of graph.now }
@@ -44,9 +60,21 @@ pub(crate) fn touch_funded(graph: &Graph, nodes: ChangedNodes, values: &mut Valu
     ensures marked { (to : ANode) → IsFundedBy graph.now nodes.entry to → IsStale values.new to }
 {
     for node in nodes {
-        if is_user_currency(node) {
-            touch_targets(graph, node, values);
-        }
+        touch_funded_by(graph, node, values);
+    }
+}
+
+/// Touches the targets of the tickets that a node issues, if it is a user currency.
+#[inline(always)]
+fn touch_funded_by(graph: &Graph, node: Node, values: &mut Values)
+    requires layout { values.old.layout ≡ layout_of graph.now }
+    requires node { IsNodeOf graph.now node }
+    requires ends { (from to : ANode) → IsEdge graph.now.funding from to → HasEquation graph.now.funding to }
+    ensures touched { Touched graph.now values.old values.new (λ to. IsUser node × IsEdge graph.now.funding node to) }
+    ensures marked { IsUser node → (to : ANode) → IsEdge graph.now.funding node to → IsStale values.new to }
+{
+    if is_user_currency(node) {
+        touch_targets(graph, node, values);
     }
 }
 
@@ -100,6 +128,5 @@ pub(crate) fn touch_listed(graph: &Graph, active: &Active, values: &mut Values)
     ensures listed { TouchesListed graph.now active.now values.new.stale }
 {
     touch_switched(graph, active, values);
-    touch_funded(graph, active.switched(), values);
     touch_funded(graph, active.adjusted(), values);
 }

@@ -388,6 +388,13 @@ impl ValuedGraph {
         self.values.is_stale(node)
     }
 
+    /// Whether no node is stale.
+    pub fn is_settled(&self) -> bool
+        ensures { IsTrue result ↔ (self.now.known.stale ≡ []) }
+    {
+        self.values.is_settled()
+    }
+
     /// A node's value (4.4), if it isn't stale.
     pub fn value_of(&self, node: Node) -> u64
         requires node { IsNodeOf self.now.now node }

@@ -135,6 +135,13 @@ impl Values {
         self.stale.list_of(self.layout.list_of(node)).is_some()
     }
 
+    /// Whether no node is stale.
+    pub fn is_settled(&self) -> bool
+        ensures { IsTrue result ↔ (self.now.stale ≡ []) }
+    {
+        self.stale.is_empty(STALE)
+    }
+
     /// A node's cached value: its value (4.4), if it isn't stale.
     pub fn value_of(&self, node: Node) -> u64
         requires node { IsNodeWithin self.now.layout node }
@@ -178,6 +185,7 @@ impl Values {
     /// and nothing for a value.
     ///
     /// After a change of the graph or of the live threads, the caller touches each node whose equation has changed.
+    #[inline(always)]
     pub fn touch(&mut self, graph: &Graph, node: Node)
         requires layout { self.old.layout ≡ layout_of graph.now }
         requires node { IsNodeOf graph.now node }

@@ -3,17 +3,21 @@
 use crate::line_of_command;
 use lot_machine::{Refusal, Status};
 use lot_play::{FirstFew, RefusedCommand, StuckThread, Warnings};
+use lot_simulation::EarlyEnd;
 use std::io::Write;
 use std::{fmt, io, str};
 
-/// Writes the warnings of a run, a line for each: commands refused or never made, and threads that can never make
-/// progress again. The input was accepted; it is read again only for the lines of the commands named. It fails if the
-/// writer does.
+/// Writes the warnings of a run, a line for each: an early end, commands refused or never made, and threads that can
+/// never make progress again. The input was accepted; it is read again only for the lines of the commands named. It
+/// fails if the writer does.
 pub fn write_warnings<W: Write>(
     writer: &mut W,
     warnings: &Warnings,
     input: &[u8],
 ) -> io::Result<()> {
+    if let Some(early) = warnings.early {
+        writeln!(writer, "{}", Early(early))?;
+    }
     write_refused(writer, &warnings.refused, input)?;
     write_unmade(writer, warnings, input)?;
     for thread in warnings.weightless.first() {
@@ -85,6 +89,20 @@ impl fmt::Display for Line {
             Some(number) => write!(f, "line {number}: "),
             None => Ok(()),
         }
+    }
+}
+
+/// The early end of a timed run.
+#[derive(Clone, Copy)]
+struct Early(EarlyEnd);
+
+impl fmt::Display for Early {
+    fn fmt<W: fmt::Write>(&self, f: &mut fmt::Formatter<W>) -> fmt::Result {
+        let EarlyEnd { time, end, turns } = self.0;
+        write!(
+            f,
+            "the run was cut at tick {time} of {end}: it made {turns} turns, and a run makes no more"
+        )
     }
 }
 

@@ -296,3 +296,29 @@ fundx 1 base b wants
 ";
     check_told(&rt, rt.alloc(), ["lot_sim", "play"], input, 0, "");
 }
+
+// Two turns a tick: the last is the draw at tick 499999.
+#[test]
+fn cut_at_the_largest_number_of_turns(rt: HostRuntime) {
+    let input = "lottery 3
+quantum 1
+for 600000
+script s
+compute 1000000
+endscript
+fundx 1 base a s
+";
+    let report = "
+report
+thread 1 a quanta 500000 ticks 499999 share 100% value 100%
+processor 1 quanta 500000 idle 0 ticks 499999 unused 0
+total turns 1000000 quanta 500000 ticks 499999 refused 0 left 0
+ended at 499999 of 600000: 1000000 turns made
+";
+    let words =
+        "the run was cut at tick 499999 of 600000: it made 1000000 turns, and a run makes no more\n";
+    let ended = ended_on(&rt, rt.alloc(), &["lot_sim", "play"], input);
+    let is_reported = ended.output.as_slice().ends_with(report.as_bytes());
+    let told = str::from_utf8(ended.errors.as_slice()).unwrap_or("");
+    check_same(&rt, &(ended.code, is_reported, told), &(0, true, words));
+}

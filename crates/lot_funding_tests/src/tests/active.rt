@@ -228,6 +228,7 @@ fn play(
         quantum: 1000,
         unit: 1,
         reuse: false,
+        plain_names: false,
     });
     let mut kept = Kept::new(rt, alloc, limits)?;
     for _ in 0..threads {

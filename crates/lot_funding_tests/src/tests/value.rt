@@ -27,6 +27,7 @@ fn small_graph(rt: &impl Abort, alloc: Global) -> Result<Graph, Fail>
         quantum: 100,
         unit: 1,
         reuse: false,
+        plain_names: false,
     });
     let limits = limits.expect(rt, "limits are not in bounds");
     Ok(Graph::new(alloc, &limits)?)
@@ -215,6 +216,7 @@ fn opening(
         quantum: 1000,
         unit: 1,
         reuse: false,
+        plain_names: false,
     });
     let limits = limits.expect(rt, "limits are not in bounds");
     let mut graph = ValuedGraph::new(alloc, &limits)?;

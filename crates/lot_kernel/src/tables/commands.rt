@@ -21,10 +21,11 @@ ghost use Rattle.lot_kernel.specs.Counted.{KeepsStale};
 ghost use Rattle.lot_kernel.specs.FreePlaces.{HasIdlePlace};
 ghost use Rattle.lot_kernel.specs.Snapshots.{MakesStale};
 
+use crate::names::Hashed;
 use crate::tables::Tables;
 use lot_machine::{
-    Command, CurrencyRef, Name, Node, Refusal, Reply, Status, Target, TargetRef, Thread,
-    ThreadNumber, ThreadRef, Ticket, TicketNumber, index_of, is_good_name,
+    Command, CurrencyRef, Node, Refusal, Reply, Status, Target, TargetRef, Thread, ThreadNumber,
+    ThreadRef, Ticket, TicketNumber, index_of,
 };
 use lot_value::Change;
 
@@ -43,12 +44,14 @@ impl Tables {
                 *reply = self.make_ticket(*amount, currency);
             }
             Command::RemoveTicket { ticket } => *reply = self.remove_ticket(*ticket),
-            Command::MakeCurrency { name } => *reply = self.make_currency(name),
+            Command::MakeCurrency { name } => *reply = self.make_currency(&Hashed::new(name)),
             Command::RemoveCurrency { currency } => *reply = self.remove_currency(currency),
             Command::Fund { ticket, target } => *reply = self.fund(*ticket, target),
             Command::Unfund { ticket } => *reply = self.unfund(*ticket),
             Command::SetTicket { ticket, amount } => *reply = self.set_ticket(*ticket, *amount),
-            Command::MakeThread { name, script } => *reply = self.make_thread(name, *script),
+            Command::MakeThread { name, script } => {
+                *reply = self.make_thread(&Hashed::new(name), *script);
+            }
             Command::RemoveThread { thread } => *reply = self.remove_thread(thread),
             Command::Kill { thread } => *reply = self.kill(thread),
             Command::MakeFunded {
@@ -56,7 +59,7 @@ impl Tables {
                 currency,
                 name,
                 script,
-            } => *reply = self.make_funded(*amount, currency, name, *script),
+            } => *reply = self.make_funded(*amount, currency, &Hashed::new(name), *script),
             Command::List(kind) => *reply = Reply::List(*kind),
         }
     }
@@ -161,14 +164,14 @@ impl Tables {
         Reply::Done
     }
 
-    fn make_currency(&mut self, name: &Name) -> Reply
+    fn make_currency(&mut self, name: &Hashed<'_>) -> Reply
         requires { IsInOrder self.old.state }
         ensures reply { result ≡ (command_step self.old.state (MakeCurrency name.now)).reply }
         ensures state { self.new.state ≡ (command_step self.old.state (MakeCurrency name.now)).state }
         ensures stale { self.new.stale ≡ self.old.stale }
         ensures meter { self.new.meter ≡ self.old.meter }
     {
-        if !is_good_name(name.as_bytes()) {
+        if !self.limits.allow_name(name.as_bytes()) {
             return Reply::Refused(Refusal::BadName);
         }
         if self.target_named(name).is_some() {
@@ -181,7 +184,7 @@ impl Tables {
     }
 
     /// Makes one more currency and returns its number, or `None` if the kernel is full.
-    fn add_currency(&mut self, name: &Name) -> Option<u32>
+    fn add_currency(&mut self, name: &Hashed<'_>) -> Option<u32>
         requires { IsInOrder self.old.state }
         ensures number { SomeIff result (names.are_currencies_full self.old.state ≡ false)
             (next_currency self.old.state) }
@@ -196,7 +199,7 @@ impl Tables {
     }
 
     /// Makes a currency with the next number that was never given and returns it, or `None` if the limit is reached.
-    fn add_currency_last(&mut self, name: &Name) -> Option<u32>
+    fn add_currency_last(&mut self, name: &Hashed<'_>) -> Option<u32>
         ensures number { SomeIff result (length self.old.state.currencies ≤ self.old.state.limits.currencies)
             (length self.old.state.currencies) }
         ensures made { OnSome result (self.new
@@ -216,7 +219,7 @@ impl Tables {
     }
 
     /// Makes a currency in the first free place and returns its number, or `None` if no place is free.
-    fn add_currency_again(&mut self, name: &Name) -> Option<u32>
+    fn add_currency_again(&mut self, name: &Hashed<'_>) -> Option<u32>
         requires { IsInOrder self.old.state }
         ensures number { result ≡ slice_get (free_currencies self.old.state) 0 }
         ensures made { OnSome result (self.new
@@ -254,7 +257,7 @@ impl Tables {
         Reply::Done
     }
 
-    fn make_thread(&mut self, name: &Name, script: u32) -> Reply
+    fn make_thread(&mut self, name: &Hashed<'_>, script: u32) -> Reply
         requires { IsInOrder self.old.state }
         ensures reply { result ≡ (command_step self.old.state (MakeThread name.now script)).reply }
         ensures state { self.new.state ≡ (command_step self.old.state (MakeThread name.now script)).state }
@@ -262,7 +265,7 @@ impl Tables {
         ensures kept { KeepsStale self.old self.new }
         ensures meter { self.new.meter ≡ self.old.meter }
     {
-        if !is_good_name(name.as_bytes()) {
+        if !self.limits.allow_thread_name(name.as_bytes()) {
             return Reply::Refused(Refusal::BadName);
         }
         if self.target_named(name).is_some() {
@@ -329,7 +332,7 @@ impl Tables {
     }
 
     /// Makes one more thread, which is Ready and serves nobody, and returns its number.
-    fn add_thread(&mut self, name: &Name, script: u32) -> ThreadNumber
+    fn add_thread(&mut self, name: &Hashed<'_>, script: u32) -> ThreadNumber
         requires room { names.are_threads_full self.old.state ≡ false }
         requires idle { HasIdlePlace self.old.state }
         ensures number { result.number ≡ next_thread self.old.state }
@@ -345,7 +348,7 @@ impl Tables {
     }
 
     /// Makes a thread with the next number that was never given, and returns it.
-    fn add_thread_last(&mut self, name: &Name, script: u32) -> ThreadNumber
+    fn add_thread_last(&mut self, name: &Hashed<'_>, script: u32) -> ThreadNumber
         requires { length self.old.state.threads < self.old.state.limits.threads }
         ensures number { result.number ≡ length self.old.state.threads + 1 }
         ensures state { self.new.state
@@ -368,7 +371,7 @@ impl Tables {
     }
 
     /// Makes a thread in the first free place and returns its number, or `None` if no place is free.
-    fn add_thread_again(&mut self, name: &Name, script: u32) -> Option<ThreadNumber>
+    fn add_thread_again(&mut self, name: &Hashed<'_>, script: u32) -> Option<ThreadNumber>
         requires idle { HasIdlePlace self.old.state }
         ensures number { option_map (λ t. t.number) result
             ≡ option_map (λ place. place + 1) (slice_get (free_threads self.old.state) 0) }
@@ -394,7 +397,7 @@ impl Tables {
         &mut self,
         amount: u64,
         currency: &CurrencyRef,
-        name: &Name,
+        name: &Hashed<'_>,
         script: u32,
     ) -> Reply
         requires { IsInOrder self.old.state }
@@ -411,7 +414,7 @@ impl Tables {
         let Some(issuer) = self.currency_meant(currency) else {
             return Reply::Refused(Refusal::NoCurrency);
         };
-        if !is_good_name(name.as_bytes()) {
+        if !self.limits.allow_thread_name(name.as_bytes()) {
             return Reply::Refused(Refusal::BadName);
         }
         if self.target_named(name).is_some() {

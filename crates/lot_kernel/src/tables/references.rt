@@ -6,9 +6,9 @@ ghost use Rattle.lot_machine.specs.State.{thread_at};
 ghost use Rattle.lot_queues.specs.QueueLists.{IsThere};
 ghost use Rattle.lot_kernel.specs.Snapshots.{IsTargetThere};
 
-use crate::names::{currency_place, thread_place};
+use crate::names::{Hashed, currency_place, thread_place};
 use crate::tables::Tables;
-use lot_machine::{CurrencyRef, Name, Target, TargetRef, ThreadRef, index_of};
+use lot_machine::{CurrencyRef, Target, TargetRef, ThreadRef, index_of};
 
 impl Tables {
     /// The number of the currency that the reference means, if it exists.
@@ -17,7 +17,7 @@ impl Tables {
         ensures there { IfSome result (λ c. slice_get (map is_some self.now.state.currencies) c ≡ Some true) }
     {
         match currency {
-            CurrencyRef::Named(name) => self.currency_named(name),
+            CurrencyRef::Named(name) => self.currency_named(&Hashed::new(name)),
             CurrencyRef::Numbered(number) => self.currency_numbered(*number),
         }
     }
@@ -27,7 +27,7 @@ impl Tables {
         ensures { result ≡ names.thread_meant self.now.state thread.now }
     {
         match thread {
-            ThreadRef::Named(name) => self.thread_named(name),
+            ThreadRef::Named(name) => self.thread_named(&Hashed::new(name)),
             ThreadRef::Numbered(number) => self.thread_numbered(*number),
         }
     }
@@ -38,14 +38,14 @@ impl Tables {
         ensures there { IfSome result (IsTargetThere self.now.state) }
     {
         match to {
-            TargetRef::Named(name) => self.target_named(name),
+            TargetRef::Named(name) => self.target_named(&Hashed::new(name)),
             TargetRef::Currency(number) => Some(Target::Currency(self.currency_numbered(*number)?)),
             TargetRef::Thread(number) => Some(Target::Thread(self.thread_numbered(*number)?)),
         }
     }
 
     /// The currency or thread with this name.
-    pub(super) fn target_named(&self, name: &Name) -> Option<Target>
+    pub(super) fn target_named(&self, name: &Hashed<'_>) -> Option<Target>
         ensures named { result ≡ names.target_named self.now.state name.now }
         ensures there { IfSome result (IsTargetThere self.now.state) }
     {
@@ -55,7 +55,7 @@ impl Tables {
         Some(Target::Thread(self.thread_named(name)?))
     }
 
-    fn currency_named(&self, name: &Name) -> Option<u32>
+    fn currency_named(&self, name: &Hashed<'_>) -> Option<u32>
         ensures named { result ≡ names.currency_named self.now.state name.now }
         ensures there { IfSome result (λ c. slice_get (map is_some self.now.state.currencies) c ≡ Some true) }
     {
@@ -76,7 +76,7 @@ impl Tables {
         }
     }
 
-    fn thread_named(&self, name: &Name) -> Option<u32>
+    fn thread_named(&self, name: &Hashed<'_>) -> Option<u32>
         ensures named { result ≡ names.thread_named self.now.state name.now }
         ensures there { IfSome result (IsThere self.now.state.records) }
     {

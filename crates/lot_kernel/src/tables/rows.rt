@@ -1,5 +1,5 @@
 //! Rows of listings (4.7).
-ghost use Rattle.std.specs.Prelude.{◌≡◌, ◌<◌, [], Some, IfNone, IfSome, length};
+ghost use Rattle.std.specs.Prelude.{◌≡◌, ◌↔◌, ◌<◌, [], Some, IfNone, IfSome, IsTrue, length};
 ghost use Rattle.lot_machine.specs.declared.ticket.Ticket.{Ticket as ATicket};
 ghost use Rattle.lot_machine.specs.Rows as rows;
 ghost use Rattle.lot_machine.specs.Order.{IsInOrder};
@@ -43,9 +43,73 @@ impl Tables {
             amount: found.amount,
             issuer,
             target,
+            funds: found.target,
             is_active: self.threads.is_active(ticket),
             value: self.threads.ticket_value(ticket),
         })
+    }
+
+    /// The row of the ticket with this number, or `None` if and only if it doesn't exist, if nothing is stale. It
+    /// divides the issuer's value, and counts nothing.
+    pub(crate) fn settled_ticket_row(&self, ticket: TicketNumber) -> Option<TicketRow>
+        requires order { IsInOrder self.now.state }
+        requires settled { self.now.stale ≡ [] }
+        ensures row { result ≡ rows.ticket_row self.now.state ticket.number }
+    {
+        let found = self.threads.graph().ticket(ticket.number)?;
+        let issuer = self
+            .currency_name(CurrencyNumber {
+                number: found.issuer,
+            })
+            .or(Name::new(""))?;
+        Some(TicketRow {
+            amount: found.amount,
+            issuer,
+            target: self.target_name(found.target),
+            funds: found.target,
+            is_active: self.threads.is_active(ticket),
+            value: self.ticket_value(ticket),
+        })
+    }
+
+    /// The value of a ticket if nothing is stale (4.4), or 0 if it doesn't exist.
+    fn ticket_value(&self, ticket: TicketNumber) -> u64
+        requires order { IsInOrder self.now.state }
+        requires settled { self.now.stale ≡ [] }
+        ensures { (t : ATicket) → ticket_in self.now.state.tickets ticket.number ≡ Some t
+            → result ≡ worth.ticket_value self.now.state.limits.unit (funding_of self.now.state)
+            (live_of self.now.state) t }
+    {
+        let Some(found) = self.threads.graph().ticket(ticket.number) else {
+            return 0;
+        };
+        if !self.threads.is_active(ticket) {
+            return 0;
+        }
+        if found.issuer == 0 {
+            return u64::from(found.amount) * u64::from(self.limits.unit);
+        }
+        let issuer = found.issuer;
+        let value = self.threads.value_of(Node::Currency(issuer));
+        let active = self
+            .threads
+            .active_amount(CurrencyNumber { number: issuer });
+        (u128::from(value) * u128::from(found.amount) / u128::from(active)) as u64
+    }
+
+    /// Recomputes all stale values, and counts that.
+    pub(crate) fn settle(&mut self)
+        ensures settled { self.new ≡ settled self.old }
+        ensures once { HasNoneTwice self.old.stale }
+    {
+        self.threads.settle();
+    }
+
+    /// Whether no value is stale.
+    pub(crate) fn is_settled(&self) -> bool
+        ensures { IsTrue result ↔ (self.now.stale ≡ []) }
+    {
+        self.threads.is_settled()
     }
 
     /// The row of the currency with this number, or `None` if and only if it doesn't exist. Settles.
@@ -59,6 +123,23 @@ impl Tables {
     {
         let name = self.currency_name(currency)?;
         self.threads.settle();
+        let graph = self.threads.graph();
+        Some(CurrencyRow {
+            name,
+            backing: count_backing(graph, currency.number),
+            issued: count_issued(graph, currency.number),
+            active_amount: self.threads.active_amount(currency),
+            value: self.currency_value(currency),
+        })
+    }
+
+    /// The row of the currency with this number, or `None` if and only if it doesn't exist, if nothing is stale.
+    pub(crate) fn settled_currency_row(&self, currency: CurrencyNumber) -> Option<CurrencyRow>
+        requires order { IsInOrder self.now.state }
+        requires settled { self.now.stale ≡ [] }
+        ensures row { result ≡ rows.currency_row self.now.state currency.number }
+    {
+        let name = self.currency_name(currency)?;
         let graph = self.threads.graph();
         Some(CurrencyRow {
             name,
@@ -93,6 +174,24 @@ impl Tables {
         let found = self.threads.record(thread)?;
         let name = self.thread_name(thread)?;
         self.threads.settle();
+        let value = self.threads.worth_of(thread);
+        Some(ThreadRow {
+            name,
+            status: found.status,
+            value,
+            weight: weight(value, found.compensation, self.limits.quantum),
+            quanta: found.quanta,
+            ticks: found.ticks,
+        })
+    }
+
+    /// The row of the thread with this number, or `None` if and only if it doesn't exist, if nothing is stale.
+    pub(crate) fn settled_thread_row(&self, thread: ThreadNumber) -> Option<ThreadRow>
+        requires settled { self.now.stale ≡ [] }
+        ensures row { result ≡ rows.thread_row self.now.state thread.number }
+    {
+        let found = self.threads.record(thread)?;
+        let name = self.thread_name(thread)?;
         let value = self.threads.worth_of(thread);
         Some(ThreadRow {
             name,

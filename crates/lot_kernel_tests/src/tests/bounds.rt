@@ -13,6 +13,7 @@ const LEAST: Sizes = Sizes {
     quantum: 1,
     unit: 1,
     reuse: false,
+    plain_names: false,
 };
 
 /// The largest sizes.
@@ -27,6 +28,7 @@ const MOST: Sizes = Sizes {
     quantum: 1000,
     unit: 256,
     reuse: false,
+    plain_names: false,
 };
 
 /// Sizes with one of them one past its bound. A unit is 1 or 256.

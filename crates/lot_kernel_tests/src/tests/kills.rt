@@ -16,7 +16,7 @@ const RUNNING: [Step<'_>; 17] = [
     Step::Gives(Line::Kill("a"), Reply::Done),
     Step::Pauses(Pause::Preempt(1, 0), Reply::Refused(Refusal::NotRunning)),
     Step::Thread((1, "a", Status::Dead, 0, 0, 1, 30)),
-    Step::Ticket((1, 400, "base", "a", false, 0)),
+    Step::Ticket((1, 400, "base", "a", Target::Thread(1), false, 0)),
     Step::Gives(Line::Kill("a"), Reply::Refused(Refusal::DeadThread)),
     Step::Gives(Line::Fund(1, "a"), Reply::Refused(Refusal::DeadThread)),
     Step::Pauses(Pause::Wake(1), Reply::Refused(Refusal::NotAsleep)),
@@ -84,7 +84,7 @@ const SHARED: [Step<'_>; 10] = [
     ),
     Step::Value(1, 50),
     Step::Gives(Line::Kill("a"), Reply::Done),
-    Step::Ticket((2, 1, "g", "a", false, 0)),
+    Step::Ticket((2, 1, "g", "a", Target::Thread(1), false, 0)),
     Step::Currency((1, "g", 1, 2, 1, 100)),
     Step::Thread((2, "b", Status::Ready, 100, 100, 0, 0)),
 ];

@@ -91,3 +91,58 @@ fn one_name_for_each_currency(rt: HostRuntime) {
     let full = Reply::Refused(Refusal::Full);
     check_answer(&rt, &mut kernel, Line::Mkcur("x"), full)
 }
+
+/// Names that aren't a letter a to z, followed by letters, digits, `_` or `-`.
+const REFUSED: [Step<'_>; 6] = [
+    Step::Gives(Line::Mkthr("Job#1", 1), Reply::Refused(Refusal::BadName)),
+    Step::Gives(Line::Mkcur("~!"), Reply::Refused(Refusal::BadName)),
+    Step::Gives(Line::Mkcur("9"), Reply::Refused(Refusal::BadName)),
+    Step::Gives(
+        Line::Fundx(1, "base", "aB", 1),
+        Reply::Refused(Refusal::BadName),
+    ),
+    Step::Gives(Line::Mktkt(1, "~!"), Reply::Refused(Refusal::NoCurrency)),
+    Step::Gives(Line::Kill("Job#1"), Reply::Refused(Refusal::NoThread)),
+];
+
+/// Plain names have any printable ASCII but the space, from `!` to `~`. No two are the same that differ in one letter
+/// alone, which is small in the one and a capital in the other.
+const PLAIN: [Step<'_>; 22] = [
+    Step::Gives(Line::Mkthr("Job#1", 1), Reply::Thread(1)),
+    Step::Gives(Line::Mkcur("~!"), Reply::Currency(1)),
+    Step::Gives(Line::Mkcur("9"), Reply::Currency(2)),
+    Step::Gives(Line::Mkcur("Job#1"), Reply::Refused(Refusal::NameTaken)),
+    Step::Gives(Line::Mkthr("9", 1), Reply::Refused(Refusal::NameTaken)),
+    Step::Gives(Line::Mkthr("job#1", 1), Reply::Thread(2)),
+    Step::Gives(Line::Mkcur("a b"), Reply::Refused(Refusal::BadName)),
+    Step::Gives(Line::Mkthr("a\u{7f}", 1), Reply::Refused(Refusal::BadName)),
+    Step::Gives(Line::Mkcur(""), Reply::Refused(Refusal::BadName)),
+    Step::Gives(Line::Mkthr("", 1), Reply::Thread(3)),
+    Step::Gives(Line::Mktkt(100, "~!"), Reply::Ticket(1)),
+    Step::Gives(Line::Mktkt(50, "base"), Reply::Ticket(2)),
+    Step::Gives(Line::Fund(2, "~!"), Reply::Done),
+    Step::Gives(Line::Fund(1, "Job#1"), Reply::Done),
+    Step::Ticket((1, 100, "~!", "Job#1", Target::Thread(1), true, 50)),
+    Step::Currency((1, "~!", 1, 1, 100, 50)),
+    Step::Thread((1, "Job#1", Status::Ready, 50, 50, 0, 0)),
+    Step::Gives(Line::Kill("Job#1"), Reply::Done),
+    Step::Gives(Line::Unfund(1), Reply::Done),
+    Step::Gives(Line::Rmthr("Job#1"), Reply::Done),
+    Step::Gives(Line::Rmthr("Job#1"), Reply::Refused(Refusal::NoThread)),
+    Step::Gives(Line::Fund(1, "job#1"), Reply::Done),
+];
+
+#[test]
+fn plain_names(rt: HostRuntime) {
+    play(&rt, rt.alloc(), &REFUSED);
+    let sizes = Sizes {
+        tickets: 8,
+        currencies: 8,
+        threads: 8,
+        scripts: 1,
+        plain_names: true,
+        ..Sizes::SMALLEST
+    };
+    let mut kernel = kernel_of(&rt, rt.alloc(), sizes);
+    take_all(&rt, &mut kernel, &PLAIN)
+}

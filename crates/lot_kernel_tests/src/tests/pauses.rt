@@ -11,7 +11,7 @@ const SLEEPER: [Step<'_>; 13] = [
     Step::Wins(1, 0, (1, 0, 400), None),
     Step::Works(1, 19, Action::Sleep, 1, Outcome::Slept),
     Step::Thread((1, "a", Status::Asleep, 0, 0, 1, 20)),
-    Step::Ticket((1, 400, "base", "a", false, 0)),
+    Step::Ticket((1, 400, "base", "a", Target::Thread(1), false, 0)),
     Step::Idles(1, 0),
     Step::Pauses(Pause::Wake(1), Reply::Done),
     Step::Thread((1, "a", Status::Ready, 400, 2000, 1, 20)),

@@ -207,6 +207,55 @@ fn what_is_read(rt: HostRuntime) {
     count_all(&rt, rt.alloc(), KILLED)
 }
 
+// Two threads, a ticket each: settling reads both, and the rows of the settled kernel read nothing.
+#[test]
+fn settled_rows(rt: HostRuntime) {
+    let mut kernel = largest(&rt, rt.alloc(), 1);
+    check_answer(
+        &rt,
+        &mut kernel,
+        Line::Fundx(10, "base", "a", 1),
+        Reply::Funded {
+            ticket: 1,
+            thread: 1,
+        },
+    );
+    check_answer(
+        &rt,
+        &mut kernel,
+        Line::Fundx(5, "base", "b", 1),
+        Reply::Funded {
+            ticket: 2,
+            thread: 2,
+        },
+    );
+    assert!(&rt; !kernel.is_settled());
+    let before = kernel.meter();
+    kernel.settle();
+    assert!(&rt; kernel.is_settled());
+    check_same(&rt, &read_since(&kernel, before), &2);
+    let settled = kernel.meter();
+    let ticket = kernel.settled_ticket_row(TicketNumber { number: 2 });
+    check_same(
+        &rt,
+        &ticket,
+        &Some(ticket_row(&rt, (2, 5, "base", "b", Target::Thread(2), true, 5))),
+    );
+    let base = kernel.settled_currency_row(CurrencyNumber { number: 0 });
+    check_same(
+        &rt,
+        &base,
+        &Some(currency_row(&rt, (0, "base", 0, 2, 15, 15))),
+    );
+    let thread = kernel.settled_thread_row(ThreadNumber { number: 1 });
+    check_same(
+        &rt,
+        &thread,
+        &Some(thread_row(&rt, (1, "a", Status::Ready, 10, 10, 0, 0))),
+    );
+    check_same(&rt, &read_since(&kernel, settled), &0);
+}
+
 /// A draw visits places of the tree of weights, 1 to 10.
 fn check_visits(rt: &impl Abort, kernel: &mut Kernel, d: u128) {
     let before = kernel.meter().tree_visits;

@@ -26,7 +26,7 @@ const FUNDED_REMOVAL: [Step<'_>; 25] = [
     Step::NoThread(1),
     Step::Thread((2, "a", Status::Ready, 0, 0, 0, 0)),
     Step::Gives(Line::Fund(1, "a"), Reply::Done),
-    Step::Ticket((1, 10, "base", "a", true, 10)),
+    Step::Ticket((1, 10, "base", "a", Target::Thread(2), true, 10)),
     Step::Thread((2, "a", Status::Ready, 10, 10, 0, 0)),
     Step::Gives(Line::Rmthr("a"), Reply::Refused(Refusal::Alive)),
     Step::Wins(1, 7, (2, 7, 10), None),

@@ -16,6 +16,7 @@ fn first_winner(rt: &impl Abort, alloc: Global) -> Reply {
         quantum: 100,
         unit: 1,
         reuse: false,
+        plain_names: false,
     });
     let limits = limits.expect(rt, "limits");
     let mut kernel = Kernel::new(alloc, limits).expect(rt, "memory");

@@ -23,6 +23,7 @@ fn largest(rt: &impl Abort) -> Limits {
         quantum: 100,
         unit: 1,
         reuse: false,
+        plain_names: false,
     });
     limits.expect(rt, "limits")
 }

@@ -4,17 +4,17 @@ ghost use Rattle.std.specs.Prelude.{◌≡◌, ◌<◌, ◌^◌, false};
 use super::same::check_same_at;
 use lot_io::{IoFault, Watched};
 use lot_machine::{
-    Action, CurrencyRow, Event, Kind, Limits, Name, Outcome, Refusal, Reply, Sizes, Status,
+    Action, CurrencyRow, Event, Kind, Limits, Name, Outcome, Refusal, Reply, Sizes, Status, Target,
     ThreadRow, TicketRow, TrapRefusal,
 };
 use lot_print::{
     Heading, Page, ProcessorTotal, ThreadShares, TimedProcessorTotal, TimedWholeTotal, WholeTotal,
-    write_currency, write_ended, write_fault, write_history, write_listing_line,
+    write_currency, write_early_end, write_ended, write_fault, write_history, write_listing_line,
     write_processor_total, write_reply, write_report_line, write_thread, write_thread_total,
     write_ticket, write_timed_processor_total, write_timed_thread_total, write_timed_whole_total,
     write_whole_total,
 };
-use lot_simulation::{Format, InputFault, InputRefusal, LineStyle, Waits};
+use lot_simulation::{EarlyEnd, Format, InputFault, InputRefusal, LineStyle, Waits};
 use std::alloc::Global;
 use std::process::Abort;
 
@@ -506,6 +506,10 @@ fn ticket_row(rt: &impl Abort, printed: &PrintedTicket<'_>) -> TicketRow {
         amount: 1000,
         issuer: name(rt, "base"),
         target: target_of(rt, printed.target),
+        funds: match printed.target {
+            Some(_) => Target::Thread(1),
+            None => Target::Unfunded,
+        },
         is_active: printed.is_active,
         value: 1000,
     }
@@ -966,5 +970,18 @@ fn prints_timed_ends(rt: HostRuntime) {
     let mut writer = Watched::new(Vec::new(rt.alloc()));
     let ended = write_timed_whole_total(&mut writer, total);
     let wanted = "total turns 1 quanta 2 ticks 3 refused 4 left 5\n";
+    check(&rt, writer, ended, wanted);
+}
+
+#[test]
+fn prints_early_ends(rt: HostRuntime) {
+    let early = EarlyEnd {
+        time: 1,
+        end: u32::MAX,
+        turns: u64::MAX,
+    };
+    let mut writer = Watched::new(Vec::new(rt.alloc()));
+    let ended = write_early_end(&mut writer, early);
+    let wanted = "ended at 1 of 4294967295: 18446744073709551615 turns made\n";
     check(&rt, writer, ended, wanted);
 }

@@ -1,7 +1,9 @@
 use Rattle.std.proofs.Common.{◌≡◌, ◌<◌, length, refl, subst, sym, ap, ◌∙◌, arith}
 use Rattle.std.proofs.lemmas.List.{length-set}
 use Rattle.lot_machine.specs.declared.reply.Reply.{Reply}
+use Rattle.lot_machine.specs.State.{State}
 use Rattle.lot_machine.specs.Step.{step, state_after}
+use Rattle.lot_machine.proofs.StepSizes.{step-limits}
 use Rattle.lot_kernel.specs.Counted.{Counts}
 use Rattle.lot_c.specs.Replies.{plain_reply}
 use Rattle.lot_c.proofs.Runs.{meant-more, fault-more, written-step, done-more}
@@ -15,6 +17,7 @@ loop-i-init c = record {
   counted = omega arith;
   done = refl;
   lengths = c.requires;
+  same = refl;
   each = λ end done. done;
 }
 
@@ -24,16 +27,19 @@ loop-i-preserved c =
     let kept = c.loop-i.invariant in
     let below : i < length es = omega (arith, c.loop-i-test.true) in
     let room : i < length rs = omega (arith, c.loop-i-test.true, kept.lengths) in
-    let ok = sym c.read.ensures ∙ c.in-Ok.is in
+    let sizes = c.args.kernel.now.state.limits in
+    let told = rw c.limits-limits.ensures at c.read.ensures in
+    let ok = sym told ∙ c.in-Ok.is in
     let reply : c.of.result ≡ plain_reply (step s e).reply = c.of.ensures ∙ ap plain_reply c.event.ensures.reply in
     record {
-      told = rw reply (rw c.event.ensures.state (written-step es i _ e below ok s rs room ∙ kept.told));
-      state = rw c.event.ensures.state (sym (ap (state_after s) (meant-more es i _ e below ok)) ∙ kept.state);
-      fault = sym (fault-more es i _ e below ok) ∙ kept.fault;
-      counted = omega (arith, kept.counted, ap length (meant-more es i _ e below ok));
+      told = rw reply (rw c.event.ensures.state (written-step sizes es i _ e below ok s rs room kept.same ∙ kept.told));
+      state = rw c.event.ensures.state (sym (ap (state_after s) (meant-more sizes es i _ e below ok)) ∙ kept.state);
+      fault = sym (fault-more sizes es i _ e below ok) ∙ kept.fault;
+      counted = omega (arith, kept.counted, ap length (meant-more sizes es i _ e below ok));
       done = refl;
       lengths = kept.lengths ∙ sym (length-set rs i c.of.result);
-      each = λ end others. kept.each end (done-more es i _ e below ok c.loop-i.kernel c.event.new.self end (record {
+      same = ap (λ (a : State). a.limits) c.event.ensures.state ∙ step-limits s e ∙ kept.same;
+      each = λ end others. kept.each end (done-more sizes es i _ e below ok c.loop-i.kernel c.event.new.self end (record {
         reply = refl;
         state = c.event.ensures.state;
         sound = c.event.ensures.sound;

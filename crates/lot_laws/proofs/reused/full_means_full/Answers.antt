@@ -2,7 +2,7 @@ use Rattle.std.proofs.Common.{◌≡◌, ◌≤◌, is_some, count_by, true, not
 use Rattle.std.proofs.lemmas.Bool.{or_cases}
 use Rattle.lot_machine.specs.declared.command.Command.TheVariants.{MakeTicket, MakeCurrency, MakeThread, MakeFunded}
 use Rattle.lot_machine.specs.declared.refusal.Refusal.TheVariants.{BadAmount, NoCurrency, BadName, NameTaken, NoScript}
-use Rattle.lot_machine.specs.Commands.{currency_meant, is_bad_amount, is_good_name, is_taken, is_no_script, are_tickets_full, are_currencies_full, are_threads_full, command_refusal, command_effect}
+use Rattle.lot_machine.specs.Commands.{currency_meant, is_bad_amount, is_name, is_thread_name, is_taken, is_no_script, are_tickets_full, are_currencies_full, are_threads_full, command_refusal, command_effect}
 use Rattle.lot_machine.proofs.FullTables.{tickets-counted, currencies-counted, threads-counted}
 use Rattle.lot_laws.proofs.EachTicket.{reachable-order}
 use Rattle.lot_laws.proofs.FullRefused.{last-fails, refusal-is}
@@ -17,13 +17,13 @@ returns-clause-ticket c s amount currency reached on is =
 pub returns-clause-currency : goal.returns-clause-currency
 returns-clause-currency c s name reached on is =
     currencies-counted s (reachable-order s reached) on
-    (last-fails ((not (is_good_name name), BadName) ∷ (is_taken s name, NameTaken) ∷ []) (are_currencies_full s) (λ e. cc, (λ e. cc, tt))
+    (last-fails ((not (is_name s.limits name), BadName) ∷ (is_taken s name, NameTaken) ∷ []) (are_currencies_full s) (λ e. cc, (λ e. cc, tt))
     (refusal-is s (command_refusal s (MakeCurrency name)) (command_effect s (MakeCurrency name)) (λ e. cc) is))
 
 pub returns-clause-thread : goal.returns-clause-thread
 returns-clause-thread c s name script reached on is =
     threads-counted s (reachable-order s reached) on
-    (last-fails ((not (is_good_name name), BadName) ∷ (is_taken s name, NameTaken) ∷ (is_no_script s script, NoScript) ∷ []) (are_threads_full s) (λ e. cc, (λ e. cc, (λ e. cc, tt)))
+    (last-fails ((not (is_thread_name s.limits name), BadName) ∷ (is_taken s name, NameTaken) ∷ (is_no_script s script, NoScript) ∷ []) (are_threads_full s) (λ e. cc, (λ e. cc, (λ e. cc, tt)))
     (refusal-is s (command_refusal s (MakeThread name script)) (command_effect s (MakeThread name script)) (λ e. cc) is))
 
 pub returns-clause-funded : goal.returns-clause-funded
@@ -31,7 +31,7 @@ returns-clause-funded c s amount currency name script reached on is = by (or_cas
   where
     full : (are_tickets_full s || are_threads_full s) ≡ true
     full =
-        last-fails ((is_bad_amount amount, BadAmount) ∷ (is_none (currency_meant s currency), NoCurrency) ∷ (not (is_good_name name), BadName)
+        last-fails ((is_bad_amount amount, BadAmount) ∷ (is_none (currency_meant s currency), NoCurrency) ∷ (not (is_thread_name s.limits name), BadName)
         ∷ (is_taken s name, NameTaken) ∷ (is_no_script s script, NoScript) ∷ []) (are_tickets_full s || are_threads_full s) (λ e. cc, (λ e. cc, (λ e. cc, (λ e. cc, (λ e. cc, tt)))))
         (refusal-is s (command_refusal s (MakeFunded amount currency name script)) (command_effect s (MakeFunded amount currency name script)) (λ e. cc) is)
 

@@ -1,90 +1,46 @@
--- Each part is written after those before it.
-use Rattle.std.proofs.Common.{◌≡◌, ◌++◌, ℕ, List, codes, Err, rules, subst}
-use Rattle.std.specs.List.{flat_map, range_with_len}
-use Rattle.lot_simulation.specs.Report.{ticks_in, total_of}
-use Rattle.lot_simulation.specs.Timed.{ended_at, last_moment, timed_turns}
-use Rattle.lot_simulation.specs.TimedReport.{actor_turns, timed_processor_total, timed_thread_lines, timed_whole_total}
+-- The lines of each report, and then that of an early end.
+use Rattle.std.proofs.Common.{◌≡◌, List, ℕ, Err, length, rules, subst}
+use Rattle.lot_simulation.specs.Timed.{ended_at, timed_turns}
+use Rattle.lot_simulation.specs.TimedReport.{early_end, early_text, timed_report_of}
 use Rattle.lot_simulation.specs.World.{Program}
-use Rattle.lot_io.proofs.WritingFacts.{begins-after, begins-front, writes-after}
+use Rattle.lot_io.proofs.WritingFacts.{begins-front, writes-after}
 use Rattle.lot_io.specs.Writing.{Begins, Written}
 use Rattle.lot_playback.specs.declared.timekeeper.Timekeeper.{Timekeeper}
 use Rattle.lot_playback.specs.InTime.{moment_in}
-use Rattle.lot_engine.specs.Seen.{Seen, world_of}
-use Rattle.lot_play.proofs.TimedReportFacts.{report-is}
+use Rattle.lot_engine.specs.Seen.{Seen}
+use Rattle.lot_play.proofs.TimedReportFacts.{early-line, report-is}
 use Rattle.lot_play.proofs.timed_report.write_timed_report.Goals as goal
 
--- the lines of the threads, of the processors, and the last
-abbrev threads : Seen → List ℕ
-threads s = timed_thread_lines (world_of s).state (timed_turns s.setting.program) (total_of ticks_in (actor_turns (timed_turns s.setting.program)))
+-- the lines of each report
+abbrev lines : Seen → Timekeeper → Program → List ℕ
+lines s w program = timed_report_of (moment_in s w) (ended_at program (moment_in s w)) (timed_turns s.setting.program)
 
-abbrev processors : Seen → Timekeeper → ℕ → List ℕ
-processors s w end = flat_map (timed_processor_total (moment_in s w) end (actor_turns (timed_turns s.setting.program))) (range_with_len 1 (world_of s).state.limits.processors)
+-- the line of an early end
+abbrev last : Seen → Timekeeper → Program → List ℕ
+last s w program = early_text (early_end program (moment_in s w) (length s.history))
 
-abbrev totals : Seen → Timekeeper → List ℕ
-totals s w = timed_whole_total (moment_in s w) (actor_turns (timed_turns s.setting.program))
-
--- all lines of a program's report but its first
-abbrev lines : Program → List ℕ
-lines program =
-    timed_thread_lines (last_moment program).world.state (timed_turns program) (total_of ticks_in (actor_turns (timed_turns program)))
-    ++ (flat_map (timed_processor_total (last_moment program) (ended_at program (last_moment program)) (actor_turns (timed_turns program))) (range_with_len 1 (last_moment program).world.state.limits.processors)
-    ++ timed_whole_total (last_moment program) (actor_turns (timed_turns program)))
-
-pub returns-in_err-write_report_line-clause-text : goal.returns-in_err-write_report_line-clause-text
-returns-in_err-write_report_line-clause-text g c =
-    let is : c.from_residual.result ≡ Err c.in_err-write_report_line.field-0.0 = search rules in
-    let told = c.in_err-write_report_line.ensures in
-    rw is (told.0, told.1, begins-front (g.W.Write.contents c.args.writer.now.inner) (g.W.Write.contents c.write_report_line.new.writer.inner) (codes "report\n") (lines c.args.program.now) told.2)
-
-pub returns-in_err-write_threads-clause-text : goal.returns-in_err-write_threads-clause-text
-returns-in_err-write_threads-clause-text g c =
+pub returns-in_err-write_lines-clause-text : goal.returns-in_err-write_lines-clause-text
+returns-in_err-write_lines-clause-text g c =
     let s = c.args.system.now in
     let w = c.args.timekeeper.now in
-    let end = c.ended_at-end.result in
-    let is : c.from_residual-in_err-write_threads.result ≡ Err c.in_err-write_threads.field-0.0 = search rules in
-    let told = c.in_err-write_threads.ensures.text in
+    let program = c.args.program.now in
+    let is : c.from_residual.result ≡ Err c.in_err-write_lines.field-0.0 = search rules in
+    let told = c.in_err-write_lines.ensures.text in
     let old = g.W.Write.contents c.args.writer.now.inner in
-    let one = g.W.Write.contents c.write_report_line.new.writer.inner in
-    let new = g.W.Write.contents c.write_threads.new.writer.inner in
-    let text = report-is s w c.requires.end c.args.program.now end c.requires.program c.ended_at-end.ensures in
-    let begun : Begins old new (codes "report\n" ++ (threads s ++ (processors s w end ++ totals s w))) =
-    begins-after old one new (codes "report\n") (threads s ++ (processors s w end ++ totals s w)) c.in_ok-write_report_line.ensures.1 (begins-front one new (threads s) (processors s w end ++ totals s w) told.2) in
-    rw is (told.0, told.1, subst (Begins old new) text begun)
-
-pub returns-in_err-write_processors-clause-text : goal.returns-in_err-write_processors-clause-text
-returns-in_err-write_processors-clause-text g c =
-    let s = c.args.system.now in
-    let w = c.args.timekeeper.now in
-    let end = c.ended_at-end.result in
-    let is : c.from_residual-in_err-write_processors.result ≡ Err c.in_err-write_processors.field-0.0 = search rules in
-    let told = rw c.in_ok-write_threads.ensures.same at c.in_err-write_processors.ensures in
-    let old = g.W.Write.contents c.args.writer.now.inner in
-    let one = g.W.Write.contents c.write_report_line.new.writer.inner in
-    let two = g.W.Write.contents c.write_threads.new.writer.inner in
-    let new = g.W.Write.contents c.write_processors.new.writer.inner in
-    let text = report-is s w c.requires.end c.args.program.now end c.requires.program c.ended_at-end.ensures in
-    let begun : Begins old new (codes "report\n" ++ (threads s ++ (processors s w end ++ totals s w))) =
-    begins-after old one new (codes "report\n") (threads s ++ (processors s w end ++ totals s w)) c.in_ok-write_report_line.ensures.1
-    (begins-after one two new (threads s) (processors s w end ++ totals s w) c.in_ok-write_threads.ensures.text.1 (begins-front two new (processors s w end) (totals s w) told.2)) in
-    rw is (told.0, told.1, subst (Begins old new) text begun)
+    let new = g.W.Write.contents c.write_lines.new.writer.inner in
+    rw is (told.0, told.1, subst (Begins old new) (report-is s w c.requires.end program c.requires.program) (begins-front old new (lines s w program) (last s w program) told.2))
 
 pub returns-clause-text : goal.returns-clause-text
 returns-clause-text g c =
     let s = c.args.system.now in
     let w = c.args.timekeeper.now in
-    let end = c.ended_at-end.result in
-    let same = c.in_ok-write_threads.ensures.same in
-    let third = rw same at c.in_ok-write_processors.ensures in
-    let last = rw same at c.write_total.ensures in
+    let program = c.args.program.now in
+    let first = c.in_ok-write_lines.ensures in
     let old = g.W.Write.contents c.args.writer.now.inner in
-    let one = g.W.Write.contents c.write_report_line.new.writer.inner in
-    let two = g.W.Write.contents c.write_threads.new.writer.inner in
-    let three = g.W.Write.contents c.write_processors.new.writer.inner in
-    let new = g.W.Write.contents c.write_total.new.writer.inner in
-    let failed = c.write_total.new.writer.failed in
-    let result = c.write_total.result in
-    let text = report-is s w c.requires.end c.args.program.now end c.requires.program c.ended_at-end.ensures in
-    let written : Written old new failed result (codes "report\n" ++ (threads s ++ (processors s w end ++ totals s w))) =
-    writes-after old one new failed result (codes "report\n") (threads s ++ (processors s w end ++ totals s w)) c.in_ok-write_report_line.ensures.1
-    (writes-after one two new failed result (threads s) (processors s w end ++ totals s w) c.in_ok-write_threads.ensures.text.1 (writes-after two three new failed result (processors s w end) (totals s w) third.1 last)) in
-    subst (Written old new failed result) text written
+    let mid = g.W.Write.contents c.write_lines.new.writer.inner in
+    let new = g.W.Write.contents c.write_early.new.writer.inner in
+    let failed = c.write_early.new.writer.failed in
+    let result = c.write_early.result in
+    let line = early-line s c.write_lines.new.system w program c.early_end.result first.same c.early_end.ensures in
+    let second : Written mid new failed result (last s w program) = subst (Written mid new failed result) line c.write_early.ensures in
+    subst (Written old new failed result) (report-is s w c.requires.end program c.requires.program) (writes-after old mid new failed result (lines s w program) (last s w program) first.text.1 second)

@@ -11,4 +11,4 @@ invariant-loop-last l = record {
 }
 
 abbrev pub decreases-loop-last : goal.decreases-loop-last
-decreases-loop-last l = l.n - l.last
+decreases-loop-last l = l.end - l.last

@@ -4,7 +4,7 @@ use Rattle.lot_machine.specs.declared.funding.Node.{Node}
 use Rattle.lot_machine.specs.Funding.{IsEdge}
 use Rattle.lot_machine.proofs.EachOnce.{contains-nothing}
 use Rattle.lot_value.specs.Caches.{Known}
-use Rattle.lot_value.specs.Touched.{IsFundedBy}
+use Rattle.lot_value.specs.Touched.{IsUser, IsFundedBy}
 use Rattle.lot_value.proofs.Touches.{touched-none, touched-then, funded-more, next-listed, all-yielded}
 use Rattle.lot_value.proofs.touching.touch_funded.Goals as goal
 
@@ -15,31 +15,22 @@ loop-node-init c = record {
   marked = λ to by. absurd (contains-nothing by.0 by.1);
 }
 
-pub touch_targets-requires-clause-layout : goal.touch_targets-requires-clause-layout
-touch_targets-requires-clause-layout c = ap (λ (k : Known). k.layout) c.loop-node.invariant.touched.others ∙ c.requires.layout
+pub touch_funded_by-requires-clause-layout : goal.touch_funded_by-requires-clause-layout
+touch_funded_by-requires-clause-layout c = ap (λ (k : Known). k.layout) c.loop-node.invariant.touched.others ∙ c.requires.layout
 
-pub touch_targets-requires-clause-node : goal.touch_targets-requires-clause-node
-touch_targets-requires-clause-node c = c.requires.nodes c.in-Some.node (next-listed _ c.loop-node.yielded _ _ c.in-Some.node c.loop-node.invariant.split c.in-Some.ensures.steps)
-
-pub loop-node-preserved-then-is_user_currency : goal.loop-node-preserved-then-is_user_currency
-loop-node-preserved-then-is_user_currency c =
-    let w = c.args.graph.now in
-    let inv = c.loop-node.invariant in
-    let node = c.in-Some.node in
-    let user = c.is_user_currency.ensures.0 c.if-is_user_currency.true in
-    let here = next-listed _ c.loop-node.yielded _ _ node inv.split c.in-Some.ensures.steps in record {
-      split = grind (arith, common_steps);
-      touched = touched-then w c.args.values.now c.loop-node.values c.touch_targets.new.values (IsFundedBy w c.args.nodes) (IsEdge w.funding node) (IsFundedBy w c.args.nodes) inv.touched c.touch_targets.ensures.touched (λ x so. so) (λ x edge. (node, here, user, edge));
-      marked = funded-more w c.loop-node.values c.touch_targets.new.values c.loop-node.yielded node c.touch_targets.ensures.touched.kept inv.marked (λ user' to edge. c.touch_targets.ensures.marked to edge);
-    }
+pub touch_funded_by-requires-clause-node : goal.touch_funded_by-requires-clause-node
+touch_funded_by-requires-clause-node c = c.requires.nodes c.in-Some.node (next-listed _ c.loop-node.yielded _ _ c.in-Some.node c.loop-node.invariant.split c.in-Some.ensures.steps)
 
 pub loop-node-preserved : goal.loop-node-preserved
 loop-node-preserved c =
     let w = c.args.graph.now in
-    let inv = c.loop-node.invariant in record {
+    let inv = c.loop-node.invariant in
+    let node = c.in-Some.node in
+    let here = next-listed _ c.loop-node.yielded _ _ node inv.split c.in-Some.ensures.steps in
+    let by : Node → Type 0 = λ to. IsUser node × IsEdge w.funding node to in record {
       split = grind (arith, common_steps);
-      touched = inv.touched;
-      marked = funded-more w c.loop-node.values c.loop-node.values c.loop-node.yielded c.in-Some.node (λ x is. is) inv.marked (λ user to edge. let yes = c.is_user_currency.ensures.1 user in let no = sym c.if-is_user_currency.false ∙ yes in cc);
+      touched = touched-then w c.args.values.now c.loop-node.values c.touch_funded_by.new.values (IsFundedBy w c.args.nodes) by (IsFundedBy w c.args.nodes) inv.touched c.touch_funded_by.ensures.touched (λ x so. so) (λ x so. (node, here, so.0, so.1));
+      marked = funded-more w c.loop-node.values c.touch_funded_by.new.values c.loop-node.yielded node c.touch_funded_by.ensures.touched.kept inv.marked c.touch_funded_by.ensures.marked;
     }
 
 pub returns-clause-marked : goal.returns-clause-marked

@@ -3,13 +3,14 @@ use Rattle.lot_machine.specs.declared.funding.Node.{Node}
 use Rattle.lot_machine.specs.Equations.{HasEquation}
 use Rattle.lot_active.specs.Changes.{switched_nodes}
 use Rattle.lot_value.specs.Caches.{IsStale}
-use Rattle.lot_value.specs.Touched.{Touched}
+use Rattle.lot_value.specs.Touched.{Touched, IsFundedBy, IsSwitchedOrFunded}
 use Rattle.lot_value.proofs.touching.touch_switched.Given as goal
 
 -- the nodes are those that were yielded and those that are left
 abbrev pub invariant-loop-node : goal.invariant-loop-node
 invariant-loop-node l = record {
   split : switched_nodes l.graph l.active ≡ l.yielded ++ l.node-iterator;
-  touched : Touched l.graph l.fn.values l.values (λ node. Contains (switched_nodes l.graph l.active) node × HasEquation l.graph.funding node);
+  touched : Touched l.graph l.fn.values l.values (IsSwitchedOrFunded l.graph l.active);
   marked : (x : Node) → Contains l.yielded x → HasEquation l.graph.funding x → IsStale l.values x;
+  funded : (to : Node) → IsFundedBy l.graph l.yielded to → IsStale l.values to;
 }

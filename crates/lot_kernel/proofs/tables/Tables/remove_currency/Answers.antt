@@ -11,7 +11,6 @@ use Rattle.lot_kernel.specs.FreePlaces.{freed_in}
 use Rattle.lot_kernel.specs.Snapshots.{held}
 use Rattle.lot_kernel.proofs.Reusing.{currency-fits, currency-left, none-currencies, room-currencies}
 use Rattle.lot_kernel.proofs.Holding.{held-removed}
-use Rattle.lot_kernel.proofs.Indexed.{currency-listed}
 use Rattle.lot_kernel.proofs.tables.Tables.remove_currency.Goals as goal
 
 pub apply-requires-clause-allowed : goal.apply-requires-clause-allowed
@@ -27,7 +26,7 @@ pub remove-requires : goal.remove-requires
 remove-requires c =
     let i = c.self.inside in
     let there : slice_get (map is_some i.currencies.items) c.in-Some.number ≡ Some true = search rules in
-    currency-listed i.currency_index i.currencies.items c.in-Some.number c.self.invariant.currency_index there
+    omega (arith, slice_get_within (map is_some i.currencies.items) c.in-Some.number true there, length-map i.currencies.items is_some, c.self.invariant.currencies, c.self.invariant.currency_places, i.currencies.ok.0)
 
 pub index_mut-requires : goal.index_mut-requires
 index_mut-requires c =

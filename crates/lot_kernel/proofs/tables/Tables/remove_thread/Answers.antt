@@ -10,7 +10,7 @@ use Rattle.lot_kernel.specs.Snapshots.{Snapshot, held}
 use Rattle.lot_kernel.proofs.Reusing.{none-threads, room-threads, thread-fits}
 use Rattle.lot_kernel.proofs.ThreadsAgain.{removes-thread, thread-gone}
 use Rattle.lot_machine.specs.State.{sizes_of}
-use Rattle.lot_kernel.proofs.Indexed.{meant-place, thread-listed}
+use Rattle.lot_kernel.proofs.Indexed.{meant-place}
 use Rattle.std.specs.List.{Contains}
 use Rattle.lot_machine.specs.declared.funding.Node.{Node}
 use Rattle.lot_machine.specs.declared.funding.Node.TheVariants as node
@@ -25,7 +25,7 @@ remove-requires c =
     let i = c.self.inside in
     let (t, number, at) = meant-place c.args.self.now.state c.args.thread.now c.in-Some.number c.index_of.result c.in-Some.ensures c.index_of.ensures in
     let here = ap (λ (x : Snapshot). slice_get x.state.threads c.index_of.result) c.self.view_is ∙ at in
-    thread-listed i.thread_index i.threads.threads c.index_of.result t c.self.invariant.thread_index here
+    omega (arith, slice_get_within i.threads.threads c.index_of.result (Some t) here, c.self.invariant.count, c.self.invariant.few, c.self.invariant.thread_places)
 
 pub remove_thread-requires : goal.remove_thread-requires
 remove_thread-requires c =

@@ -3,7 +3,7 @@ use Rattle.lot_lists.specs.NodeLists.{nodes_of, node_at}
 use Rattle.lot_graph.specs.Places.{node_count, layout_of}
 use Rattle.lot_value.specs.Marking.{IsStaleList}
 use Rattle.lot_value.proofs.Spreading.{IsFollowed}
-use Rattle.lot_value.proofs.marking.mark.Given as goal
+use Rattle.lot_value.proofs.marking.mark_unlisted.Given as goal
 
 -- as many of the places that were listed after the old ones were followed as there were iterations
 abbrev pub invariant-loop : goal.invariant-loop

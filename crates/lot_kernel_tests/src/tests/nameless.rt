@@ -1,0 +1,106 @@
+//! Threads without a name.
+use super::*;
+
+/// The sizes of a kernel of eight tickets, seven currencies and base, eight threads and one script.
+const EIGHT: Sizes = Sizes {
+    tickets: 8,
+    currencies: 7,
+    threads: 8,
+    scripts: 1,
+    quantum: 100,
+    ..Sizes::SMALLEST
+};
+
+/// Any number of threads may have no name, and no currency. No command means a thread by a name that it doesn't have:
+/// each means it by its number.
+const NAMELESS: [Step<'_>; 18] = [
+    Step::Gives(Line::Mkthr("", 1), Reply::Thread(1)),
+    Step::Gives(Line::Mkthr("", 1), Reply::Thread(2)),
+    Step::Gives(
+        Line::Fundx(10, "base", "", 1),
+        Reply::Funded {
+            ticket: 1,
+            thread: 3,
+        },
+    ),
+    Step::Gives(Line::Mkcur(""), Reply::Refused(Refusal::BadName)),
+    Step::Gives(Line::Mktkt(5, "base"), Reply::Ticket(2)),
+    Step::Gives(Line::Fund(2, ""), Reply::Refused(Refusal::NoTarget)),
+    Step::Gives(Line::Mktkt(1, ""), Reply::Refused(Refusal::NoCurrency)),
+    Step::Gives(Line::Rmcur(""), Reply::Refused(Refusal::NoCurrency)),
+    Step::Gives(Line::Kill(""), Reply::Refused(Refusal::NoThread)),
+    Step::Gives(Line::Rmthr(""), Reply::Refused(Refusal::NoThread)),
+    Step::Gives(Line::FundThread(2, 2), Reply::Done),
+    Step::Gives(Line::List(Kind::Threads), Reply::List(Kind::Threads)),
+    Step::Thread((1, "", Status::Ready, 0, 0, 0, 0)),
+    Step::Thread((2, "", Status::Ready, 5, 5, 0, 0)),
+    Step::Thread((3, "", Status::Ready, 10, 10, 0, 0)),
+    Step::Ticket((1, 10, "base", "", Target::Thread(3), true, 10)),
+    Step::Ticket((2, 5, "base", "", Target::Thread(2), true, 5)),
+    Step::Wins(1, 14, (3, 14, 15), None),
+];
+
+#[test]
+fn threads_without_a_name(rt: HostRuntime) {
+    play(&rt, rt.alloc(), &NAMELESS)
+}
+
+/// Threads without a name are removed from among those whose names have one bucket of eight. These are still found.
+const REMOVED: [Step<'_>; 20] = [
+    Step::Gives(Line::Fundx(1, "base", "a", 1), FIRST_FUNDED),
+    Step::Gives(Line::Mkthr("", 1), Reply::Thread(2)),
+    Step::Gives(Line::Mkthr("d", 1), Reply::Thread(3)),
+    Step::Gives(Line::Mkthr("", 1), Reply::Thread(4)),
+    Step::Gives(Line::RemoveThread(2), Reply::Refused(Refusal::Alive)),
+    Step::Gives(Line::KillThread(2), Reply::Done),
+    Step::Gives(Line::RemoveThread(2), Reply::Done),
+    Step::NoThread(2),
+    Step::Gives(Line::RemoveThread(2), Reply::Refused(Refusal::NoThread)),
+    Step::Thread((4, "", Status::Ready, 0, 0, 0, 0)),
+    Step::Gives(Line::Mkthr("a", 1), Reply::Refused(Refusal::NameTaken)),
+    Step::Gives(Line::Mkthr("d", 1), Reply::Refused(Refusal::NameTaken)),
+    Step::Gives(Line::Kill("d"), Reply::Done),
+    Step::Gives(Line::Rmthr("d"), Reply::Done),
+    Step::Gives(Line::KillThread(4), Reply::Done),
+    Step::Gives(Line::RemoveThread(4), Reply::Done),
+    Step::Gives(Line::Mkthr("a", 1), Reply::Refused(Refusal::NameTaken)),
+    Step::Gives(Line::Mkthr("d", 1), Reply::Thread(5)),
+    Step::Gives(Line::Mkthr("", 1), Reply::Thread(6)),
+    Step::Gives(Line::Kill("a"), Reply::Done),
+];
+
+/// The number of a thread without a name is given to one with a name, and back.
+const GIVEN_AGAIN: [Step<'_>; 20] = [
+    Step::Gives(Line::Fundx(1, "base", "a", 1), FIRST_FUNDED),
+    Step::Gives(Line::Mkthr("", 1), Reply::Thread(2)),
+    Step::Gives(Line::Unfund(1), Reply::Done),
+    Step::Gives(Line::KillThread(2), Reply::Done),
+    Step::Gives(Line::RemoveThread(2), Reply::Done),
+    Step::Gives(Line::Mkthr("d", 1), Reply::Thread(2)),
+    Step::Gives(Line::Fund(1, "d"), Reply::Done),
+    Step::Ticket((1, 1, "base", "d", Target::Thread(2), true, 1)),
+    Step::Gives(Line::Unfund(1), Reply::Done),
+    Step::Gives(Line::Kill("d"), Reply::Done),
+    Step::Gives(Line::Rmthr("d"), Reply::Done),
+    Step::Gives(Line::Mkthr("", 1), Reply::Thread(2)),
+    Step::Gives(Line::Fund(1, "d"), Reply::Refused(Refusal::NoTarget)),
+    Step::Gives(Line::FundThread(1, 2), Reply::Done),
+    Step::Ticket((1, 1, "base", "", Target::Thread(2), true, 1)),
+    Step::Thread((2, "", Status::Ready, 1, 1, 0, 0)),
+    Step::Gives(Line::Mkthr("d", 1), Reply::Thread(3)),
+    Step::Gives(Line::Unfund(1), Reply::Done),
+    Step::Gives(Line::Fund(1, "d"), Reply::Done),
+    Step::Ticket((1, 1, "base", "d", Target::Thread(3), true, 1)),
+];
+
+#[test]
+fn removal_of_threads_without_a_name(rt: HostRuntime) {
+    let mut kernel = kernel_of(&rt, rt.alloc(), EIGHT);
+    take_all(&rt, &mut kernel, &REMOVED);
+    let again = Sizes {
+        reuse: true,
+        ..EIGHT
+    };
+    let mut kernel = kernel_of(&rt, rt.alloc(), again);
+    take_all(&rt, &mut kernel, &GIVEN_AGAIN)
+}
