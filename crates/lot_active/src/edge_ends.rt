@@ -1,8 +1,9 @@
 //! An edge of the graph, given by its ends.
-ghost use Rattle.std.specs.Prelude.{◌≡◌};
+ghost use Rattle.std.specs.Prelude.{◌≡◌, Some};
 ghost use Rattle.lot_machine.specs.Funding as funding;
 ghost use Rattle.lot_graph.specs.Graphs.{IsSound};
 ghost use Rattle.lot_graph.specs.Places.{FitsLimits, layout_of};
+ghost use Rattle.lot_active.specs.declared.edge_ends.EdgePlaces.{EdgePlaces as AnEdgePlaces};
 ghost use Rattle.lot_active.specs.Fundings as fundings;
 
 use lot_graph::{Graph, Layout};
@@ -21,6 +22,13 @@ pub struct EdgeEnds {
 pub(crate) struct EdgePlaces {
     pub(crate) from: usize,
     pub(crate) to: usize,
+    pub(crate) amount: u32,
+}
+
+/// The source of an edge by its place, and the edge's amount.
+#[derive(Clone, Copy)]
+pub(crate) struct EdgeSource {
+    pub(crate) place: usize,
     pub(crate) amount: u32,
 }
 
@@ -67,14 +75,32 @@ pub fn ends_of_edge(graph: &Graph, edge: Edge) -> Option<EdgeEnds>
     }
 }
 
-/// The ends of an edge by their places, and its amount, if the edge exists.
-pub(crate) fn places_of_edge(graph: &Graph, edge: Edge) -> Option<EdgePlaces>
-    ensures places { result ≡ fundings.places_of_edge (layout_of graph.now) graph.now.funding edge }
+/// The source and the amount of an edge, if the edge exists. It doesn't look at the edge's target.
+#[inline(always)]
+pub(crate) fn source_of_edge(graph: &Graph, edge: Edge) -> Option<EdgeSource>
+    ensures source { (ends : AnEdgePlaces) → fundings.places_of_edge (layout_of graph.now) graph.now.funding edge
+        ≡ Some ends → result ≡ Some (record { place = ends.from; amount = ends.amount }) }
     ensures sound { IsSound graph.now.funding }
     ensures fits { FitsLimits graph.now }
 {
-    let ends = ends_of_edge(graph, edge)?;
-    Some(ends.places(graph.layout()))
+    let layout = graph.layout();
+    match edge {
+        Edge::OfTicket(number) => {
+            let ticket = graph.ticket(number)?;
+            Some(EdgeSource {
+                place: layout.list_of(Node::Currency(ticket.issuer)),
+                amount: ticket.amount,
+            })
+        }
+        Edge::OfLender(thread) => Some(EdgeSource {
+            place: layout.list_of(Node::Thread(thread)),
+            amount: 1,
+        }),
+        Edge::OfMutex(mutex) => Some(EdgeSource {
+            place: layout.list_of(Node::Mutex(mutex)),
+            amount: 1,
+        }),
+    }
 }
 
 /// The node of a ticket's target, if it has one.
@@ -89,7 +115,7 @@ pub fn funded_node(target: Target) -> Option<Node>
 }
 
 /// The node that receives a lend, a thread or a mutex, if any.
-fn lent_node(lend: Lend) -> Option<Node>
+pub fn lent_node(lend: Lend) -> Option<Node>
     ensures { result ≡ funding.lend_node lend }
 {
     match lend {

@@ -13,4 +13,4 @@ mod marks;
 
 pub use active::Active;
 pub use changed::ChangedNodes;
-pub use edge_ends::{EdgeEnds, ends_of_edge, funded_node};
+pub use edge_ends::{EdgeEnds, ends_of_edge, funded_node, lent_node};

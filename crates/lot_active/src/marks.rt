@@ -8,7 +8,7 @@ ghost use Rattle.lot_active.specs.Held.{Held, IsSized, AllEmpty, Relists, NotesC
 ghost use Rattle.lot_active.specs.Held.{SetsAwake, Settles, on_at, held_at};
 ghost use Rattle.lot_active.specs.Spread.{Spreading, Crossing};
 
-use crate::edge_ends::places_of_edge;
+use crate::edge_ends::source_of_edge;
 use lot_graph::Graph;
 use lot_lists::{Lists, Nodes};
 use std::alloc::{AllocError, Global};
@@ -168,10 +168,10 @@ impl Marks {
     {
         let layout = graph.layout();
         for edge in graph.edges_into(layout.node_of(node)) {
-            let Some(places) = places_of_edge(graph, edge) else {
+            let Some(source) = source_of_edge(graph, edge) else {
                 unreachable!()
             };
-            self.adjust(places.from, places.amount, on);
+            self.adjust(source.place, source.amount, on);
         }
     }
 

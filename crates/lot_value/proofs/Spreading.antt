@@ -9,7 +9,7 @@ use Rattle.lot_lists.specs.NodeLists.{NodeLists, nodes_of, node_at, IsFree, IsCo
 use Rattle.lot_machine.specs.declared.ticket.Ticket.{Ticket}
 use Rattle.lot_machine.specs.declared.funding.Node.{Node}
 use Rattle.lot_machine.specs.declared.funding.Node.TheVariants.{Currency, Thread, Mutex}
-use Rattle.lot_machine.specs.Funding.{Funding, ends_of, ticket_at, target_node}
+use Rattle.lot_machine.specs.Funding.{Funding, IsEdge, ends_of, ticket_at, target_node}
 use Rattle.lot_machine.specs.declared.funding.Edge.{Edge}
 use Rattle.lot_machine.specs.declared.funding.Edge.TheVariants.{OfTicket, OfLender, OfMutex}
 use Rattle.lot_machine.specs.Equations.{Reaches, HasEachOnce}
@@ -68,6 +68,18 @@ spread-push v w node one is = record {
     by : (x : ℕ) → Contains (nodes_of v 0) x ⊎ (node ≡ x) → Contains (nodes_of v 0) x ⊎ (x ≡ node)
     by x (inl c) = inl c
     by x (inr same) = inr (sym same)
+
+-- what the one edge out of a node leads to is added
+pub spread-edge : (l : Layout) (f : Funding) (from to : Node) (v w : NodeLists) (place : ℕ) → IsEdge f from to → ((x : Node) → IsEdge f from x → to ≡ x) → place ≡ node_place l to → Spreads v w (λ x. x ≡ place) → Spreads v w (LeadsToPlace l f from)
+spread-edge l f from to v w place edge only is spreads = record {
+  kept = spreads.kept;
+  each = λ x c. by x (spreads.each x c);
+  all = λ x (other, other_edge, here). spreads.all x (sym here ∙ ap (node_place l) (sym (only other other_edge)) ∙ sym is);
+}
+  where
+    by : (x : ℕ) → Contains (nodes_of v 0) x ⊎ (x ≡ place) → Contains (nodes_of v 0) x ⊎ LeadsToPlace l f from x
+    by x (inl before) = inl before
+    by x (inr same) = inr (to, edge, sym (same ∙ is))
 
 spread-contains : (v w : NodeLists) (IsSo : ℕ → Type 0) → Spreads v w IsSo → (x : ℕ) → Contains (nodes_of v 0) x → Contains (nodes_of w 0) x
 spread-contains v w IsSo spreads x c = let r = place-in (nodes_of v 0) x c in contains-at (nodes_of w 0) r.0 x (spreads.kept r.0 x r.1)

@@ -1,13 +1,14 @@
 //! Marking a node, and all nodes downstream of it, as stale.
 ghost use Rattle.std.specs.Prelude.{◌≡◌, ◌<◌, Contains};
 ghost use Rattle.lot_lists.specs.NodeLists.{IsFree, nodes_of};
-ghost use Rattle.lot_machine.specs.declared.funding.Node.TheVariants.{Currency as CurrencyNode};
+ghost use Rattle.lot_machine.specs.declared.funding.Node.TheVariants.{Currency as CurrencyNode, Thread as ThreadNode};
+ghost use Rattle.lot_machine.specs.declared.funding.Node.TheVariants.{Mutex as MutexNode};
 ghost use Rattle.lot_graph.specs.Graphs.{IsNodeOf};
 ghost use Rattle.lot_graph.specs.Places as places;
 ghost use Rattle.lot_graph.specs.Places.{FitsLimits, layout_of, node_place};
 ghost use Rattle.lot_value.specs.Marking.{IsStaleList, LeadsToPlace, Spreads, Marks};
 
-use lot_active::{ends_of_edge, funded_node};
+use lot_active::{funded_node, lent_node};
 use lot_graph::Graph;
 use lot_lists::Lists;
 use lot_machine::Node;
@@ -65,7 +66,8 @@ fn add_targets(graph: &Graph, stale: &mut Lists, from: Node)
 {
     match from {
         Node::Currency(currency) => add_funded(graph, stale, currency),
-        _ => add_borrowers(graph, stale, from),
+        Node::Thread(thread) => add_borrower(graph, stale, thread),
+        Node::Mutex(mutex) => add_owner(graph, stale, mutex),
     }
 }
 
@@ -88,19 +90,34 @@ fn add_funded(graph: &Graph, stale: &mut Lists, currency: u32)
     }
 }
 
-/// Lists the target of a thread's or a mutex's edge, if it has one, unless it is listed.
-fn add_borrowers(graph: &Graph, stale: &mut Lists, from: Node)
+/// Lists the node to which a thread lends, if it lends, unless that node is listed.
+fn add_borrower(graph: &Graph, stale: &mut Lists, thread: u32)
     requires list { IsStaleList stale.old (places.node_count (layout_of graph.now)) }
-    requires node { IsNodeOf graph.now from }
+    requires node { IsNodeOf graph.now (ThreadNode thread) }
     ensures list { IsStaleList stale.new (places.node_count (layout_of graph.now)) }
-    ensures spreads { Spreads stale.old stale.new (LeadsToPlace (layout_of graph.now) graph.now.funding from) }
+    ensures spreads { Spreads stale.old stale.new (LeadsToPlace (layout_of graph.now) graph.now.funding
+        (ThreadNode thread)) }
 {
     let layout = graph.layout();
-    for edge in graph.edges_out_of(from) {
-        let Some(ends) = ends_of_edge(graph, edge) else {
-            unreachable!()
-        };
-        add(stale, layout.list_of(ends.to));
+    let Some(lend) = graph.lend_of(thread) else {
+        return;
+    };
+    if let Some(to) = lent_node(lend) {
+        add(stale, layout.list_of(to));
+    }
+}
+
+/// Lists the owner of a mutex, if it has one, unless that thread is listed.
+fn add_owner(graph: &Graph, stale: &mut Lists, mutex: u32)
+    requires list { IsStaleList stale.old (places.node_count (layout_of graph.now)) }
+    requires node { IsNodeOf graph.now (MutexNode mutex) }
+    ensures list { IsStaleList stale.new (places.node_count (layout_of graph.now)) }
+    ensures spreads { Spreads stale.old stale.new (LeadsToPlace (layout_of graph.now) graph.now.funding
+        (MutexNode mutex)) }
+{
+    let layout = graph.layout();
+    if let Some(owner) = graph.owner(mutex) {
+        add(stale, layout.list_of(Node::Thread(owner)));
     }
 }
 

@@ -16,7 +16,7 @@ ghost use Rattle.lot_machine.specs.declared.funding.Node.{Node as ANode};
 ghost use Rattle.lot_machine.specs.Funding.{IsEdge, ends_of};
 ghost use Rattle.lot_graph.specs.Graphs.{IsNodeOf};
 ghost use Rattle.lot_graph.specs.Places as places;
-ghost use Rattle.lot_graph.specs.Places.{layout_of, node_place};
+ghost use Rattle.lot_graph.specs.Places.{IsEdgeWithin, layout_of, node_place};
 ghost use Rattle.lot_value.specs.Marking.{IsStaleList, IsReordered, IsFreshPlace, LeadsFromPlace, last_of};
 
 use crate::marking::STALE;
@@ -52,10 +52,11 @@ pub(crate) fn has_stale_source(graph: &Graph, stale: &Lists, node: Node) -> bool
 /// The source of an edge, if the edge exists. It doesn't look at the edge's target.
 #[inline(always)]
 fn source_of_edge(graph: &Graph, edge: Edge) -> Option<Node>
+    requires within { IsEdgeWithin (layout_of graph.now) edge }
     ensures source { (from to : ANode) → ends_of graph.now.funding edge ≡ Some (from, to) → result ≡ Some from }
 {
     match edge {
-        Edge::OfTicket(number) => Some(Node::Currency(graph.ticket(number)?.issuer)),
+        Edge::OfTicket(number) => Some(Node::Currency(graph.issuer_of(number)?)),
         Edge::OfLender(thread) => Some(Node::Thread(thread)),
         Edge::OfMutex(mutex) => Some(Node::Mutex(mutex)),
     }

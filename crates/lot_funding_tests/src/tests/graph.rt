@@ -250,14 +250,20 @@ fn edges_out_of(rt: &impl Abort, graph: &Graph, node: Node) -> usize {
     graph.edges_out_of(node).count()
 }
 
+/// The issuer of a ticket.
+fn issuer_of(rt: &impl Abort, graph: &Graph, ticket: u32) -> Option<u32> {
+    assert!(rt; 0 < ticket && ticket <= graph.layout().tickets);
+    graph.issuer_of(ticket)
+}
+
+/// Whether there is neither a ticket with this number nor an issuer of it.
+fn is_missing(rt: &impl Abort, graph: &Graph, number: u32) -> bool {
+    graph.ticket(number).is_none() && issuer_of(rt, graph, number).is_none()
+}
+
 /// Whether a ticket is there with this issuer, amount and target.
-fn is_ticket(graph: &Graph, number: u32, issuer: u32, amount: u32, target: Target) -> bool {
-    graph.ticket(number)
-        == Some(Ticket {
-            amount,
-            issuer,
-            target,
-        })
+fn is_ticket(rt: &impl Abort, graph: &Graph, number: u32, wanted: Ticket) -> bool {
+    graph.ticket(number) == Some(wanted) && issuer_of(rt, graph, number) == Some(wanted.issuer)
 }
 
 /// Whether a thread lends to the other.
@@ -345,9 +351,14 @@ fn shows(rt: &impl Abort, graph: &Graph, fact: Fact) -> bool {
         Fact::IsUnfunded(ticket, is) => graph.is_unfunded(ticket) == is,
         Fact::IsFunding(ticket, is) => graph.is_funding(ticket) == is,
         Fact::IsTicket(number, issuer, amount, target) => {
-            is_ticket(graph, number, issuer, amount, target)
+            let wanted = Ticket {
+                amount,
+                issuer,
+                target,
+            };
+            is_ticket(rt, graph, number, wanted)
         }
-        Fact::NoTicket(ticket) => graph.ticket(ticket).is_none(),
+        Fact::NoTicket(ticket) => is_missing(rt, graph, ticket),
         Fact::Made(count) => graph.ticket_count() == count,
         Fact::Issued(currency, count) => issued_by(rt, graph, currency) == count,
         Fact::Backing(currency, sum) => backing(rt, graph, currency) == sum,

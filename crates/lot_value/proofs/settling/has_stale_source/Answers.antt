@@ -23,6 +23,12 @@ loop-edge-init c =
       fresh = λ none. raising-start (layout_of w) w.funding c.args.node c.args.stale.now;
     }
 
+pub source_of_edge-requires : goal.source_of_edge-requires
+source_of_edge-requires c =
+    let w = c.args.graph.now in
+    let (from, ends) = each-here (LeadsInto w.funding c.args.node) c.loop-edge.yielded _ _ c.in-Some.edge c.in-Some.ensures.steps c.loop-edge.invariant.split in
+    record { within = c.layout-layout.ensures.fits.edge c.in-Some.edge from c.args.node ends }
+
 pub unreachable-requires : goal.unreachable-requires
 unreachable-requires c =
     let w = c.args.graph.now in
