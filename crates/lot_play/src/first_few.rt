@@ -58,6 +58,11 @@ impl<T: Drop> FirstFew<T> {
         self.first.as_slice()
     }
 
+    /// The allocator of the list.
+    pub(crate) fn allocator(&self) -> Global {
+        *self.first.allocator()
+    }
+
     /// The number of items after the listed ones.
     pub fn others(&self) -> usize
         ensures { result ≡ self.now.count - length self.now.first }

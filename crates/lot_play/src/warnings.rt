@@ -22,9 +22,13 @@ pub struct RefusedCommand {
 /// A thread that can never make progress again.
 #[derive(Debug, Drop)]
 pub struct StuckThread {
+    pub number: u32,
+    /// Without bytes if it has no name.
     pub name: Name,
     /// Its status: the reason why it waits, or Ready if it weighs nothing.
     pub status: Status,
+    /// The name of the thread whose reply it waits for, if it does: without bytes if that thread has no name.
+    pub server: Option<Name>,
 }
 
 /// The warnings of a run, which aren't part of its output.
@@ -67,6 +71,11 @@ impl Warnings {
         })
     }
 
+    /// The allocator of what is recorded.
+    pub fn allocator(&self) -> Global {
+        self.refused.allocator()
+    }
+
     /// Records the reply to the actor's turn.
     #[inline(always)]
     pub fn note(&mut self, actor: u32, reply: &Reply)
@@ -98,13 +107,14 @@ impl Warnings {
         let is_over = is_over(system);
         for place in 0..system.thread_count() {
             if let Some(row) = system.thread_row(place + 1) {
-                self.note_thread(system, row, is_over);
+                self.note_thread(system, place + 1, row, is_over);
             }
         }
     }
 
-    /// Records the warning, if any, about a thread at the end; `is_over` tells whether no thread can run any more.
-    fn note_thread(&mut self, system: &mut System, row: ThreadRow, is_over: bool)
+    /// Records the warning, if any, about the thread with this number at the end; `is_over` tells whether no thread
+    /// can run any more.
+    fn note_thread(&mut self, system: &mut System, number: u32, row: ThreadRow, is_over: bool)
         ensures kept { (self.new.made ≡ self.old.made) × (self.new.refused ≡ self.old.refused)
             × (self.new.unmade ≡ self.old.unmade) }
         ensures same { system.new ≡ system.old }
@@ -115,10 +125,17 @@ impl Warnings {
             weight,
             ..
         } = row;
+        let server = server_name(system, status);
+        let thread = StuckThread {
+            number,
+            name,
+            status,
+            server,
+        };
         if status == Status::Ready && weight == 0 {
-            self.weightless.add(StuckThread { name, status });
+            self.weightless.add(thread);
         } else if is_stuck(system, status, is_over) {
-            self.waiting.add(StuckThread { name, status });
+            self.waiting.add(thread);
         }
     }
 }
@@ -165,5 +182,15 @@ fn has_ended(system: &mut System, thread: u32) -> bool
     match system.thread_row(thread) {
         Some(row) => row.status == Status::Dead,
         None => false,
+    }
+}
+
+/// The name of the thread whose reply a thread with this status waits for, if it waits for one.
+fn server_name(system: &mut System, status: Status) -> Option<Name>
+    ensures { system.new ≡ system.old }
+{
+    match status {
+        Status::Served(server) => Some(system.thread_row(server)?.name),
+        _ => None,
     }
 }

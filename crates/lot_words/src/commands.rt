@@ -1,30 +1,55 @@
 //! The lines of an input's commands.
 
+use crate::forms::place_of;
 use crate::input::{OpenScript, words_of};
 use crate::keywords::row_spelled;
 use crate::phrases::after_line;
 use lot_simulation::{BODY_WORDS, BodyWord, Form};
 
-/// The line, from 1, of the command with this index, from 0, in an input that isn't refused, if there is one.
-///
-/// It reads the input up to there, and allocates nothing: so nothing about an input needs to be stored before one of
-/// its commands has to be named.
-pub fn line_of_command(input: &[u8], place: usize) -> Option<u32> {
-    let mut script = None;
-    let mut number = 0u32;
-    let mut before = 0usize;
-    for line in input.split(|byte| *byte == b'\n') {
-        number = number.saturating_add(1);
-        if let Some(open) = script {
-            script = after_line(open, line);
-            continue;
+/// A command of an input that isn't refused.
+#[derive(Clone, Copy)]
+pub(crate) struct CommandLine<'a> {
+    /// The number of its line, from 1.
+    pub(crate) number: u32,
+    line: &'a [u8],
+    form: Form,
+}
+
+impl<'a> CommandLine<'a> {
+    /// The command with this index, from 0, if there is one.
+    ///
+    /// It reads the input up to there, and allocates nothing: so nothing about an input needs to be stored before one
+    /// of its commands has to be named.
+    pub(crate) fn at(input: &'a [u8], place: usize) -> Option<CommandLine<'a>> {
+        let mut script = None;
+        let mut number = 0u32;
+        let mut before = 0usize;
+        for line in input.split(|byte| *byte == b'\n') {
+            number = number.saturating_add(1);
+            if let Some(open) = script {
+                script = after_line(open, line);
+                continue;
+            }
+            match row_spelled(&BODY_WORDS, words_of(line).next().unwrap_or("")) {
+                Some((_, BodyWord::Script, _)) => script = Some(OpenScript::opened(number)),
+                Some((_, _, form @ Form::Command(_))) if before == place => {
+                    return Some(CommandLine { number, line, form });
+                }
+                Some((_, _, Form::Command(_))) => before = before.saturating_add(1),
+                _ => {}
+            }
         }
-        match row_spelled(&BODY_WORDS, words_of(line).next().unwrap_or("")) {
-            Some((_, BodyWord::Script, _)) => script = Some(OpenScript::opened(number)),
-            Some((_, _, Form::Command(_))) if before == place => return Some(number),
-            Some((_, _, Form::Command(_))) => before = before.saturating_add(1),
-            _ => {}
-        }
+        None
     }
-    None
+
+    /// The word of the command that is the argument with this name.
+    pub(crate) fn argument(&self, name: &str) -> Option<&'a str> {
+        words_of(self.line).nth(place_of(self.form, name)?)
+    }
+}
+
+/// The line, from 1, of the command with this index, from 0, in an input that isn't refused, if there is one. It
+/// allocates nothing.
+pub fn line_of_command(input: &[u8], place: usize) -> Option<u32> {
+    Some(CommandLine::at(input, place)?.number)
 }

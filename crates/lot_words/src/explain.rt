@@ -1,16 +1,17 @@
 //! The problem with the refused line, in the order in which the reader finds it: first its bytes, then its first
 //! word, then its number of words, then each of them, and then the limit that it exceeds.
 
-use crate::forms::{Shape, argument_at, form_outside, has_room_for};
+use crate::forms::{Shape, WordCount, argument_at, form_outside, has_room_for};
 use crate::header::HeaderLines;
 use crate::input::{OpenScript, Refused, words_of};
 use crate::keywords::{body_word, header_word, is_only_timed, script_row};
 use crate::nearest::nearest_word;
 use crate::phrases::phrases_problem;
 use crate::problem::{
-    ByteProblem, FormProblem, HeaderProblem, KeywordProblem, LimitProblem, Problem,
+    ByteProblem, FormProblem, HeaderProblem, KeywordProblem, LimitProblem, NumberProblem, Problem,
 };
 use crate::word::word_problem;
+use lot_machine::is_good_name;
 use lot_simulation::{
     BODY_WORDS, BodyWord, FIRST_WORD, Form, Format, HeaderWord, InputRefusal, SCRIPT_WORDS,
     ScriptWord,
@@ -187,18 +188,28 @@ fn form_problem<'a>(
         let shape = Shape { word, form };
         return Some(Problem::Form(count_problem(refused, shape, count)));
     }
-    let mut words = words_of(refused.line);
-    let _ = words.next();
+    let mut arguments = words_of(refused.line);
+    let _ = arguments.next();
     let mut place = 0usize;
-    for word in words {
+    for given in arguments {
         let argument = argument_at(form, place)?;
-        let problem = word_problem(alloc, refused, word, argument);
-        if problem.is_some() {
-            return problem;
+        if let Some(problem) = word_problem(alloc, refused, given, argument) {
+            return Some(in_line(problem, Shape { word, form }));
         }
         place = place.saturating_add(1);
     }
     None
+}
+
+/// The problem with a word of a line that must have this shape. A name in place of a number tells that the arguments
+/// may be in a wrong order.
+fn in_line<'a>(problem: Problem<'a>, shape: Shape<'a>) -> Problem<'a> {
+    match problem {
+        Problem::Number(NumberProblem::NoNumber(name)) if is_good_name(name.as_bytes()) => {
+            Problem::Number(NumberProblem::NameForNumber { name, shape })
+        }
+        _ => problem,
+    }
 }
 
 /// The problem with a line that must have this shape and has this many words after the first.
@@ -208,7 +219,7 @@ fn count_problem<'a>(refused: &Refused<'a>, shape: Shape<'a>, count: usize) -> F
     }
     FormProblem::WrongCount {
         shape,
-        count: count.saturating_add(1),
+        count: WordCount(count.saturating_add(1)),
     }
 }
 

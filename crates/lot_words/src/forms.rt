@@ -29,6 +29,19 @@ impl fmt::Display for Shape<'_> {
     }
 }
 
+/// A number of words that a line has, with its verb.
+#[derive(Clone, Copy, Debug)]
+pub(crate) struct WordCount(pub(crate) usize);
+
+impl fmt::Display for WordCount {
+    fn fmt<W: fmt::Write>(&self, f: &mut fmt::Formatter<W>) -> fmt::Result {
+        match self.0 {
+            1 => f.write_str("is 1 word"),
+            count => write!(f, "are {count} words"),
+        }
+    }
+}
+
 /// The argument at this index after the first word, from 0.
 pub(crate) fn argument_at(form: Form, place: usize) -> Option<Argument> {
     let arguments = form.arguments();
@@ -36,6 +49,12 @@ pub(crate) fn argument_at(form: Form, place: usize) -> Option<Argument> {
         0 => None,
         len => Some(arguments[place % len].1),
     }
+}
+
+/// The index in a line of this form of the argument with this name, where the first word has index 0.
+pub(crate) fn place_of(form: Form, name: &str) -> Option<usize> {
+    let place = form.arguments().iter().position(|row| row.0 == name)?;
+    Some(place.saturating_add(1))
 }
 
 /// Whether a line may have this many words after the first.

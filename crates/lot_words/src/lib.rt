@@ -16,6 +16,8 @@ mod names;
 mod nearest;
 mod phrases;
 mod problem;
+mod reason;
+mod stuck;
 mod warnings;
 mod word;
 

@@ -1,5 +1,6 @@
 //! The names that an input declares.
 
+use crate::forms::{form_outside, place_of};
 use crate::input::words_of;
 use crate::keywords::body_word;
 use crate::nearest::text_of;
@@ -21,11 +22,11 @@ impl fmt::Display for Declared {
     }
 }
 
-/// The name that the line declares, if it begins with this word.
-pub(crate) fn name_declared(keyword: BodyWord, line: &[u8]) -> Option<&str> {
-    let mut words = words_of(line);
-    if body_word(words.next().unwrap_or("")) == Some(keyword) {
-        words.next()
+/// The name that the line gives, if it begins with one of these words: each is a word of lines that give a name.
+pub(crate) fn name_given<'a>(keywords: &[BodyWord], line: &'a [u8]) -> Option<&'a str> {
+    let word = words_of(line).next()?;
+    if keywords.contains(&body_word(word)?) {
+        words_of(line).nth(place_of(form_outside(word)?, "NAME")?)
     } else {
         None
     }
@@ -34,9 +35,24 @@ pub(crate) fn name_declared(keyword: BodyWord, line: &[u8]) -> Option<&str> {
 /// Whether one of these lines begins with this word and declares this name.
 pub(crate) fn is_declared(lines: &[u8], keyword: BodyWord, name: &str) -> bool {
     for line in lines.split(|byte| *byte == b'\n') {
-        if name_declared(keyword, line) == Some(name) {
+        if name_given(&[keyword], line) == Some(name) {
             return true;
         }
     }
     false
+}
+
+/// The name that the line with this number declares, from 1, among the lines that begin with this word.
+pub(crate) fn name_numbered(lines: &[u8], keyword: BodyWord, number: u32) -> Option<&str> {
+    let mut before = 0u32;
+    for line in lines.split(|byte| *byte == b'\n') {
+        let name = name_given(&[keyword], line);
+        if name.is_some() {
+            before = before.saturating_add(1);
+        }
+        if before == number {
+            return name;
+        }
+    }
+    None
 }

@@ -1,7 +1,7 @@
 //! Suggestions for misspelt words.
 
 use crate::keywords::Keyword;
-use crate::names::name_declared;
+use crate::names::name_given;
 use lot_simulation::{BodyWord, Format, WordRow};
 use std::alloc::Global;
 use std::{fmt, str};
@@ -10,7 +10,7 @@ use strsim::levenshtein;
 /// The largest number of wrong, missing or extra letters.
 const MOST_EDITS: usize = 2;
 
-/// The text nearest to a misspelt one, if one is near.
+/// The text nearest to a misspelt one, if one is near. If it is the same text, nothing is suggested.
 #[derive(Clone, Copy, Debug)]
 pub(crate) struct Nearest<'a> {
     text: Option<&'a str>,
@@ -20,19 +20,23 @@ pub(crate) struct Nearest<'a> {
 
 impl<'a> Nearest<'a> {
     /// None yet.
-    const NONE: Nearest<'static> = Nearest {
+    pub(crate) const NONE: Nearest<'static> = Nearest {
         text: None,
         edits: MOST_EDITS + 1,
     };
 
-    /// The nearer of both texts to the misspelt one. If out of memory, it ignores the new one.
-    fn or(self, alloc: Global, misspelt: &str, text: &'a str) -> Nearest<'a> {
+    /// The nearer of both texts to the misspelt one. If out of memory, nothing is suggested, and no later text either.
+    pub(crate) fn or(self, alloc: Global, misspelt: &str, text: &'a str) -> Nearest<'a> {
         match levenshtein(alloc, misspelt, text) {
             Ok(edits) if edits < self.edits && edits < text.len() => Nearest {
                 text: Some(text),
                 edits,
             },
-            _ => self,
+            Ok(_) => self,
+            Err(_) => Nearest {
+                text: None,
+                edits: 0,
+            },
         }
     }
 }
@@ -40,8 +44,9 @@ impl<'a> Nearest<'a> {
 impl fmt::Display for Nearest<'_> {
     fn fmt<W: fmt::Write>(&self, f: &mut fmt::Formatter<W>) -> fmt::Result {
         match self.text {
-            Some(text) => write!(f, "; did you mean '{text}'?"),
-            None => Ok(()),
+            Some(text) if self.edits > 0 => write!(f, "; did you mean '{text}'?"),
+            // A text without an edit isn't misspelt.
+            _ => Ok(()),
         }
     }
 }
@@ -73,16 +78,16 @@ pub(crate) fn text_of(spelling: &'static [u8]) -> &'static str {
     str::from_utf8(spelling).unwrap_or("")
 }
 
-/// The name nearest to this one that one of these lines declares with this word.
+/// The name nearest to this one that one of these lines gives, among those that begin with one of these words.
 pub(crate) fn nearest_name<'a>(
     alloc: Global,
     lines: &'a [u8],
-    keyword: BodyWord,
+    keywords: &[BodyWord],
     misspelt: &str,
 ) -> Nearest<'a> {
     let mut nearest = Nearest::NONE;
     for line in lines.split(|byte| *byte == b'\n') {
-        if let Some(name) = name_declared(keyword, line) {
+        if let Some(name) = name_given(keywords, line) {
             nearest = nearest.or(alloc, misspelt, name);
         }
     }

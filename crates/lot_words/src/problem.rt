@@ -1,6 +1,6 @@
 //! Problems of lines.
 
-use crate::forms::Shape;
+use crate::forms::{Shape, WordCount};
 use crate::header::HeaderLines;
 use crate::names::Declared;
 use crate::nearest::Nearest;
@@ -88,8 +88,8 @@ pub(crate) enum FormProblem<'a> {
     Unfinished(Shape<'a>),
     #[error("'{0}' stands behind 'endscript', which ends its line")]
     BehindEnd(&'a str),
-    #[error("this line is written '{shape}', and here are {count} words")]
-    WrongCount { shape: Shape<'a>, count: usize },
+    #[error("this line is written '{shape}', and here {count}")]
+    WrongCount { shape: Shape<'a>, count: WordCount },
     #[error("'end' closes a loop, and none is open")]
     NoLoop,
     #[error("'endscript' stands inside a loop: 'end' closes it")]
@@ -101,6 +101,11 @@ pub(crate) enum FormProblem<'a> {
 pub(crate) enum NumberProblem<'a> {
     #[error("'{0}' is no number: digits, without a 0 before others, at most 18446744073709551615")]
     NoNumber(&'a str),
+    #[error("'{name}' is no number; this line is written '{shape}'")]
+    NameForNumber {
+        name: &'a str,
+        shape: Shape<'a>,
+    },
     #[error("'{word}' is no number from {first} to {last}")]
     NotBetween {
         word: &'a str,

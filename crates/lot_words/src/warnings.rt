@@ -1,11 +1,14 @@
 //! The warnings of a run, in words.
 
+use crate::commands::CommandLine;
 use crate::line_of_command;
-use lot_machine::{Refusal, Status};
-use lot_play::{FirstFew, RefusedCommand, StuckThread, Warnings};
+use crate::reason::Reason;
+use crate::stuck::{Waiting, Weightless};
+use lot_play::{FirstFew, RefusedCommand, Warnings};
 use lot_simulation::EarlyEnd;
+use std::alloc::Global;
 use std::io::Write;
-use std::{fmt, io, str};
+use std::{fmt, io};
 
 /// Writes the warnings of a run, a line for each: an early end, commands refused or never made, and threads that can
 /// never make progress again. The input was accepted; it is read again only for the lines of the commands named. It
@@ -18,7 +21,7 @@ pub fn write_warnings<W: Write>(
     if let Some(early) = warnings.early {
         writeln!(writer, "{}", Early(early))?;
     }
-    write_refused(writer, &warnings.refused, input)?;
+    write_refused(warnings.allocator(), writer, &warnings.refused, input)?;
     write_unmade(writer, warnings, input)?;
     for thread in warnings.weightless.first() {
         writeln!(writer, "{}", Weightless(thread))?;
@@ -29,21 +32,25 @@ pub fn write_warnings<W: Write>(
         "threads that are ready and weigh nothing",
     )?;
     for thread in warnings.waiting.first() {
-        writeln!(writer, "{}", Waiting(thread))?;
+        writeln!(writer, "{}", Waiting { thread, input })?;
     }
     write_others(writer, &warnings.waiting, "threads that wait for good")
 }
 
 /// Writes the refused commands, and the reasons.
 fn write_refused<W: Write>(
+    alloc: Global,
     writer: &mut W,
     refused: &FirstFew<RefusedCommand>,
     input: &[u8],
 ) -> io::Result<()> {
     for command in refused.first() {
-        let line = Line(line_of_command(input, command.place));
-        let reason = reason(command.refusal);
-        writeln!(writer, "{line}the command was refused: {reason}")?;
+        // An input that was played has each command that its run had.
+        if let Some(line) = CommandLine::at(input, command.place) {
+            let reason = Reason::of(alloc, input, line, command.refusal);
+            let number = line.number;
+            writeln!(writer, "line {number}: the command was refused: {reason}")?;
+        }
     }
     write_others(writer, refused, "commands that were refused")
 }
@@ -103,77 +110,5 @@ impl fmt::Display for Early {
             f,
             "the run was cut at tick {time} of {end}: it made {turns} turns, and a run makes no more"
         )
-    }
-}
-
-/// A thread that is ready and weighs nothing.
-#[derive(Clone, Copy)]
-struct Weightless<'a>(&'a StuckThread);
-
-impl fmt::Display for Weightless<'_> {
-    fn fmt<W: fmt::Write>(&self, f: &mut fmt::Formatter<W>) -> fmt::Result {
-        let name = text_of(self.0);
-        write!(
-            f,
-            "thread '{name}' is ready at the end and weighs nothing: it wins no draw before something funds it"
-        )
-    }
-}
-
-/// A thread that waits for good.
-#[derive(Clone, Copy)]
-struct Waiting<'a>(&'a StuckThread);
-
-impl fmt::Display for Waiting<'_> {
-    fn fmt<W: fmt::Write>(&self, f: &mut fmt::Formatter<W>) -> fmt::Result {
-        let name = text_of(self.0);
-        match self.0.status {
-            Status::Served(server) => write!(
-                f,
-                "thread '{name}' waits for good for a reply of thread {server}"
-            ),
-            Status::Queued(port) => write!(
-                f,
-                "thread '{name}' waits for good for a server at port {port}"
-            ),
-            Status::Waiting(mutex) => write!(f, "thread '{name}' waits for good for mutex {mutex}"),
-            _ => write!(f, "thread '{name}' waits for good"),
-        }
-    }
-}
-
-/// The thread's name as text.
-fn text_of(thread: &StuckThread) -> &str {
-    str::from_utf8(thread.name.as_bytes()).unwrap_or("")
-}
-
-/// The reason why a command is refused.
-fn reason(refusal: Refusal) -> &'static str {
-    match refusal {
-        Refusal::BadName => {
-            "a name is a letter a to z, and then letters a to z, digits, '_' or '-'"
-        }
-        Refusal::NameTaken => "a currency or a thread has this name already",
-        Refusal::NoCurrency => "no currency has this name",
-        Refusal::NoTicket => "no ticket has this number",
-        Refusal::NoTarget => "no currency and no thread has this name",
-        Refusal::BadAmount => "an amount is a number from 1 to 4294967295",
-        Refusal::InUse => {
-            "tickets are in it or fund it, or the thread has a client or owns a mutex"
-        }
-        Refusal::Funding => "the ticket funds something: 'unfund' comes first",
-        Refusal::NotFunding => "the ticket funds nothing",
-        Refusal::Cycle => "the currency would fund itself",
-        Refusal::BaseFixed => "base can't be removed, and nothing can fund it",
-        Refusal::DeadThread => "the thread has ended",
-        Refusal::Full => "there are as many as the limits allow",
-        Refusal::NoScript => "no script of an earlier line has this name",
-        Refusal::NoThread => "no thread has this name",
-        Refusal::Alive => "the thread hasn't ended",
-        Refusal::BadProcessor
-        | Refusal::Busy
-        | Refusal::NotRunning
-        | Refusal::BadTicks
-        | Refusal::NotAsleep => "the kernel can't take it now",
     }
 }

@@ -97,7 +97,7 @@ fn known_problem<'a>(
     if problem.is_some() || is_declared(refused.before, keyword, word) {
         return problem;
     }
-    let nearest = nearest_name(alloc, refused.before, keyword, word);
+    let nearest = nearest_name(alloc, refused.before, &[keyword], word);
     Some(Problem::Name(NameProblem::Unknown {
         word,
         kind: Declared(keyword),

@@ -93,8 +93,9 @@ mkthr b t
 mkcur c
 schedule 0 0
 ";
-    let expected = "line 7: the command was refused: an amount is a number from 1 to 4294967295
-line 11: the command was refused: no script of an earlier line has this name
+    let expected =
+        "line 7: the command was refused: an amount is a number from 1 to 4294967295, and not 0
+line 11: the command was refused: no script of an earlier line has the name 'u'
 line 12: this command and those after it, 2 in all, were never made: each 0 in a schedule makes one, and lottery 3 \
 makes those up to its end
 ";
@@ -120,7 +121,7 @@ rmthr a
 ";
     let expected = "line 8: the command was refused: the thread hasn't ended
 line 10: the command was refused: tickets are in it or fund it, or the thread has a client or owns a mutex
-line 13: the command was refused: no thread has this name
+line 13: the command was refused: no thread has the name 'a'
 ";
     check_told(&rt, rt.alloc(), ["lot_sim", "play"], input, 0, expected);
 }
@@ -140,7 +141,7 @@ kill a
 kill b
 ";
     let expected = "line 10: the command was refused: the thread has ended
-line 11: the command was refused: no thread has this name
+line 11: the command was refused: no thread has the name 'b'
 ";
     check_told(&rt, rt.alloc(), ["lot_sim", "play"], input, 0, expected);
 }
@@ -180,14 +181,14 @@ schedule 0 0 0 0 0 0 0 0 0 0
         ["lot_sim", "play"],
         input,
         0,
-        "line 2: the command was refused: no ticket has this number
-line 3: the command was refused: no ticket has this number
-line 4: the command was refused: no ticket has this number
-line 5: the command was refused: no ticket has this number
-line 6: the command was refused: no ticket has this number
-line 7: the command was refused: no ticket has this number
-line 8: the command was refused: no ticket has this number
-line 9: the command was refused: no ticket has this number
+        "line 2: the command was refused: no ticket has the number 1
+line 3: the command was refused: no ticket has the number 2
+line 4: the command was refused: no ticket has the number 3
+line 5: the command was refused: no ticket has the number 4
+line 6: the command was refused: no ticket has the number 5
+line 7: the command was refused: no ticket has the number 6
+line 8: the command was refused: no ticket has the number 7
+line 9: the command was refused: no ticket has the number 8
 and 2 more commands that were refused
 ",
     );
@@ -220,7 +221,7 @@ schedule 0 0 1 1 1 1 1 1 1 1 1
         input,
         0,
         "thread 's' is ready at the end and weighs nothing: it wins no draw before something funds it
-thread 'c' waits for good for a server at port 1
+thread 'c' waits for good for a server at port 'p'
 ",
     );
 }
@@ -244,7 +245,7 @@ schedule 0 0 1 1 1 1 1 1 1
         ["lot_sim", "play"],
         input,
         0,
-        "thread 'b' waits for good for mutex 1\n",
+        "thread 'b' waits for good for mutex 'm'\n",
     );
 }
 
@@ -271,8 +272,8 @@ schedule 0 0 0 1 1 1 1 1 1 1 1 1 1 1
         ["lot_sim", "play"],
         input,
         0,
-        "thread 'c' waits for good for a reply of thread 1
-thread 'd' waits for good for a server at port 1
+        "thread 'c' waits for good for a reply of thread 's'
+thread 'd' waits for good for a server at port 'p'
 ",
     );
 }

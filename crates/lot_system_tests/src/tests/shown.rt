@@ -7,6 +7,7 @@ mod curves;
 mod endings;
 mod explained;
 mod pictures;
+mod warnings;
 mod words;
 
 use endings::has_written_or_lacked_memory;
@@ -14,7 +15,8 @@ use lot_chart::{chart_bytes, shares_bytes};
 use lot_curves::Measure;
 use lot_explain::explain_bytes;
 use lot_io::{IoFault, Watched};
-use lot_play::{Played, Warnings};
+use lot_play::{Played, Warnings, play_bytes};
+use lot_words::write_warnings;
 use std::alloc::Global;
 use std::io;
 use std::io::Write;
@@ -127,6 +129,28 @@ fn explains_or_lacks_memory(rt: HostRuntime) {
 #[test]
 fn tables_or_lacks_memory(rt: HostRuntime) {
     check(&rt, rt.alloc(), Shown::Table(Measure::Ticks));
+}
+
+// If an allocation fails, the suggestion or all words are left out.
+#[test]
+fn warns_or_lacks_memory(rt: HostRuntime) {
+    let input = "lottery 1\nmkcur alice\nrmcur alcie\nschedule 0 0\n";
+    let mut writer = Watched::new(Counting { taken: 0 });
+    let Ok(mut warnings) = Warnings::none(rt.alloc()) else {
+        return;
+    };
+    if play_bytes(rt.alloc(), input.as_bytes(), &mut warnings, &mut writer).is_err() {
+        return;
+    }
+    let mut words = Vec::new(rt.alloc());
+    if write_warnings(&mut words, &warnings, input.as_bytes()).is_err() {
+        return;
+    }
+    let said = str::from_utf8(words.as_slice()).unwrap_or("");
+    let refused = "line 3: the command was refused: no currency has the name 'alcie'";
+    let others = said.strip_prefix(refused);
+    let is_said = others == Some("; did you mean 'alice'?\n") || others == Some("\n");
+    assert!(rt; is_said, "{said}");
 }
 
 #[test]

@@ -205,6 +205,36 @@ fn numbers(rt: HostRuntime) {
     );
 }
 
+// A word that isn't a name was meant as a number.
+#[test]
+fn names_for_numbers(rt: HostRuntime) {
+    for (line, expected) in [
+        (
+            "fund alice 3",
+            "line 2: 'alice' is no number; this line is written 'fund TICKET TARGET'\n",
+        ),
+        (
+            "mktkt base 5",
+            "line 2: 'base' is no number; this line is written 'mktkt AMOUNT CURRENCY'\n",
+        ),
+        (
+            "fundx base 5 alice s",
+            "line 2: 'base' is no number; this line is written 'fundx AMOUNT CURRENCY NAME SCRIPT'\n",
+        ),
+        (
+            "schedule 0 all",
+            "line 2: 'all' is no number; this line is written 'schedule ACTOR ..'\n",
+        ),
+        (
+            "fund -1 alice",
+            "line 2: '-1' is no number: digits, without a 0 before others, at most 18446744073709551615\n",
+        ),
+    ] {
+        let input = format!(in rt.alloc(); "lottery 1\n{line}\n").expect(&rt, "memory");
+        check(&rt, rt.alloc(), input.as_bytes(), expected);
+    }
+}
+
 #[test]
 fn names(rt: HostRuntime) {
     let (rt, alloc) = (&rt, rt.alloc());
@@ -364,7 +394,7 @@ fn commands_of_one_format(rt: HostRuntime) {
         ),
         (
             "lottery 3\nfor 5\nkill\n",
-            "line 3: this line is written 'kill THREAD', and here are 1 words\n",
+            "line 3: this line is written 'kill THREAD', and here is 1 word\n",
         ),
         (
             "lottery 2\nscript s\nsleep 5\n",

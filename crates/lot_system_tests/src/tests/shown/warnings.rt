@@ -1,0 +1,187 @@
+//! Plays that leave something to warn of, and the words that tell it.
+use crate::tests::same::check_same;
+use lot_io::Watched;
+use lot_play::{Warnings, play_bytes};
+use lot_words::write_warnings;
+use std::alloc::Global;
+use std::process::Abort;
+
+/// Plays the input, and compares the words of its warnings.
+fn check<H: Abort>(rt: &H, alloc: Global, input: &str, expected: &str) {
+    let mut warnings = Warnings::none(alloc).expect(rt, "memory");
+    let mut writer = Watched::new(Vec::new(alloc));
+    let is_played = play_bytes(alloc, input.as_bytes(), &mut warnings, &mut writer).is_ok();
+    let mut words = Vec::new(alloc);
+    let is_written = write_warnings(&mut words, &warnings, input.as_bytes()).is_ok();
+    let said = str::from_utf8(words.as_slice()).unwrap_or("");
+    check_same(rt, &(is_played && is_written, said), &(true, expected));
+}
+
+/// Checks, like `check`, a timed input of these commands, with a script `spin` and a script `stop`.
+fn check_commands<H: Abort>(rt: &H, alloc: Global, commands: &str, expected: &str) {
+    let input = format!(in alloc;
+        "lottery 3\nfor 9\nscript spin\ncompute 99 endscript\nscript stop\nendscript\n{commands}"
+    );
+    let input = input.expect(rt, "memory");
+    check(rt, alloc, input.as_str(), expected);
+}
+
+// Lines 1 to 6 are the header and the scripts.
+#[test]
+fn unknown_names(rt: HostRuntime) {
+    for (commands, expected) in [
+        (
+            "mkcur alice\nmktkt 5 base\nfund 1 alcie\n",
+            "line 9: the command was refused: no currency and no thread has the name 'alcie'; did you mean 'alice'?\n",
+        ),
+        (
+            "fundx 1 base mallory spin\nmktkt 5 base\nfund 2 malory\n",
+            "line 9: the command was refused: no currency and no thread has the name 'malory'; did you mean \
+             'mallory'?\n",
+        ),
+        (
+            "mkcur group\nmktkt 5 groop\n",
+            "line 8: the command was refused: no currency has the name 'groop'; did you mean 'group'?\n",
+        ),
+        (
+            "mktkt 5 bass\n",
+            "line 7: the command was refused: no currency has the name 'bass'; did you mean 'base'?\n",
+        ),
+        (
+            "fundx 5 bse a spin\n",
+            "line 7: the command was refused: no currency has the name 'bse'; did you mean 'base'?\n",
+        ),
+        (
+            "fundx 1 base worker spin\nkill workers\n",
+            "line 8: the command was refused: no thread has the name 'workers'; did you mean 'worker'?\n",
+        ),
+        (
+            "fundx 1 base a spin\nmkthr b spinn\n",
+            "line 8: the command was refused: no script of an earlier line has the name 'spinn'; did you mean \
+             'spin'?\n",
+        ),
+    ] {
+        check_commands(&rt, rt.alloc(), commands, expected);
+    }
+}
+
+// A currency is no thread, and a thread no currency, so neither is suggested for the other. Base can't be funded.
+#[test]
+fn no_name_is_near(rt: HostRuntime) {
+    for (commands, expected) in [
+        (
+            "mkcur alice\nmktkt 5 base\nfund 1 bob\n",
+            "line 9: the command was refused: no currency and no thread has the name 'bob'\n",
+        ),
+        (
+            "mkcur alice\nkill alicf\n",
+            "line 8: the command was refused: no thread has the name 'alicf'\n",
+        ),
+        (
+            "fundx 1 base alice spin\nrmcur alicf\n",
+            "line 8: the command was refused: no currency has the name 'alicf'\n",
+        ),
+        (
+            "mktkt 5 base\nfund 1 bas\n",
+            "line 8: the command was refused: no currency and no thread has the name 'bas'\n",
+        ),
+        (
+            "fundx 1 base b spin\nkill a\n",
+            "line 8: the command was refused: no thread has the name 'a'\n",
+        ),
+    ] {
+        check_commands(&rt, rt.alloc(), commands, expected);
+    }
+}
+
+// Thread `alice` ends at its first tick. A name that was removed, or that a later line gives, isn't misspelt.
+#[test]
+fn names_of_another_time(rt: HostRuntime) {
+    for (commands, expected) in [
+        (
+            "fundx 1 base alice stop\nmkcur alicf\nat 5\nunfund 1\nrmthr alice\nrmthr alice\n",
+            "line 12: the command was refused: no thread has the name 'alice'\n",
+        ),
+        (
+            "mktkt 5 base\nfund 1 alice\nmkcur alice\nmkcur alicf\n",
+            "line 8: the command was refused: no currency and no thread has the name 'alice'\n",
+        ),
+        (
+            "mkthr a late\nscript late\nendscript\n",
+            "line 7: the command was refused: no script of an earlier line has the name 'late'\n",
+        ),
+    ] {
+        check_commands(&rt, rt.alloc(), commands, expected);
+    }
+}
+
+#[test]
+fn words_that_are_the_cause(rt: HostRuntime) {
+    for (commands, expected) in [
+        (
+            "mkcur alice\nmkthr alice spin\n",
+            "line 8: the command was refused: a currency or a thread already has the name 'alice'\n",
+        ),
+        (
+            "fundx 5 base Alice spin\n",
+            "line 7: the command was refused: a name is a letter a to z, and then letters a to z, digits, '_' or \
+             '-', and not 'Alice'\n",
+        ),
+        (
+            "rmtkt 7\n",
+            "line 7: the command was refused: no ticket has the number 7\n",
+        ),
+        (
+            "mktkt 0 base\n",
+            "line 7: the command was refused: an amount is a number from 1 to 4294967295, and not 0\n",
+        ),
+        (
+            "mktkt 1 base\nsettkt 1 4294967296\n",
+            "line 8: the command was refused: an amount is a number from 1 to 4294967295, and not 4294967296\n",
+        ),
+        (
+            "mktkt 1 base\nunfund 1\n",
+            "line 8: the command was refused: the ticket funds nothing\n",
+        ),
+    ] {
+        check_commands(&rt, rt.alloc(), commands, expected);
+    }
+}
+
+// Nobody serves at port `print`, the second. Thread `own` ends with mutex `gate`, the second, and with the client
+// `ask`, whose call at port `mail` it took.
+#[test]
+fn waits_for_good(rt: HostRuntime) {
+    check(
+        &rt,
+        rt.alloc(),
+        "lottery 3
+for 99
+# port paper
+port mail
+mutex door
+port print
+mutex gate
+script owner
+lock gate receive mail
+endscript
+script asks
+call mail
+endscript
+script prints
+call print
+endscript
+script enters
+yield sleep 20 lock gate
+endscript
+fundx 9 base own owner
+fundx 1 base ask asks
+fundx 1 base sheet prints
+fundx 1 base guest enters
+",
+        "thread 'ask' waits for good for a reply of thread 'own'
+thread 'sheet' waits for good for a server at port 'print'
+thread 'guest' waits for good for mutex 'gate'
+",
+    );
+}

@@ -1,0 +1,128 @@
+//! The reasons why commands are refused.
+
+use crate::commands::CommandLine;
+use crate::nearest::{Nearest, nearest_name};
+use lot_machine::Refusal;
+use lot_simulation::BodyWord;
+use std::alloc::Global;
+use std::fmt;
+
+/// The reason why a command is refused.
+#[derive(Clone, Copy)]
+pub(crate) struct Reason<'a> {
+    refusal: Refusal,
+    /// The word of the command that is the cause, or no text if no single word is.
+    word: &'a str,
+    /// The name nearest to it, if it is the name of nothing.
+    nearest: Nearest<'a>,
+}
+
+impl<'a> Reason<'a> {
+    /// The reason for the refusal of this command of the input.
+    pub(crate) fn of(
+        alloc: Global,
+        input: &'a [u8],
+        command: CommandLine<'a>,
+        refusal: Refusal,
+    ) -> Reason<'a> {
+        let word = match argument_of(refusal) {
+            Some(name) => command.argument(name).unwrap_or(""),
+            None => "",
+        };
+        Reason {
+            refusal,
+            word,
+            nearest: nearest_made(alloc, input, refusal, word),
+        }
+    }
+}
+
+impl fmt::Display for Reason<'_> {
+    fn fmt<W: fmt::Write>(&self, f: &mut fmt::Formatter<W>) -> fmt::Result {
+        let Reason {
+            refusal,
+            word,
+            nearest,
+        } = *self;
+        f.write_str(text_of(refusal))?;
+        match refusal {
+            _ if word.is_empty() => Ok(()),
+            Refusal::NoTicket | Refusal::BadAmount => write!(f, " {word}"),
+            _ => write!(f, " '{word}'{nearest}"),
+        }
+    }
+}
+
+/// The name of the argument that causes the refusal, if one does.
+fn argument_of(refusal: Refusal) -> Option<&'static str> {
+    match refusal {
+        Refusal::BadName | Refusal::NameTaken => Some("NAME"),
+        Refusal::NoCurrency => Some("CURRENCY"),
+        Refusal::NoTicket => Some("TICKET"),
+        Refusal::NoTarget => Some("TARGET"),
+        Refusal::BadAmount => Some("AMOUNT"),
+        Refusal::NoScript => Some("SCRIPT"),
+        Refusal::NoThread => Some("THREAD"),
+        _ => None,
+    }
+}
+
+/// The words that begin the lines which give names of the kind that this refusal misses, if it misses a name.
+fn givers(refusal: Refusal) -> &'static [BodyWord] {
+    match refusal {
+        Refusal::NoCurrency => &[BodyWord::MakeCurrency],
+        Refusal::NoThread => &[BodyWord::MakeThread, BodyWord::MakeFunded],
+        Refusal::NoTarget => &[
+            BodyWord::MakeCurrency,
+            BodyWord::MakeThread,
+            BodyWord::MakeFunded,
+        ],
+        Refusal::NoScript => &[BodyWord::Script],
+        _ => &[],
+    }
+}
+
+/// The name nearest to this word among those of the kind that this refusal misses, if it misses a name.
+fn nearest_made<'a>(alloc: Global, input: &'a [u8], refusal: Refusal, word: &str) -> Nearest<'a> {
+    let keywords = givers(refusal);
+    if keywords.is_empty() {
+        return Nearest::NONE;
+    }
+    let nearest = nearest_name(alloc, input, keywords, word);
+    if refusal == Refusal::NoCurrency {
+        nearest.or(alloc, word, "base")
+    } else {
+        nearest
+    }
+}
+
+/// The reason in words. The word that is the cause comes after them.
+fn text_of(refusal: Refusal) -> &'static str {
+    match refusal {
+        Refusal::BadName => {
+            "a name is a letter a to z, and then letters a to z, digits, '_' or '-', and not"
+        }
+        Refusal::NameTaken => "a currency or a thread already has the name",
+        Refusal::NoCurrency => "no currency has the name",
+        Refusal::NoTicket => "no ticket has the number",
+        Refusal::NoTarget => "no currency and no thread has the name",
+        Refusal::BadAmount => "an amount is a number from 1 to 4294967295, and not",
+        Refusal::InUse => {
+            "tickets are in it or fund it, or the thread has a client or owns a mutex"
+        }
+        Refusal::Funding => "the ticket funds something: 'unfund' comes first",
+        Refusal::NotFunding => "the ticket funds nothing",
+        Refusal::Cycle => "the currency would fund itself",
+        Refusal::BaseFixed => "base can't be removed, and nothing can fund it",
+        Refusal::DeadThread => "the thread has ended",
+        Refusal::Full => "there are as many as the limits allow",
+        Refusal::NoScript => "no script of an earlier line has the name",
+        Refusal::NoThread => "no thread has the name",
+        Refusal::Alive => "the thread hasn't ended",
+        Refusal::BadProcessor
+        | Refusal::Busy
+        | Refusal::NotRunning
+        | Refusal::BadTicks
+        | Refusal::NotAsleep => "the kernel can't take it now",
+    }
+}
