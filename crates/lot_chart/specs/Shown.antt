@@ -29,10 +29,6 @@ shares_output measure bytes = shown_of (table measure) (program_in bytes)
 abbrev pub chart_output : List ℕ → List ℕ → List ℕ
 chart_output title bytes = shown_of (chart title) (program_in bytes)
 
--- the input has a program, and these are its curves
-abbrev pub HasCurves : Result Program InputFault → Curves → Type 0
-HasCurves input curves = (program : Program) × (input ≡ Ok program) × (curves ≡ curves_of program)
-
 -- the text was written, or a beginning of it if the writer failed; without a text nothing was
 abbrev pub Shows : {T : Type 0} {V : Type 0} → (T → Option (List ℕ)) → Watch T → Watch T → Result V AllocError → (V → List ℕ) → Result Played IoFault → Type 0
 Shows contents old new (Ok text) bytes result = Plays contents old new result Done (bytes text)

@@ -17,6 +17,6 @@ mod text;
 pub use charts::chart_of;
 pub use gathering::gather;
 pub use lines::Line;
-pub use showing::{chart_bytes, shares_bytes};
+pub use showing::{chart_bytes, chart_program, shares_bytes, shares_program};
 pub use standings::Standing;
 pub use tables::table;

@@ -1,16 +1,19 @@
 //! Writing curves.
-ghost use Rattle.std.specs.Prelude.{◌≡◌, false, true, IfErr, IfOk, OnOk};
+ghost use Rattle.std.specs.Prelude.{◌≡◌, false, true, OnOk};
 ghost use Rattle.lot_simulation.specs.Grammar.{program_in};
-ghost use Rattle.lot_text.specs.Faults.{IsFaultOf as IsParseFaultOf};
 ghost use Rattle.lot_play.specs.Played.{Plays, came_of};
 ghost use Rattle.lot_io.specs.Writing.{Writes};
-ghost use Rattle.lot_chart.specs.Shown.{HasCurves, Shows, chart_output, shares_output};
+ghost use Rattle.lot_curves.specs.Curves.{curves_of};
+ghost use Rattle.lot_play.specs.declared.inputs.Played.TheVariants.{Done};
+ghost use Rattle.lot_chart.specs.Charts as charts;
+ghost use Rattle.lot_chart.specs.Shown.{Shows, chart_output, shares_output};
+ghost use Rattle.lot_chart.specs.Tables as tables;
 
 use crate::{chart_of, gather, table};
-use lot_curves::{Curves, Measure};
+use lot_curves::Measure;
 use lot_io::{IoFault, Watched, flush, write_bytes};
 use lot_play::{Played, refuse};
-use lot_text::{ParseFault, parse};
+use lot_text::{ParseFault, Program, parse};
 use std::alloc::{AllocError, Global};
 use std::io::Write;
 
@@ -27,8 +30,8 @@ pub fn shares_bytes<W: Write>(
     ensures shown { Plays W.contents writer.old writer.new result (came_of (program_in bytes.now))
         (shares_output measure bytes.now) }
 {
-    match curves_in(alloc, bytes) {
-        Ok(curves) => write_text(table(alloc, &curves, measure), writer),
+    match parse(alloc, bytes) {
+        Ok(program) => shares_program(alloc, measure, &program, writer),
         Err(ParseFault::Memory) => Err(IoFault::Memory),
         Err(ParseFault::Input(fault)) => refuse(fault, writer),
     }
@@ -47,22 +50,48 @@ pub fn chart_bytes<W: Write>(
     ensures shown { Plays W.contents writer.old writer.new result (came_of (program_in bytes.now))
         (chart_output title.now bytes.now) }
 {
-    match curves_in(alloc, bytes) {
-        Ok(curves) => write_text(chart_of(alloc, &curves, title), writer),
+    match parse(alloc, bytes) {
+        Ok(program) => chart_program(alloc, title, &program, writer),
         Err(ParseFault::Memory) => Err(IoFault::Memory),
         Err(ParseFault::Input(fault)) => refuse(fault, writer),
     }
 }
 
-/// The curves of the input in `bytes`.
-fn curves_in(alloc: Global, bytes: &[u8]) -> Result<Curves, ParseFault>
-    ensures curves { IfOk result (HasCurves (program_in bytes.now)) }
-    ensures fault { IfErr result (IsParseFaultOf (program_in bytes.now)) }
+/// Makes the program's turns, and writes a table of each thread's ticks or draws over time. If out of memory, it writes
+/// nothing.
+pub fn shares_program<W: Write>(
+    alloc: Global,
+    measure: Measure,
+    program: &Program,
+    writer: &mut Watched<W>,
+) -> Result<Played, IoFault>
+    requires { writer.old.failed ≡ false }
+    ensures flushed { OnOk result (writer.new.flushed ≡ true) }
+    ensures shown { Plays W.contents writer.old writer.new result Done
+        (tables.table measure (curves_of program.now)) }
 {
-    let program = parse(alloc, bytes)?;
-    match gather(alloc, &program) {
-        Ok(curves) => Ok(curves),
-        Err(_) => Err(ParseFault::Memory),
+    match gather(alloc, program) {
+        Ok(curves) => write_text(table(alloc, &curves, measure), writer),
+        Err(_) => Err(IoFault::Memory),
+    }
+}
+
+/// Makes the program's turns, and writes a picture with this title of each thread's ticks over time. If out of memory,
+/// it writes nothing.
+pub fn chart_program<W: Write>(
+    alloc: Global,
+    title: &str,
+    program: &Program,
+    writer: &mut Watched<W>,
+) -> Result<Played, IoFault>
+    requires { writer.old.failed ≡ false }
+    ensures flushed { OnOk result (writer.new.flushed ≡ true) }
+    ensures shown { Plays W.contents writer.old writer.new result Done
+        (charts.chart title.now (curves_of program.now)) }
+{
+    match gather(alloc, program) {
+        Ok(curves) => write_text(chart_of(alloc, &curves, title), writer),
+        Err(_) => Err(IoFault::Memory),
     }
 }
 

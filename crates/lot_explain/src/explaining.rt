@@ -35,8 +35,9 @@ pub fn explain_bytes<W: Write>(
     }
 }
 
-/// Explains the program in a system of its own. It allocates all its memory before the first turn.
-fn explain_program<W: Write>(
+/// Explains the program in a system of its own: makes its turns, and writes the output of `play`, with the lots of each
+/// won lottery before its line. It allocates all its memory before the first turn.
+pub fn explain_program<W: Write>(
     alloc: Global,
     program: &Program,
     warnings: &mut Warnings,

@@ -11,4 +11,4 @@ mod lines;
 pub mod rows;
 mod won;
 
-pub use explaining::explain_bytes;
+pub use explaining::{explain_bytes, explain_program};

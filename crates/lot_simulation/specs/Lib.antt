@@ -26,6 +26,8 @@ pub mod Timed
 pub mod TimedReport
 -- The whole output of the program.
 pub mod Output
+-- Programs with seeds that are computed from one given number.
+pub mod Seeded
 -- Small inputs, and the output for them.
 pub mod Samples
 -- The definitions that a proof unfolds to compute a text on literals; elsewhere the text of a number stays folded.

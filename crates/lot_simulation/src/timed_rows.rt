@@ -1,8 +1,10 @@
 //! Worked rows for small timed inputs and their output.
-ghost use Rattle.std.specs.Prelude.{◌≡◌, [], ◌∷◌, ◌++◌, codes};
+ghost use Rattle.std.specs.Prelude.{◌≡◌, [], ◌∷◌, ◌++◌, codes, map};
 ghost use Rattle.lot_simulation.specs.Grammar.{program_in};
 ghost use Rattle.lot_simulation.specs.Output.{output};
 ghost use Rattle.lot_simulation.specs.Samples.{few_turns, text, refused_on_line};
+ghost use Rattle.lot_simulation.specs.Seeded.{seeds_from};
+ghost use Rattle.lot_machine.specs.Lottery.{mixed_seed};
 
 /// Nothing to do: the processor's draw is idle, and it waits to the end.
 #[tactic(auto, unfolding(crate::specs::OnLiterals::texts_on_literals, crate::specs::Timed::timed_room))]
@@ -576,4 +578,12 @@ pub fn ends_early()
     ensures in_time { few_turns 1 (text (codes "lottery 3" ∷ codes "for 10" ∷ []))
         ≡ text (codes "0 1 idle" ∷ codes "report" ∷ codes "processor 1 quanta 0 idle 1 ticks 0 unused 10"
         ∷ codes "total turns 1 quanta 0 ticks 0 refused 0 left 0" ∷ []) }
+{}
+
+/// The seeds computed from one number: the number, and for each further processor the next value of the generator.
+pub fn given_seeds()
+    ensures one { seeds_from 1 5 ≡ 5 ∷ [] }
+    ensures three { seeds_from 3 5 ≡ 5 ∷ 241355 ∷ 913028970 ∷ [] }
+    ensures last { seeds_from 2 2147483646 ≡ 2147483646 ∷ 2147435376 ∷ [] }
+    ensures mixed { seeds_from 2 48271 ≡ map mixed_seed (1 ∷ 2 ∷ []) }
 {}

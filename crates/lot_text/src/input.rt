@@ -4,6 +4,7 @@ ghost use Rattle.lot_simulation.specs.Grammar.{program_in, header_words_of, body
 ghost use Rattle.lot_simulation.specs.Grammar.{later_line as later_line_read, line_inside as line_inside_read};
 ghost use Rattle.lot_simulation.specs.Grammar.{line_outside as line_outside_read, phrase_inside as phrase_inside_read};
 ghost use Rattle.lot_simulation.specs.Grammar.{phrases_inside as phrases_inside_read, read_line as read_line_read};
+ghost use Rattle.lot_simulation.specs.Seeded.{seeded};
 ghost use Rattle.lot_simulation.specs.Words.{word_in, script_words};
 ghost use Rattle.lot_text.specs.Faults.{Gives, IsFaultOf};
 ghost use Rattle.lot_text.specs.Readings.{argument_count, phrase_at, within_script};
@@ -15,7 +16,7 @@ use crate::reading::{OpenScript, Reading};
 use crate::script_lines::script_line;
 use crate::tokens::{Tokens, begins_comment, is_printable, len_before};
 use crate::words::stands_alone;
-use crate::{ParseFault, Program};
+use crate::{ParseFault, Program, Seed};
 use lot_simulation::{BodyWord, Format, HeaderWord, InputFault, InputRefusal, ScriptWord};
 use std::alloc::Global;
 
@@ -45,6 +46,18 @@ pub fn parse(alloc: Global, bytes: &[u8]) -> Result<Program, ParseFault>
             line: number.max(1),
             refusal: InputRefusal::BadHeader,
         })),
+    }
+}
+
+/// As `parse`, but if a seed is given, with the seeds computed from it in place of the input's own.
+pub fn parse_seeded(alloc: Global, seed: Option<Seed>, bytes: &[u8]) -> Result<Program, ParseFault>
+    ensures program { IfOk result (λ program. seeded seed (program_in bytes.now) ≡ Ok program) }
+    ensures fault { IfErr result (IsFaultOf (seeded seed (program_in bytes.now))) }
+{
+    let program = parse(alloc, bytes)?;
+    match program.with_seed(alloc, seed) {
+        Ok(program) => Ok(program),
+        Err(_) => Err(ParseFault::Memory),
     }
 }
 

@@ -11,10 +11,12 @@ mod program;
 mod reading;
 mod runs;
 mod script_lines;
+mod seed;
 mod tokens;
 mod words;
 
 pub use fault::ParseFault;
-pub use input::parse;
+pub use input::{parse, parse_seeded};
 pub use lot_io::Watched;
 pub use program::Program;
+pub use seed::Seed;

@@ -3,9 +3,12 @@ ghost use Rattle.std.specs.Prelude.{◌≡◌, is_some, map, IfOk};
 ghost use Rattle.lot_machine.specs.State.{sizes_of};
 ghost use Rattle.lot_simulation.specs.Formats.{is_timed, unit_of};
 ghost use Rattle.lot_simulation.specs.Script.{without_sleep};
+ghost use Rattle.lot_simulation.specs.Seeded.{seeds_from, with_seed};
 ghost use Rattle.lot_simulation.specs.World.{without_time};
 ghost use Rattle.lot_text.specs.Programs.{IsProgram};
+ghost use Rattle.lot_text.specs.Readings.{AreSeeds};
 
+use crate::Seed;
 use lot_machine::{Command, Limits};
 use lot_script::Script;
 use lot_simulation::Format;
@@ -148,6 +151,18 @@ impl Program {
         Ok(copy)
     }
 
+    /// The program with other seeds, if one is given: processor 1 has the given one, and each further processor the
+    /// next value of the generator that mixes seeds. It fails only if out of memory.
+    pub fn with_seed(self, alloc: Global, seed: Option<Seed>) -> Result<Program, AllocError>
+        ensures { IfOk result (λ program. program ≡ with_seed seed self) }
+    {
+        let mut program = self;
+        if let Some(seed) = seed {
+            program.seeds = seeds_from(alloc, seed, program.limits.processors)?;
+        }
+        Ok(program)
+    }
+
     /// A copy of the program, in memory of its own. It fails only if out of memory.
     pub fn copied(&self, alloc: Global) -> Result<Program, AllocError>
         ensures { IfOk result (λ program. program ≡ self.now) }
@@ -164,6 +179,20 @@ impl Program {
             times: Vec::from_slice(alloc, self.times())?,
         })
     }
+}
+
+/// The seeds of so many processors, computed from this one.
+fn seeds_from(alloc: Global, seed: Seed, processors: u32) -> Result<Vec<u32>, AllocError>
+    ensures from { IfOk result (λ s. s.items ≡ seeds_from processors seed) }
+    ensures seeds { IfOk result (λ s. AreSeeds processors s.items) }
+{
+    let mut seeds = Vec::new(alloc);
+    let mut next = seed.number();
+    for _ in 0..processors {
+        seeds.push(next)?;
+        next = (u64::from(next) * 48271 % 2147483647) as u32;
+    }
+    Ok(seeds)
 }
 
 /// A copy of the scripts.

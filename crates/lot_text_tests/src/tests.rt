@@ -6,7 +6,7 @@ use crate::fault_of;
 use lot_machine::{Command, CurrencyRef, Kind, Limits, Name, Sizes, TargetRef, ThreadRef};
 use lot_script::Script;
 use lot_simulation::{InputFault, InputRefusal, Line, MutexTrap, PortTrap, ScriptTrap};
-use lot_text::{ParseFault, Program, parse};
+use lot_text::{ParseFault, Program, Seed, parse, parse_seeded};
 use same::{check_same, check_same_at};
 use std::alloc::Global;
 use std::fmt::Debug;
@@ -190,6 +190,20 @@ const FIRST_RUN_SAYS: Said<'_> = Said {
 #[test]
 fn reads_the_first_run(rt: HostRuntime) {
     check_said(&rt, rt.alloc(), FIRST_RUN, &FIRST_RUN_SAYS);
+}
+
+/// Of three processors each further one has 48271 times the seed before it, modulo 2147483647: 5 * 48271 = 241355, and
+/// 241355 * 48271 - 5 * 2147483647 = 913028970.
+#[test]
+fn given_seeds(rt: HostRuntime) {
+    let text = "lottery 3\nprocessors 3\nfor 1\nseed 7 8 9\n";
+    for (given, wanted) in [(None, [7, 8, 9]), (Seed::new(5), [5, 241355, 913028970])] {
+        let program = parse_seeded(rt.alloc(), given, text.as_bytes()).expect(&rt, "it is read");
+        check_items(&rt, program.seeds(), wanted.as_slice());
+    }
+    for number in [0, 2147483647] {
+        check_same(&rt, &Seed::new(number), &None);
+    }
 }
 
 const HEADERS: &str =
