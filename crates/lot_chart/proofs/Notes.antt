@@ -22,7 +22,7 @@ use Rattle.lot_chart.proofs.NotedFacts.{curves-are}
 
 -- ---- how many turns there are
 
-timed-most : timed_room < 1000001
+timed-most : timed_room < 16000001
 unfolding timed_room
 timed-most = lit< tt
 
@@ -38,11 +38,11 @@ timed-count : (w : World) (turns : List TimedTurn) → length (turns_in_time w t
 timed-count w [] = refl
 timed-count w (t ∷ turns) = ap suc (timed-count t.turn.world turns)
 
-by-few : (program : Program) → IsProgram program → (d : Option ℕ) → length (turns_by program d) ≤ 1000000
+by-few : (program : Program) → IsProgram program → (d : Option ℕ) → length (turns_by program d) ≤ 16000000
 by-few program is None = omega (arith, scheduled-count program (opening_world program) program.schedule, is.schedule_length)
 by-few program is (Some duration) = omega (arith, timed-count (opening_world program) (timed_turns program), turns-few program timed_room (opening_moment program), timed-most)
 
-pub program-few : (program : Program) → IsProgram program → length (program_turns program) ≤ 1000000
+pub program-few : (program : Program) → IsProgram program → length (program_turns program) ≤ 16000000
 program-few program is = by-few program is program.duration
 
 -- no more turns are counted than are made

@@ -197,15 +197,15 @@ module _ (program : Program) (seen : Seen) (timekeeper : Timekeeper) (is : IsFol
 
 -- ---- before the first turn
 
-room-is : 1000000 ≡ timed_room
+room-is : 16000000 ≡ timed_room
 unfolding timed_room
 room-is = refl
 
 -- a system that was opened has made none of the program's turns
 pub opened-followed : (program : Program) (timekeeper : Timekeeper) → IsWithinBounds program.limits → AreAlarms program.limits.processors timekeeper.alarms → timekeeper.alarms.threads.items ≡ replicate program.limits.threads None → length program.times ≡ length program.commands → timekeeper.clocks.time ≡ 0 → timekeeper.clocks.processors.items ≡ replicate program.limits.processors (record { time = 0; waits = false; idle = 0 }) → HasRoomFor program timekeeper → HasFollowed [] 0 timekeeper
-    → IsFollowed program (record { setting = record { program = program; room = 1000000; timer = true }; history = [] }) timekeeper
+    → IsFollowed program (record { setting = record { program = program; room = 16000000; timer = true }; history = [] }) timekeeper
 opened-followed program timekeeper bounds sleeping nobody as_many time clocks fits followed =
-    let seen : Seen = record { setting = record { program = program; room = 1000000; timer = true }; history = [] } in
+    let seen : Seen = record { setting = record { program = program; room = 16000000; timer = true }; history = [] } in
     let none_asleep : alarms_in timekeeper.alarms.threads.items ≡ (λ (t : ℕ). None) = ap alarms_in nobody ∙ none-asleep program.limits.threads in
     let moment : moment_in seen timekeeper ≡ opening_moment program = λ i. record { world = world_of seen; time = time i; clocks = clocks i; times = program.times; alarms = none_asleep i } in
     let none : timed_room - 0 ≡ timed_room = omega arith in

@@ -21,7 +21,7 @@ use lot_text::Program;
 use std::alloc::{AllocError, Global};
 
 /// The largest number of turns that a timed program makes.
-pub const MOST_TURNS: u32 = 1000000;
+pub const MOST_TURNS: u32 = 16000000;
 
 /// The records that a timed play keeps from turn to turn, in addition to the system.
 #[derive(Debug, Drop)]

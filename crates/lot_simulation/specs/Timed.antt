@@ -189,7 +189,7 @@ moment_after_all m (done ∷ others) = moment_after_all (moment_after m done) ot
 -- The largest number of turns of a timed input. A proof sees this number only if it asks for it, since the turns are
 -- defined by recursion on it.
 unfoldable pub timed_room : ℕ
-timed_room = 1000000
+timed_room = 16000000
 
 -- the timed program's turns, in time order
 abbrev pub timed_turns : Program → List TimedTurn

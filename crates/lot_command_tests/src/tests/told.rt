@@ -5,7 +5,8 @@ use super::same::{check_same, check_same_at};
 use super::{EMPTY_REPORT, Failing, ended_on};
 use lot_command::status;
 use std::alloc::Global;
-use std::io::ErrorKind;
+use std::io;
+use std::io::{ErrorKind, Write};
 use std::process::Abort;
 use std::sync::Wait;
 use std::thread::Threads;
@@ -298,28 +299,73 @@ fundx 1 base b wants
     check_told(&rt, rt.alloc(), ["lot_sim", "play"], input, 0, "");
 }
 
-// Two turns a tick: the last is the draw at tick 499999.
+/// An output that keeps its last two writes alone.
+#[derive(Drop)]
+struct LastWrites {
+    before: Vec<u8>,
+    last: Vec<u8>,
+}
+
+impl LastWrites {
+    /// Whether the two writes end with this text. It fails if out of memory.
+    fn end_with(&mut self, text: &str) -> io::Result<bool> {
+        self.before.write_all(self.last.as_slice())?;
+        Ok(self.before.as_slice().ends_with(text.as_bytes()))
+    }
+}
+
+impl Write for LastWrites {
+    fn write(&mut self, buf: &[u8]) -> io::Result<usize> {
+        self.before.clear();
+        self.before.write_all(self.last.as_slice())?;
+        self.last.clear();
+        self.last.write(buf)
+    }
+
+    fn flush(&mut self) -> io::Result<()> {
+        Ok(())
+    }
+}
+
+/// Plays the input, and returns the exit status, whether the output ends with this text, and the diagnostics.
+fn ended_with<H: Threads + Wait + Sync>(
+    rt: &H,
+    alloc: Global,
+    input: &str,
+    text: &str,
+) -> (u8, bool, Vec<u8>) {
+    let mut output = LastWrites {
+        before: Vec::new(alloc),
+        last: Vec::new(alloc),
+    };
+    let mut errors = Vec::new(alloc);
+    let words = ["lot_sim", "play"];
+    let inputs = on_standard(input.as_bytes());
+    let code = status(rt, alloc, &words, inputs, &mut output, &mut errors);
+    (code, output.end_with(text).unwrap_or(false), errors)
+}
+
+// Two turns a tick: the last is the draw at tick 7999999. The output has some 400 megabytes, so only its end is kept.
 #[test]
 fn cut_at_the_largest_number_of_turns(rt: HostRuntime) {
     let input = "lottery 3
 quantum 1
-for 600000
+for 9000000
 script s
-compute 1000000
+compute 16000000
 endscript
 fundx 1 base a s
 ";
     let report = "
 report
-thread 1 a quanta 500000 ticks 499999 share 100% value 100%
-processor 1 quanta 500000 idle 0 ticks 499999 unused 0
-total turns 1000000 quanta 500000 ticks 499999 refused 0 left 0
-ended at 499999 of 600000: 1000000 turns made
+thread 1 a quanta 8000000 ticks 7999999 share 100% value 100%
+processor 1 quanta 8000000 idle 0 ticks 7999999 unused 0
+total turns 16000000 quanta 8000000 ticks 7999999 refused 0 left 0
+ended at 7999999 of 9000000: 16000000 turns made
 ";
     let words =
-        "the run was cut at tick 499999 of 600000: it made 1000000 turns, and a run makes no more\n";
-    let ended = ended_on(&rt, rt.alloc(), &["lot_sim", "play"], input);
-    let is_reported = ended.output.as_slice().ends_with(report.as_bytes());
-    let told = str::from_utf8(ended.errors.as_slice()).unwrap_or("");
-    check_same(&rt, &(ended.code, is_reported, told), &(0, true, words));
+        "the run was cut at tick 7999999 of 9000000: it made 16000000 turns, and a run makes no more\n";
+    let (code, is_reported, errors) = ended_with(&rt, rt.alloc(), input, report);
+    let told = str::from_utf8(errors.as_slice()).unwrap_or("");
+    check_same(&rt, &(code, is_reported, told), &(0, true, words));
 }
