@@ -62,19 +62,27 @@ fn flag<'a>(alloc: Global, name: &'a str, help: &'a str) -> Arg<'a> {
         .help(help)
 }
 
-/// The command line, with its options.
-fn command<'a>(alloc: Global) -> Result<Command<'a>, Error> {
-    let events = Arg::new(alloc, "events")
+/// The option for the number of events.
+fn events_option<'a>(alloc: Global) -> Arg<'a> {
+    Arg::new(alloc, "events")
         .long("events")
         .value_parser(value_parser!(u32))
-        .help("About how many events each workload has");
-    let only = Arg::new(alloc, "only")
+        .help("About how many events each workload has")
+}
+
+/// The option for one workload.
+fn only_option<'a>(alloc: Global) -> Arg<'a> {
+    Arg::new(alloc, "only")
         .long("only")
-        .help("The one workload that is wanted");
+        .help("The one workload that is wanted")
+}
+
+/// The command line, with its options.
+fn command<'a>(alloc: Global) -> Result<Command<'a>, Error> {
     let mut command = Command::new(alloc, "lot_bench")
         .about(ABOUT)
-        .arg(events)?
-        .arg(only)?;
+        .arg(events_option(alloc))?
+        .arg(only_option(alloc))?;
     for (name, help) in FLAGS {
         command = command.arg(flag(alloc, name, help))?;
     }

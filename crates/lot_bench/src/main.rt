@@ -18,10 +18,14 @@ mod track;
 mod workers;
 mod workload;
 
-use crate::command_line::{Request, wish_of};
+use crate::command_line::{Request, Wish, wish_of};
 use anyhow::Result;
+use std::alloc::Global;
 use std::env;
 use std::process::ExitCode;
+use std::rt::Clock;
+use std::sync::Wait;
+use std::thread::Threads;
 
 fn main(rt: HostRuntime) -> Result<ExitCode> {
     let words = env::args(&rt)?.collect::<Vec<String>>(rt.alloc())?;
@@ -32,14 +36,23 @@ fn main(rt: HostRuntime) -> Result<ExitCode> {
             return Ok(ExitCode::from(if error.use_stderr() { 2 } else { 0 }));
         }
     };
+    print_wish(&rt, rt.alloc(), wish)?;
+    Ok(ExitCode::SUCCESS)
+}
+
+/// Prints the output that a command line requests. It fails if no workload has the selected name.
+fn print_wish<R: Print + Clock + Threads + Wait + Sync>(
+    rt: &R,
+    alloc: Global,
+    wish: Wish<'_>,
+) -> Result<()> {
     rounds::check_name(wish.only)?;
     match wish.request {
-        Request::Digests => rounds::print_digests(&rt, rt.alloc(), wish)?,
-        Request::Times => rounds::print_times(&rt, rt.alloc(), wish)?,
-        Request::Growth => growth::print_growth(&rt, rt.alloc(), wish.events)?,
-        Request::Settling => settling::print_settling(&rt, rt.alloc())?,
-        Request::Workers => workers::print_workers(&rt, rt.alloc())?,
-        Request::Million => million::print_million(&rt, rt.alloc())?,
+        Request::Digests => rounds::print_digests(rt, alloc, wish),
+        Request::Times => rounds::print_times(rt, alloc, wish),
+        Request::Growth => growth::print_growth(rt, alloc, wish.events),
+        Request::Settling => settling::print_settling(rt, alloc),
+        Request::Workers => workers::print_workers(rt, alloc),
+        Request::Million => million::print_million(rt, alloc),
     }
-    Ok(ExitCode::SUCCESS)
 }

@@ -15,16 +15,27 @@ use std::rt::Clock;
 /// and draws.
 pub(crate) fn print_digests(rt: &impl Print, alloc: Global, wish: Wish<'_>) -> Result<()> {
     for (name, workload) in WORKLOADS {
-        if !is_wanted(name, wish.only) {
-            continue;
+        if is_wanted(name, wish.only) {
+            print_digest(rt, alloc, name, workload, wish.events)?;
         }
-        let (tally, meter) = tally_of(alloc, workload, wish.events)?;
-        let Meter {
-            ticket_reads,
-            tree_visits,
-        } = meter;
-        println!(rt; "{name} {tally} reads {ticket_reads} visits {tree_visits}")?;
     }
+    Ok(())
+}
+
+/// The same for the workload with this name.
+fn print_digest(
+    rt: &impl Print,
+    alloc: Global,
+    name: &str,
+    workload: Workload,
+    events: u32,
+) -> Result<()> {
+    let (tally, meter) = tally_of(alloc, workload, events)?;
+    let Meter {
+        ticket_reads,
+        tree_visits,
+    } = meter;
+    println!(rt; "{name} {tally} reads {ticket_reads} visits {tree_visits}")?;
     Ok(())
 }
 
@@ -61,12 +72,23 @@ pub(crate) fn check_name(only: Option<&str>) -> Result<()> {
 /// Prints for each selected workload the nanoseconds of an event, in the fastest of several rounds and in all.
 pub(crate) fn print_times(rt: &(impl Print + Clock), alloc: Global, wish: Wish<'_>) -> Result<()> {
     for (name, workload) in WORKLOADS {
-        if !is_wanted(name, wish.only) {
-            continue;
+        if is_wanted(name, wish.only) {
+            print_time(rt, alloc, name, workload, wish.events)?;
         }
-        let limits = largest_limits(workload).context("limits")?;
-        let timing = time_workload(rt, alloc, workload, limits, wish.events)?;
-        println!(rt; "{name} {} mean {}", timing.fastest, timing.mean)?;
     }
+    Ok(())
+}
+
+/// The same for the workload with this name.
+fn print_time(
+    rt: &(impl Print + Clock),
+    alloc: Global,
+    name: &str,
+    workload: Workload,
+    events: u32,
+) -> Result<()> {
+    let limits = largest_limits(workload).context("limits")?;
+    let timing = time_workload(rt, alloc, workload, limits, events)?;
+    println!(rt; "{name} {} mean {}", timing.fastest, timing.mean)?;
     Ok(())
 }
