@@ -24,11 +24,11 @@ use Rattle.lot_simulation.specs.declared.input.ScriptWord.TheVariants as script
 use Rattle.lot_simulation.specs.declared.script.Line.{Line}
 use Rattle.lot_simulation.specs.declared.script.Line.TheVariants as line
 use Rattle.lot_simulation.specs.declared.script.ScriptTrap.TheVariants as trap
-use Rattle.lot_simulation.specs.Grammar.{ActorRun, Phrase, actors_of, add_command, add_line, add_runs, body_after_header, body_line, body_words_of, closed_program, first_line, fitting_line, header_in_order, header_line, header_words_of, is_full, lacks_duration, later_line, line_inside, line_outside, phrase_inside, phrases_inside, phrases_of, program_in, program_of, read_line, read_lines, refused_on, run_of, script_line, script_names, time_of_next, token_line, whole_program, with_line}
+use Rattle.lot_simulation.specs.Grammar.{ActorRun, Phrase, actors_of, add_command, add_line, add_runs, body_after_header, body_line, body_words_of, closed_program, first_line, fitting_line, header_in_order, header_line, header_words_of, is_full, is_late, lacks_duration, later_line, line_inside, line_outside, phrase_inside, phrases_inside, phrases_of, program_in, program_of, read_line, read_lines, refused_on, run_of, script_line, script_names, time_of_next, token_line, whole_program, with_header_word, with_line}
 use Rattle.lot_simulation.specs.Lines.{is_ignored, lines_of, number_of, tokens_of, without_end}
 use Rattle.lot_simulation.specs.Reading.{OpenScript, Reading, ◌>>=◌, actor_below, any_name, any_number, checked, each, each_pair, is_long_name, number_between, opening_reading, script_number}
 use Rattle.lot_simulation.specs.Timed.{end_of}
-use Rattle.lot_simulation.specs.Words.{header_place, script_words, timed_script_words, word_in}
+use Rattle.lot_simulation.specs.Words.{script_words, timed_script_words, word_in}
 use Rattle.lot_simulation.specs.World.{Program}
 use Rattle.lot_explain.specs.Short.{HasShortName}
 
@@ -172,11 +172,11 @@ module _ (r : Reading) (kept : IsRead r) where
   header-kept header.Reuse [] = if-passes IsRead ((not r.is_timed, BadLine) ∷ []) (record r { reuse = true }) (λ _. kept)
   header-kept word tokens = refuses IsRead BadLine
 
-  -- if it comes in order
+  -- if it doesn't come too late
   header-ordered : (word : HeaderWord) (tokens : List (List ℕ)) → Reads (header_in_order r word tokens) IsRead
-  header-ordered word tokens = at (nat_le (header_place word) r.place)
+  header-ordered word tokens = at (is_late r word)
     where
-      at : (late : Bool) → Reads (checked ((late, BadHeader) ∷ []) r >>= λ before. header_line before word tokens >>= λ after. Ok (record after { place = header_place word })) IsRead
+      at : (late : Bool) → Reads (checked ((late, BadHeader) ∷ []) r >>= λ before. header_line before word tokens >>= λ after. Ok (with_header_word after word)) IsRead
       at true = refuses IsRead BadHeader
       at false = then-read IsRead IsRead (header-kept word tokens) (λ after is. reads IsRead _ is)
 

@@ -1,6 +1,6 @@
 -- The meaning of an input, or the line on which it is refused.
-use Rattle.std.specs.Prelude.{ℕ, ◌+◌, ◌-◌, ◌%◌, max, ◌==◌, nat_lt, nat_le, Bool, true, false, not, ◌&&◌, ◌||◌, Option, Some, None, is_none, Result, Ok, Err, List, [], ◌∷◌, ◌++◌, length, map, sum_by, replicate, codes, unwrap_or, option_map, if◌then◌else◌}
-use Rattle.std.specs.List.{flat_map, range_with_len}
+use Rattle.std.specs.Prelude.{ℕ, ◌+◌, ◌-◌, ◌%◌, max, ◌==◌, nat_lt, nat_le, Bool, true, false, not, ◌&&◌, ◌||◌, Option, Some, None, is_none, is_some, Result, Ok, Err, List, [], ◌∷◌, ◌++◌, length, map, sum_by, replicate, codes, unwrap_or, option_map, if◌then◌else◌}
+use Rattle.std.specs.List.{flat_map, list_any, range_with_len}
 use Rattle.std.specs.Str.{bytes_eq}
 use Rattle.lot_simulation.specs.declared.script.Line.{Line}
 use Rattle.lot_simulation.specs.declared.script.Line.TheVariants as line
@@ -70,12 +70,29 @@ header_line r header.Limits (t ∷ c ∷ h ∷ []) = do
 header_line r header.Reuse [] = checked ((not r.is_timed, BadLine) ∷ []) (record r { reuse = true })
 header_line r word tokens = Err BadLine
 
--- A header line is refused if its word is out of order, repeated, or after the body.
+-- whether the header has a line with this word
+abbrev pub is_given : Reading → HeaderWord → Bool
+is_given r word = list_any (λ given. header_place given == header_place word) r.given
+
+-- whether the word is `processors` after `seed`, whose line has a number for each processor
+abbrev pub is_after_seed : Reading → HeaderWord → Bool
+is_after_seed r header.Processors = is_some r.seeds
+is_after_seed r word = false
+
+-- whether a header line with this word comes too late: its place is passed, it was given, or `seed` was
+abbrev pub is_late : Reading → HeaderWord → Bool
+is_late r word = nat_le (header_place word) r.place || is_given r word || is_after_seed r word
+
+-- The reading after a header line with this word, which can't come again. In a timed input the others come in any order.
+abbrev pub with_header_word : Reading → HeaderWord → Reading
+with_header_word r word = record r { place = if r.is_timed then r.place else header_place word; given = r.given ++ word ∷ [] }
+
+-- A header line is refused if its word comes too late.
 abbrev pub header_in_order : Reading → HeaderWord → List (List ℕ) → Result Reading InputRefusal
 header_in_order r word tokens = do
-  before ← checked ((nat_le (header_place word) r.place, BadHeader) ∷ []) r
+  before ← checked ((is_late r word, BadHeader) ∷ []) r
   after ← header_line before word tokens
-  Ok (record after { place = header_place word })
+  Ok (with_header_word after word)
 
 -- ---- lines of a script
 

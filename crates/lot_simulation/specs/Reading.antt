@@ -3,6 +3,7 @@ use Rattle.std.specs.Prelude.{ℕ, ◌+◌, ◌-◌, ◌^◌, nat_lt, Bool, fals
 use Rattle.std.specs.Str.{bytes_eq}
 use Rattle.lot_simulation.specs.declared.script.Line.{Line}
 use Rattle.lot_machine.specs.declared.command.Command.{Command}
+use Rattle.lot_simulation.specs.declared.input.HeaderWord.{HeaderWord}
 use Rattle.lot_simulation.specs.declared.input.InputRefusal.{InputRefusal}
 use Rattle.lot_simulation.specs.declared.input.InputRefusal.TheVariants.{BadLine, BadNumber, UnknownName, TooLong, BadActor}
 use Rattle.lot_machine.specs.Commands.{first_failing, is_good_name}
@@ -20,9 +21,11 @@ pub record OpenScript : Type 0 where
   pub lines : List Line
   pub loops : ℕ
 
--- The contents of the lines read so far. The header's place is that of its last line, and 8 from the body on.
+-- The contents of the lines read so far. Header lines up to the place come too late: the place is that of the last header
+-- line, or 0 in a timed input, and 8 from the body on.
 pub record Reading : Type 0 where
   pub place : ℕ
+  pub given : List HeaderWord  -- the words of the header lines so far, after the first line
   pub is_timed : Bool  -- whether the input is timed
   pub unit : ℕ
   pub processors : ℕ
@@ -47,6 +50,7 @@ pub record Reading : Type 0 where
 abbrev pub opening_reading : Bool → ℕ → Reading
 opening_reading is_timed unit = record {
   place = 0;
+  given = [];
   is_timed = is_timed;
   unit = unit;
   processors = 1;

@@ -1,5 +1,6 @@
 //! Worked rows for lines, tokens, numbers and refused inputs.
 ghost use Rattle.std.specs.Prelude.{◌≡◌, ◌++◌, [], ◌∷◌, codes, replicate};
+ghost use Rattle.lot_simulation.specs.Grammar.{program_in};
 ghost use Rattle.lot_simulation.specs.Lines.{lines_of, tokens_of, number_of};
 ghost use Rattle.lot_simulation.specs.Output.{output};
 ghost use Rattle.lot_simulation.specs.Samples.{text, empty_report, refused_on_line, second_line, script_of};
@@ -29,7 +30,7 @@ pub fn lines()
         ≡ refused_on_line (codes "4 51 BadLine") }
 {}
 
-/// The header's order.
+/// The header's order in an input that isn't timed.
 #[tactic(auto, unfolding(crate::specs::OnLiterals::texts_on_literals))]
 pub fn header()
     ensures leading { output (codes "lottery 01") ≡ refused_on_line (codes "1 50 BadHeader") }
@@ -47,6 +48,30 @@ pub fn header()
         ≡ refused_on_line (codes "3 51 BadLine") }
     ensures seed { output (text (codes "lottery 1" ∷ codes "processors 2" ∷ codes "seed 1 2147483647" ∷ []))
         ≡ refused_on_line (codes "3 52 BadNumber") }
+{}
+
+/// The header of a timed input: its lines come in any order, each once and before the body, and only `processors` must
+/// come before `seed`. In other inputs the order is fixed.
+#[tactic(auto, unfolding(crate::specs::OnLiterals::texts_on_literals))]
+pub fn timed_header()
+    ensures same { program_in (text (codes "lottery 3" ∷ codes "for 9" ∷ codes "reuse" ∷ codes "turns 5"
+        ∷ codes "limits 4 3 2" ∷ codes "processors 2" ∷ codes "seed 7 8" ∷ codes "quantum 50" ∷ codes "port p" ∷ []))
+        ≡ program_in (text (codes "lottery 3" ∷ codes "processors 2" ∷ codes "quantum 50" ∷ codes "turns 5"
+        ∷ codes "for 9" ∷ codes "seed 7 8" ∷ codes "limits 4 3 2" ∷ codes "reuse" ∷ codes "port p" ∷ [])) }
+    ensures repeated { output (text (codes "lottery 3" ∷ codes "for 5" ∷ codes "quantum 5" ∷ codes "for x y" ∷ []))
+        ≡ refused_on_line (codes "4 50 BadHeader") }
+    ensures again { output (text (codes "lottery 3" ∷ codes "for 5" ∷ codes "lottery 3" ∷ []))
+        ≡ refused_on_line (codes "3 50 BadHeader") }
+    ensures seeds { output (text (codes "lottery 3" ∷ codes "for 5" ∷ codes "seed 1" ∷ codes "processors 1" ∷ []))
+        ≡ refused_on_line (codes "4 50 BadHeader") }
+    ensures seed_count { output (text (codes "lottery 3" ∷ codes "for 5" ∷ codes "seed 1 2" ∷ []))
+        ≡ refused_on_line (codes "3 51 BadLine") }
+    ensures following { output (text (codes "lottery 3" ∷ codes "for 5" ∷ codes "port p" ∷ codes "quantum 5" ∷ []))
+        ≡ refused_on_line (codes "4 50 BadHeader") }
+    ensures lacks { output (text (codes "lottery 3" ∷ codes "reuse" ∷ codes "quantum 5" ∷ codes "port p" ∷ []))
+        ≡ refused_on_line (codes "4 50 BadHeader") }
+    ensures second { output (text (codes "lottery 2" ∷ codes "turns 5" ∷ codes "quantum 5" ∷ []))
+        ≡ refused_on_line (codes "3 50 BadHeader") }
 {}
 
 /// Tokens are judged from left to right.

@@ -321,8 +321,6 @@ pub fn refused_inputs()
         ≡ refused_on_line (codes "2 51 BadLine") }
     ensures reuse_with_number { output (text (codes "lottery 3" ∷ codes "for 5" ∷ codes "reuse 1" ∷ []))
         ≡ refused_on_line (codes "3 51 BadLine") }
-    ensures reuse_too_early { output (text (codes "lottery 3" ∷ codes "for 5" ∷ codes "reuse" ∷ codes "limits 1 1 1"
-        ∷ [])) ≡ refused_on_line (codes "4 50 BadHeader") }
     ensures sleep_in_second { output (text (codes "lottery 2" ∷ codes "script s" ∷ codes "sleep 5" ∷ []))
         ≡ refused_on_line (codes "3 51 BadLine") }
     ensures sleep_in_first { output (text (codes "lottery 1" ∷ codes "script s" ∷ codes "sleep 5" ∷ []))

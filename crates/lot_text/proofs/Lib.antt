@@ -1,5 +1,6 @@
 pub mod FaultLemmas
 pub mod FirstLine
+pub mod HeaderLemmas
 pub mod NumberLemmas
 pub mod PhraseLemmas
 pub mod RunLemmas

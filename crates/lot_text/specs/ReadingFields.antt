@@ -8,6 +8,7 @@ use Rattle.lot_text.specs.declared.reading.Reading.TheInside.{Inside}
 abbrev pub reading_of : Inside → Reading
 reading_of r = record {
   place = r.place;
+  given = r.given.items;
   is_timed = is_timed r.format;
   unit = unit_of r.format;
   processors = r.processors;

@@ -1,5 +1,5 @@
 -- The invariant of every state of reading an input.
-use Rattle.std.specs.Prelude.{◌≡◌, ℕ, ◌<◌, ◌≤◌, Result, Ok, List, [], ◌∷◌, length, take, All, IsSome, IsTrue, Some, None, if◌then◌else◌}
+use Rattle.std.specs.Prelude.{◌≡◌, ℕ, ◌<◌, ◌≤◌, Result, Ok, List, [], ◌∷◌, length, take, All, IsSome, IsTrue, Some, if◌then◌else◌}
 use Rattle.std.specs.List.Sorted.{IsNonDecreasing}
 use Rattle.std.specs.Option.{ForSome}
 use Rattle.lot_simulation.specs.declared.input.InputRefusal.{InputRefusal}
@@ -16,8 +16,8 @@ pub record AreSeeds (processors : ℕ) (seeds : List ℕ) : Type 0 where
   pub count : length seeds ≡ processors
   pub each : All IsSeed seeds
 
--- All values read so far are within the bounds of an input. Right after the first line, nothing that depends on the
--- number of processors is known.
+-- All values read so far are within the bounds of an input. The schedule, whose actors depend on the number of
+-- processors, begins after the header.
 pub record IsReading (r : Reading) : Type 0 where
   pub processors : IsBetween 1 64 r.processors
   pub quantum : IsBetween 1 1000 r.quantum
@@ -37,7 +37,6 @@ pub record IsReading (r : Reading) : Type 0 where
   pub running : IsSome r.duration → IsTrue r.is_timed
   pub rising : IsNonDecreasing r.times
   pub past : All (λ time. time ≤ r.time) r.times
-  pub unseeded : r.place ≡ 0 → r.seeds ≡ None
   pub unscheduled : r.place ≡ 0 → r.schedule ≡ []
 
 -- the reading after a line of the body, which ends the header

@@ -1,6 +1,7 @@
 //! Lines of the header.
-ghost use Rattle.std.specs.Prelude.{◌≡◌, ◌<◌, ◌∷◌, length, IfOk, MatchResult, Ok};
-ghost use Rattle.lot_simulation.specs.Grammar.{first_line as first_line_read, header_in_order};
+ghost use Rattle.std.specs.Prelude.{◌≡◌, ◌<◌, ◌∷◌, false, length, IfOk, MatchResult, None, Ok};
+ghost use Rattle.lot_simulation.specs.Grammar.{first_line as first_line_read, header_in_order, is_late};
+ghost use Rattle.lot_simulation.specs.Grammar.{header_line as header_line_read};
 ghost use Rattle.lot_simulation.specs.Reading.{each, number_between as number_read};
 ghost use Rattle.lot_text.specs.Faults.{Fails, Gives};
 ghost use Rattle.lot_text.specs.Readings.{AreSeeds};
@@ -30,7 +31,7 @@ pub(crate) fn first_line(
     }
 }
 
-/// A later line of the header, whose word must come after those so far.
+/// A later line of the header, whose word mustn't come too late.
 pub(crate) fn header_line(
     alloc: Global,
     reading: &mut Reading,
@@ -39,9 +40,24 @@ pub(crate) fn header_line(
 ) -> Result<(), LineFault>
     ensures { Gives reading.new result (header_in_order reading.old word tokens.entry) }
 {
-    if word.place() <= reading.place {
+    if reading.is_late(word) {
         return Err(LineFault::Refused(InputRefusal::BadHeader));
     }
+    header_arguments(alloc, reading, word, tokens)?;
+    reading.add_header_word(word)?;
+    Ok(())
+}
+
+/// The arguments of a header line that doesn't come too late.
+fn header_arguments(
+    alloc: Global,
+    reading: &mut Reading,
+    word: HeaderWord,
+    tokens: Tokens<'_>,
+) -> Result<(), LineFault>
+    requires { is_late reading.old word ≡ false }
+    ensures { Gives reading.new result (header_line_read reading.old word tokens.entry) }
+{
     match word {
         HeaderWord::Lottery => Err(LineFault::Refused(InputRefusal::BadHeader)),
         HeaderWord::Processors => read_processors(reading, tokens),
@@ -54,63 +70,55 @@ pub(crate) fn header_line(
     }
 }
 
-/// `processors P`
+/// `processors P`, before the seeds and the schedule
 fn read_processors(reading: &mut Reading, tokens: Tokens<'_>) -> Result<(), LineFault>
-    requires { reading.old.place < 1 }
-    ensures { Gives reading.new result (header_in_order reading.old HeaderWord.Processors tokens.entry) }
+    requires unseeded { reading.old.seeds ≡ None }
+    requires early { reading.old.place < 1 }
+    ensures { Gives reading.new result (header_line_read reading.old HeaderWord.Processors tokens.entry) }
 {
     let processors = tokens.only()?;
     reading.processors = number_in(ranges::PROCESSORS, processors)?;
-    reading.place = HeaderWord::Processors.place();
     Ok(())
 }
 
 /// `quantum Q`
 fn read_quantum(reading: &mut Reading, tokens: Tokens<'_>) -> Result<(), LineFault>
-    requires { reading.old.place < 2 }
-    ensures { Gives reading.new result (header_in_order reading.old HeaderWord.Quantum tokens.entry) }
+    ensures { Gives reading.new result (header_line_read reading.old HeaderWord.Quantum tokens.entry) }
 {
     let quantum = tokens.only()?;
     reading.quantum = number_in(ranges::QUANTUM, quantum)?;
-    reading.place = HeaderWord::Quantum.place();
     Ok(())
 }
 
 /// `turns T`
 fn read_turns(reading: &mut Reading, tokens: Tokens<'_>) -> Result<(), LineFault>
-    requires { reading.old.place < 3 }
-    ensures { Gives reading.new result (header_in_order reading.old HeaderWord.Turns tokens.entry) }
+    ensures { Gives reading.new result (header_line_read reading.old HeaderWord.Turns tokens.entry) }
 {
     let turns = tokens.only()?;
     reading.turns = number_in(ranges::TURNS, turns)?;
-    reading.place = HeaderWord::Turns.place();
     Ok(())
 }
 
 /// `for TICKS`, in a timed input
 fn read_duration(reading: &mut Reading, tokens: Tokens<'_>) -> Result<(), LineFault>
-    requires { reading.old.place < 4 }
-    ensures { Gives reading.new result (header_in_order reading.old HeaderWord.For tokens.entry) }
+    ensures { Gives reading.new result (header_line_read reading.old HeaderWord.For tokens.entry) }
 {
     let duration = tokens.only()?;
     if !reading.format.is_timed() {
         return Err(LineFault::Refused(InputRefusal::BadLine));
     }
     reading.duration = Some(number_in(ranges::DURATION, duration)?);
-    reading.place = HeaderWord::For.place();
     Ok(())
 }
 
 /// `seed S1 .. SP`, one for each processor
 fn read_seed(alloc: Global, reading: &mut Reading, tokens: Tokens<'_>) -> Result<(), LineFault>
-    requires { reading.old.place < 5 }
-    ensures { Gives reading.new result (header_in_order reading.old HeaderWord.Seed tokens.entry) }
+    ensures { Gives reading.new result (header_line_read reading.old HeaderWord.Seed tokens.entry) }
 {
     if !tokens.has_len(reading.processors as usize) {
         return Err(LineFault::Refused(InputRefusal::BadLine));
     }
     reading.seeds = Some(read_seeds(alloc, tokens)?);
-    reading.place = HeaderWord::Seed.place();
     Ok(())
 }
 
@@ -129,8 +137,7 @@ fn read_seeds(alloc: Global, mut tokens: Tokens<'_>) -> Result<Vec<u32>, LineFau
 
 /// `limits TICKETS CURRENCIES THREADS`
 fn read_limits(reading: &mut Reading, mut tokens: Tokens<'_>) -> Result<(), LineFault>
-    requires { reading.old.place < 6 }
-    ensures { Gives reading.new result (header_in_order reading.old HeaderWord.Limits tokens.entry) }
+    ensures { Gives reading.new result (header_line_read reading.old HeaderWord.Limits tokens.entry) }
 {
     let tickets = tokens.expected()?;
     let currencies = tokens.expected()?;
@@ -141,20 +148,17 @@ fn read_limits(reading: &mut Reading, mut tokens: Tokens<'_>) -> Result<(), Line
     reading.tickets = tickets;
     reading.currencies = currencies;
     reading.threads = threads;
-    reading.place = HeaderWord::Limits.place();
     Ok(())
 }
 
 /// `reuse`, in a timed input
 fn read_reuse(reading: &mut Reading, tokens: Tokens<'_>) -> Result<(), LineFault>
-    requires { reading.old.place < 7 }
-    ensures { Gives reading.new result (header_in_order reading.old HeaderWord.Reuse tokens.entry) }
+    ensures { Gives reading.new result (header_line_read reading.old HeaderWord.Reuse tokens.entry) }
 {
     tokens.none()?;
     if !reading.format.is_timed() {
         return Err(LineFault::Refused(InputRefusal::BadLine));
     }
     reading.reuse = true;
-    reading.place = HeaderWord::Reuse.place();
     Ok(())
 }

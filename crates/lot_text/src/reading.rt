@@ -1,6 +1,6 @@
 //! The state of reading an input.
 ghost use Rattle.std.specs.Prelude.{◌≡◌, ℕ, ◌<◌, ◌≤◌, max, false, All, length, map, option_map, position, unwrap_or};
-ghost use Rattle.std.specs.Prelude.{IfErr, IfOk, IfSome, IsTrue, Ok, Some, if◌then◌else◌};
+ghost use Rattle.std.specs.Prelude.{IfErr, IfOk, IfSome, IsTrue, Ok, OnOk, Some, if◌then◌else◌};
 ghost use Rattle.std.specs.List.{range_with_len};
 ghost use Rattle.std.specs.Option.{ForSome};
 ghost use Rattle.std.specs.Str.{bytes_eq};
@@ -8,9 +8,12 @@ ghost use Rattle.lot_machine.specs.Bounds.{IsBetween};
 ghost use Rattle.lot_machine.specs.Lottery.{mixed_seed};
 ghost use Rattle.lot_simulation.specs.Grammar.{add_command as add_command_read, add_runs as add_runs_read};
 ghost use Rattle.lot_simulation.specs.Grammar.{closed_program, lacks_duration as lacks_duration_read, limits_of};
-ghost use Rattle.lot_simulation.specs.Grammar.{script_names, whole_program};
+ghost use Rattle.lot_simulation.specs.Grammar.{is_after_seed as is_after_seed_read, is_given as is_given_read};
+ghost use Rattle.lot_simulation.specs.Grammar.{is_late as is_late_read, script_names, whole_program};
+ghost use Rattle.lot_simulation.specs.Grammar.{with_header_word};
 ghost use Rattle.lot_simulation.specs.Formats.{is_timed, unit_of};
 ghost use Rattle.lot_simulation.specs.Reading.{number_named, opening_reading};
+ghost use Rattle.lot_simulation.specs.Words.{header_place};
 ghost use Rattle.lot_machine.specs.State.{sizes_of};
 ghost use Rattle.lot_text.specs.Faults.{Gives, IsFaultOf};
 ghost use Rattle.lot_text.specs.Readings.{AreSeeds, after_header};
@@ -20,7 +23,7 @@ use crate::runs::{ActorRun, actors_of, have_room};
 use crate::{ParseFault, Program};
 use lot_machine::{Command, Limits, Name, Sizes};
 use lot_script::{Script, ScriptBuilder};
-use lot_simulation::{Format, HEADER_WORDS, InputFault, InputRefusal};
+use lot_simulation::{Format, HEADER_WORDS, HeaderWord, InputFault, InputRefusal};
 use std::alloc::{AllocError, Global};
 use std::marker::Model;
 
@@ -61,10 +64,13 @@ pub(crate) const BODY: u32 = HEADER_WORDS.len() as u32;
 /// The largest number of entries in a schedule.
 pub(crate) const MOST_ENTRIES: usize = 1000000;
 
-/// The state after some lines of an input. The place is that of the header's last line, or the body's.
+/// The state after some lines of an input.
 #[derive(Drop)]
 pub(crate) struct Reading {
+    /// The place of the last header line, or 0 in a timed input; from the body on the body's.
     pub(crate) place: u32,
+    /// The words of the header lines so far.
+    pub(crate) given: Vec<HeaderWord>,
     pub(crate) format: Format,
     pub(crate) processors: u32,
     pub(crate) quantum: u32,
@@ -108,6 +114,7 @@ impl Reading {
     {
         Reading {
             place: 0,
+            given: Vec::new(alloc),
             format,
             processors: 1,
             quantum: 100,
@@ -134,6 +141,43 @@ impl Reading {
         ensures { result ≡ lacks_duration_read self.now }
     {
         self.format.is_timed() && self.duration.is_none()
+    }
+
+    /// Whether a header line with this word comes too late.
+    pub(crate) fn is_late(&self, word: HeaderWord) -> bool
+        ensures { result ≡ is_late_read self.now word }
+    {
+        word.place() <= self.place || self.is_given(word) || self.is_after_seed(word)
+    }
+
+    /// Whether the header has a line with this word.
+    fn is_given(&self, word: HeaderWord) -> bool
+        ensures { result ≡ is_given_read self.now word }
+    {
+        let place = word.place();
+        self.given.iter().any(|given| given.place() == place)
+    }
+
+    /// Whether the word is `processors` after `seed`.
+    fn is_after_seed(&self, word: HeaderWord) -> bool
+        ensures { result ≡ is_after_seed_read self.now word }
+    {
+        match word {
+            HeaderWord::Processors => self.seeds.is_some(),
+            _ => false,
+        }
+    }
+
+    /// Adds the word of a header line, after which only a timed input may have the words before it.
+    pub(crate) fn add_header_word(&mut self, word: HeaderWord) -> Result<(), AllocError>
+        requires { 0 < header_place word }
+        ensures { OnOk result (self.new ≡ with_header_word self.old word) }
+    {
+        self.given.push(word)?;
+        if !self.format.is_timed() {
+            self.place = word.place();
+        }
+        Ok(())
     }
 
     /// Adds a command, which ends the header.
@@ -232,6 +276,7 @@ impl Reading {
         let limits = self.limits();
         let Reading {
             place: _,
+            given: _,
             format,
             processors,
             quantum: _,

@@ -354,6 +354,44 @@ fn reads_turns_in_the_order_of_time(rt: HostRuntime) {
     check_said(&rt, rt.alloc(), TIMED, &TIMED_SAYS);
 }
 
+/// One header of a timed input in three orders.
+const HEADER_ORDERS: [&str; 3] = [
+    "processors 2\nquantum 50\nturns 5\nfor 9\nseed 7 8\nlimits 4 3 2\nreuse",
+    "reuse\nlimits 4 3 2\nprocessors 2\nseed 7 8\nfor 9\nturns 5\nquantum 50",
+    "for 9\nprocessors 2\nreuse\nturns 5\nlimits 4 3 2\nquantum 50\nseed 7 8",
+];
+
+const HEADER_ORDERS_SAY: Said<'_> = Said {
+    sizes: Sizes {
+        tickets: 4,
+        currencies: 3,
+        threads: 2,
+        ports: 1,
+        mutexes: 0,
+        processors: 2,
+        scripts: 0,
+        quantum: 50,
+        unit: 256,
+        reuse: true,
+        plain_names: false,
+    },
+    seeds: &[7, 8],
+    turns: 5,
+    scripts: &[],
+    commands: &[],
+    schedule: &[],
+    duration: Some(9),
+    times: &[],
+};
+
+#[test]
+fn reads_timed_headers_in_any_order(rt: HostRuntime) {
+    for header in HEADER_ORDERS {
+        let text = format!(in rt.alloc(); "lottery 3\n{header}\nport p\n").expect(&rt, "memory");
+        check_said(&rt, rt.alloc(), text.as_str(), &HEADER_ORDERS_SAY);
+    }
+}
+
 // For runs in which one allocation is refused: the tests above fail in those that refuse one of these.
 #[test]
 fn reads_or_lacks_memory(rt: HostRuntime) {
@@ -657,7 +695,7 @@ fn refuses_runs(rt: HostRuntime) {
 }
 
 /// Header lines of a timed input.
-const REFUSED_DURATIONS: [Refusals<'_>; 3] = [
+const REFUSED_DURATIONS: [Refusals<'_>; 4] = [
     Refusals {
         line: 2,
         refusal: InputRefusal::BadHeader,
@@ -674,7 +712,21 @@ const REFUSED_DURATIONS: [Refusals<'_>; 3] = [
     Refusals {
         line: 3,
         refusal: InputRefusal::BadHeader,
-        ends: &["seed 1\nfor 5", "for 5\nfor 5", "for 5\nturns 1"],
+        ends: &[
+            "for 5\nfor 5",
+            "for 5\nlottery 3",
+            "quantum 5\nport p",
+            "seed 1\nprocessors x",
+        ],
+    },
+    Refusals {
+        line: 4,
+        refusal: InputRefusal::BadHeader,
+        ends: &[
+            "turns 5\nfor 5\nturns x y",
+            "for 5\nport p\nturns 5",
+            "seed 1\nfor 5\nprocessors 1",
+        ],
     },
     Refusals {
         line: 2,

@@ -8,7 +8,8 @@ use crate::keywords::{body_word, header_word, is_only_timed, script_row};
 use crate::nearest::nearest_word;
 use crate::phrases::phrases_problem;
 use crate::problem::{
-    ByteProblem, FormProblem, HeaderProblem, KeywordProblem, LimitProblem, NumberProblem, Problem,
+    ByteProblem, FormProblem, HeaderProblem, KeywordProblem, LateProblem, LimitProblem,
+    NumberProblem, Problem,
 };
 use crate::word::word_problem;
 use lot_machine::is_good_name;
@@ -51,15 +52,28 @@ fn is_timed_start(line: &[u8]) -> bool {
 
 /// The problem that the header causes for a line beginning with this word.
 fn header_problem<'a>(refused: &Refused<'a>, word: &'a str) -> HeaderProblem<'a> {
-    let is_late = match header_word(word) {
-        Some(header) => header.place() <= refused.place,
-        None => false,
-    };
-    if refused.is_timed() && !is_late && !refused.has_duration {
-        return HeaderProblem::NoDuration;
+    if refused.is_timed() {
+        return timed_header_problem(refused, word);
     }
     let lines = HeaderLines(refused.format.unwrap_or(Format::V1));
     HeaderProblem::LateHeader { word, lines }
+}
+
+/// As `header_problem`, in a timed input. A header line that isn't late is refused if the input ends with it.
+fn timed_header_problem<'a>(refused: &Refused<'a>, word: &'a str) -> HeaderProblem<'a> {
+    let Some(header) = header_word(word) else {
+        return HeaderProblem::NoDuration;
+    };
+    if refused.in_body {
+        return HeaderProblem::LateTimed(LateProblem::AfterBody(word));
+    }
+    if refused.has_header_line(header) {
+        return HeaderProblem::LateTimed(LateProblem::GivenBefore(word));
+    }
+    if header == HeaderWord::Processors && refused.has_header_line(HeaderWord::Seed) {
+        return HeaderProblem::LateTimed(LateProblem::AfterSeed);
+    }
+    HeaderProblem::NoDuration
 }
 
 /// The problem with the line's bytes: too many, or the first that isn't printable ASCII.

@@ -26,10 +26,8 @@ pub(crate) struct Refused<'a> {
     pub(crate) has_start: bool,
     /// The format given by the first of these lines.
     pub(crate) format: Option<Format>,
-    /// The place in the header of its last line, from 0.
-    pub(crate) place: u32,
-    /// Whether the header gives the duration.
-    pub(crate) has_duration: bool,
+    /// Whether one of the lines before it is of the body.
+    pub(crate) in_body: bool,
     /// The last time given.
     pub(crate) now: u32,
     pub(crate) processors: u32,
@@ -44,8 +42,7 @@ impl<'a> Refused<'a> {
             line: &[],
             has_start: false,
             format: None,
-            place: 0,
-            has_duration: false,
+            in_body: false,
             now: 0,
             processors: 1,
             script: None,
@@ -71,6 +68,16 @@ impl<'a> Refused<'a> {
             Some(format) => format.is_timed(),
             None => false,
         }
+    }
+
+    /// Whether one of the lines before it begins with this word of the header.
+    pub(crate) fn has_header_line(&self, word: HeaderWord) -> bool {
+        for line in self.before.split(|byte| *byte == b'\n') {
+            if header_word(words_of(line).next().unwrap_or("")) == Some(word) {
+                return true;
+            }
+        }
+        false
     }
 
     /// Records the content of the line with this number.
@@ -99,10 +106,8 @@ impl<'a> Refused<'a> {
 
     /// Records the content of a line of the header.
     fn pass_header(&mut self, word: HeaderWord, next: &str) {
-        self.place = word.place();
         match word {
             HeaderWord::Lottery => self.format = Format::of_word(next.as_bytes()),
-            HeaderWord::For => self.has_duration = true,
             HeaderWord::Processors => self.processors = next.parse::<u32>().unwrap_or(1),
             _ => {}
         }
@@ -110,7 +115,7 @@ impl<'a> Refused<'a> {
 
     /// Records the content of a line of the body.
     fn pass_body(&mut self, number: u32, word: &str, next: &str) {
-        self.place = u32::MAX;
+        self.in_body = true;
         match body_word(word) {
             Some(BodyWord::At) => self.now = next.parse::<u32>().unwrap_or(0),
             Some(BodyWord::Script) => self.script = Some(OpenScript::opened(number)),

@@ -52,8 +52,21 @@ pub(crate) enum HeaderProblem<'a> {
     #[error("'{word}' comes too late: the header has {lines}, \
         each at most once, in this order and before all else")]
     LateHeader { word: &'a str, lines: HeaderLines },
-    #[error("the header doesn't say how long the input runs: 'for TICKS' comes before 'seed', 'limits' and all else")]
+    #[error("{0}")]
+    LateTimed(LateProblem<'a>),
+    #[error("the header doesn't say how long the input runs: 'for TICKS' comes before the first body line")]
     NoDuration,
+}
+
+/// The problem with a header line of a timed input, where these lines come in any order.
+#[derive(Clone, Copy, Debug, Error)]
+pub(crate) enum LateProblem<'a> {
+    #[error("'{0}' stands after a body line: header lines come before all else")]
+    AfterBody(&'a str),
+    #[error("'{0}' begins an earlier line: each header line comes at most once")]
+    GivenBefore(&'a str),
+    #[error("'processors' comes before 'seed', which has a number for each processor")]
+    AfterSeed,
 }
 
 /// The problem with the word that begins a line.

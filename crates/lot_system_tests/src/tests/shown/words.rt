@@ -272,23 +272,14 @@ fn too_many(rt: HostRuntime) {
 fn turns_in_time(rt: HostRuntime) {
     let (rt, alloc) = (&rt, rt.alloc());
     let lacks =
-        "line 2: the header doesn't say how long the input runs: 'for TICKS' comes before 'seed', 'limits' and all \
-         else\n";
+        "line 2: the header doesn't say how long the input runs: 'for TICKS' comes before the first body line\n";
     check(rt, alloc, b"lottery 3\nmkcur a\n", lacks);
     check(rt, alloc, b"lottery 3\nquantum 5\n", lacks);
     check(
         rt,
         alloc,
         b"lottery 3\n",
-        "line 1: the header doesn't say how long the input runs: 'for TICKS' comes before 'seed', 'limits' and all \
-         else\n",
-    );
-    check(
-        rt,
-        alloc,
-        b"lottery 3\nfor 5\nquantum 5\n",
-        "line 3: 'quantum' comes too late: the header has 'lottery', 'processors', 'quantum', 'turns', 'for', 'seed', \
-         'limits' and 'reuse', each at most once, in this order and before all else\n",
+        "line 1: the header doesn't say how long the input runs: 'for TICKS' comes before the first body line\n",
     );
     check(
         rt,
@@ -317,6 +308,35 @@ fn turns_in_time(rt: HostRuntime) {
     );
 }
 
+/// Header lines of a timed input, which come in any order, but not too late.
+#[test]
+fn late_header_lines(rt: HostRuntime) {
+    for (input, expected) in [
+        (
+            "lottery 3\nfor 5\nquantum 5\nfor 6\n",
+            "line 4: 'for' begins an earlier line: each header line comes at most once\n",
+        ),
+        (
+            "lottery 3\nfor 5\nlottery 3\n",
+            "line 3: 'lottery' begins an earlier line: each header line comes at most once\n",
+        ),
+        (
+            "lottery 3\nfor 5\nport p\nquantum 5\n",
+            "line 4: 'quantum' stands after a body line: header lines come before all else\n",
+        ),
+        (
+            "lottery 3\nseed 5\nfor 5\nprocessors 1\n",
+            "line 4: 'processors' comes before 'seed', which has a number for each processor\n",
+        ),
+        (
+            "lottery 3\nreuse\nquantum 5\n",
+            "line 3: the header doesn't say how long the input runs: 'for TICKS' comes before the first body line\n",
+        ),
+    ] {
+        check(&rt, rt.alloc(), input.as_bytes(), expected);
+    }
+}
+
 #[test]
 fn numbers_given_again(rt: HostRuntime) {
     for (input, expected) in [
@@ -329,9 +349,8 @@ fn numbers_given_again(rt: HostRuntime) {
             "line 3: this line is written 'reuse', and here are 2 words\n",
         ),
         (
-            "lottery 3\nfor 5\nreuse\nlimits 1 1 1\n",
-            "line 4: 'limits' comes too late: the header has 'lottery', 'processors', 'quantum', 'turns', 'for', \
-             'seed', 'limits' and 'reuse', each at most once, in this order and before all else\n",
+            "lottery 3\nfor 5\nreuse\nreuse\n",
+            "line 4: 'reuse' begins an earlier line: each header line comes at most once\n",
         ),
         (
             "lottery 3\nfor 5\nscript s\nreuse\n",
@@ -340,8 +359,7 @@ fn numbers_given_again(rt: HostRuntime) {
         ),
         (
             "lottery 3\nreuse\nmkcur a\n",
-            "line 3: the header doesn't say how long the input runs: 'for TICKS' comes before 'seed', 'limits' and \
-             all else\n",
+            "line 3: the header doesn't say how long the input runs: 'for TICKS' comes before the first body line\n",
         ),
     ] {
         check(&rt, rt.alloc(), input.as_bytes(), expected);
