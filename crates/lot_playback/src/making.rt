@@ -78,7 +78,9 @@ pub(crate) fn make_scheduled(
 }
 
 /// Makes the turn that is due by the clocks, and stores it in `turn`.
-#[inline(always)]
+///
+/// It is never compiled into its caller, which is then small enough to be compiled into each loop over turns.
+#[inline(never)]
 pub(crate) fn make_in_time(
     program: &Program,
     system: &mut System,

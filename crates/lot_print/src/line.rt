@@ -1,5 +1,5 @@
 //! A line that is assembled, and then written by one call.
-ghost use Rattle.std.specs.Prelude.{◌≡◌, ◌<◌, ◌≤◌, ◌+◌, ◌/◌, ◌%◌, ◌^◌, ◌++◌, ◌∷◌, [], false, length};
+ghost use Rattle.std.specs.Prelude.{◌≡◌, ◌<◌, ◌≤◌, ◌+◌, ◌/◌, ◌%◌, ◌^◌, ◌++◌, ◌∷◌, [], codes, false, length};
 ghost use Rattle.std.specs.Fmt.{decimal};
 ghost use Rattle.lot_simulation.specs.Texts.{behind_point, drawn_value, front, quotient_text, value_text};
 ghost use Rattle.lot_io.specs.Writing.{Writes};
@@ -138,7 +138,7 @@ impl<const N: usize> Line<N> {
         if number < 100 {
             self.push_up_to_two(number);
         } else if number < 10000 {
-            self.push_up_to_four(number);
+            self.push_three_or_four(number);
         } else {
             self.push_long(number);
         }
@@ -154,8 +154,18 @@ impl<const N: usize> Line<N> {
         if number <= u128::from(u32::MAX) {
             self.push_count(text, number as u32);
         } else {
-            self.push_field(text, number);
+            self.push_long_wide(text, number);
         }
+    }
+
+    /// Appends the text and then the number, of whatever width.
+    #[inline(never)]
+    fn push_long_wide(&mut self, text: &str, number: u128)
+        requires { length self.old + length text.now + 39 ≤ N }
+        ensures text { self.new ≡ self.old ++ (text.now ++ decimal number) }
+        ensures len { length self.new ≤ length self.old + length text.now + 39 }
+    {
+        self.push_field(text, number);
     }
 
     /// Appends the text and then the quotient, with at most three digits after the point.
@@ -200,9 +210,19 @@ impl<const N: usize> Line<N> {
         ensures len { length self.new ≤ length self.old + 11 }
     {
         if let LineStyle::Timed(time) = style {
-            self.push_count("", time);
-            self.push_text(" ");
+            self.push_time(time);
         }
+    }
+
+    /// Appends the time at the start of a line.
+    #[inline(never)]
+    fn push_time(&mut self, time: u32)
+        requires { length self.old + 11 ≤ N }
+        ensures text { self.new ≡ self.old ++ (decimal time ++ codes " ") }
+        ensures len { length self.new ≤ length self.old + 11 }
+    {
+        self.push_count("", time);
+        self.push_text(" ");
     }
 
     /// Appends the text and then a value, given in this many base units per unit.
@@ -271,9 +291,19 @@ impl<const N: usize> Line<N> {
         if number < 100 {
             self.push_up_to_two(number);
         } else {
-            self.push_up_to_two(number / 100);
-            self.push_pair(number % 100);
+            self.push_three_or_four(number);
         }
+    }
+
+    /// Appends the digits of a number that has three or four.
+    #[inline(always)]
+    fn push_three_or_four(&mut self, number: u32)
+        requires { (length self.old + 4 ≤ N) × (100 ≤ number) × (number < 10000) }
+        ensures text { self.new ≡ self.old ++ decimal number }
+        ensures len { length self.new ≤ length self.old + 4 }
+    {
+        self.push_up_to_two(number / 100);
+        self.push_pair(number % 100);
     }
 
     /// Appends the digits of a number below 100.

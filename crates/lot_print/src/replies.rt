@@ -100,17 +100,20 @@ fn push_heading<const N: usize>(line: &mut Line<N>, heading: Heading)
 }
 
 /// Appends the reply to the event, and the line's end.
+///
+/// What few turns get is appended by functions that are never compiled in: the compiler drops `inline(always)` from a
+/// function that would grow very large.
 #[inline(always)]
 fn push_reply<const N: usize>(line: &mut Line<N>, heading: Heading, event: &Event, reply: &Reply)
     requires room { length line.old + 170 ≤ N }
     requires unit { 0 < heading.unit }
     ensures { line.new ≡ line.old ++ plain_text heading.style heading.unit event.now reply.now }
 {
-    match *reply {
-        Reply::Ticket(n) => push_made(line, "ticket ", n),
-        Reply::Currency(n) => push_made(line, "currency ", n),
-        Reply::Thread(n) => push_made(line, "thread ", n),
-        Reply::Funded { ticket, thread } => push_funded(line, ticket, thread),
+    match reply {
+        Reply::Ticket(n) => push_made(line, "ticket ", *n),
+        Reply::Currency(n) => push_made(line, "currency ", *n),
+        Reply::Thread(n) => push_made(line, "thread ", *n),
+        Reply::Funded { ticket, thread } => push_funded(line, *ticket, *thread),
         Reply::Done => push_done(line, event),
         Reply::List(_) => (),
         Reply::Winner {
@@ -118,10 +121,10 @@ fn push_reply<const N: usize>(line: &mut Line<N>, heading: Heading, event: &Even
             number,
             total,
             delivered,
-        } => push_winner(line, heading, thread, (number, total), delivered),
+        } => push_winner(line, heading, *thread, (*number, *total), *delivered),
         Reply::Idle => line.push_word("idle\n"),
         Reply::Expired { thread, ticks } => {
-            push_ran(line, thread, ticks);
+            push_ran(line, *thread, *ticks);
             line.push_word(" expire\n");
         }
         Reply::Trapped {
@@ -129,11 +132,8 @@ fn push_reply<const N: usize>(line: &mut Line<N>, heading: Heading, event: &Even
             ticks,
             outcome,
             ends,
-        } => {
-            push_ran(line, thread, ticks);
-            push_trap_of(line, heading.style, heading.unit, event, outcome, ends);
-        }
-        Reply::Refused(why) => push_refusal(line, why),
+        } => push_trapped(line, heading, event, (*thread, *ticks), outcome, *ends),
+        Reply::Refused(why) => push_refusal(line, *why),
     }
 }
 
@@ -201,9 +201,19 @@ fn push_winner<const N: usize>(
     line.push_drawn(" of ", heading.style, heading.unit, total);
     line.push_count(" thread ", thread);
     if let Some(number) = delivered {
-        line.push_count(" got ", number);
+        push_delivered(line, number);
     }
     line.push_word("\n");
+}
+
+/// Appends the number delivered to the winner.
+#[inline(never)]
+fn push_delivered<const N: usize>(line: &mut Line<N>, number: u32)
+    requires { length line.old + 15 ≤ N }
+    ensures text { line.new ≡ line.old ++ (codes " got " ++ decimal number) }
+    ensures len { length line.new ≤ length line.old + 15 }
+{
+    line.push_count(" got ", number);
 }
 
 /// Appends the thread that ran, and its ticks.
@@ -217,8 +227,28 @@ fn push_ran<const N: usize>(line: &mut Line<N>, thread: u32, ticks: u32)
     line.push_count(" ticks ", ticks);
 }
 
-/// Appends the outcome of the event, a trap, whether the quantum was used up, and the line's end.
+/// Appends the thread that ran, its ticks, and the trap that the event is.
 #[inline(never)]
+fn push_trapped<const N: usize>(
+    line: &mut Line<N>,
+    heading: Heading,
+    event: &Event,
+    ran: (u32, u32),
+    outcome: &Outcome,
+    ends: bool,
+)
+    requires room { length line.old + 170 ≤ N }
+    requires unit { 0 < heading.unit }
+    ensures { line.new ≡ line.old ++ (codes "thread " ++ (decimal ran.0 ++ (codes " ticks " ++ (decimal ran.1
+        ++ (codes " " ++ (trap_text_of heading.style heading.unit event.now outcome.now
+        ++ (ends_text ends ++ newline))))))) }
+{
+    let (thread, ticks) = ran;
+    push_ran(line, thread, ticks);
+    push_trap_of(line, heading.style, heading.unit, event, *outcome, ends);
+}
+
+/// Appends the outcome of the event, a trap, whether the quantum was used up, and the line's end.
 fn push_trap_of<const N: usize>(
     line: &mut Line<N>,
     style: LineStyle,
