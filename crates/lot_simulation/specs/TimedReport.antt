@@ -74,6 +74,20 @@ waits_after t time waits (Ends u) = if u == t then wait_ended time waits else wa
 abbrev pub waits_in : (Answer → WaitChange) → List TimedTurn → ℕ → Waits
 waits_in change turns t = fold (λ waits done. waits_after t done.time waits (change done.turn.answer)) no_waits turns
 
+-- ---- refused traps
+
+-- The number of a thread's refused traps after this answer, from their number before it. A new thread has none, whoever
+-- had its number before.
+abbrev pub refusals_after : ℕ → ℕ → Answer → ℕ
+refusals_after t n (Answered e (reply.Thread thread)) = if thread == t then 0 else n
+refusals_after t n (Answered e (reply.Funded ticket thread)) = if thread == t then 0 else n
+refusals_after t n (Answered e (reply.Trapped thread ticks (outcome.Refused why) ends)) = if thread == t then n + 1 else n
+refusals_after t n other = n
+
+-- the number of the thread's refused traps after these turns
+abbrev pub refused_traps_in : List TimedTurn → ℕ → ℕ
+refused_traps_in turns t = fold (λ n done. refusals_after t n done.turn.answer) 0 turns
+
 -- ---- the report
 
 -- a part of a whole in percent, with at most three digits after the point; 0 if the whole is 0
@@ -86,19 +100,24 @@ waits_text what waits =
     if waits.count == 0 then []
     else what ++ (codes " waits " ++ (decimal waits.count ++ (codes " mean " ++ (quotient_text waits.total waits.count ++ (codes " longest " ++ decimal waits.longest)))))
 
+-- the number of a thread's refused traps; nothing if there is none
+abbrev pub refused_traps_text : ℕ → List ℕ
+refused_traps_text n = if n == 0 then [] else codes " refused " ++ decimal n
+
 -- the thread's part of the live value: its own value if it is live, and 0 otherwise
 abbrev pub live_part : State → ℕ → ℕ → ℕ
 live_part s t value = if is_live (live_of s) t then value else 0
 
 -- A thread's line: its name, the draws it has won, the ticks it has used and their share of all ticks, its share of
--- the live value, and its waits for mutexes and for replies.
+-- the live value, its waits for mutexes and for replies, and its refused traps.
 abbrev pub timed_thread_total : State → List TimedTurn → ℕ → ℕ → ThreadRow → List ℕ
 timed_thread_total s turns all t row =
     codes "thread " ++ (decimal t ++ (codes " " ++ (row.name ++ (codes " quanta " ++ (decimal row.quanta
     ++ (codes " ticks " ++ (decimal row.ticks ++ (codes " share " ++ (percent_text row.ticks all
     ++ (codes " value " ++ (percent_text (live_part s t row.value) (live_value s)
     ++ (waits_text (codes " mutex") (waits_in mutex_change turns t)
-    ++ (waits_text (codes " reply") (waits_in reply_change turns t) ++ newline)))))))))))))
+    ++ (waits_text (codes " reply") (waits_in reply_change turns t)
+    ++ (refused_traps_text (refused_traps_in turns t) ++ newline))))))))))))))
 
 -- each timed turn's actor with its answer
 abbrev pub actor_turns : List TimedTurn → List ActorTurn

@@ -552,6 +552,42 @@ pub fn begins_anew()
         ∷ codes "total turns 25 quanta 8 ticks 31 refused 0 left 0" ∷ []) }
 {}
 
+/// Refused traps are counted in their thread's line, and refused commands in the last line. Thread 1 locks a mutex that
+/// it owns, and unlocks one that it doesn't own.
+#[tactic(auto, unfolding(crate::specs::OnLiterals::texts_on_literals, crate::specs::Timed::timed_room))]
+pub fn refused_traps()
+    ensures { output (text (codes "lottery 3" ∷ codes "quantum 10" ∷ codes "for 12" ∷ codes "mutex m"
+        ∷ codes "script twice" ∷ codes "lock m lock m unlock m unlock m endscript" ∷ codes "script once"
+        ∷ codes "lock m unlock m endscript" ∷ codes "fundx 1 base a twice" ∷ codes "at 8" ∷ codes "kill a"
+        ∷ codes "fundx 1 base b once" ∷ []))
+        ≡ text (codes "0 0 funded 1 1" ∷ codes "0 1 draw 0.992 of 1 thread 1"
+        ∷ codes "1 1 thread 1 ticks 1 lock 1 taken" ∷ codes "2 1 thread 1 ticks 1 refused 35 AlreadyOwner"
+        ∷ codes "3 1 thread 1 ticks 1 unlock 1 free" ∷ codes "4 1 thread 1 ticks 1 refused 34 NotOwner"
+        ∷ codes "5 1 thread 1 ticks 1 exit" ∷ codes "5 1 idle" ∷ codes "8 0 refused 12 DeadThread"
+        ∷ codes "8 0 funded 2 2" ∷ codes "8 1 draw 0.738 of 1 thread 2" ∷ codes "9 1 thread 2 ticks 1 lock 1 taken"
+        ∷ codes "10 1 thread 2 ticks 1 unlock 1 free" ∷ codes "11 1 thread 2 ticks 1 exit" ∷ codes "11 1 idle"
+        ∷ codes "report" ∷ codes "thread 1 a quanta 1 ticks 5 share 62.5% value 0% refused 2"
+        ∷ codes "thread 2 b quanta 1 ticks 3 share 37.5% value 0%"
+        ∷ codes "processor 1 quanta 2 idle 2 ticks 8 unused 4"
+        ∷ codes "total turns 15 quanta 2 ticks 8 refused 1 left 0" ∷ []) }
+{}
+
+/// A thread with a number given again has none of the refused traps of the one before it.
+#[tactic(auto, unfolding(crate::specs::OnLiterals::texts_on_literals, crate::specs::Timed::timed_room))]
+pub fn refused_traps_anew()
+    ensures { output (text (codes "lottery 3" ∷ codes "quantum 10" ∷ codes "for 10" ∷ codes "limits 1 1 1"
+        ∷ codes "reuse" ∷ codes "script idler" ∷ codes "reply endscript" ∷ codes "fundx 1 base a idler" ∷ codes "at 5"
+        ∷ codes "unfund 1" ∷ codes "rmthr a" ∷ codes "rmtkt 1" ∷ codes "fundx 1 base b idler" ∷ []))
+        ≡ text (codes "0 0 funded 1 1" ∷ codes "0 1 draw 0.992 of 1 thread 1"
+        ∷ codes "1 1 thread 1 ticks 1 refused 32 NothingToReply" ∷ codes "2 1 thread 1 ticks 1 exit"
+        ∷ codes "2 1 idle" ∷ codes "5 0 done" ∷ codes "5 0 done" ∷ codes "5 0 done" ∷ codes "5 0 funded 1 1"
+        ∷ codes "5 1 draw 0.921 of 1 thread 1" ∷ codes "6 1 thread 1 ticks 1 refused 32 NothingToReply"
+        ∷ codes "7 1 thread 1 ticks 1 exit" ∷ codes "7 1 idle" ∷ codes "report"
+        ∷ codes "thread 1 b quanta 1 ticks 2 share 50% value 0% refused 1"
+        ∷ codes "processor 1 quanta 2 idle 2 ticks 4 unused 6"
+        ∷ codes "total turns 13 quanta 2 ticks 4 refused 0 left 0" ∷ []) }
+{}
+
 /// Without room for another turn the play ends before its time, and the report's last line says so. The draw at tick
 /// 100 isn't made.
 #[tactic(auto, unfolding(crate::specs::OnLiterals::texts_on_literals))]
