@@ -36,8 +36,14 @@ pub(crate) fn problem_of<'a>(
             Problem::Header(HeaderProblem::NoDuration)
         }
         InputRefusal::BadHeader => Problem::Header(HeaderProblem::NoStart),
+        InputRefusal::TooLong if is_long_input(refused) => Problem::Limit(LimitProblem::LongInput),
         _ => line_problem(alloc, refused, word).unwrap_or(too_many(refused, word, refusal)),
     }
+}
+
+/// Whether the input is too long, and the line isn't. Such a line may be one that is ignored.
+fn is_long_input(refused: &Refused<'_>) -> bool {
+    refused.line.len() <= 4096 && 16777216 < refused.end
 }
 
 /// Whether the line is the first of a timed input. If that line is refused, it is also the last one.
@@ -241,9 +247,6 @@ fn count_problem<'a>(refused: &Refused<'a>, shape: Shape<'a>, count: usize) -> F
 fn too_many<'a>(refused: &Refused<'a>, word: &str, refusal: InputRefusal) -> Problem<'a> {
     if refusal != InputRefusal::TooLong {
         return Problem::Other(refusal);
-    }
-    if 16777216 < refused.before.len().saturating_add(refused.line.len()) {
-        return Problem::Limit(LimitProblem::LongInput);
     }
     if refused.script.is_some() {
         return Problem::Limit(LimitProblem::TooMany {

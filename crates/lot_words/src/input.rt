@@ -22,6 +22,8 @@ pub(crate) struct Refused<'a> {
     pub(crate) before: &'a [u8],
     /// The line itself, without the byte that ends it.
     pub(crate) line: &'a [u8],
+    /// The number of bytes up to its end, with the byte that ends it.
+    pub(crate) end: usize,
     /// Whether one of the lines before it isn't ignored.
     pub(crate) has_start: bool,
     /// The format given by the first of these lines.
@@ -40,6 +42,7 @@ impl<'a> Refused<'a> {
         let mut refused = Refused {
             before: input,
             line: &[],
+            end: input.len(),
             has_start: false,
             format: None,
             in_body: false,
@@ -50,13 +53,15 @@ impl<'a> Refused<'a> {
         let mut begin = 0usize;
         let mut at = 1u32;
         for line in input.split(|byte| *byte == b'\n') {
+            let end = begin.saturating_add(line.len()).saturating_add(1);
             if at >= number {
                 refused.before = &input[..begin.min(input.len())];
                 refused.line = line;
+                refused.end = end.min(input.len());
                 return refused;
             }
             refused.pass(at, line);
-            begin = begin.saturating_add(line.len()).saturating_add(1);
+            begin = end;
             at = at.saturating_add(1);
         }
         refused

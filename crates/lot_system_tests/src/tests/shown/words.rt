@@ -268,6 +268,33 @@ fn too_many(rt: HostRuntime) {
     check(&rt, rt.alloc(), input.as_bytes(), expected);
 }
 
+/// An input whose line 4098 is this one and ends with byte 16777217.
+fn long_input<H: Abort>(rt: &H, alloc: Global, line: &[u8]) -> Vec<u8> {
+    let comment = [b'#'; 4095];
+    let mut input = Vec::from_slice(alloc, b"lottery 1\n").expect(rt, "memory");
+    for _ in 0..4095 {
+        input.extend_from_slice(&comment).expect(rt, "memory");
+        input.push(b'\n').expect(rt, "memory");
+    }
+    let missing = 4086usize.saturating_sub(line.len());
+    input
+        .extend_from_slice(&comment[..missing])
+        .expect(rt, "memory");
+    input.push(b'\n').expect(rt, "memory");
+    input.extend_from_slice(line).expect(rt, "memory");
+    input
+}
+
+// The line may be ignored, cut off or ended there.
+#[test]
+fn long_inputs(rt: HostRuntime) {
+    let expected = "line 4098: the input has more than 16777216 bytes\n";
+    for line in ["# a comment", "fundx 10 ba", "#\n", "\n"] {
+        let input = long_input(&rt, rt.alloc(), line.as_bytes());
+        check(&rt, rt.alloc(), input.as_slice(), expected);
+    }
+}
+
 #[test]
 fn turns_in_time(rt: HostRuntime) {
     let (rt, alloc) = (&rt, rt.alloc());
