@@ -4,10 +4,16 @@ use lot_io::Watched;
 use lot_simulation::InputFault;
 use lot_system::Warnings;
 use lot_text::{ParseFault, parse};
-use lot_words::{write_warnings, write_words};
+use lot_words::{line_to_skip, write_warnings, write_words};
 use std::alloc::{AllocError, Global};
 use std::io;
 use std::io::Write;
+
+/// The largest number of faults that are reported of an input.
+const MOST_FAULTS: u32 = 10;
+
+/// The line after them, if the input has more.
+const MORE_FAULTS: &str = "there are more faults\n";
 
 /// The diagnostics for standard error. The output and the status don't depend on them.
 #[derive(Drop)]
@@ -27,12 +33,54 @@ impl Diagnostics {
         })
     }
 
-    /// Writes the reason why the input is refused. If out of memory, or if the errors fail, it reports nothing.
-    pub(crate) fn say_why<E: Write>(&self, alloc: Global, errors: &mut Watched<E>) {
-        if let Err(ParseFault::Input(fault)) = parse(alloc, self.input.as_slice()) {
-            let mut words = Vec::new(alloc);
-            let made = write_words(alloc, &mut words, self.input.as_slice(), fault);
-            say(errors, made, &words);
+    /// Writes the faults of the refused input, a line for each: the first, and up to nine others that aren't its
+    /// consequences. It turns the faulty lines into comments. If out of memory, or if the errors fail, it reports no
+    /// more faults.
+    pub(crate) fn say_why<E: Write>(&mut self, alloc: Global, errors: &mut Watched<E>) {
+        for _ in 0..MOST_FAULTS {
+            let Some(fault) = self.fault(alloc) else {
+                return;
+            };
+            if self.say_fault(alloc, fault, errors).is_err() || !self.skip(alloc, fault) {
+                return;
+            }
+        }
+        if self.fault(alloc).is_some() {
+            let _ = errors.write_all(MORE_FAULTS.as_bytes());
+        }
+    }
+
+    /// The first fault of the input. None if it has none, or if out of memory.
+    fn fault(&self, alloc: Global) -> Option<InputFault> {
+        match parse(alloc, self.input.as_slice()) {
+            Err(ParseFault::Input(fault)) => Some(fault),
+            _ => None,
+        }
+    }
+
+    /// Writes the words of this fault at once. It fails if out of memory, or if the errors fail.
+    fn say_fault<E: Write>(
+        &self,
+        alloc: Global,
+        fault: InputFault,
+        errors: &mut Watched<E>,
+    ) -> io::Result<()> {
+        let mut words = Vec::new(alloc);
+        write_words(alloc, &mut words, self.input.as_slice(), fault)?;
+        errors.write_all(words.as_slice())
+    }
+
+    /// Turns the line with this fault into a comment, and returns true; or returns false if the line can't be skipped.
+    fn skip(&mut self, alloc: Global, fault: InputFault) -> bool {
+        let Some(place) = line_to_skip(alloc, self.input.as_slice(), fault) else {
+            return false;
+        };
+        match self.input.get_mut(place) {
+            Some(byte) => {
+                *byte = b'#';
+                true
+            }
+            None => false,
         }
     }
 

@@ -3,6 +3,7 @@
 mod files;
 mod inputs;
 mod outputs;
+mod refused;
 mod runs;
 mod same;
 mod shown;

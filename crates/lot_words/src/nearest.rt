@@ -39,6 +39,15 @@ impl<'a> Nearest<'a> {
             },
         }
     }
+
+    /// The text, which is empty if none is near. If out of memory, there is none.
+    pub(crate) fn text(self) -> Option<&'a str> {
+        match self.text {
+            Some(text) => Some(text),
+            None if self.edits > MOST_EDITS => Some(""),
+            None => None,
+        }
+    }
 }
 
 impl fmt::Display for Nearest<'_> {
@@ -59,7 +68,19 @@ pub(crate) fn nearest_word<W: Keyword>(
     is_timed: bool,
     misspelt: &str,
 ) -> Nearest<'static> {
-    let mut nearest = Nearest::NONE;
+    nearer_word(alloc, Nearest::NONE, table, is_timed, misspelt)
+}
+
+/// The word of this table that is nearest to the misspelt one, unless this text is as near. It looks at words of timed
+/// inputs last, and only for such an input.
+pub(crate) fn nearer_word<'a, W: Keyword>(
+    alloc: Global,
+    text: Nearest<'a>,
+    table: &[WordRow<W>],
+    is_timed: bool,
+    misspelt: &str,
+) -> Nearest<'a> {
+    let mut nearest = text;
     for (spelling, _, _) in table {
         if W::is_read(Format::V1, *spelling) {
             nearest = nearest.or(alloc, misspelt, text_of(*spelling));

@@ -12,7 +12,7 @@ use std::sync::Wait;
 use std::thread::Threads;
 
 /// Plays or runs the input, and compares the exit status and the diagnostics.
-fn check_told<H: Abort + Threads + Wait + Sync>(
+pub(crate) fn check_told<H: Abort + Threads + Wait + Sync>(
     rt: &H,
     alloc: Global,
     words: [&str; 2],

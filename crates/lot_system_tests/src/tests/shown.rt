@@ -7,6 +7,7 @@ mod curves;
 mod endings;
 mod explained;
 mod pictures;
+mod skipped;
 mod warnings;
 mod words;
 

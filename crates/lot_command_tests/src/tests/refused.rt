@@ -1,0 +1,257 @@
+//! The faults that are reported of a refused input.
+
+use super::inputs::on_standard;
+use super::same::{check_same, check_same_at};
+use super::told::check_told;
+use super::{FailingCall, check_play, ended_on};
+use lot_command::status;
+use std::alloc::Global;
+use std::io::ErrorKind;
+use std::process::Abort;
+use std::sync::Wait;
+use std::thread::Threads;
+
+/// An unknown name, misspelt words, a wrong number of words, and a processor above the last.
+const OF_FIRST: (&str, &str) = (
+    "lottery 1
+port disk
+script s
+call disc
+comptue 5
+endscript
+mktk 5 base
+fund 1 a b
+schedule 0 2
+",
+    "line 4: 'disc' is no port of an earlier line; did you mean 'disk'?
+line 5: 'comptue' is no word of a script; did you mean 'compute'?
+line 7: 'mktk' is no body line; did you mean 'mktkt'?
+line 8: this line is written 'fund TICKET TARGET', and here are 4 words
+line 9: '2': there are 1 processors, and 0 is the console
+",
+);
+
+/// Comments and empty lines count as lines, and a line may begin with spaces.
+const OF_SECOND: (&str, &str) = (
+    "lottery 2
+mkcur alice
+mktkt 05 base
+# a comment
+  fundx 10 base a_name_of_17_bytes s
+
+runs 0 6 1
+runs 0 0
+",
+    "line 3: '05' is no number: digits, without a 0 before others, at most 18446744073709551615
+line 5: 'a_name_of_17_bytes' has 18 bytes, and a name at most 16
+line 7: this line is written 'runs ACTOR TURNS ..', and here are 4 words
+line 8: '0' is no number from 1 to 1000000
+",
+);
+
+/// Several words on a line of a script, and a time that falls.
+const OF_THIRD: (&str, &str) = (
+    "lottery 3
+for 50
+mutex m
+script s
+yield lock n compute 5
+compute 0
+endscript
+at 9
+fundx 1 base a
+at 3
+settkt 1
+",
+    "line 5: 'n' is no mutex of an earlier line
+line 6: '0' is no number from 1 to 4294967295
+line 9: this line is written 'fundx AMOUNT CURRENCY NAME SCRIPT', and here are 4 words
+line 10: '3' is no number from 9 to 4294967295
+line 11: this line is written 'settkt TICKET AMOUNT', and here are 2 words
+",
+);
+
+/// Without the line that opens the script each of its lines would be refused.
+const WITHOUT_SCRIPT: (&str, &str) = (
+    "lottery 1
+mktk 5 base
+script S
+comptue 5
+endscript
+mktk 5 base
+",
+    "line 2: 'mktk' is no body line; did you mean 'mktkt'?
+line 3: 'S' is no name: a letter a to z, and then letters a to z, digits, '_' or '-'
+",
+);
+
+/// The last line has a fault and no line feed.
+const AT_THE_END: (&str, &str) = (
+    "lottery 1
+mktk 5 base
+mkcur",
+    "line 2: 'mktk' is no body line; did you mean 'mktkt'?
+line 3: this line is written 'mkcur NAME', and here is 1 word
+",
+);
+
+/// That the script isn't closed shows only at the end.
+const UNCLOSED: (&str, &str) = (
+    "lottery 1
+script s
+comptue 5",
+    "line 3: 'comptue' is no word of a script; did you mean 'compute'?
+line 2: this script isn't closed: 'endscript' closes it
+",
+);
+
+/// Without its second line the input ends with the header.
+const WITHOUT_DURATION: (&str, &str) = (
+    "lottery 3
+nonsense
+",
+    "line 2: 'nonsense' is no body line
+line 2: the header doesn't say how long the input runs: 'for TICKS' comes before 'seed', 'limits' and all else
+",
+);
+
+const ROWS: [(&str, &str); 7] = [
+    OF_FIRST,
+    OF_SECOND,
+    OF_THIRD,
+    WITHOUT_SCRIPT,
+    AT_THE_END,
+    UNCLOSED,
+    WITHOUT_DURATION,
+];
+
+#[test]
+fn faults(rt: HostRuntime) {
+    for (input, expected) in ROWS {
+        check_told(&rt, rt.alloc(), ["lot_sim", "play"], input, 1, expected);
+    }
+}
+
+#[test]
+fn faults_of_each_request(rt: HostRuntime) {
+    let (input, expected) = OF_THIRD;
+    for word in ["play", "explain", "run", "shares", "chart"] {
+        check_told(&rt, rt.alloc(), ["lot_sim", word], input, 1, expected);
+    }
+}
+
+// The output has the first fault alone.
+#[test]
+fn one_refused_line(rt: HostRuntime) {
+    let (input, _) = OF_FIRST;
+    let output = "refused line 4 53 UnknownName\n";
+    check_play(&rt, rt.alloc(), input, 1, output);
+}
+
+/// An input with ten faults.
+const TEN: &str = "lottery 1
+rmtkt
+rmtkt a
+rmtkt 1 2
+rmcur
+mkcur
+mkthr a
+unfund
+lstkt 1
+lscur 1
+lsthr 1
+";
+
+const TEN_TOLD: &str = "line 2: this line is written 'rmtkt TICKET', and here is 1 word
+line 3: 'a' is no number; this line is written 'rmtkt TICKET'
+line 4: this line is written 'rmtkt TICKET', and here are 3 words
+line 5: this line is written 'rmcur CURRENCY', and here is 1 word
+line 6: this line is written 'mkcur NAME', and here is 1 word
+line 7: this line is written 'mkthr NAME SCRIPT', and here are 2 words
+line 8: this line is written 'unfund TICKET', and here is 1 word
+line 9: this line is written 'lstkt', and here are 2 words
+line 10: this line is written 'lscur', and here are 2 words
+line 11: this line is written 'lsthr', and here are 2 words
+";
+
+#[test]
+fn ten_faults_and_more(rt: HostRuntime) {
+    let words = ["lot_sim", "play"];
+    for (last, closing) in [
+        ("", ""),
+        ("lsthr\n", ""),
+        ("lsthr 1\n", "there are more faults\n"),
+        ("lsthr 1\nlsthr 1\n", "there are more faults\n"),
+    ] {
+        let input = format!(in rt.alloc(); "{TEN}{last}").expect(&rt, "memory");
+        let expected = format!(in rt.alloc(); "{TEN_TOLD}{closing}").expect(&rt, "memory");
+        check_told(&rt, rt.alloc(), words, input.as_str(), 1, expected.as_str());
+    }
+}
+
+/// Plays the input with an output for diagnostics whose call of this number fails.
+fn told_before<H: Abort + Threads + Wait + Sync>(
+    rt: &H,
+    alloc: Global,
+    input: &str,
+    fails_at: u32,
+) -> FailingCall {
+    let mut output = Vec::new(alloc);
+    let mut errors = FailingCall {
+        written: Vec::new(alloc),
+        is_flushed: false,
+        calls: 0,
+        fails_at,
+        kind: Some(ErrorKind::Other),
+    };
+    let words = ["lot_sim", "play"];
+    let inputs = on_standard(input.as_bytes());
+    let code = status(rt, alloc, &words, inputs, &mut output, &mut errors);
+    check_same(rt, &code, &1);
+    errors
+}
+
+// Each fault is one write, and the first write that fails is the last.
+#[test]
+fn failing_errors(rt: HostRuntime) {
+    let (input, expected) = AT_THE_END;
+    let first = "line 2: 'mktk' is no body line; did you mean 'mktkt'?\n";
+    for (fails_at, told) in [(1, ""), (2, first), (3, expected)] {
+        let errors = told_before(&rt, rt.alloc(), input, fails_at);
+        let is_told = errors.written.as_slice() == told.as_bytes();
+        check_same_at(
+            &rt,
+            &fails_at,
+            &(errors.calls, is_told),
+            &(fails_at.min(2), true),
+        );
+    }
+}
+
+/// Whether these lines are the first of the others, where each may lack its suggestion.
+fn are_first(lines: &str, others: &str) -> bool {
+    let mut others = others.lines();
+    for line in lines.lines() {
+        let Some(other) = others.next() else {
+            return false;
+        };
+        let without = other.split("; did you mean").next().unwrap_or("");
+        if line != other && line != without {
+            return false;
+        }
+    }
+    true
+}
+
+// If an allocation fails, the program fails without a word, or it reports the faults that it has memory for.
+#[test]
+fn tells_or_lacks_memory(rt: HostRuntime) {
+    let (input, expected) = OF_FIRST;
+    let ended = ended_on(&rt, rt.alloc(), &["lot_sim", "play"], input);
+    let told = str::from_utf8(ended.errors.as_slice()).unwrap_or("?");
+    let is_right = match ended.code {
+        1 => are_first(told, expected),
+        code => code == 3 && told.is_empty(),
+    };
+    assert!(rt; is_right, "{told}");
+}
