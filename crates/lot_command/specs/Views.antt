@@ -1,14 +1,30 @@
 -- The text of a view of an input.
-use Rattle.std.specs.Prelude.{ℕ, List}
-use Rattle.lot_simulation.specs.Output.{output}
-use Rattle.lot_explain.specs.Explained.{explained_output}
-use Rattle.lot_chart.specs.Shown.{chart_output, shares_output}
+use Rattle.std.specs.Prelude.{ℕ, Option, Result, Ok, Err, List}
+use Rattle.lot_simulation.specs.declared.input.InputFault.{InputFault}
+use Rattle.lot_simulation.specs.Grammar.{program_in}
+use Rattle.lot_simulation.specs.Output.{played_output}
+use Rattle.lot_simulation.specs.Seeded.{seeded}
+use Rattle.lot_simulation.specs.Texts.{fault_line}
+use Rattle.lot_simulation.specs.World.{Program}
+use Rattle.lot_curves.specs.Curves.{curves_of}
+use Rattle.lot_explain.specs.Explained.{explained_program}
+use Rattle.lot_chart.specs.Charts.{chart}
+use Rattle.lot_chart.specs.Tables.{table}
 use Rattle.lot_command.specs.declared.view.View.{View}
-use Rattle.lot_command.specs.declared.view.View.TheVariants as view
+use Rattle.lot_command.specs.declared.view.View.TheVariants as views
 
--- the output for the input in these bytes, where a picture has this title
-abbrev pub text_of : View → List ℕ → List ℕ → List ℕ
-text_of view.Play title = output
-text_of view.Explain title = explained_output
-text_of (view.Shares measure) title = shares_output measure
-text_of view.Chart title = chart_output title
+-- the output for a program, where a picture has this title
+abbrev pub view_of : View → List ℕ → Program → List ℕ
+view_of views.Play title program = played_output program program.duration
+view_of views.Explain title program = explained_program program program.duration
+view_of (views.Shares measure) title program = table measure (curves_of program)
+view_of views.Chart title program = chart title (curves_of program)
+
+-- the same for an input, or the line for a refused one
+abbrev pub shown_of : View → List ℕ → Result Program InputFault → List ℕ
+shown_of view title (Ok program) = view_of view title program
+shown_of view title (Err fault) = fault_line fault
+
+-- the output for the input in these bytes, with this seed if one is given
+abbrev pub text_of : View → List ℕ → Option ℕ → List ℕ → List ℕ
+text_of view title seed bytes = shown_of view title (seeded seed (program_in bytes))

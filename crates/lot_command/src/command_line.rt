@@ -1,8 +1,11 @@
 //! The program's command line.
 
-use crate::view::View;
+use crate::view::{Showing, View};
+use clap::builder::ValueParser;
 use clap::{Arg, ArgAction, ArgMatches, Command, Error};
 use lot_curves::Measure;
+use lot_simulation::ranges;
+use lot_text::Seed;
 use std::alloc::{AllocError, Global};
 use std::convert::AsStr;
 
@@ -12,19 +15,32 @@ const TITLE: &str = "What each thread has run";
 /// The word for standard input in place of a file's name.
 const STANDARD: &str = "-";
 
+/// The command line without options.
+const PLAY: CommandLine<'static> = CommandLine {
+    request: Request::Show(Showing {
+        view: View::Play,
+        seed: None,
+    }),
+    title: TITLE,
+    file: None,
+};
+
 /// What a command line asks for.
 #[derive(Clone, Copy, Debug)]
 pub(crate) struct CommandLine<'a> {
-    pub(crate) request: Request<'a>,
+    pub(crate) request: Request,
+    /// The title of a picture.
+    pub(crate) title: &'a str,
     /// The name of the file to read the input from, or none for standard input.
     pub(crate) file: Option<&'a str>,
 }
 
 /// The request of a command line: exactly one subcommand.
 #[derive(Clone, Copy, Debug)]
-pub(crate) enum Request<'a> {
-    /// The view, and the title of a picture.
-    Show(View, &'a str),
+pub(crate) enum Request {
+    /// A view of the input's turns.
+    Show(Showing),
+    /// A run of the input by threads.
     Run,
 }
 
@@ -42,20 +58,31 @@ pub(crate) fn command_line_of<'a, S: AsStr>(
         .subcommand(shares_command(alloc)?)?
         .subcommand(chart_command(alloc)?)?;
     let matches = command.try_get_matches_from(words)?;
-    let request = match matches.subcommand() {
-        Some(("explain", _)) => Request::Show(View::Explain, TITLE),
-        Some(("run", _)) => Request::Run,
-        Some(("shares", given)) => Request::Show(View::Shares(measure_of(given)), TITLE),
-        Some(("chart", given)) => {
-            Request::Show(View::Chart, given.get_str("title").unwrap_or(TITLE))
-        }
-        _ => Request::Show(View::Play, TITLE),
-    };
-    let file = match matches.subcommand() {
-        Some((_, given)) => file_of(given),
-        None => None,
-    };
-    Ok(CommandLine { request, file })
+    match matches.subcommand() {
+        Some((name, given)) => Ok(CommandLine {
+            request: request_of(name, given),
+            title: title_of(name, given),
+            file: file_of(given),
+        }),
+        None => Ok(PLAY),
+    }
+}
+
+/// A subcommand that shows an input, with a text on what it does.
+fn showing<'a>(alloc: Global, name: &'a str, about: &'a str) -> Result<Command<'a>, AllocError> {
+    let seed = Arg::new(alloc, "seed")
+        .long("seed")
+        .value_name("S")
+        .action(ArgAction::Set)
+        .value_parser(ValueParser::unsigned(
+            u64::from(ranges::SEED.first),
+            u64::from(ranges::SEED.last),
+        ))
+        .help(
+            "Replaces the input's seeds: processor 1 has the seed S, 1 to 2147483646, and the others' are computed \
+             from it",
+        );
+    reading(alloc, name, about)?.arg(seed)
 }
 
 /// A subcommand that reads an input, with a text on what it does.
@@ -69,7 +96,7 @@ fn reading<'a>(alloc: Global, name: &'a str, about: &'a str) -> Result<Command<'
 
 /// The command that writes the turns.
 fn play_command<'a>(alloc: Global) -> Result<Command<'a>, AllocError> {
-    reading(
+    showing(
         alloc,
         "play",
         "Reads an input from FILE or standard input, makes the turns of its schedule and writes a line for each, and a \
@@ -79,7 +106,7 @@ fn play_command<'a>(alloc: Global) -> Result<Command<'a>, AllocError> {
 
 /// The command that writes the turns and the lots of each lottery.
 fn explain_command<'a>(alloc: Global) -> Result<Command<'a>, AllocError> {
-    reading(
+    showing(
         alloc,
         "explain",
         "Plays an input from FILE or standard input, and before each lottery that was won writes a line for each \
@@ -103,7 +130,7 @@ fn shares_command<'a>(alloc: Global) -> Result<Command<'a>, AllocError> {
         .long("quanta")
         .action(ArgAction::SetTrue)
         .help("The draws that each thread has won, and not its ticks");
-    reading(
+    showing(
         alloc,
         "shares",
         "Reads an input from FILE or standard input, makes the turns of its schedule and writes a table of the ticks \
@@ -118,13 +145,34 @@ fn chart_command<'a>(alloc: Global) -> Result<Command<'a>, AllocError> {
         .long("title")
         .action(ArgAction::Set)
         .help("What the picture is called");
-    reading(
+    showing(
         alloc,
         "chart",
         "Reads an input from FILE or standard input, makes the turns of its schedule and writes a picture of the ticks \
          that each thread has run over time, an SVG",
     )?
     .arg(title)
+}
+
+/// The request of the subcommand with this name, and with these options.
+fn request_of(name: &str, given: &ArgMatches<'_>) -> Request {
+    let view = match name {
+        "run" => return Request::Run,
+        "explain" => View::Explain,
+        "shares" => View::Shares(measure_of(given)),
+        "chart" => View::Chart,
+        _ => View::Play,
+    };
+    let seed = seed_of(given);
+    Request::Show(Showing { view, seed })
+}
+
+/// The title of a picture, which `chart` may give.
+fn title_of<'a>(name: &str, given: &ArgMatches<'a>) -> &'a str {
+    match name {
+        "chart" => given.get_str("title").unwrap_or(TITLE),
+        _ => TITLE,
+    }
 }
 
 /// The measure of a table.
@@ -134,6 +182,11 @@ fn measure_of(given: &ArgMatches<'_>) -> Measure {
     } else {
         Measure::Ticks
     }
+}
+
+/// The seed that was given, or none for those of the input.
+fn seed_of(given: &ArgMatches<'_>) -> Option<Seed> {
+    Seed::new(given.get_one("seed")?)
 }
 
 /// The name of the file that was given, or none for standard input.

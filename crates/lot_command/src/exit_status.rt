@@ -54,7 +54,7 @@ pub fn status<H: Threads + Wait + Sync, S: AsStr, I: Inputs, W: Write + Drop, E:
     let output = Watched::new(output);
     let errors = Watched::new(errors);
     match command_line_of(alloc, words) {
-        Ok(line) => line_status(rt, alloc, line, inputs, output, errors),
+        Ok(line) => line_status(rt, alloc, &line, inputs, output, errors),
         Err(error) => say_error(&error, output, errors),
     }
 }
@@ -76,18 +76,22 @@ pub fn unread_status<E: Write + Drop>(error: &io::Error, errors: E) -> u8 {
 fn line_status<H: Threads + Wait + Sync, I: Inputs, W: Write + Drop, E: Write + Drop>(
     rt: &H,
     alloc: Global,
-    line: CommandLine<'_>,
+    line: &CommandLine<'_>,
     inputs: I,
     output: Watched<W>,
     mut errors: Watched<E>,
 ) -> u8 {
-    let request = line.request;
+    let request = &line.request;
+    let title = line.title;
     let Some(name) = line.file else {
         let source = Source::standard(inputs.standard());
-        return request_status(rt, alloc, request, source, output, errors);
+        return request_status(rt, alloc, request, title, source, output, errors);
     };
     match inputs.open(name) {
-        Ok(file) => request_status(rt, alloc, request, Source::file(name, file), output, errors),
+        Ok(file) => {
+            let source = Source::file(name, file);
+            request_status(rt, alloc, request, title, source, output, errors)
+        }
         Err(reason) => {
             say_unread(alloc, (name, reason), &mut errors);
             FAILED
@@ -95,11 +99,12 @@ fn line_status<H: Threads + Wait + Sync, I: Inputs, W: Write + Drop, E: Write + 
     }
 }
 
-/// The exit status of the request on this input.
+/// The exit status of the request on this input, a picture with this title.
 fn request_status<H: Threads + Wait + Sync, R: Read + Drop, W: Write + Drop, E: Write + Drop>(
     rt: &H,
     alloc: Global,
-    request: Request<'_>,
+    request: &Request,
+    title: &str,
     source: Source<'_, R>,
     output: Watched<W>,
     mut errors: Watched<E>,
@@ -113,10 +118,10 @@ fn request_status<H: Threads + Wait + Sync, R: Read + Drop, W: Write + Drop, E: 
         return FAILED;
     };
     let played = match request {
-        Request::Show(view, title) => {
+        Request::Show(showing) => {
             show(
                 alloc,
-                view,
+                showing,
                 title,
                 &mut diagnostics,
                 &mut reader,

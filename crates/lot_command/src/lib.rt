@@ -5,6 +5,7 @@
 mod command_line;
 mod diagnostics;
 mod exit_status;
+pub mod laws;
 mod run;
 mod source;
 mod view;

@@ -2,14 +2,17 @@
 ghost use Rattle.std.specs.Prelude.{◌≡◌, false, true, OnOk};
 ghost use Rattle.lot_simulation.specs.Grammar.{program_in};
 ghost use Rattle.lot_play.specs.Played.{Plays, PlaysInput, came_of};
-ghost use Rattle.lot_command.specs.Views.{text_of};
+ghost use Rattle.lot_play.specs.declared.inputs.Played.TheVariants.{Done};
+ghost use Rattle.lot_command.specs.Views.{text_of, view_of};
 
 use crate::diagnostics::Diagnostics;
-use lot_chart::{chart_bytes, shares_bytes};
+use lot_chart::{chart_program, shares_program};
 use lot_curves::Measure;
-use lot_explain::explain_bytes;
+use lot_explain::explain_program;
 use lot_io::{IoFault, Watched, read_input};
-use lot_system::{Played, play_bytes};
+use lot_play::play_program;
+use lot_system::{Played, Warnings, refuse};
+use lot_text::{ParseFault, Program, Seed, parse_seeded};
 use std::alloc::Global;
 use std::io::{Read, Write};
 
@@ -26,42 +29,80 @@ pub(crate) enum View {
     Chart,
 }
 
-/// Reads an input, makes its turns, and writes this view of them, a picture with this title; or one line, if the
-/// input is refused. It stores diagnostics in `diagnostics`.
+/// A view of an input, and the seed that the input is played with.
+#[derive(Clone, Copy, Debug)]
+pub(crate) struct Showing {
+    pub(crate) view: View,
+    /// The seed of processor 1, from which the others' are computed; none for the input's own seeds.
+    pub(crate) seed: Option<Seed>,
+}
+
+/// Reads an input, makes its turns, and writes this view of them, a picture with this title; or one line, if the input
+/// is refused. It stores diagnostics in `diagnostics`.
 pub(crate) fn show<R: Read, W: Write>(
     alloc: Global,
-    view: View,
+    showing: &Showing,
     title: &str,
     diagnostics: &mut Diagnostics,
     reader: &mut Watched<R>,
     writer: &mut Watched<W>,
 ) -> Result<Played, IoFault>
     requires { (reader.old.failed ≡ false) × (writer.old.failed ≡ false) }
-    ensures plays { PlaysInput
-        (text_of view title.now) R.remaining reader.old reader.new W.contents writer.old writer.new result }
+    ensures plays { PlaysInput (text_of showing.now.view title.now showing.now.seed)
+        R.remaining reader.old reader.new W.contents writer.old writer.new result }
 {
     diagnostics.input = read_input(alloc, reader)?;
-    show_bytes(alloc, view, title, diagnostics, writer)
+    show_bytes(
+        alloc,
+        showing,
+        title,
+        diagnostics.input.as_slice(),
+        &mut diagnostics.warnings,
+        writer,
+    )
 }
 
-/// Makes the turns of the input in `diagnostics`, and writes this view of them, or the line for a refused input.
+/// Makes the turns of the input in `bytes`, and writes this view of them, or the line for a refused input. It stores
+/// the run's warnings in `warnings`.
+#[tactic(auto, using(crate::proofs::GivenSeeds::came_seeded))]
 fn show_bytes<W: Write>(
     alloc: Global,
-    view: View,
+    showing: &Showing,
     title: &str,
-    diagnostics: &mut Diagnostics,
+    bytes: &[u8],
+    warnings: &mut Warnings,
     writer: &mut Watched<W>,
 ) -> Result<Played, IoFault>
     requires { writer.old.failed ≡ false }
     ensures flushed { OnOk result (writer.new.flushed ≡ true) }
-    ensures shown { Plays W.contents writer.old writer.new result
-        (came_of (program_in diagnostics.old.input.items)) (text_of view title.now diagnostics.old.input.items) }
+    ensures shown { Plays W.contents writer.old writer.new result (came_of (program_in bytes.now))
+        (text_of showing.now.view title.now showing.now.seed bytes.now) }
 {
-    let input = diagnostics.input.as_slice();
+    match parse_seeded(alloc, showing.seed, bytes) {
+        Ok(program) => show_program(alloc, showing.view, title, &program, warnings, writer),
+        Err(ParseFault::Memory) => Err(IoFault::Memory),
+        Err(ParseFault::Input(fault)) => refuse(fault, writer),
+    }
+}
+
+/// Makes the program's turns, and writes this view of them. It stores the run's warnings in `warnings`.
+fn show_program<W: Write>(
+    alloc: Global,
+    view: View,
+    title: &str,
+    program: &Program,
+    warnings: &mut Warnings,
+    writer: &mut Watched<W>,
+) -> Result<Played, IoFault>
+    requires { writer.old.failed ≡ false }
+    ensures flushed { OnOk result (writer.new.flushed ≡ true) }
+    ensures shown { Plays W.contents writer.old writer.new result Done
+        (view_of view title.now program.now) }
+{
     match view {
-        View::Play => play_bytes(alloc, input, &mut diagnostics.warnings, writer),
-        View::Explain => explain_bytes(alloc, input, &mut diagnostics.warnings, writer),
-        View::Shares(measure) => shares_bytes(alloc, measure, input, writer),
-        View::Chart => chart_bytes(alloc, title, input, writer),
+        View::Play => play_program(alloc, program, warnings, writer),
+        View::Explain => explain_program(alloc, program, warnings, writer),
+        View::Shares(measure) => shares_program(alloc, measure, program, writer),
+        View::Chart => chart_program(alloc, title, program, writer),
     }
 }

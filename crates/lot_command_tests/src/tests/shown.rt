@@ -1,6 +1,8 @@
 //! Tables and pictures of what threads have run, and lotteries that are explained.
 use super::same::check_same;
 use super::{check_words, check_words_on, ended_on};
+use std::alloc::Global;
+use std::process::Abort;
 
 /// Thread `a` has the only ticket: it wins both draws, and runs for two quanta of 2 ticks.
 const INPUT: &str = "lottery 1
@@ -96,4 +98,84 @@ fn explained(rt: HostRuntime) {
     let refused = "refused line 1 50 BadHeader\n";
     check_words_on(&rt, alloc, "explain", "lottery 9\n", 1, refused);
     check_words(&rt, alloc, &["lot_sim", "explain", "x", "y"], 2, false);
+}
+
+/// An input of three threads and two processors, with this line of seeds, or none if it is empty.
+fn with_seeds(rt: &impl Abort, alloc: Global, seeds: &str) -> String {
+    format!(in alloc;
+        "lottery 3
+processors 2
+quantum 2
+for 20
+{seeds}script spin
+compute 900
+endscript
+fundx 2 base a spin
+fundx 1 base b spin
+fundx 1 base c spin
+"
+    )
+    .expect(rt, "memory")
+}
+
+/// Processor 1 has the seed that was given, and processor 2 the next, 5 * 48271 = 241355, whatever seeds the input has.
+#[test]
+fn given_seeds(rt: HostRuntime) {
+    let alloc = rt.alloc();
+    let wanted = with_seeds(&rt, alloc, "seed 5 241355\n");
+    for seeds in ["", "seed 1 2\n"] {
+        let input = with_seeds(&rt, alloc, seeds);
+        for word in ["play", "explain", "shares", "chart"] {
+            let words = ["lot_sim", word, "--seed", "5"];
+            let given = ended_on(&rt, alloc, &words, input.as_str());
+            let written = ended_on(&rt, alloc, &["lot_sim", word], wanted.as_str());
+            let is_same = given.output.as_slice() == written.output.as_slice();
+            check_same(&rt, &(given.code, is_same), &(0, true));
+        }
+        let own = ended_on(&rt, alloc, &["lot_sim", "play"], input.as_str());
+        let given = ended_on(&rt, alloc, &["lot_sim", "play"], wanted.as_str());
+        let is_same = own.output.as_slice() == given.output.as_slice();
+        check_same(&rt, &(own.code, is_same), &(0, false));
+    }
+}
+
+/// The least and the greatest seed are taken, beside the other options and before or after them. A faulty line of seeds
+/// is refused, though another seed is given.
+#[test]
+fn given_seeds_beside_options(rt: HostRuntime) {
+    let alloc = rt.alloc();
+    for words in [
+        ["lot_sim", "shares", "--seed", "1", "--quanta"],
+        ["lot_sim", "shares", "--quanta", "--seed", "2147483646"],
+        ["lot_sim", "chart", "--seed=7", "--title", "x"],
+    ] {
+        let ended = ended_on(&rt, alloc, &words, INPUT);
+        check_same(&rt, &(ended.code, ended.output.is_empty()), &(0, false));
+    }
+    let faulty = ended_on(
+        &rt,
+        alloc,
+        &["lot_sim", "play", "--seed", "5"],
+        "lottery 1\nseed 0\n",
+    );
+    let is_refused = faulty.output.as_slice() == "refused line 2 52 BadNumber\n".as_bytes();
+    check_same(&rt, &(faulty.code, is_refused), &(1, true));
+}
+
+/// A seed that is none is refused by name, and `run` takes no seed.
+#[test]
+fn refused_seeds(rt: HostRuntime) {
+    let alloc = rt.alloc();
+    for seed in ["", "0", "x", "1.5", "2147483647", "99999999999999999999"] {
+        let ended = ended_on(&rt, alloc, &["lot_sim", "play", "--seed", seed], INPUT);
+        let told = str::from_utf8(ended.errors.as_slice()).unwrap_or("");
+        let is_named = told.starts_with("error: ") && told.contains("--seed");
+        check_same(
+            &rt,
+            &(ended.code, ended.output.is_empty(), is_named),
+            &(2, true, true),
+        );
+    }
+    check_words(&rt, alloc, &["lot_sim", "play", "--seed", "-1"], 2, false);
+    check_words(&rt, alloc, &["lot_sim", "run", "--seed", "1"], 2, false);
 }

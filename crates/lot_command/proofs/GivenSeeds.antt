@@ -1,0 +1,25 @@
+-- With other seeds an input is refused or played as with its own.
+use Rattle.std.proofs.Common.{◌≡◌, ℕ, Option, Result, Ok, Err, List, refl, sym, subst}
+use Rattle.lot_io.specs.declared.fault.IoFault.{IoFault}
+use Rattle.lot_io.specs.Watching.{Watch}
+use Rattle.lot_simulation.specs.declared.input.InputFault.{InputFault}
+use Rattle.lot_simulation.specs.Grammar.{program_in}
+use Rattle.lot_simulation.specs.Seeded.{seeded}
+use Rattle.lot_simulation.specs.Texts.{fault_line}
+use Rattle.lot_simulation.specs.World.{Program}
+use Rattle.lot_play.specs.declared.inputs.Played.{Played}
+use Rattle.lot_play.specs.declared.inputs.Played.TheVariants.{Refused}
+use Rattle.lot_play.specs.Played.{Plays, came_of}
+use Rattle.lot_command.specs.declared.view.View.{View}
+use Rattle.lot_command.specs.Views.{shown_of, text_of}
+
+pub came_seeded : (seed : Option ℕ) (input : Result Program InputFault) → came_of (seeded seed input) ≡ came_of input
+came_seeded seed (Ok program) = refl
+came_seeded seed (Err fault) = refl
+
+-- the line of a refused input is its text in each view, with any seed
+pub refused-shown : {T : Type 0} (contents : T → Option (List ℕ)) (old new : Watch T) (result : Result Played IoFault) (view : View) (title : List ℕ) (seed : Option ℕ) (bytes : List ℕ) (fault : InputFault)
+    → seeded seed (program_in bytes) ≡ Err fault → Plays contents old new result Refused (fault_line fault) → Plays contents old new result (came_of (program_in bytes)) (text_of view title seed bytes)
+refused-shown contents old new result view title seed bytes fault is plays =
+    subst (λ (came : Played). Plays contents old new result came (text_of view title seed bytes)) (came_seeded seed (program_in bytes))
+    (subst (λ (given : Result Program InputFault). Plays contents old new result (came_of given) (shown_of view title given)) (sym is) plays)

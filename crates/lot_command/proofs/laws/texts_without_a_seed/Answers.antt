@@ -1,0 +1,42 @@
+use Rattle.std.proofs.Common.{◌≡◌, ℕ, None, Result, Ok, Err, List, refl}
+use Rattle.lot_simulation.specs.declared.input.InputFault.{InputFault}
+use Rattle.lot_simulation.specs.Grammar.{program_in}
+use Rattle.lot_simulation.specs.Output.{output_of}
+use Rattle.lot_simulation.specs.Seeded.{seeded}
+use Rattle.lot_simulation.specs.World.{Program}
+use Rattle.lot_curves.specs.declared.stretch.Measure.{Measure}
+use Rattle.lot_explain.specs.Explained.{explained_of}
+use Rattle.lot_chart.specs.Charts.{chart}
+use Rattle.lot_chart.specs.Shown as charts
+use Rattle.lot_chart.specs.Tables.{table}
+use Rattle.lot_command.specs.declared.view.View.TheVariants as views
+use Rattle.lot_command.specs.Views.{shown_of}
+use Rattle.lot_command.proofs.laws.texts_without_a_seed.Goals as goal
+
+play-is : (title : List ℕ) (input : Result Program InputFault) → shown_of views.Play title (seeded None input) ≡ output_of input
+play-is title (Ok program) = refl
+play-is title (Err fault) = refl
+
+explain-is : (title : List ℕ) (input : Result Program InputFault) → shown_of views.Explain title (seeded None input) ≡ explained_of input
+explain-is title (Ok program) = refl
+explain-is title (Err fault) = refl
+
+shares-is : (measure : Measure) (title : List ℕ) (input : Result Program InputFault) → shown_of (views.Shares measure) title (seeded None input) ≡ charts.shown_of (table measure) input
+shares-is measure title (Ok program) = refl
+shares-is measure title (Err fault) = refl
+
+chart-is : (title : List ℕ) (input : Result Program InputFault) → shown_of views.Chart title (seeded None input) ≡ charts.shown_of (chart title) input
+chart-is title (Ok program) = refl
+chart-is title (Err fault) = refl
+
+pub returns-clause-play : goal.returns-clause-play
+returns-clause-play c title bytes = play-is title (program_in bytes)
+
+pub returns-clause-explain : goal.returns-clause-explain
+returns-clause-explain c title bytes = explain-is title (program_in bytes)
+
+pub returns-clause-shares : goal.returns-clause-shares
+returns-clause-shares c measure title bytes = shares-is measure title (program_in bytes)
+
+pub returns-clause-chart : goal.returns-clause-chart
+returns-clause-chart c title bytes = chart-is title (program_in bytes)

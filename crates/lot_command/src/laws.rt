@@ -1,0 +1,17 @@
+//! Texts of inputs that keep their own seeds: laws of the definitions, without executable code.
+ghost use Rattle.std.specs.Prelude.{◌≡◌, ℕ, List, None};
+ghost use Rattle.lot_simulation.specs.Output.{output};
+ghost use Rattle.lot_curves.specs.declared.stretch.Measure.{Measure};
+ghost use Rattle.lot_explain.specs.Explained.{explained_output};
+ghost use Rattle.lot_chart.specs.Shown.{chart_output, shares_output};
+ghost use Rattle.lot_command.specs.declared.view.View.TheVariants as views;
+ghost use Rattle.lot_command.specs.Views.{text_of};
+
+/// Without a given seed, the text of each view is the library's output for the same bytes.
+pub fn texts_without_a_seed()
+    ensures play { (title bytes : List ℕ) → text_of views.Play title None bytes ≡ output bytes }
+    ensures explain { (title bytes : List ℕ) → text_of views.Explain title None bytes ≡ explained_output bytes }
+    ensures shares { (measure : Measure) (title bytes : List ℕ)
+        → text_of (views.Shares measure) title None bytes ≡ shares_output measure bytes }
+    ensures chart { (title bytes : List ℕ) → text_of views.Chart title None bytes ≡ chart_output title bytes }
+{}
