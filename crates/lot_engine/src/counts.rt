@@ -47,6 +47,35 @@ impl Counts {
             _ => {}
         }
     }
+
+    /// Counts one more turn, which got this reply, here and in the total. The reply is matched once for both.
+    #[inline(always)]
+    fn add_turn_to_both(&mut self, total: &mut Counts, reply: Reply)
+        requires own { (n : ℕ) × (n < 4294967295) × IsSmall n self.old }
+        requires total { (n : ℕ) × (n < 4294967295) × IsSmall n total.old }
+        ensures exact { self.new ≡ counted_with self.old reply }
+        ensures small { (n : ℕ) → IsSmall n self.old → IsSmall (n + 1) self.new }
+        ensures total { total.new ≡ counted_with total.old reply }
+        ensures total_small { (n : ℕ) → IsSmall n total.old → IsSmall (n + 1) total.new }
+    {
+        self.turns += 1;
+        total.turns += 1;
+        match reply {
+            Reply::Winner { .. } => {
+                self.quanta += 1;
+                total.quanta += 1;
+            }
+            Reply::Idle => {
+                self.idles += 1;
+                total.idles += 1;
+            }
+            Reply::Expired { ticks, .. } | Reply::Trapped { ticks, .. } => {
+                self.ticks += u64::from(ticks);
+                total.ticks += u64::from(ticks);
+            }
+            _ => {}
+        }
+    }
 }
 
 /// The counters of this many actors without turns.
@@ -57,14 +86,17 @@ pub(crate) fn no_counts(alloc: Global, actors: usize) -> Result<Vec<Counts>, All
     vec![in alloc; Counts::NONE; actors]
 }
 
-/// Counts an actor's turn that got this reply.
+/// Counts an actor's turn that got this reply, among the actor's turns and in the total.
 #[inline(always)]
-pub(crate) fn count_turn(counts: &mut Vec<Counts>, actor: u32, reply: Reply)
+pub(crate) fn count_turn(counts: &mut Vec<Counts>, total: &mut Counts, actor: u32, reply: Reply)
     requires there { actor < vec_len counts.old }
     requires bounded { (turns : List ActorTurn) × (n : ℕ) × (n < 4294967295) × AreCounts turns n counts.old.items }
+    requires total { (n : ℕ) × (n < 4294967295) × IsSmall n total.old }
     ensures exact { (turns : List ActorTurn) (n : ℕ) (e : EventRecord) → AreCounts turns n counts.old.items
         → AreCounts (turns ++ record { actor = actor; answer = Answered e reply } ∷ []) (n + 1) counts.new.items }
     ensures count { vec_len counts.new ≡ vec_len counts.old }
+    ensures total { total.new ≡ counted_with total.old reply }
+    ensures total_small { (n : ℕ) → IsSmall n total.old → IsSmall (n + 1) total.new }
 {
-    counts[actor as usize].add_turn(reply);
+    counts[actor as usize].add_turn_to_both(total, reply);
 }

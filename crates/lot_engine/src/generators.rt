@@ -71,6 +71,7 @@ pub(crate) fn next_event(
         return;
     }
     let next = next_number(generators, processor, is_wide);
-    put_event(processor, done, next.number, event);
+    // The generator first: a store to it might, for all that the compiler knows, change the event.
     generators[processor as usize - 1] = next.after;
+    put_event(processor, done, next.number, event);
 }

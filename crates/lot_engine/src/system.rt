@@ -360,8 +360,7 @@ impl System {
         self.kernel.answer(event, reply);
         let told = *reply;
         follow_turn(&mut self.places, slice, told);
-        count_turn(&mut self.counts, actor, told);
-        self.total.add_turn(told);
+        count_turn(&mut self.counts, &mut self.total, actor, told);
         remember(&mut self.history, actor);
     }
 
@@ -378,8 +377,7 @@ impl System {
         let told = *reply;
         self.spent += 1;
         follow_command(&mut self.places, &self.program, &self.kernel, told);
-        count_turn(&mut self.counts, 0, told);
-        self.total.add_turn(told);
+        count_turn(&mut self.counts, &mut self.total, 0, told);
         remember(&mut self.history, 0);
     }
 
@@ -409,8 +407,7 @@ impl System {
         self.kernel.answer(event, reply);
         let told = *reply;
         receive(&mut self.places, told);
-        count_turn(&mut self.counts, actor, told);
-        self.total.add_turn(told);
+        count_turn(&mut self.counts, &mut self.total, actor, told);
         remember(&mut self.history, actor);
     }
 

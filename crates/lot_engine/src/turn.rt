@@ -159,15 +159,18 @@ pub(crate) fn put_event(actor: u32, done: Option<Done>, drawn: u128, event: &mut
     }
 }
 
-/// Stores a slice's result as an event: an expiry, or a trap after its ticks.
+/// Stores a slice's result as an event: an expiry, or a trap after its ticks. Each is stored where it is made, so that
+/// the compiler knows the kind of the event that the kernel gets.
 #[inline(always)]
 fn put_slice_event(actor: u32, done: Done, drawn: u128, event: &mut Event)
     ensures { event.new ≡ steps.event_done actor drawn (Some done) }
 {
-    *event = match done.trap {
-        None => Event::Expire(actor),
-        Some(trap) => Event::Trap(actor, done.ticks, action_of(trap, done.accumulator, drawn)),
-    };
+    match done.trap {
+        None => *event = Event::Expire(actor),
+        Some(trap) => {
+            *event = Event::Trap(actor, done.ticks, action_of(trap, done.accumulator, drawn));
+        }
+    }
 }
 
 /// A trap of a script as the kernel's action. Calls, replies and serves carry the accumulator, and an unlock the

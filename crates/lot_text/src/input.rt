@@ -14,7 +14,7 @@ use crate::fault::LineFault;
 use crate::header::{first_line, header_line};
 use crate::reading::{OpenScript, Reading};
 use crate::script_lines::script_line;
-use crate::tokens::{Tokens, begins_comment, is_printable, len_before};
+use crate::tokens::{Tokens, begins_comment, is_printable, line_len};
 use crate::words::stands_alone;
 use crate::{ParseFault, Program, Seed};
 use lot_simulation::{BodyWord, Format, HeaderWord, InputFault, InputRefusal, ScriptWord};
@@ -31,7 +31,7 @@ pub fn parse(alloc: Global, bytes: &[u8]) -> Result<Program, ParseFault>
     let mut number = 0u32;
     let mut end = 0;
     while !rest.is_empty() {
-        let len = len_before(b'\n', rest);
+        let len = line_len(rest);
         let whole = (len + 1).min(rest.len());
         end += whole;
         number += 1;

@@ -1,5 +1,5 @@
 //! Numbers.
-ghost use Rattle.std.specs.Prelude.{◌≡◌, ◌≤◌, ◌+◌, ◌*◌, true, IfOk};
+ghost use Rattle.std.specs.Prelude.{◌≡◌, ◌≤◌, ◌+◌, ◌*◌, [], ◌∷◌, true, IfOk};
 ghost use Rattle.std.specs.Char.{is_ascii_digit, digit_value};
 ghost use Rattle.std.specs.List.{list_all};
 ghost use Rattle.lot_machine.specs.Bounds.{IsBetween};
@@ -59,8 +59,23 @@ fn with_digit(value: u64, digit: u8) -> Option<u64>
 pub(crate) fn number(token: &[u8]) -> Option<u64>
     ensures { result ≡ number_of token.now }
 {
+    // Most entries of a schedule have one digit.
+    if let [byte] = token {
+        return one_digit(*byte);
+    }
     if is_numeral(token) {
         value(token)
+    } else {
+        None
+    }
+}
+
+/// The number of a token that is this byte, if it is a digit.
+fn one_digit(byte: u8) -> Option<u64>
+    ensures { result ≡ number_of (byte ∷ []) }
+{
+    if byte.is_ascii_digit() {
+        with_digit(0, byte)
     } else {
         None
     }

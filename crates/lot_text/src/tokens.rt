@@ -1,10 +1,11 @@
 //! The tokens of a line.
-ghost use Rattle.std.specs.Prelude.{◌≡◌, ◌≢◌, ◌==◌, ◌≤◌, ◌%◌, not, drop, length, take, [], ◌∷◌, ◌↔◌, IsTrue, IfSome};
+ghost use Rattle.std.specs.Prelude.{◌≡◌, ◌≢◌, ◌==◌, ◌≤◌, ◌%◌, ◌&&◌, nat_le, not, drop, length, take, [], ◌∷◌, ◌↔◌, IsTrue, IfSome};
 ghost use Rattle.std.specs.Prelude.{MatchOption, MatchResult};
 ghost use Rattle.std.specs.List.{prefix_len};
 ghost use Rattle.lot_simulation.specs.Lines.{tokens_of, is_comment, is_printable as is_printable_line};
 
 use lot_simulation::InputRefusal;
+use memchr::memchr;
 use std::marker::Model;
 
 /// The remaining tokens of a line.
@@ -131,8 +132,16 @@ fn spaces_in_front(bytes: &[u8]) -> usize
     bytes.iter().take_while(|b| **b == b' ').count()
 }
 
+/// The number of bytes before the first end of a line, or of all bytes if there is none.
+pub(crate) fn line_len(bytes: &[u8]) -> usize
+    ensures others { result ≡ prefix_len (λ b. not (b == 10)) bytes.now }
+    ensures within { result ≤ length bytes.now }
+{
+    memchr(b'\n', bytes).unwrap_or(bytes.len())
+}
+
 /// The number of bytes before the first with this value, or of all bytes if none has it.
-pub(crate) fn len_before(byte: u8, bytes: &[u8]) -> usize
+fn len_before(byte: u8, bytes: &[u8]) -> usize
     ensures others { result ≡ prefix_len (λ b. not (b == byte)) bytes.now }
     ensures within { result ≤ length bytes.now }
 {
@@ -146,9 +155,21 @@ pub(crate) fn begins_comment(token: &[u8]) -> bool
     token.first() == Some(&b'#')
 }
 
-/// Whether each byte of the line is printable ASCII or a space.
+/// Whether each byte of the line is printable ASCII or a space. It doesn't end at the first other one, so the compiler
+/// tests many bytes at once.
 pub(crate) fn is_printable(line: &[u8]) -> bool
     ensures { result ≡ is_printable_line line.now }
 {
-    line.iter().all(|b| 32 <= *b && *b <= 126)
+    let mut all = true;
+    for byte in line {
+        all &= is_printable_byte(*byte);
+    }
+    all
+}
+
+/// Whether the byte is printable ASCII or a space.
+fn is_printable_byte(byte: u8) -> bool
+    ensures { result ≡ (nat_le 32 byte && nat_le byte 126) }
+{
+    32 <= byte && byte <= 126
 }

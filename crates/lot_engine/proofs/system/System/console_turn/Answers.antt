@@ -60,7 +60,7 @@ invariant_of-self c =
     rw c.remember.ensures.items (console-more s.program s.room s.is_wide s.has_timer s.history.items s.kernel.state s.places.items s.generators.items _ s.spent s.counts.items _ s.total _ _ i requires.room (event.Command c.copied.result) c.answer.new.reply answer
     below c.answer.new.self.state c.follow_command.new.places.items held
     c.count_turn.new.counts.items (c.count_turn.ensures.exact (turns_made s.program s.history.items) (length s.history.items) (event.Command c.copied.result) i.each_counted) _ c.count_turn.ensures.count
-    _ c.add_turn.ensures.exact (c.add_turn.ensures.small (length s.history.items) i.total_counted.small) _ _ c.follow_command.ensures.room c.remember.ensures.capacity)
+    _ c.count_turn.ensures.total (c.count_turn.ensures.total_small (length s.history.items) i.total_counted.small) _ _ c.follow_command.ensures.room c.remember.ensures.capacity)
 
 pub returns-clause-answer : goal.returns-clause-answer
 returns-clause-answer c =
