@@ -18,12 +18,12 @@ use Rattle.lot_simulation.specs.declared.timed.EarlyEnd.{EarlyEnd}
 use Rattle.lot_simulation.specs.declared.timed.Waits.{Waits}
 use Rattle.lot_simulation.specs.Report.{ActorTurn, ticks_in, total_of, turns_made, turns_of}
 use Rattle.lot_simulation.specs.Timed.{Moment, TimedTurn, clock_of, end_of, ended_at, last_moment, moment_after_all, next_due, opening_moment, timed_turns}
-use Rattle.lot_simulation.specs.TimedReport.{actor_turns, early_end, early_text, idle_until, live_part, mutex_change, refusals_in, reply_change, report_at, timed_processor_total, timed_report, timed_report_of, timed_thread_total, timed_whole_total, waits_in}
+use Rattle.lot_simulation.specs.TimedReport.{actor_turns, early_end, early_text, idle_until, live_part, mutex_change, refusals_in, refused_traps_in, reply_change, report_at, timed_processor_total, timed_report, timed_report_of, timed_thread_total, timed_whole_total, waits_in}
 use Rattle.lot_simulation.specs.World.{Program}
 use Rattle.lot_engine.specs.declared.counts.Counts.{Counts}
 use Rattle.lot_playback.specs.declared.timekeeper.Timekeeper.{Timekeeper}
 use Rattle.lot_engine.specs.Counted.{counted}
-use Rattle.lot_playback.specs.InTime.{AreWaits, IsAtEnd, moment_in}
+use Rattle.lot_playback.specs.InTime.{AreRefusedTraps, AreWaits, IsAtEnd, moment_in}
 use Rattle.lot_engine.specs.Seen.{Seen, world_of}
 use Rattle.lot_simulation.proofs.TimedRuns.{room-small, timed-made}
 use Rattle.lot_playback.proofs.FollowFacts.{within-room}
@@ -54,6 +54,10 @@ module _ (seen : Seen) (timekeeper : Timekeeper) (end : IsAtEnd seen timekeeper)
 
   pub replies-are : AreWaits reply_change all (length seen.history) timekeeper.replies.threads.items
   replies-are = subst (λ ts. AreWaits reply_change ts (length seen.history) timekeeper.replies.threads.items) end.all end.followed.followed.replies
+
+  -- how many of their traps were refused
+  pub traps-are : AreRefusedTraps all (length seen.history) timekeeper.refused_traps.threads.items
+  traps-are = subst (λ ts. AreRefusedTraps ts (length seen.history) timekeeper.refused_traps.threads.items) end.all end.followed.followed.refused_traps
 
   -- the moment after the last turn
   pub last-is : moment_in seen timekeeper ≡ last_moment seen.setting.program
@@ -103,24 +107,26 @@ row-value s t row None o is = absurd (cc)
 row-value s t row (Some name) None is = absurd (cc)
 row-value s t row (Some name) (Some r) is = let e : row_of_thread s t r ≡ row = cc in sym (ap (λ (x : ThreadRow). x.value) e)
 
-pub thread-line : (s : State) (turns : List TimedTurn) (t : ℕ) (row : ThreadRow) (all live values : ℕ) (mutexes replies : Waits) → thread_row s t ≡ Some row
+pub thread-line : (s : State) (turns : List TimedTurn) (t : ℕ) (row : ThreadRow) (all live values : ℕ) (mutexes replies : Waits) (refused : ℕ) → thread_row s t ≡ Some row
     → all ≡ total_of ticks_in (actor_turns turns) → live ≡ live_part s t (value_of s t) → values ≡ live_value s → mutexes ≡ waits_in mutex_change turns t → replies ≡ waits_in reply_change turns t
-    → timed_thread_line t row all live values mutexes replies ≡ option_map_or (timed_thread_total s turns (total_of ticks_in (actor_turns turns)) t) (thread_row s t) []
-thread-line s turns t row all live values mutexes replies is ticks own whole for_mutex for_reply =
+    → refused ≡ refused_traps_in turns t
+    → timed_thread_line t row all live values mutexes replies refused ≡ option_map_or (timed_thread_total s turns (total_of ticks_in (actor_turns turns)) t) (thread_row s t) []
+thread-line s turns t row all live values mutexes replies refused is ticks own whole for_mutex for_reply traps =
     let value = row-value s t row (thread_name s t) (at_number s.records t) is in
     let part : live ≡ live_part s t row.value = own ∙ ap (live_part s t) (sym value) in
-    rw (is, ticks, part, whole, for_mutex, for_reply) (refl {a = timed_thread_total s turns (total_of ticks_in (actor_turns turns)) t row})
+    rw (is, ticks, part, whole, for_mutex, for_reply, traps) (refl {a = timed_thread_total s turns (total_of ticks_in (actor_turns turns)) t row})
 
 -- a thread's line by what was asked of the system, which stays as it is
-pub asked-line : (seen mid last : Seen) (timekeeper : Timekeeper) (t : ℕ) (row : ThreadRow) (c : Counts) (live values : ℕ) (mutexes replies : Waits) → IsAtEnd seen timekeeper → mid ≡ seen → last ≡ mid
+pub asked-line : (seen mid last : Seen) (timekeeper : Timekeeper) (t : ℕ) (row : ThreadRow) (c : Counts) (live values : ℕ) (mutexes replies : Waits) (refused : ℕ) → IsAtEnd seen timekeeper → mid ≡ seen → last ≡ mid
     → Some row ≡ thread_row (world_of mid).state t → c ≡ counted (turns_made last.setting.program last.history) → live ≡ live_part (world_of seen).state t (value_of (world_of seen).state t) → values ≡ live_value (world_of seen).state
     → mutexes ≡ waits_in mutex_change (timed_turns seen.setting.program) t → replies ≡ waits_in reply_change (timed_turns seen.setting.program) t
-    → timed_thread_line t row c.ticks live values mutexes replies ≡ option_map_or (timed_thread_total (world_of seen).state (timed_turns seen.setting.program) (total_of ticks_in (actor_turns (timed_turns seen.setting.program))) t) (thread_row (world_of seen).state t) []
-asked-line seen mid last timekeeper t row c live values mutexes replies end same still is counts own whole for_mutex for_reply =
+    → refused ≡ refused_traps_in (timed_turns seen.setting.program) t
+    → timed_thread_line t row c.ticks live values mutexes replies refused ≡ option_map_or (timed_thread_total (world_of seen).state (timed_turns seen.setting.program) (total_of ticks_in (actor_turns (timed_turns seen.setting.program))) t) (thread_row (world_of seen).state t) []
+asked-line seen mid last timekeeper t row c live values mutexes replies refused end same still is counts own whole for_mutex for_reply traps =
     let there : thread_row (world_of seen).state t ≡ Some row = ap (λ (x : Seen). thread_row (world_of x).state t) (sym same) ∙ sym is in
     let ticks : c.ticks ≡ total_of ticks_in (actor_turns (timed_turns seen.setting.program)) =
     ap (λ (x : Counts). x.ticks) counts ∙ ap (λ (x : Seen). total_of ticks_in (turns_made x.setting.program x.history)) (still ∙ same) ∙ ap (total_of ticks_in) (turns-are seen timekeeper end) in
-    thread-line (world_of seen).state (timed_turns seen.setting.program) t row c.ticks live values mutexes replies there ticks own whole for_mutex for_reply
+    thread-line (world_of seen).state (timed_turns seen.setting.program) t row c.ticks live values mutexes replies refused there ticks own whole for_mutex for_reply traps
 
 -- ---- the value of live threads
 

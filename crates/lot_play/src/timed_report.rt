@@ -195,6 +195,7 @@ fn write_thread<W: Write>(
         all_values,
         mutexes: timekeeper.mutexes.of(thread),
         replies: timekeeper.replies.of(thread),
+        refused_traps: timekeeper.refused_traps.of(thread),
     };
     write_timed_thread_total(writer, thread, &row, shares)
 }

@@ -1,6 +1,7 @@
 pub mod TimeFacts
 pub mod AlarmFacts
 pub mod WaitFacts
+pub mod RefusedTrapFacts
 pub mod FollowFacts
 pub mod TurnFacts
 pub mod MadeFacts

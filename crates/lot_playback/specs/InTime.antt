@@ -1,5 +1,5 @@
 -- Timed turns of a system.
-use Rattle.std.specs.Prelude.{◌≡◌, ℕ, ◌+◌, ◌-◌, ◌<◌, ◌≤◌, ◌*◌, ◌^◌, nat_le, Bool, true, false, Option, Some, None, List, [], ◌∷◌, ◌++◌, length, map, take, drop, slice_index_or, All, if◌then◌else◌}
+use Rattle.std.specs.Prelude.{◌≡◌, ℕ, ◌+◌, ◌-◌, ◌<◌, ◌≤◌, ◌*◌, ◌^◌, ◌==◌, nat_le, Bool, true, false, Option, Some, None, List, [], ◌∷◌, ◌++◌, length, map, take, drop, slice_index, slice_index_or, All, if◌then◌else◌}
 use Rattle.lot_machine.specs.declared.action.Action.TheVariants as action
 use Rattle.lot_machine.specs.declared.event.Event.{Event}
 use Rattle.lot_machine.specs.declared.event.Event.TheVariants as event
@@ -19,7 +19,7 @@ use Rattle.lot_simulation.specs.declared.timed.WaitChange.TheVariants.{Nobody, A
 use Rattle.lot_simulation.specs.declared.timed.Waits.{Waits}
 use Rattle.lot_simulation.specs.Report.{total_of}
 use Rattle.lot_simulation.specs.Timed.{Moment, TimedTurn, alarm_due, earliest, moment_after_all, next_due, opening_moment, timed_room, timed_turns, turns_from}
-use Rattle.lot_simulation.specs.TimedReport.{actor_turns, mutex_change, refusals_in, reply_change, waits_after, waits_in}
+use Rattle.lot_simulation.specs.TimedReport.{actor_turns, mutex_change, refusals_after, refusals_in, refused_traps_in, reply_change, waits_after, waits_in}
 use Rattle.lot_simulation.specs.World.{Program, Answer}
 use Rattle.lot_playback.specs.declared.alarms.Alarms.{Alarms}
 use Rattle.lot_playback.specs.declared.timekeeper.Timekeeper.{Timekeeper}
@@ -113,11 +113,32 @@ pub record HaveFollowed (time : ℕ) (change : WaitChange) (old new : List Waits
 abbrev pub AreFew : List Waits → Type 0
 AreFew waits = (place : ℕ) (d : Waits) → place < length waits → ((slice_index_or waits place d).count < 2 ^ 31) × ((slice_index_or waits place d).total < 2 ^ 63)
 
--- the waits and refusals are those of these turns; they and the idle times are within the range of n turns
+-- a thread's count of refused traps in these turns, which is within the range of n turns
+pub record IsRefusedTraps (done : List TimedTurn) (n t count : ℕ) : Type 0 where
+  pub exact : count ≡ refused_traps_in done t
+  pub few : count ≤ n
+
+-- each thread's count of refused traps in these turns, starting with thread 1
+abbrev pub AreRefusedTraps : List TimedTurn → ℕ → List ℕ → Type 0
+AreRefusedTraps done n counts = (place : ℕ) → place < length counts → IsRefusedTraps done n (place + 1) (slice_index counts place)
+
+-- each thread's count of refused traps after this answer
+pub record HaveCounted (answer : Answer) (old new : List ℕ) : Type 0 where
+  pub count : length new ≡ length old
+  pub each : (place : ℕ) → place < length old → slice_index new place ≡ refusals_after (place + 1) (slice_index old place) answer
+
+-- each thread's count is unchanged, except that of this one, which is changed so
+pub record HaveChanged (change : ℕ → ℕ) (thread : ℕ) (old new : List ℕ) : Type 0 where
+  pub count : length new ≡ length old
+  pub each : (place : ℕ) → place < length old → slice_index new place ≡ (if thread == place + 1 then change (slice_index old place) else slice_index old place)
+
+-- the waits, refused traps and refusals are those of these turns; they and the idle times are within the range of n
+-- turns
 pub record HasFollowed (done : List TimedTurn) (n : ℕ) (timekeeper : Timekeeper) : Type 0 where
   pub idled : HaveIdled n timekeeper.clocks.processors.items
   pub mutexes : AreWaits mutex_change done n timekeeper.mutexes.threads.items
   pub replies : AreWaits reply_change done n timekeeper.replies.threads.items
+  pub refused_traps : AreRefusedTraps done n timekeeper.refused_traps.threads.items
   pub refused : timekeeper.refused ≡ total_of refusals_in (actor_turns done)
   pub few : timekeeper.refused ≤ n
 
@@ -126,6 +147,7 @@ pub record HasRoomFor (program : Program) (timekeeper : Timekeeper) : Type 0 whe
   pub clocks : length timekeeper.clocks.processors.items ≡ program.limits.processors
   pub mutexes : length timekeeper.mutexes.threads.items ≡ program.limits.threads
   pub replies : length timekeeper.replies.threads.items ≡ program.limits.threads
+  pub refused_traps : length timekeeper.refused_traps.threads.items ≡ program.limits.threads
   pub alarms : length timekeeper.alarms.threads.items ≡ program.limits.threads
 
 -- ---- turns that a system has made

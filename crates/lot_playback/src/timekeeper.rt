@@ -13,6 +13,7 @@ ghost use Rattle.lot_text.specs.Programs.{IsProgram};
 
 use crate::alarms::Alarms;
 use crate::clocks::Clocks;
+use crate::refused_traps::RefusedTraps;
 use crate::waits::{WaitTable, mutex_change, reply_change};
 use lot_engine::System;
 use lot_machine::{Event, Reply};
@@ -34,7 +35,9 @@ pub struct Timekeeper {
     pub mutexes: WaitTable,
     /// Each thread's waits for replies.
     pub replies: WaitTable,
-    /// The number of refused commands.
+    /// Each thread's refused traps.
+    pub refused_traps: RefusedTraps,
+    /// The number of refused commands and wakes.
     pub refused: u64,
 }
 
@@ -58,6 +61,7 @@ impl Timekeeper {
             alarms: Alarms::open(alloc, limits.threads)?,
             mutexes: WaitTable::open(alloc, limits.threads)?,
             replies: WaitTable::open(alloc, limits.threads)?,
+            refused_traps: RefusedTraps::open(alloc, limits.threads)?,
             refused: 0,
         })
     }
@@ -107,11 +111,12 @@ impl Timekeeper {
         self.alarms.follow(time, actor, processors, sleeper);
         self.mutexes.follow(time, mutex_change(event, reply));
         self.replies.follow(time, reply_change(reply));
+        self.refused_traps.follow(reply);
         self.refused += refusals_in(reply);
     }
 }
 
-/// 1 if the kernel refused a command, and 0 otherwise.
+/// 1 if the kernel refused a command or a wake, and 0 otherwise.
 fn refusals_in(reply: Reply) -> u64
     ensures refusals { result ≡ reports.refusals_in reply }
     ensures few { result ≤ 1 }

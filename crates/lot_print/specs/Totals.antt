@@ -4,7 +4,7 @@ use Rattle.std.specs.Fmt.{decimal}
 use Rattle.lot_machine.specs.declared.row.ThreadRow.{ThreadRow}
 use Rattle.lot_simulation.specs.declared.timed.Waits.{Waits}
 use Rattle.lot_simulation.specs.Texts.{newline}
-use Rattle.lot_simulation.specs.TimedReport.{percent_text, waits_text}
+use Rattle.lot_simulation.specs.TimedReport.{percent_text, refused_traps_text, waits_text}
 
 -- a processor's line: its won draws, its idle draws, and the ticks used there
 abbrev pub processor_line : ℕ → ℕ → ℕ → ℕ → List ℕ
@@ -18,13 +18,14 @@ total_line turns quanta ticks =
 
 -- ---- timed reports
 
--- a thread's line: its row, the ticks of all threads, its live value and that of all, and its waits
-abbrev pub timed_thread_line : ℕ → ThreadRow → ℕ → ℕ → ℕ → Waits → Waits → List ℕ
-timed_thread_line n row all live values mutexes replies =
+-- a thread's line: its row, the ticks of all threads, its live value and that of all, its waits, and its refused traps
+abbrev pub timed_thread_line : ℕ → ThreadRow → ℕ → ℕ → ℕ → Waits → Waits → ℕ → List ℕ
+timed_thread_line n row all live values mutexes replies refused =
     codes "thread " ++ (decimal n ++ (codes " " ++ (row.name ++ (codes " quanta " ++ (decimal row.quanta
     ++ (codes " ticks " ++ (decimal row.ticks ++ (codes " share " ++ (percent_text row.ticks all
     ++ (codes " value " ++ (percent_text live values
-    ++ (waits_text (codes " mutex") mutexes ++ (waits_text (codes " reply") replies ++ newline)))))))))))))
+    ++ (waits_text (codes " mutex") mutexes ++ (waits_text (codes " reply") replies
+    ++ (refused_traps_text refused ++ newline))))))))))))))
 
 -- a processor's line: its won draws, its idle draws, the ticks used there, and the ticks in which it was idle
 abbrev pub timed_processor_line : ℕ → ℕ → ℕ → ℕ → ℕ → List ℕ

@@ -126,8 +126,11 @@ const WAITS: usize = b" mutex".len()
 /// A share in percent.
 const PERCENT: usize = b" share ".len() + QUOTIENT + 1;
 
+/// The number of a thread's refused traps.
+const REFUSED_TRAPS: usize = b" refused ".len() + NUMBER;
+
 /// A thread's line in a timed report.
-const TIMED_THREAD: usize = NAMED + COUNTS + PERCENT + PERCENT + WAITS + WAITS + 1;
+const TIMED_THREAD: usize = NAMED + COUNTS + PERCENT + PERCENT + WAITS + WAITS + REFUSED_TRAPS + 1;
 
 /// The longest line of a timed report.
 pub(crate) const TIMED_ROW: usize = 512;

@@ -1,7 +1,7 @@
 //! The text of a timed report.
 ghost use Rattle.std.specs.Prelude.{◌≡◌, ◌<◌, ◌≤◌, ◌+◌, ◌^◌, ◌++◌, false, length};
 ghost use Rattle.lot_simulation.specs.TimedReport as reports;
-ghost use Rattle.lot_simulation.specs.TimedReport.{percent_text, waits_text};
+ghost use Rattle.lot_simulation.specs.TimedReport.{percent_text, refused_traps_text, waits_text};
 ghost use Rattle.lot_print.specs.Totals.{timed_processor_line, timed_thread_line, timed_total_line};
 ghost use Rattle.lot_io.specs.Writing.{Writes};
 
@@ -28,6 +28,8 @@ pub struct ThreadShares {
     /// Its waits for mutexes, followed by those for replies.
     pub mutexes: Waits,
     pub replies: Waits,
+    /// How many of its traps were refused.
+    pub refused_traps: u32,
 }
 
 /// The numbers that a timed report gives for a processor: its won draws, its idle draws, the ticks used there, and
@@ -63,7 +65,7 @@ pub fn write_timed_thread_total<W: Write>(
     requires values { shares.all_values < 2 ^ 96 }
     ensures { Writes W.contents writer.old writer.new result
         (timed_thread_line number row.now shares.all_ticks shares.live_value shares.all_values shares.mutexes
-        shares.replies) }
+        shares.replies shares.refused_traps) }
 {
     thread_line(number, row, shares).write_to(writer)
 }
@@ -73,7 +75,7 @@ fn thread_line(number: u32, row: &ThreadRow, shares: ThreadShares) -> TimedLine
     requires { shares.all_values < 2 ^ 96 }
     ensures { result
         ≡ timed_thread_line number row.now shares.all_ticks shares.live_value shares.all_values shares.mutexes
-        shares.replies }
+        shares.replies shares.refused_traps }
 {
     let mut line = TimedLine::new();
     push_named(&mut line, "thread ", number, &row.name);
@@ -87,6 +89,7 @@ fn thread_line(number: u32, row: &ThreadRow, shares: ThreadShares) -> TimedLine
     push_percent(&mut line, " value ", shares.live_value, shares.all_values);
     push_waits(&mut line, " mutex", shares.mutexes);
     push_waits(&mut line, " reply", shares.replies);
+    push_refused_traps(&mut line, shares.refused_traps);
     line.push_text("\n");
     line
 }
@@ -120,6 +123,18 @@ fn push_waits(line: &mut TimedLine, what: &str, waits: Waits)
     line.push_field(" waits ", waits.count);
     line.push_quotient(" mean ", u128::from(waits.total), u128::from(waits.count));
     line.push_field(" longest ", waits.longest);
+}
+
+/// Appends the number of a thread's refused traps, if there are any.
+fn push_refused_traps(line: &mut TimedLine, refused: u32)
+    requires { length line.old ≤ 400 }
+    ensures text { line.new ≡ line.old ++ refused_traps_text refused }
+    ensures len { length line.new ≤ length line.old + 19 }
+{
+    if refused == 0 {
+        return;
+    }
+    line.push_field(" refused ", refused);
 }
 
 /// Writes a processor's line of a timed report.

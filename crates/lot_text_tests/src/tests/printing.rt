@@ -927,6 +927,7 @@ fn prints_timed_totals(rt: HostRuntime) {
             since: None,
         },
         replies: NO_WAITS,
+        refused_traps: 0,
     };
     let wanted =
         "thread 1 thread2 quanta 4 ticks 2 share 66.666% value 12.5% mutex waits 5 mean 2.4 longest 4\n";
@@ -937,9 +938,10 @@ fn prints_timed_totals(rt: HostRuntime) {
         all_values: 0,
         mutexes: NO_WAITS,
         replies: LONG,
+        refused_traps: 12,
     };
     let wanted = "thread 1 thread2 quanta 4 ticks 2 share 0% value 0% \
-        reply waits 4294967295 mean 4294967297 longest 4294967295\n";
+        reply waits 4294967295 mean 4294967297 longest 4294967295 refused 12\n";
     check_shares(&rt, rt.alloc(), shares, wanted);
 }
 

@@ -14,6 +14,7 @@ returns-clause-followed c = record {
   idled = subst (HaveIdled 0) (sym (c.in_ok-open.ensures.clocks)) (none-idled c.limits-limits.result.processors);
   mutexes = c.in_ok-open-3.ensures.none mutex_change;
   replies = c.in_ok-open-4.ensures.none reply_change;
+  refused_traps = c.in_ok-open-5.ensures.none;
   refused = refl;
   few = omega arith;
 }
@@ -29,6 +30,9 @@ open-requires-3 c = tt
 
 pub open-requires-4 : goal.open-requires-4
 open-requires-4 c = tt
+
+pub open-requires-5 : goal.open-requires-5
+open-requires-5 c = tt
 
 pub returns-in_err-open : goal.returns-in_err-open
 returns-in_err-open c =
@@ -79,6 +83,19 @@ returns-in_err-open-4 c =
       sleeping = if-ok-none c.from_residual-in_err-open-4.result _ failed;
       room = if-ok-none c.from_residual-in_err-open-4.result _ failed;
       followed = if-ok-none c.from_residual-in_err-open-4.result _ failed;
+      legal = c.limits-limits.ensures.legal;
+    }
+
+pub returns-in_err-open-5 : goal.returns-in_err-open-5
+returns-in_err-open-5 c =
+    let failed = c.from_residual-in_err-open-5.ensures.0 in
+    record {
+      time = if-ok-none c.from_residual-in_err-open-5.result _ failed;
+      clocks = if-ok-none c.from_residual-in_err-open-5.result _ failed;
+      alarms = if-ok-none c.from_residual-in_err-open-5.result _ failed;
+      sleeping = if-ok-none c.from_residual-in_err-open-5.result _ failed;
+      room = if-ok-none c.from_residual-in_err-open-5.result _ failed;
+      followed = if-ok-none c.from_residual-in_err-open-5.result _ failed;
       legal = c.limits-limits.ensures.legal;
     }
 
