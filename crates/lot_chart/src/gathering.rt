@@ -13,18 +13,19 @@ use itoa::Buffer;
 use lot_curves::{Curves, Stretch};
 use lot_engine::System;
 use lot_machine::Name;
-use lot_play::play_through;
+use lot_play::{Warnings, note_last, play_through};
 use lot_playback::{Observer, Playback, Turn};
 use lot_text::Program;
 use std::alloc::{AllocError, Global};
 
-/// Records the stretch of each turn.
+/// Records the stretch of each turn, and its warning.
 #[derive(Drop)]
-struct Stretches {
+struct Stretches<'a> {
     stretches: Vec<Stretch>,
+    warnings: &'a mut Warnings,
 }
 
-impl Observer for Stretches {
+impl<'a> Observer for Stretches<'a> {
     type Fault = AllocError;
 
     ghost observed = { λ program turns first now. (now.stretches.items ≡ stretches_in [] turns)
@@ -48,6 +49,7 @@ impl Observer for Stretches {
         if turn.has_ended {
             return Ok(());
         }
+        self.warnings.note(turn.actor, &turn.reply);
         let stretch = Stretch::new(end_of(system, turn), turn.reply);
         self.stretches.push(stretch)?;
         Ok(())
@@ -67,22 +69,28 @@ fn end_of(system: &System, turn: &Turn) -> u64
 }
 
 /// Makes the turns of the program in a system of its own, timed ones if it has a duration and those of its schedule
-/// otherwise, and gathers their stretches.
-pub fn gather(alloc: Global, program: &Program) -> Result<Curves, AllocError>
+/// otherwise, and gathers their stretches. It stores the run's warnings in `warnings`.
+pub fn gather(
+    alloc: Global,
+    program: &Program,
+    warnings: &mut Warnings,
+) -> Result<Curves, AllocError>
     ensures { IfOk result (λ curves. curves ≡ curves_of program.now) }
 {
     let mut playback = Playback::open(alloc, program)?;
-    let stretches = note_turns(alloc, program, &mut playback)?;
-    let (mut system, _) = playback.into_parts();
+    let stretches = note_turns(alloc, program, &mut playback, warnings)?;
+    let (mut system, order) = playback.into_parts();
+    note_last(program, &mut system, &order, warnings);
     let names = names_of(alloc, &mut system)?;
     Ok(Curves::new(names, stretches))
 }
 
-/// Makes the program's turns, and records the stretch of each.
+/// Makes the program's turns, and records the stretch of each, and its warning.
 fn note_turns(
     alloc: Global,
     program: &Program,
     playback: &mut Playback,
+    warnings: &mut Warnings,
 ) -> Result<Vec<Stretch>, AllocError>
     requires none { playback.old.made ≡ 0 }
     requires made { HasMade program.now [] playback.old.seen }
@@ -93,9 +101,12 @@ fn note_turns(
 {
     let schedule = program.schedule();
     let room = Vec::with_capacity(alloc, schedule.len())?;
-    let mut noted = Stretches { stretches: room };
+    let mut noted = Stretches {
+        stretches: room,
+        warnings,
+    };
     play_through(program, playback, &mut noted)?;
-    let Stretches { stretches } = noted;
+    let Stretches { stretches, .. } = noted;
     Ok(stretches)
 }
 

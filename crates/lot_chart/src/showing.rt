@@ -12,17 +12,18 @@ ghost use Rattle.lot_chart.specs.Tables as tables;
 use crate::{chart_of, gather, table};
 use lot_curves::Measure;
 use lot_io::{IoFault, Watched, flush, write_bytes};
-use lot_play::{Played, refuse};
+use lot_play::{Played, Warnings, refuse};
 use lot_text::{ParseFault, Program, parse};
 use std::alloc::{AllocError, Global};
 use std::io::Write;
 
 /// Makes the turns of the input in `bytes`, and writes a table of each thread's ticks or draws over time; or one
-/// line, if the input is refused. If out of memory, it writes nothing.
+/// line, if the input is refused. It stores the run's warnings in `warnings`. If out of memory, it writes nothing.
 pub fn shares_bytes<W: Write>(
     alloc: Global,
     measure: Measure,
     bytes: &[u8],
+    warnings: &mut Warnings,
     writer: &mut Watched<W>,
 ) -> Result<Played, IoFault>
     requires { writer.old.failed ≡ false }
@@ -31,18 +32,19 @@ pub fn shares_bytes<W: Write>(
         (shares_output measure bytes.now) }
 {
     match parse(alloc, bytes) {
-        Ok(program) => shares_program(alloc, measure, &program, writer),
+        Ok(program) => shares_program(alloc, measure, &program, warnings, writer),
         Err(ParseFault::Memory) => Err(IoFault::Memory),
         Err(ParseFault::Input(fault)) => refuse(fault, writer),
     }
 }
 
 /// Makes the turns of the input in `bytes`, and writes a picture with this title of each thread's ticks over time; or
-/// one line, if the input is refused. If out of memory, it writes nothing.
+/// one line, if the input is refused. It stores the run's warnings in `warnings`. If out of memory, it writes nothing.
 pub fn chart_bytes<W: Write>(
     alloc: Global,
     title: &str,
     bytes: &[u8],
+    warnings: &mut Warnings,
     writer: &mut Watched<W>,
 ) -> Result<Played, IoFault>
     requires { writer.old.failed ≡ false }
@@ -51,18 +53,19 @@ pub fn chart_bytes<W: Write>(
         (chart_output title.now bytes.now) }
 {
     match parse(alloc, bytes) {
-        Ok(program) => chart_program(alloc, title, &program, writer),
+        Ok(program) => chart_program(alloc, title, &program, warnings, writer),
         Err(ParseFault::Memory) => Err(IoFault::Memory),
         Err(ParseFault::Input(fault)) => refuse(fault, writer),
     }
 }
 
-/// Makes the program's turns, and writes a table of each thread's ticks or draws over time. If out of memory, it writes
-/// nothing.
+/// Makes the program's turns, and writes a table of each thread's ticks or draws over time. It stores the run's
+/// warnings in `warnings`. If out of memory, it writes nothing.
 pub fn shares_program<W: Write>(
     alloc: Global,
     measure: Measure,
     program: &Program,
+    warnings: &mut Warnings,
     writer: &mut Watched<W>,
 ) -> Result<Played, IoFault>
     requires { writer.old.failed ≡ false }
@@ -70,18 +73,19 @@ pub fn shares_program<W: Write>(
     ensures shown { Plays W.contents writer.old writer.new result Done
         (tables.table measure (curves_of program.now)) }
 {
-    match gather(alloc, program) {
+    match gather(alloc, program, warnings) {
         Ok(curves) => write_text(table(alloc, &curves, measure), writer),
         Err(_) => Err(IoFault::Memory),
     }
 }
 
-/// Makes the program's turns, and writes a picture with this title of each thread's ticks over time. If out of memory,
-/// it writes nothing.
+/// Makes the program's turns, and writes a picture with this title of each thread's ticks over time. It stores the
+/// run's warnings in `warnings`. If out of memory, it writes nothing.
 pub fn chart_program<W: Write>(
     alloc: Global,
     title: &str,
     program: &Program,
+    warnings: &mut Warnings,
     writer: &mut Watched<W>,
 ) -> Result<Played, IoFault>
     requires { writer.old.failed ≡ false }
@@ -89,7 +93,7 @@ pub fn chart_program<W: Write>(
     ensures shown { Plays W.contents writer.old writer.new result Done
         (charts.chart title.now (curves_of program.now)) }
 {
-    match gather(alloc, program) {
+    match gather(alloc, program, warnings) {
         Ok(curves) => write_text(chart_of(alloc, &curves, title), writer),
         Err(_) => Err(IoFault::Memory),
     }

@@ -102,7 +102,7 @@ fn show_program<W: Write>(
     match view {
         View::Play => play_program(alloc, program, warnings, writer),
         View::Explain => explain_program(alloc, program, warnings, writer),
-        View::Shares(measure) => shares_program(alloc, measure, program, writer),
-        View::Chart => chart_program(alloc, title, program, writer),
+        View::Shares(measure) => shares_program(alloc, measure, program, warnings, writer),
+        View::Chart => chart_program(alloc, title, program, warnings, writer),
     }
 }

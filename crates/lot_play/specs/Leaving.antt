@@ -1,7 +1,14 @@
 -- The warnings of a run.
-use Rattle.std.specs.Prelude.{ℕ, ◌==◌, if◌then◌else◌}
+use Rattle.std.specs.Prelude.{ℕ, ◌==◌, Option, None, length, if◌then◌else◌}
 use Rattle.lot_machine.specs.declared.reply.Reply.{Reply}
 use Rattle.lot_machine.specs.declared.reply.Reply.TheVariants as replies
+use Rattle.lot_simulation.specs.declared.timed.EarlyEnd.{EarlyEnd}
+use Rattle.lot_simulation.specs.TimedReport.{early_end}
+use Rattle.lot_simulation.specs.World.{Program}
+use Rattle.lot_engine.specs.Seen.{Seen}
+use Rattle.lot_playback.specs.declared.playback.Order.{Order}
+use Rattle.lot_playback.specs.declared.playback.Order.TheVariants.{Scheduled, InTime}
+use Rattle.lot_playback.specs.InTime.{moment_in}
 use Rattle.lot_play.specs.declared.warnings.Warnings.{Warnings}
 use Rattle.lot_play.specs.Kept.{kept_with, one_more}
 
@@ -13,3 +20,8 @@ command_noted warnings other = record warnings { made = one_more warnings.made }
 -- the warnings after the actor's turn, which got this reply: a processor's turn adds none
 abbrev pub noted : Warnings → ℕ → Reply → Warnings
 noted warnings actor reply = if actor == 0 then command_noted warnings reply else warnings
+
+-- how a play that has come to this position ended before its time: with a schedule it didn't
+abbrev pub early_in : Program → Seen → Order → Option EarlyEnd
+early_in program seen (Scheduled place) = None
+early_in program seen (InTime timekeeper) = early_end program (moment_in seen timekeeper) (length seen.history)

@@ -21,5 +21,5 @@ pub use inputs::{Played, play, play_bytes, refuse};
 pub use lines::play_program;
 pub use playing::play_through;
 pub use report::write_report;
-pub use reports::end_play;
+pub use reports::{end_play, note_last};
 pub use warnings::{RefusedCommand, StuckThread, Warnings};

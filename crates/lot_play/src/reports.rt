@@ -1,8 +1,10 @@
 //! The end of a play's output: the report after all turns, with a schedule or timed.
 ghost use Rattle.std.specs.Prelude.{◌≡◌, [], false, true, OnOk, length};
+ghost use Rattle.lot_engine.specs.Seen.{world_of};
 ghost use Rattle.lot_io.specs.Writing.{Writes};
 ghost use Rattle.lot_playback.specs.Orders.{IsAtPlace, IsAtTime, IsInOrder, made_in};
 ghost use Rattle.lot_playback.specs.Stages.{turns_left};
+ghost use Rattle.lot_play.specs.Leaving.{early_in};
 ghost use Rattle.lot_play.specs.Texts.{last_report};
 
 use crate::Warnings;
@@ -32,15 +34,29 @@ pub fn end_play<W: Write>(
     let (mut system, order) = playback.into_parts();
     write_last_report(program, &mut system, &order, writer)?;
     flush(writer)?;
-    warnings.note_end(&mut system);
-    warnings.early = early_end_of(program, &system, &order);
+    note_last(program, &mut system, &order, warnings);
     Ok(())
+}
+
+/// Records the end of a play in its warnings: the state of its system, and, if it is timed and ended before its time,
+/// how. It allocates no memory.
+pub fn note_last(program: &Program, system: &mut System, order: &Order, warnings: &mut Warnings)
+    requires program { system.old.setting.program ≡ program.now }
+    requires order { IsInOrder system.old order.now }
+    ensures same { system.new ≡ system.old }
+    ensures kept { (warnings.new.made ≡ warnings.old.made) × (warnings.new.refused ≡ warnings.old.refused) }
+    ensures unmade { warnings.new.unmade ≡ length (world_of system.old).commands }
+    ensures early { warnings.new.early ≡ early_in program.now system.old order.now }
+{
+    warnings.note_end(system);
+    warnings.early = early_end_of(program, system, order);
 }
 
 /// How the play ended before its time, if it is timed and did.
 fn early_end_of(program: &Program, system: &System, order: &Order) -> Option<EarlyEnd>
     requires program { system.now.setting.program ≡ program.now }
     requires order { IsInOrder system.now order.now }
+    ensures { result ≡ early_in program.now system.now order.now }
 {
     match order {
         Order::Scheduled(_) => None,

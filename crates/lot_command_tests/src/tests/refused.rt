@@ -249,9 +249,7 @@ fn tells_or_lacks_memory(rt: HostRuntime) {
     let (input, expected) = OF_FIRST;
     let ended = ended_on(&rt, rt.alloc(), &["lot_sim", "play"], input);
     let told = str::from_utf8(ended.errors.as_slice()).unwrap_or("?");
-    let is_right = match ended.code {
-        1 => are_first(told, expected),
-        code => code == 3 && told.is_empty(),
-    };
-    assert!(rt; is_right, "{told}");
+    let is_refused = ended.code == 1 && are_first(told, expected);
+    let is_failed = ended.code == 3 && told.is_empty();
+    assert!(rt; is_refused || is_failed, "{told}");
 }

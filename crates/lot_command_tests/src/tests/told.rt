@@ -328,7 +328,7 @@ impl Write for LastWrites {
 }
 
 /// Plays the input, and returns the exit status, whether the output ends with this text, and the diagnostics.
-fn ended_with<H: Threads + Wait + Sync>(
+fn played_to_the_end<H: Threads + Wait + Sync>(
     rt: &H,
     alloc: Global,
     input: &str,
@@ -365,7 +365,78 @@ ended at 7999999 of 9000000: 16000000 turns made
 ";
     let words =
         "the run was cut at tick 7999999 of 9000000: it made 16000000 turns, and a run makes no more\n";
-    let (code, is_reported, errors) = ended_with(&rt, rt.alloc(), input, report);
+    let (code, is_reported, errors) = played_to_the_end(&rt, rt.alloc(), input, report);
     let told = str::from_utf8(errors.as_slice()).unwrap_or("");
     check_same(&rt, &(code, is_reported, told), &(0, true, words));
+}
+
+/// A refused command, one that was never made, and a thread that weighs nothing.
+const REFUSED_UNMADE_WEIGHTLESS: &str = "lottery 1
+quantum 2
+script s
+compute 9
+endscript
+fundx 1 base a s
+rmtkt 7
+mkthr b s
+mkcur c
+schedule 0 0 0 1 1
+";
+
+/// The owner of the mutex has ended, so thread `b` waits for good.
+const WAITING: &str = "lottery 3
+quantum 10
+for 40
+mutex m
+script one
+lock m
+endscript
+fundx 5 base a one
+fundx 5 base b one
+";
+
+/// Shows the input with each subcommand that does, and checks that it tells what `play` does.
+fn check_told_alike<H: Abort + Threads + Wait + Sync>(rt: &H, alloc: Global, input: &str) {
+    let played = ended_on(rt, alloc, &["lot_sim", "play"], input);
+    check_same_at(rt, &input, &played.errors.is_empty(), &false);
+    for word in ["explain", "shares", "chart"] {
+        let shown = ended_on(rt, alloc, &["lot_sim", word], input);
+        let is_same = shown.errors.as_slice() == played.errors.as_slice();
+        check_same_at(rt, &word, &(shown.code, is_same), &(0, true));
+    }
+}
+
+#[test]
+fn told_alike(rt: HostRuntime) {
+    check_told_alike(&rt, rt.alloc(), REFUSED_UNMADE_WEIGHTLESS);
+    check_told_alike(&rt, rt.alloc(), WAITING);
+}
+
+/// Shows the input, and returns the exit status, whether the output ends with this, and whether the diagnostics begin
+/// with this.
+fn ended_with<H: Threads + Wait + Sync>(
+    rt: &H,
+    alloc: Global,
+    word: &str,
+    input: &str,
+    (output, errors): (&str, &str),
+) -> (u8, bool, bool) {
+    let ended = ended_on(rt, alloc, &["lot_sim", word], input);
+    let is_shown = ended.output.as_slice().ends_with(output.as_bytes());
+    let is_told = ended.errors.as_slice().starts_with(errors.as_bytes());
+    (ended.code, is_shown, is_told)
+}
+
+// A refused command has no part in tables and pictures, and its line is told.
+#[test]
+fn refused_commands_of_tables(rt: HostRuntime) {
+    let told = "line 7: the command was refused: ";
+    for (word, shown) in [
+        ("shares", "tick,a,b\n0,0,0\n1,1,0\n2,2,0\n"),
+        ("chart", "</svg>\n"),
+    ] {
+        let input = REFUSED_UNMADE_WEIGHTLESS;
+        let ended = ended_with(&rt, rt.alloc(), word, input, (shown, told));
+        check_same_at(&rt, &word, &ended, &(0, true, true));
+    }
 }

@@ -85,8 +85,8 @@ fn show<W: Write>(
     let bytes = input.as_bytes();
     match shown {
         Shown::Explained => explain_bytes(alloc, bytes, &mut warnings, writer),
-        Shown::Table(measure) => shares_bytes(alloc, measure, bytes, writer),
-        Shown::Picture(title) => chart_bytes(alloc, title, bytes, writer),
+        Shown::Table(measure) => shares_bytes(alloc, measure, bytes, &mut warnings, writer),
+        Shown::Picture(title) => chart_bytes(alloc, title, bytes, &mut warnings, writer),
     }
 }
 
