@@ -1,5 +1,5 @@
 //! The text of a timed report.
-ghost use Rattle.std.specs.Prelude.{◌≡◌, ◌<◌, ◌≤◌, ◌+◌, ◌^◌, ◌++◌, false, length};
+ghost use Rattle.std.specs.Prelude.{◌≡◌, ◌<◌, ◌≤◌, ◌+◌, ◌^◌, ◌++◌, codes, false, length};
 ghost use Rattle.lot_simulation.specs.TimedReport as reports;
 ghost use Rattle.lot_simulation.specs.TimedReport.{percent_text, refused_traps_text, waits_text};
 ghost use Rattle.lot_print.specs.Totals.{timed_processor_line, timed_thread_line, timed_total_line};
@@ -87,11 +87,21 @@ fn thread_line(number: u32, row: &ThreadRow, shares: ThreadShares) -> TimedLine
         u128::from(shares.all_ticks),
     );
     push_percent(&mut line, " value ", shares.live_value, shares.all_values);
-    push_waits(&mut line, " mutex", shares.mutexes);
-    push_waits(&mut line, " reply", shares.replies);
-    push_refused_traps(&mut line, shares.refused_traps);
+    push_waits_and_traps(&mut line, shares);
     line.push_text("\n");
     line
+}
+
+/// Appends the thread's waits for mutexes and for replies, and its refused traps.
+fn push_waits_and_traps(line: &mut TimedLine, shares: ThreadShares)
+    requires { length line.old ≤ 200 }
+    ensures text { line.new ≡ line.old ++ (waits_text (codes " mutex") shares.mutexes
+        ++ (waits_text (codes " reply") shares.replies ++ refused_traps_text shares.refused_traps)) }
+    ensures len { length line.new ≤ length line.old + 201 }
+{
+    push_waits(line, " mutex", shares.mutexes);
+    push_waits(line, " reply", shares.replies);
+    push_refused_traps(line, shares.refused_traps);
 }
 
 /// Appends the text and then a part of a whole in percent; 0 if the whole is 0.

@@ -1,7 +1,7 @@
 //! Stations whose seats take turns one after another and in threads, and workers at gates; the texts of faults, and
 //! runs in which an allocation fails.
 
-ghost use Rattle.std.specs.Prelude.{◌≡◌, false, IfSome};
+ghost use Rattle.std.specs.Prelude.{◌≡◌, false};
 
 mod baton;
 mod full;
@@ -12,6 +12,7 @@ mod refusing;
 mod replaying;
 mod runs;
 mod same;
+mod scene;
 mod seats;
 mod session;
 mod slicing;
@@ -24,6 +25,7 @@ use lot_play::write_end;
 use lot_text::{Program, Watched, parse};
 use seats::Shares;
 use std::alloc::Global;
+use std::process::Abort;
 
 /// Two processors with two turns each, and one thread.
 const TWO_PROCESSORS: &str = "lottery 1
@@ -76,22 +78,20 @@ schedule 0 1 2 1 2
 const ENDED: [Shares; 3] = [(1, 0, 0), (2, 1, 100), (2, 1, 0)];
 
 /// The program of an input.
-fn program_of(alloc: Global, input: &str) -> Option<Program> {
-    parse(alloc, input.as_bytes()).ok()
+fn parsed(rt: &impl Abort, alloc: Global, input: &str) -> Program {
+    parse(alloc, input.as_bytes()).expect(rt, "a program")
 }
 
-/// The program of an input, and a system of it with room for this many turns.
-fn opened(alloc: Global, input: &str, room: u32) -> Option<(Program, System)>
-    ensures { IfSome result (λ r. r.1.setting.timer ≡ false) }
+/// A system of the program with room for this many turns.
+fn opened(rt: &impl Abort, alloc: Global, program: &Program, room: u32) -> System
+    ensures { result.setting.timer ≡ false }
 {
-    let program = program_of(alloc, input)?;
-    let system = System::open(alloc, &program, room).ok()?;
-    Some((program, system))
+    System::open(alloc, program, room).expect(rt, "memory for a system")
 }
 
 /// The report and the history.
-fn end_of(alloc: Global, mut system: System) -> Option<Vec<u8>> {
+fn end_of(rt: &impl Abort, alloc: Global, mut system: System) -> Vec<u8> {
     let mut writer = Watched::new(Vec::new(alloc));
-    write_end(&mut system, &mut writer).ok()?;
-    Some(writer.into_inner())
+    write_end(&mut system, &mut writer).expect(rt, "memory for the end");
+    writer.into_inner()
 }

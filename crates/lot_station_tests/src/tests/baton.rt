@@ -5,13 +5,15 @@ ghost use Rattle.lot_station.specs.BatonSeats.{IsSameSeat, IsSeatOf};
 use crate::tests::same::check_same;
 use crate::tests::seats::{baton_shares_of, make_turn};
 use crate::tests::{
-    END, ENDED, EXPIRED, FIRST_DRAW, FUNDED, IDLE, SECOND_DRAW, TWO_PROCESSORS, end_of, program_of,
+    END, ENDED, EXPIRED, FIRST_DRAW, FUNDED, IDLE, SECOND_DRAW, TWO_PROCESSORS, end_of, opened,
+    parsed,
 };
 use lot_engine::{System, TurnFault};
 use lot_machine::Reply;
 use lot_station::{BatonSeat, BatonStation, SeatMissing};
 use lot_text::Program;
 use std::alloc::Global;
+use std::process::Abort;
 use std::sync::Wait;
 use std::test::*;
 
@@ -49,18 +51,17 @@ fn three(
 }
 
 /// A station of the program with room for ten turns, and its three seats.
-fn opened(
+fn dealt(
+    rt: &impl Abort,
     alloc: Global,
     program: &Program,
-) -> Option<(BatonStation, BatonSeat, BatonSeat, BatonSeat)>
-    ensures { IfSome result (λ r. IsSeatOf r.0 r.1 × IsSeatOf r.0 r.2 × IsSeatOf r.0 r.3) }
+) -> (BatonStation, BatonSeat, BatonSeat, BatonSeat)
+    ensures { IsSeatOf result.0 result.1 × IsSeatOf result.0 result.2 × IsSeatOf result.0 result.3 }
 {
-    let system = System::open(alloc, program, 10).ok()?;
-    let Ok((station, seats)) = BatonStation::open(alloc, system) else {
-        return None;
-    };
-    let (zero, one, two) = three(&station, seats)?;
-    Some((station, zero, one, two))
+    let system = opened(rt, alloc, program, 10);
+    let (station, seats) = BatonStation::open(alloc, system).expect(rt, "memory");
+    let (zero, one, two) = three(&station, seats).expect(rt, "three seats");
+    (station, zero, one, two)
 }
 
 /// The draw of the second processor, if it comes before the first's.
@@ -90,27 +91,20 @@ fn met<R: Wait>(
     [first, second, reply_of(rt, station, program, one)]
 }
 
-/// The error of closing a station with two seats, or `None` if it was closed.
-fn closed_without_one<R: Wait>(
-    rt: &R,
-    alloc: Global,
-    station: BatonStation,
-    zero: BatonSeat,
-    two: BatonSeat,
-) -> Option<SeatMissing>
-    requires { IsSeatOf station zero × IsSeatOf station two }
-    ensures station { IfSome result (λ back. back.station ≡ station) }
-    ensures seats { IfSome result (λ back. All (IsSeatOf back.station) back.seats.items) }
+/// The error of closing a station with these seats.
+fn unclosed<R: Wait + Abort>(rt: &R, station: BatonStation, seats: Vec<BatonSeat>) -> SeatMissing
+    requires { All (IsSeatOf station) seats.items }
+    ensures seats { All (IsSeatOf result.station) result.seats.items }
+    ensures station { result.station ≡ station }
 {
-    let seats = vec![in alloc; zero, two].ok()?;
     match station.close(rt, seats) {
-        Ok(_) => None,
-        Err(back) => Some(back),
+        Ok(_) => rt.panic("the station is closed"),
+        Err(back) => back,
     }
 }
 
-/// The error of closing a station with the seats that it returned, and then this one, or `None` if it was closed.
-fn closed_out_of_order<R: Wait>(
+/// The error of closing a station with the seats that it handed back, and then this one, or `None` if out of memory.
+fn unclosed_with<R: Wait + Abort>(
     rt: &R,
     mut back: SeatMissing,
     one: BatonSeat,
@@ -119,66 +113,57 @@ fn closed_out_of_order<R: Wait>(
     ensures { IfSome result (λ again. All (IsSeatOf again.station) again.seats.items) }
 {
     back.seats.push(one).ok()?;
-    unclosed(rt, back.station, back.seats)
+    Some(unclosed(rt, back.station, back.seats))
 }
 
-/// The error of closing a station with these seats, or `None` if it was closed.
-fn unclosed<R: Wait>(rt: &R, station: BatonStation, seats: Vec<BatonSeat>) -> Option<SeatMissing>
-    requires { All (IsSeatOf station) seats.items }
-    ensures { IfSome result (λ again. All (IsSeatOf again.station) again.seats.items) }
-{
-    match station.close(rt, seats) {
-        Ok(_) => None,
-        Err(again) => Some(again),
-    }
-}
-
-/// The station closed with its three seats, of which the last two are in each other's places.
-fn closed_in_order<R: Wait>(rt: &R, alloc: Global, back: SeatMissing) -> Option<System>
-    requires { All (IsSeatOf back.station) back.seats.items }
-{
-    let SeatMissing { station, seats } = back;
-    let (zero, two, one) = three(&station, seats)?;
-    let seats = vec![in alloc; zero, one, two].ok()?;
-    match station.close(rt, seats) {
-        Ok(system) => Some(system),
-        Err(_) => None,
-    }
-}
-
-/// The station closed, once a seat was missing and once two were in another order.
-fn closed<R: Wait>(
+/// The station handed back with its three seats, of which the last two are in each other's places, once since a seat
+/// was missing and once since two were in another order.
+fn handed_back<R: Wait + Abort>(
     rt: &R,
     alloc: Global,
     station: BatonStation,
     zero: BatonSeat,
     one: BatonSeat,
     two: BatonSeat,
-) -> Option<System>
+) -> SeatMissing
+    requires { IsSeatOf station zero × IsSeatOf station one × IsSeatOf station two }
+    ensures { All (IsSeatOf result.station) result.seats.items }
+{
+    let seats = vec![in alloc; zero, two].expect(rt, "memory");
+    let back = unclosed(rt, station, seats);
+    unclosed_with(rt, back, one).expect(rt, "memory")
+}
+
+/// The station closed, once a seat was missing and once two were in another order.
+fn closed<R: Wait + Abort>(
+    rt: &R,
+    alloc: Global,
+    station: BatonStation,
+    zero: BatonSeat,
+    one: BatonSeat,
+    two: BatonSeat,
+) -> System
     requires { IsSeatOf station zero × IsSeatOf station one × IsSeatOf station two }
 {
-    let back = closed_without_one(rt, alloc, station, zero, two)?;
-    let again = closed_out_of_order(rt, back, one)?;
-    closed_in_order(rt, alloc, again)
+    let SeatMissing { station, seats } = handed_back(rt, alloc, station, zero, one, two);
+    let (zero, two, one) = three(&station, seats).expect(rt, "three seats");
+    let seats = vec![in alloc; zero, one, two].expect(rt, "memory");
+    match station.close(rt, seats) {
+        Ok(system) => system,
+        Err(_) => rt.panic("the station isn't closed"),
+    }
 }
 
-/// Whether the replies are of a command, a draw of 5 of 10, and a draw without a winner.
-fn are_met(replies: &[Option<Reply>; 3]) -> bool {
-    *replies == [FUNDED, OTHER_DRAW, IDLE]
-}
-
-/// Whether the turns after meetings get these replies, and whether the closed system has them.
-fn turns_after<R: Wait>(rt: &R, alloc: Global) -> Option<(bool, bool)> {
-    let program = program_of(alloc, TWO_PROCESSORS)?;
-    let (station, mut zero, mut one, mut two) = opened(alloc, &program)?;
-    let replies = met(rt, &station, &program, &mut zero, &mut one, &mut two);
-    let system = closed(rt, alloc, station, zero, one, two)?;
-    Some((are_met(&replies), system.history() == [0, 2, 1].as_slice()))
-}
-
+// The turns after meetings get these replies: of a command, of a draw of 5 of 10, and of a draw without a winner.
 #[test]
 fn turns_after_meetings(rt: HostRuntime) {
-    check_same(&rt, &turns_after(&rt, rt.alloc()), &Some((true, true)));
+    let alloc = rt.alloc();
+    let program = parsed(&rt, alloc, TWO_PROCESSORS);
+    let (station, mut zero, mut one, mut two) = dealt(&rt, alloc, &program);
+    let replies = met(&rt, &station, &program, &mut zero, &mut one, &mut two);
+    check_same(&rt, &replies, &[FUNDED, OTHER_DRAW, IDLE]);
+    let system = closed(&rt, alloc, station, zero, one, two);
+    check_same(&rt, &system.history(), &[0, 2, 1].as_slice());
 }
 
 /// The turns of the actors 0, 1, 2, 1 and 2.
@@ -220,45 +205,24 @@ fn is_ended<R: Wait>(
     matches!(seat.take_fault(), Some(TurnFault::Ended)) && seat.take_fault().is_none()
 }
 
-/// Whether the closed station's system has the row's history and report.
-fn ends_the_row<R: Wait>(
-    rt: &R,
-    alloc: Global,
-    station: BatonStation,
-    zero: BatonSeat,
-    one: BatonSeat,
-    two: BatonSeat,
-) -> Option<bool>
-    requires { IsSeatOf station zero × IsSeatOf station one × IsSeatOf station two }
-{
-    let system = closed(rt, alloc, station, zero, one, two)?;
-    let end = end_of(alloc, system)?;
-    Some(end.as_slice() == END.as_bytes())
-}
-
-/// Whether the replies are the row's.
-fn are_scheduled(replies: &[Option<Reply>; 5]) -> bool {
-    *replies == [FUNDED, FIRST_DRAW, IDLE, EXPIRED, SECOND_DRAW]
-}
-
-/// Whether the row's turns get the expected replies, whether the console's next turn is refused, whether the seats
-/// have the row's numbers, and whether the closed system has its end.
-fn plays_the_row<R: Wait>(rt: &R, alloc: Global) -> Option<[bool; 4]> {
-    let program = program_of(alloc, TWO_PROCESSORS)?;
-    let (station, mut zero, mut one, mut two) = opened(alloc, &program)?;
-    let replies = scheduled(rt, &station, &program, &mut zero, &mut one, &mut two);
-    let ended = is_ended(rt, &station, &program, &mut zero);
-    let shares = [
-        baton_shares_of(&zero),
-        baton_shares_of(&one),
-        baton_shares_of(&two),
-    ];
-    let end = ends_the_row(rt, alloc, station, zero, one, two)?;
-    Some([are_scheduled(&replies), ended, shares == ENDED, end])
-}
-
-// The row of the station under a lock: the same replies, the same numbers of the seats, and the same end.
+// The row of the station under a lock: the same replies, a refusal of the console's next turn, the same numbers of the
+// seats, and the same end.
 #[test]
 fn write_then_read(rt: HostRuntime) {
-    check_same(&rt, &plays_the_row(&rt, rt.alloc()), &Some([true; 4]));
+    let alloc = rt.alloc();
+    let program = parsed(&rt, alloc, TWO_PROCESSORS);
+    let (station, mut zero, mut one, mut two) = dealt(&rt, alloc, &program);
+    let replies = scheduled(&rt, &station, &program, &mut zero, &mut one, &mut two);
+    check_same(
+        &rt,
+        &replies,
+        &[FUNDED, FIRST_DRAW, IDLE, EXPIRED, SECOND_DRAW],
+    );
+    assert!(rt; is_ended(&rt, &station, &program, &mut zero));
+    check_same(&rt, &baton_shares_of(&zero), &ENDED[0]);
+    check_same(&rt, &baton_shares_of(&one), &ENDED[1]);
+    check_same(&rt, &baton_shares_of(&two), &ENDED[2]);
+    let system = closed(&rt, alloc, station, zero, one, two);
+    let end = end_of(&rt, alloc, system);
+    check_same(&rt, &end.as_slice(), &END.as_bytes());
 }

@@ -3,25 +3,18 @@ ghost use Rattle.std.specs.Prelude.{◌≡◌, ◌+◌, false};
 
 use crate::tests::same::{check_same, check_same_at};
 use crate::tests::turnstile::Turnstile;
-use crate::tests::{TWO_PROCESSORS, program_of};
+use crate::tests::{TWO_PROCESSORS, opened, parsed};
 use lot_engine::{System, TurnFault};
 use lot_processors::{Gate, OpenGate, RunFault, run_all};
 use lot_station::{Seat, Station, TurnLedger};
 use lot_text::Program;
-use std::alloc::{AllocError, Global};
+use std::alloc::Global;
 use std::marker::Brand;
+use std::process::Abort;
 use std::sync::Wait;
 use std::sync::ledger::{Blank, Ledger};
 use std::test::*;
 use std::thread::Threads;
-
-/// The outcome of a run: whether a full history stopped it, the turns of all seats, and the system that `close` gave.
-#[derive(Drop)]
-struct Outcome {
-    is_full: bool,
-    turns: u64,
-    system: Option<System>,
-}
 
 /// Whether the run was stopped by a full history.
 pub(super) fn is_stopped(run: Result<(), RunFault>) -> bool {
@@ -37,13 +30,14 @@ fn turns_of<T: TurnLedger, Q: Ledger, K: Ledger>(seats: &[Seat<T, Q, K>]) -> u64
     turns
 }
 
-/// The turns of the program in a station of the system.
+/// The turns of the program in a station of the system: whether a full history stopped them, the turns of all seats,
+/// and the system that `close` returned.
 fn work<
     T: TurnLedger + Send + Sync,
     Q: Ledger + Send + Sync,
     K: Ledger + Send + Sync,
     G: Gate + Sync,
-    R: Threads + Wait + Sync,
+    R: Threads + Wait + Abort + Sync,
 >(
     rt: &R,
     alloc: Global,
@@ -53,7 +47,7 @@ fn work<
     turns: Blank,
     quanta: Blank,
     ticks: Blank,
-) -> Result<Outcome, AllocError>
+) -> (bool, u64, System)
     requires setting { system.setting ≡ T.setting }
     requires timer { system.setting.timer ≡ false }
     requires turns { (turns.name ≡ T.name) × (turns.parts ≡ T.parts)
@@ -63,25 +57,25 @@ fn work<
     requires ticks { (ticks.name ≡ K.name) × (ticks.parts ≡ K.parts)
         × (K.parts ≡ system.setting.program.limits.processors + 1) }
 {
-    let (station, mut seats) = Station::<T, Q, K>::open(alloc, system, turns, quanta, ticks)?;
+    let opened = Station::<T, Q, K>::open(alloc, system, turns, quanta, ticks);
+    let (station, mut seats) = opened.expect(rt, "memory");
     let is_full = is_stopped(run_all(rt, &station, program, gate, &mut seats));
     let turns = turns_of(&seats);
-    Ok(Outcome {
-        is_full,
-        turns,
-        system: station.close(seats).ok(),
-    })
+    match station.close(seats) {
+        Ok(closed) => (is_full, turns, closed),
+        Err(_) => rt.panic("the station isn't closed"),
+    }
 }
 
 /// The turns of the program in a station with room for this many, which has ledgers of its own.
-fn worked<G: Gate + Sync, R: Threads + Wait + Sync>(
+fn worked<G: Gate + Sync, R: Threads + Wait + Abort + Sync>(
     rt: &R,
     alloc: Global,
     program: &Program,
     gate: &G,
     room: u32,
-) -> Result<Outcome, AllocError> {
-    let system = System::open(alloc, program, room)?;
+) -> (bool, u64, System) {
+    let system = opened(rt, alloc, program, room);
     let parts = u64::from(system.processors()) + 1;
     work::<Brand, Brand, Brand, G, R>(
         rt,
@@ -95,38 +89,33 @@ fn worked<G: Gate + Sync, R: Threads + Wait + Sync>(
     )
 }
 
-/// Whether a run in a history with room for three turns was stopped, the turns of its seats, and those of its history.
-fn stopped<R: Threads + Wait + Sync>(rt: &R, alloc: Global) -> Option<(bool, u64, usize)> {
-    let program = program_of(alloc, TWO_PROCESSORS)?;
-    let outcome = worked(rt, alloc, &program, &OpenGate, 3).ok()?;
-    let system = outcome.system?;
-    Some((outcome.is_full, outcome.turns, system.history().len()))
-}
-
-// The run says why it stopped, and the seats have the turns of the history.
+// A run in a history with room for three turns says why it stopped, and the seats have the turns of the history.
 #[test]
 fn stops_where_the_history_is_full(rt: HostRuntime) {
-    check_same(&rt, &stopped(&rt, rt.alloc()), &Some((true, 3, 3)));
+    let alloc = rt.alloc();
+    let program = parsed(&rt, alloc, TWO_PROCESSORS);
+    let (is_full, turns, closed) = worked(&rt, alloc, &program, &OpenGate, 3);
+    check_same(
+        &rt,
+        &(is_full, turns, closed.history().len()),
+        &(true, 3, 3),
+    );
 }
 
-/// Whether this processor's worker, held until the others have come by twice, gave up in a history with room for two
-/// turns; whether the run was stopped, and the turns of its seats.
-fn stopped_after<R: Threads + Wait + Sync>(
-    rt: &R,
-    alloc: Global,
-    held: u32,
-) -> Option<(bool, bool, u64)> {
-    let program = program_of(alloc, TWO_PROCESSORS)?;
-    let gate = Turnstile::new(held, 2);
-    let outcome = worked(rt, alloc, &program, &gate, 2).ok()?;
-    Some((gate.gave_up(), outcome.is_full, outcome.turns))
-}
-
-// A worker that stops lets the others stop too, one that waits at its gate among them.
+// A worker that stops lets the others stop too, one that waits at its gate among them: this processor's worker is held
+// until the others have come by twice, in a history with room for two turns, and doesn't give up.
 #[test]
 fn stops_after_gates(rt: HostRuntime) {
+    let alloc = rt.alloc();
+    let program = parsed(&rt, alloc, TWO_PROCESSORS);
     for held in [1, 2] {
-        let found = stopped_after(&rt, rt.alloc(), held);
-        check_same_at(&rt, &held, &found, &Some((false, true, 2)));
+        let gate = Turnstile::new(held, 2);
+        let (is_full, turns, _) = worked(&rt, alloc, &program, &gate, 2);
+        check_same_at(
+            &rt,
+            &held,
+            &(gate.gave_up(), is_full, turns),
+            &(false, true, 2),
+        );
     }
 }

@@ -6,12 +6,13 @@ ghost use Rattle.lot_station.specs.BatonSeats.{IsSeatOf};
 use crate::tests::full::is_stopped;
 use crate::tests::same::{check_same, check_same_at};
 use crate::tests::turnstile::Turnstile;
-use crate::tests::{TWO_PROCESSORS, program_of};
+use crate::tests::{TWO_PROCESSORS, opened, parsed};
 use lot_engine::System;
 use lot_processors::{Gate, RunFault, free_run, run_all_baton};
 use lot_station::{BatonSeat, BatonStation};
 use lot_text::Program;
 use std::alloc::Global;
+use std::process::Abort;
 use std::sync::Wait;
 use std::sync::atomic::{AtomicBool, AtomicU64, Ordering};
 use std::test::*;
@@ -34,44 +35,26 @@ fn first_processor(history: &[u16]) -> Option<u16> {
 
 /// The observations of a run: whether a held worker gave up, whether it was the first processor to have a turn, and
 /// the number of turns.
-#[derive(Debug, PartialEq, Eq, Drop)]
-struct Seen {
-    gave_up: bool,
-    held_first: bool,
-    turns: usize,
-}
+type Seen = (bool, bool, usize);
 
 /// The outcome of this run with this gate.
-fn seen_of(gate: &Turnstile, system: &System) -> Seen {
-    let history = system.history();
-    Seen {
-        gave_up: gate.gave_up(),
-        held_first: first_processor(history).map(u32::from) == Some(gate.held),
-        turns: history.len(),
-    }
-}
-
-/// A run of this many turns in which the held worker waited for the others.
-const fn waited(turns: usize) -> Option<Seen> {
-    Some(Seen {
-        gave_up: false,
-        held_first: false,
-        turns,
-    })
+fn seen_of(gate: &Turnstile, history: &[u16]) -> Seen {
+    let is_held_first = first_processor(history).map(u32::from) == Some(gate.held);
+    (gate.gave_up(), is_held_first, history.len())
 }
 
 /// A free run of the program, in which this processor's worker is held until the others have come by this often.
-fn held_in_free_run<R: Threads + Wait + Sync>(
+fn held_in_free_run<R: Threads + Wait + Abort + Sync>(
     rt: &R,
     alloc: Global,
     text: &str,
     held: u32,
     wanted: u64,
-) -> Option<Seen> {
-    let program = program_of(alloc, text)?;
+) -> Seen {
+    let program = parsed(rt, alloc, text);
     let gate = Turnstile::new(held, wanted);
-    let system = free_run(rt, alloc, &program, &gate).ok()?;
-    Some(seen_of(&gate, &system))
+    let system = free_run(rt, alloc, &program, &gate).expect(rt, "a free run");
+    seen_of(&gate, system.history())
 }
 
 // A worker waits at its gate until the other has made its turns, whichever of the two is held: they run at once,
@@ -80,7 +63,7 @@ fn held_in_free_run<R: Threads + Wait + Sync>(
 fn workers_run_at_once(rt: HostRuntime) {
     for held in [1, 2] {
         let seen = held_in_free_run(&rt, rt.alloc(), TWO_PROCESSORS, held, 2);
-        check_same_at(&rt, &held, &seen, &waited(5));
+        check_same_at(&rt, &held, &seen, &(false, false, 5));
     }
 }
 
@@ -89,7 +72,7 @@ fn workers_run_at_once(rt: HostRuntime) {
 fn three_workers_run_at_once(rt: HostRuntime) {
     for held in [1, 2, 3] {
         let seen = held_in_free_run(&rt, rt.alloc(), THREE_PROCESSORS, held, 4);
-        check_same_at(&rt, &held, &seen, &waited(7));
+        check_same_at(&rt, &held, &seen, &(false, false, 7));
     }
 }
 
@@ -109,37 +92,36 @@ fn run_seats<G: Gate + Sync, R: Threads + Wait + Sync>(
 
 /// Makes the turns of the program through the seats of a baton station with this much room, and returns the system,
 /// and whether a full history stopped the workers.
-pub(super) fn baton_run<G: Gate + Sync, R: Threads + Wait + Sync>(
+pub(super) fn baton_run<G: Gate + Sync, R: Threads + Wait + Abort + Sync>(
     rt: &R,
     alloc: Global,
     program: &Program,
     gate: &G,
     room: u32,
-) -> Option<(bool, System)> {
-    let system = System::open(alloc, program, room).ok()?;
-    let (station, mut seats) = BatonStation::open(alloc, system).ok()?;
-    let run = run_seats(rt, &station, program, gate, &mut seats);
-    let is_full = is_stopped(run);
+) -> (bool, System) {
+    let system = opened(rt, alloc, program, room);
+    let (station, mut seats) = BatonStation::open(alloc, system).expect(rt, "memory");
+    let is_full = is_stopped(run_seats(rt, &station, program, gate, &mut seats));
     match station.close(rt, seats) {
-        Ok(system) => Some((is_full, system)),
-        Err(_) => None,
+        Ok(system) => (is_full, system),
+        Err(_) => rt.panic("the station isn't closed"),
     }
 }
 
 /// A run of the program over a baton station, in which this processor's worker is held until the others have come by
 /// this often; and whether a full history stopped it.
-fn held_in_baton_run<R: Threads + Wait + Sync>(
+fn held_in_baton_run<R: Threads + Wait + Abort + Sync>(
     rt: &R,
     alloc: Global,
     text: &str,
     held: u32,
     wanted: u64,
     room: u32,
-) -> Option<(bool, Seen)> {
-    let program = program_of(alloc, text)?;
+) -> (bool, Seen) {
+    let program = parsed(rt, alloc, text);
     let gate = Turnstile::new(held, wanted);
-    let (is_full, system) = baton_run(rt, alloc, &program, &gate, room)?;
-    Some((is_full, seen_of(&gate, &system)))
+    let (is_full, system) = baton_run(rt, alloc, &program, &gate, room);
+    (is_full, seen_of(&gate, system.history()))
 }
 
 // Workers over a baton station run at once too.
@@ -147,7 +129,7 @@ fn held_in_baton_run<R: Threads + Wait + Sync>(
 fn baton_workers_run_at_once(rt: HostRuntime) {
     for held in [1, 2] {
         let seen = held_in_baton_run(&rt, rt.alloc(), TWO_PROCESSORS, held, 2, 5);
-        check_same_at(&rt, &held, &seen, &waited(5).map(|seen| (false, seen)));
+        check_same_at(&rt, &held, &seen, &(false, (false, false, 5)));
     }
 }
 
@@ -155,7 +137,7 @@ fn baton_workers_run_at_once(rt: HostRuntime) {
 fn three_baton_workers_run_at_once(rt: HostRuntime) {
     for held in [1, 2, 3] {
         let seen = held_in_baton_run(&rt, rt.alloc(), THREE_PROCESSORS, held, 4, 7);
-        check_same_at(&rt, &held, &seen, &waited(7).map(|seen| (false, seen)));
+        check_same_at(&rt, &held, &seen, &(false, (false, false, 7)));
     }
 }
 
@@ -163,9 +145,9 @@ fn three_baton_workers_run_at_once(rt: HostRuntime) {
 #[test]
 fn baton_workers_stop_where_the_history_is_full(rt: HostRuntime) {
     for (held, room) in [(1, 2), (2, 2), (0, 3)] {
-        let seen = held_in_baton_run(&rt, rt.alloc(), TWO_PROCESSORS, held, 2, room);
-        let found = seen.map(|(full, seen)| (full, seen.gave_up, seen.turns));
-        check_same_at(&rt, &held, &found, &Some((true, false, room as usize)));
+        let (is_full, seen) = held_in_baton_run(&rt, rt.alloc(), TWO_PROCESSORS, held, 2, room);
+        let found = (is_full, seen.0, seen.2);
+        check_same_at(&rt, &held, &found, &(true, false, room as usize));
     }
 }
 
@@ -209,29 +191,15 @@ impl Gate for Counting {
     }
 }
 
-/// The passes of a free run.
-fn passes_of_free_run<R: Threads + Wait + Sync>(rt: &R, alloc: Global) -> Option<(u64, u64, bool)> {
-    let program = program_of(alloc, TWO_PROCESSORS)?;
-    let gate = Counting::new();
-    let _ = free_run(rt, alloc, &program, &gate).ok()?;
-    Some(gate.passes())
-}
-
-/// The passes of a run over a baton station.
-fn passes_of_baton_run<R: Threads + Wait + Sync>(
-    rt: &R,
-    alloc: Global,
-) -> Option<(u64, u64, bool)> {
-    let program = program_of(alloc, TWO_PROCESSORS)?;
-    let gate = Counting::new();
-    let _ = baton_run(rt, alloc, &program, &gate, 5)?;
-    Some(gate.passes())
-}
-
 // Each processor's worker passes with its number and the turns 1 and 2, in order; the console's passes no gate.
 #[test]
 fn gates_are_passed_in_order(rt: HostRuntime) {
-    let wanted = Some((2, 2, false));
-    check_same(&rt, &passes_of_free_run(&rt, rt.alloc()), &wanted);
-    check_same(&rt, &passes_of_baton_run(&rt, rt.alloc()), &wanted);
+    let alloc = rt.alloc();
+    let program = parsed(&rt, alloc, TWO_PROCESSORS);
+    let free = Counting::new();
+    let _ = free_run(&rt, alloc, &program, &free).expect(&rt, "a free run");
+    check_same(&rt, &free.passes(), &(2, 2, false));
+    let baton = Counting::new();
+    let _ = baton_run(&rt, alloc, &program, &baton, 5);
+    check_same(&rt, &baton.passes(), &(2, 2, false));
 }

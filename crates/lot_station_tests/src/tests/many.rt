@@ -1,16 +1,12 @@
 //! As many seats as there may be, each on a thread of its own.
 
 use crate::tests::gates::baton_run;
-use crate::tests::program_of;
-use crate::tests::same::check_same;
+use crate::tests::parsed;
 use crate::tests::turnstile::TRIES;
 use lot_processors::{Gate, free_run};
-use std::alloc::Global;
-use std::sync::Wait;
 use std::sync::atomic::{AtomicBool, AtomicU64, Ordering};
 use std::test::*;
 use std::thread;
-use std::thread::Threads;
 
 /// 64 processors with one turn each, and one thread.
 const MANY_PROCESSORS: &str = "lottery 1
@@ -56,43 +52,24 @@ fn has_all(history: &[u16]) -> bool {
     history.len() == 65 && (0..65u16).all(|actor| history.contains(&actor))
 }
 
-/// Whether a worker gave up, and whether the history of a free run has all turns.
-fn free_run_of_many<R: Threads + Wait + Sync>(rt: &R, alloc: Global) -> Option<(bool, bool)> {
-    let program = program_of(alloc, MANY_PROCESSORS)?;
-    let gate = Meeting::new();
-    let system = free_run(rt, alloc, &program, &gate).ok()?;
-    Some((
-        gate.gave_up.load(Ordering::SeqCst),
-        has_all(system.history()),
-    ))
-}
-
-/// Whether a worker gave up, and whether the history has all turns, over a baton station.
-fn baton_run_of_many<R: Threads + Wait + Sync>(rt: &R, alloc: Global) -> Option<(bool, bool)> {
-    let program = program_of(alloc, MANY_PROCESSORS)?;
-    let gate = Meeting::new();
-    let (_, system) = baton_run(rt, alloc, &program, &gate, 65)?;
-    Some((
-        gate.gave_up.load(Ordering::SeqCst),
-        has_all(system.history()),
-    ))
-}
-
-// 64 workers wait for each other before their turns, so each has a thread of its own.
+// 64 workers wait for each other before their turns, so each has a thread of its own: none gives up, and the history
+// has all turns.
 #[test]
 fn many_workers_meet(rt: HostRuntime) {
-    check_same(
-        &rt,
-        &free_run_of_many(&rt, rt.alloc()),
-        &Some((false, true)),
-    );
+    let alloc = rt.alloc();
+    let program = parsed(&rt, alloc, MANY_PROCESSORS);
+    let gate = Meeting::new();
+    let system = free_run(&rt, alloc, &program, &gate).expect(&rt, "a free run");
+    assert!(rt; !gate.gave_up.load(Ordering::SeqCst));
+    assert!(rt; has_all(system.history()));
 }
 
 #[test]
 fn many_baton_workers_meet(rt: HostRuntime) {
-    check_same(
-        &rt,
-        &baton_run_of_many(&rt, rt.alloc()),
-        &Some((false, true)),
-    );
+    let alloc = rt.alloc();
+    let program = parsed(&rt, alloc, MANY_PROCESSORS);
+    let gate = Meeting::new();
+    let (_, system) = baton_run(&rt, alloc, &program, &gate, 65);
+    assert!(rt; !gate.gave_up.load(Ordering::SeqCst));
+    assert!(rt; has_all(system.history()));
 }

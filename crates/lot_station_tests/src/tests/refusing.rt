@@ -1,107 +1,55 @@
 //! Seats that aren't one for each actor, in order.
-ghost use Rattle.std.specs.Prelude.{◌≡◌, ◌+◌, false, IfSome};
+ghost use Rattle.std.specs.Prelude.{◌≡◌, ◌+◌, false};
 
 use crate::tests::same::check_same;
-use crate::tests::{TWO_PROCESSORS, opened};
+use crate::tests::{TWO_PROCESSORS, opened, parsed};
 use lot_engine::System;
 use lot_station::{CloseFault, Seat, Station, TurnLedger};
-use std::alloc::{AllocError, Global};
+use std::alloc::Global;
 use std::marker::Brand;
+use std::process::Abort;
 use std::sync::Wait;
 use std::sync::ledger::{Blank, Ledger};
 use std::test::*;
 
-/// The number of seats returned, and the station with its seats.
-type HandedBack<T, Q, K> = (usize, Station<T, Q, K>, Vec<Seat<T, Q, K>>);
-
-/// A turn without a slice of the seat at this place.
-fn turn_at<T: TurnLedger, Q: Ledger, K: Ledger>(
-    rt: &impl Wait,
+/// Checks that a turn without a slice of the seat at this place is made.
+fn turn_at<T: TurnLedger, Q: Ledger, K: Ledger, R: Wait + Abort>(
+    rt: &R,
     station: &Station<T, Q, K>,
     seats: &mut [Seat<T, Q, K>],
     place: usize,
-) -> Option<()> {
-    let seat = seats.get_mut(place)?;
-    match station.turn(rt, seat, None) {
-        Ok(_) => Some(()),
-        Err(_) => None,
+) {
+    let seat = seats.get_mut(place).expect(rt, "a seat");
+    let is_made = station.turn(rt, seat, None).is_ok();
+    assert!(rt; is_made);
+}
+
+/// The station and the seats, handed back since a seat is missing or out of order.
+fn handed_back<T: TurnLedger, Q: Ledger, K: Ledger>(
+    rt: &impl Abort,
+    station: Station<T, Q, K>,
+    seats: Vec<Seat<T, Q, K>>,
+) -> (Station<T, Q, K>, Vec<Seat<T, Q, K>>)
+    requires { (T.parts ≡ station.program.limits.processors + 1) × (Q.parts ≡ station.program.limits.processors + 1)
+        × (K.parts ≡ station.program.limits.processors + 1) }
+    ensures { result.0 ≡ station }
+{
+    match station.close(seats) {
+        Err(CloseFault::SeatMissing(station, seats)) => (station, seats),
+        _ => rt.panic("no seat is missing"),
     }
 }
 
-/// Closes the station without its last seat, which is then put back.
-fn without_last<T: TurnLedger, Q: Ledger, K: Ledger>(
-    station: Station<T, Q, K>,
-    mut seats: Vec<Seat<T, Q, K>>,
-) -> Option<HandedBack<T, Q, K>>
-    requires { (T.parts ≡ station.program.limits.processors + 1) × (Q.parts ≡ station.program.limits.processors + 1)
-        × (K.parts ≡ station.program.limits.processors + 1) }
-    ensures { IfSome result (λ back. back.1 ≡ station) }
-{
-    let last = seats.pop()?;
-    let Err(CloseFault::SeatMissing(station, mut seats)) = station.close(seats) else {
-        return None;
-    };
-    let few = seats.len();
-    seats.push(last).ok()?;
-    Some((few, station, seats))
-}
-
-/// Closes the station with its seats the other way round, and puts them in order again.
-fn reversed<T: TurnLedger, Q: Ledger, K: Ledger>(
-    station: Station<T, Q, K>,
-    mut seats: Vec<Seat<T, Q, K>>,
-) -> Option<HandedBack<T, Q, K>>
-    requires { (T.parts ≡ station.program.limits.processors + 1) × (Q.parts ≡ station.program.limits.processors + 1)
-        × (K.parts ≡ station.program.limits.processors + 1) }
-    ensures { IfSome result (λ back. back.1 ≡ station) }
-{
-    seats.reverse();
-    let Err(CloseFault::SeatMissing(station, mut seats)) = station.close(seats) else {
-        return None;
-    };
-    seats.reverse();
-    Some((seats.len(), station, seats))
-}
-
-/// Closes the station after a draw of its first processor.
-fn after_draw<T: TurnLedger, Q: Ledger, K: Ledger>(
-    rt: &impl Wait,
-    station: Station<T, Q, K>,
-    mut seats: Vec<Seat<T, Q, K>>,
-) -> Option<System>
-    requires { (T.parts ≡ station.program.limits.processors + 1) × (Q.parts ≡ station.program.limits.processors + 1)
-        × (K.parts ≡ station.program.limits.processors + 1) }
-{
-    turn_at(rt, &station, &mut seats, 1)?;
-    station.close(seats).ok()
-}
-
-/// Closes a station without its last seat, then with its seats in reverse order, and then correctly, with a turn of
-/// the console before and a draw after. Returns the number of seats returned each time, and the system.
-fn close_often<T: TurnLedger, Q: Ledger, K: Ledger>(
-    rt: &impl Wait,
-    station: Station<T, Q, K>,
-    mut seats: Vec<Seat<T, Q, K>>,
-) -> Option<(usize, usize, System)>
-    requires { (T.parts ≡ station.program.limits.processors + 1) × (Q.parts ≡ station.program.limits.processors + 1)
-        × (K.parts ≡ station.program.limits.processors + 1) }
-{
-    turn_at(rt, &station, &mut seats, 0)?;
-    let (few, station, seats) = without_last(station, seats)?;
-    let (all, station, seats) = reversed(station, seats)?;
-    let system = after_draw(rt, station, seats)?;
-    Some((few, all, system))
-}
-
-/// Opens a station of the system, and closes it by `close_often`.
-fn misplace<T: TurnLedger, Q: Ledger, K: Ledger>(
-    rt: &impl Wait,
+/// Opens a station of the system, and closes it without its last seat, then with its seats in reverse order, and then
+/// correctly, with a turn of the console before and a draw after.
+fn misplace<T: TurnLedger, Q: Ledger, K: Ledger, R: Wait + Abort>(
+    rt: &R,
     alloc: Global,
     system: System,
     turns: Blank,
     quanta: Blank,
     ticks: Blank,
-) -> Result<Option<(usize, usize, System)>, AllocError>
+) -> System
     requires setting { system.setting ≡ T.setting }
     requires timer { system.setting.timer ≡ false }
     requires turns { (turns.name ≡ T.name) × (turns.parts ≡ T.parts)
@@ -111,20 +59,27 @@ fn misplace<T: TurnLedger, Q: Ledger, K: Ledger>(
     requires ticks { (ticks.name ≡ K.name) × (ticks.parts ≡ K.parts)
         × (K.parts ≡ system.setting.program.limits.processors + 1) }
 {
-    let (station, seats) = Station::<T, Q, K>::open(alloc, system, turns, quanta, ticks)?;
-    Ok(close_often(rt, station, seats))
+    let opened = Station::<T, Q, K>::open(alloc, system, turns, quanta, ticks);
+    let (station, mut seats) = opened.expect(rt, "memory");
+    turn_at(rt, &station, &mut seats, 0);
+    let last = seats.pop().expect(rt, "a seat");
+    let (station, mut seats) = handed_back(rt, station, seats);
+    check_same(rt, &seats.len(), &2);
+    seats.push(last).expect(rt, "memory");
+    seats.reverse();
+    let (station, mut seats) = handed_back(rt, station, seats);
+    check_same(rt, &seats.len(), &3);
+    seats.reverse();
+    turn_at(rt, &station, &mut seats, 1);
+    station.close(seats).ok().expect(rt, "a closed station")
 }
 
-/// Opens a station with ledgers of its own, and closes it by `close_often`.
-fn misplaced(
-    rt: &impl Wait,
-    alloc: Global,
-    system: System,
-) -> Result<Option<(usize, usize, System)>, AllocError>
+/// Opens a station with ledgers of its own, and closes it by `misplace`.
+fn misplaced<R: Wait + Abort>(rt: &R, alloc: Global, system: System) -> System
     requires { system.setting.timer ≡ false }
 {
     let parts = u64::from(system.processors()) + 1;
-    misplace::<Brand, Brand, Brand>(
+    misplace::<Brand, Brand, Brand, R>(
         rt,
         alloc,
         system,
@@ -134,15 +89,12 @@ fn misplaced(
     )
 }
 
-/// The number of seats returned each time, and whether the history has both turns.
-fn hands_back(rt: &impl Wait, alloc: Global) -> Option<(usize, usize, bool)> {
-    let (_, system) = opened(alloc, TWO_PROCESSORS, 6)?;
-    let (few, all, closed) = misplaced(rt, alloc, system).ok()??;
-    Some((few, all, closed.history() == [0, 1].as_slice()))
-}
-
-// A station that isn't closed is handed back with its seats, and can be used and closed.
+// A station that isn't closed is handed back with its seats, and can be used and closed; its history has both turns.
 #[test]
 fn seats_are_handed_back(rt: HostRuntime) {
-    check_same(&rt, &hands_back(&rt, rt.alloc()), &Some((2, 3, true)));
+    let alloc = rt.alloc();
+    let program = parsed(&rt, alloc, TWO_PROCESSORS);
+    let system = opened(&rt, alloc, &program, 6);
+    let closed = misplaced(&rt, alloc, system);
+    check_same(&rt, &closed.history(), &[0, 1].as_slice());
 }

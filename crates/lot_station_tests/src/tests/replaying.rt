@@ -1,24 +1,34 @@
 //! The turns of a history again, by one thread.
 
-use crate::tests::end_of;
+use crate::tests::same::check_same;
+use crate::tests::{end_of, opened};
 use lot_engine::{Answer, System, slice_for};
 use lot_text::Program;
 use std::alloc::Global;
+use std::process::Abort;
+use std::sync::Mutex;
 
-/// A system after its turns, and the results of each actor's.
-pub(super) type Played = (System, Vec<Vec<Answer>>);
+/// The results of an actor's turns in threads, in order.
+pub(super) type Answers = Mutex<Vec<Answer>>;
 
-/// The observations of turns in threads: their number, whether one thread that makes them again gets the same results
-/// for each actor, and whether both systems end alike.
-pub(super) type Compared = (usize, bool, bool);
-
-/// No results yet, of this many actors.
-fn no_answers(alloc: Global, actors: usize) -> Option<Vec<Vec<Answer>>> {
+/// No results yet, of this many actors in threads.
+pub(super) fn unanswered(rt: &impl Abort, alloc: Global, actors: usize) -> Vec<Answers> {
     let mut answers = Vec::new(alloc);
     for _actor in 0..actors {
-        answers.push(Vec::new(alloc)).ok()?;
+        answers
+            .push(Mutex::new(Vec::new(alloc)))
+            .expect(rt, "memory");
     }
-    Some(answers)
+    answers
+}
+
+/// The results of each actor's turns, taken from under their locks.
+pub(super) fn unlocked(rt: &impl Abort, alloc: Global, answers: Vec<Answers>) -> Vec<Vec<Answer>> {
+    let mut lists = Vec::new(alloc);
+    for own in answers {
+        lists.push(own.into_inner()).expect(rt, "memory");
+    }
+    lists
 }
 
 /// The result of a turn of the actor with this number, with the slice of its work, if it is made.
@@ -30,47 +40,37 @@ fn answer_again(program: &Program, system: &mut System, number: u32) -> Option<A
     system.turn(number, slice).ok()
 }
 
-/// Adds the result to those of the actor with this number, if it has any; `None` if out of memory.
-fn keep(answers: &mut [Vec<Answer>], number: usize, answer: Answer) -> Option<()> {
-    match answers.get_mut(number) {
-        Some(own) => own.push(answer).ok(),
-        None => Some(()),
-    }
-}
-
-/// Makes the turns of a history, and keeps the results; `None` if one fails or if out of memory.
+/// Makes the turns of a history, and adds the results to those of each actor.
 fn replay(
+    rt: &impl Abort,
     program: &Program,
     system: &mut System,
     history: &[u16],
     answers: &mut [Vec<Answer>],
-) -> Option<()> {
+) {
     for actor in history {
-        let answer = answer_again(program, system, u32::from(*actor))?;
-        keep(answers, usize::from(*actor), answer)?;
+        let answer = answer_again(program, system, u32::from(*actor)).expect(rt, "a turn");
+        let own = answers.get_mut(usize::from(*actor)).expect(rt, "an actor");
+        own.push(answer).expect(rt, "memory");
     }
-    Some(())
 }
 
-/// Another system of the program with room for this many turns that makes the turns of a history, and the results of
-/// each actor's.
-fn replayed(alloc: Global, program: &Program, room: u32, history: &[u16]) -> Option<Played> {
-    let mut system = System::open(alloc, program, room).ok()?;
-    let mut answers = no_answers(alloc, system.processors() as usize + 1)?;
-    replay(program, &mut system, history, &mut answers)?;
-    Some((system, answers))
-}
-
-/// The system and the results of its turns in threads, compared with those of another system of the program, with
-/// room for this many turns.
-pub(super) fn compared(
+/// Checks that a system of the program, with room for this many turns, has had them all, and that another, in which
+/// one thread makes the turns of its history again, gets the same results for each actor and ends alike.
+pub(super) fn check_replay(
+    rt: &impl Abort,
     alloc: Global,
     program: &Program,
     room: u32,
-    (system, answers): Played,
-) -> Option<Compared> {
-    let (again, expected) = replayed(alloc, program, room, system.history())?;
-    let turns = system.history().len();
-    let same = answers == expected;
-    Some((turns, same, end_of(alloc, system)? == end_of(alloc, again)?))
+    system: System,
+    answers: &Vec<Vec<Answer>>,
+) {
+    check_same(rt, &system.history().len(), &(room as usize));
+    let mut again = opened(rt, alloc, program, room);
+    let none = unanswered(rt, alloc, answers.len());
+    let mut expected = unlocked(rt, alloc, none);
+    replay(rt, program, &mut again, system.history(), &mut expected);
+    check_same(rt, answers, &expected);
+    let end = end_of(rt, alloc, system);
+    check_same(rt, &end, &end_of(rt, alloc, again));
 }

@@ -1,10 +1,10 @@
-//! Turns of the seats of a baton station, and what a seat has. They stand among the tests, since the crate would prove
+//! Turns of seats, and what a seat has. They stand among the tests, since the crate would prove
 //! them a second time as a library.
 ghost use Rattle.std.specs.Prelude.{◌≡◌};
 ghost use Rattle.lot_station.specs.BatonSeats.{IsSameSeat, seat_counts};
 
 use lot_engine::{Answer, TurnFault, slice_for};
-use lot_station::{BatonSeat, BatonStation, Seat, TurnLedger};
+use lot_station::{BatonSeat, BatonStation, Seat, Station, TurnLedger};
 use lot_text::Program;
 use std::sync::Wait;
 use std::sync::ledger::Ledger;
@@ -19,7 +19,18 @@ pub(crate) fn shares_of<T: TurnLedger, Q: Ledger, K: Ledger>(seat: &Seat<T, Q, K
     (seat.turns(), seat.quanta(), seat.ticks())
 }
 
-/// A turn of the seat, with the slice of its work in this program if it has any.
+/// The result of the next turn of the seat, with the slice of its work, if it is made.
+pub(crate) fn answer_of<T: TurnLedger, Q: Ledger, K: Ledger>(
+    rt: &impl Wait,
+    program: &Program,
+    station: &Station<T, Q, K>,
+    seat: &mut Seat<T, Q, K>,
+) -> Option<Answer> {
+    let slice = slice_for(program, station.work(rt, seat)).ok()?;
+    station.turn(rt, seat, slice).ok()
+}
+
+/// A turn of the seat of a baton station, with the slice of its work in this program if it has any.
 pub(crate) fn make_turn<R: Wait>(
     rt: &R,
     station: &BatonStation,

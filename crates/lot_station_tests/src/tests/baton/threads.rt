@@ -2,15 +2,15 @@
 ghost use Rattle.std.specs.Prelude.{All};
 ghost use Rattle.lot_station.specs.BatonSeats.{IsSeatOf};
 
-use crate::tests::program_of;
-use crate::tests::replaying::{Compared, Played, compared};
-use crate::tests::same::check_same;
+use crate::tests::replaying::{Answers, check_replay, unanswered, unlocked};
 use crate::tests::seats::make_turn;
+use crate::tests::{opened, parsed};
 use lot_engine::{Answer, System};
 use lot_station::{BatonSeat, BatonStation};
 use lot_text::Program;
-use std::alloc::{AllocError, Global};
-use std::sync::{Mutex, Wait};
+use std::alloc::Global;
+use std::process::Abort;
+use std::sync::Wait;
 use std::test::*;
 use std::thread;
 use std::thread::Threads;
@@ -41,9 +41,6 @@ const TURNS: usize = 1000;
 
 /// For the turns of eight processors and the console's six commands.
 const ROOM: u32 = 8006;
-
-/// The results of an actor's turns, in order.
-type Answers = Mutex<Vec<Answer>>;
 
 /// This many turns of the seat, or fewer and then a fault, which the seat keeps.
 fn play<R: Wait>(
@@ -93,46 +90,28 @@ fn play_all<R: Threads + Wait + Sync>(
     thread::for_each_mut(rt, seats, seats.len() + 1, &work);
 }
 
-fn no_answers(alloc: Global, actors: usize) -> Result<Vec<Answers>, AllocError> {
-    let mut answers = Vec::new(alloc);
-    for _ in 0..actors {
-        answers.push(Mutex::new(Vec::new(alloc)))?;
-    }
-    Ok(answers)
-}
-
-/// The results of each actor's turns, taken from under their locks.
-fn unlocked(alloc: Global, answers: Vec<Answers>) -> Option<Vec<Vec<Answer>>> {
-    let mut lists = Vec::new(alloc);
-    for own in answers {
-        lists.push(own.into_inner()).ok()?;
-    }
-    Some(lists)
-}
-
 /// A system of the program after all turns of all seats, and their results.
-fn played<R: Threads + Wait + Sync>(rt: &R, alloc: Global, program: &Program) -> Option<Played> {
-    let system = System::open(alloc, program, ROOM).ok()?;
-    let Ok((station, mut seats)) = BatonStation::open(alloc, system) else {
-        return None;
-    };
-    let answers = no_answers(alloc, seats.len()).ok()?;
+fn played<R: Threads + Wait + Abort + Sync>(
+    rt: &R,
+    alloc: Global,
+    program: &Program,
+) -> (System, Vec<Vec<Answer>>) {
+    let system = opened(rt, alloc, program, ROOM);
+    let (station, mut seats) = BatonStation::open(alloc, system).expect(rt, "memory");
+    let answers = unanswered(rt, alloc, seats.len());
     play_all(rt, &station, program, &mut seats, &answers);
+    let answers = unlocked(rt, alloc, answers);
     match station.close(rt, seats) {
-        Ok(system) => Some((system, unlocked(alloc, answers)?)),
-        Err(_) => None,
+        Ok(system) => (system, answers),
+        Err(_) => rt.panic("the station isn't closed"),
     }
 }
 
-/// All turns of all seats, compared with those by one thread.
-fn plays_in_threads<R: Threads + Wait + Sync>(rt: &R, alloc: Global) -> Option<Compared> {
-    let program = program_of(alloc, BUSY)?;
-    let played = played(rt, alloc, &program)?;
-    compared(alloc, &program, ROOM, played)
-}
-
+// All turns of all seats, compared with those by one thread.
 #[test]
 fn turns_in_threads(rt: HostRuntime) {
-    let wanted = Some((ROOM as usize, true, true));
-    check_same(&rt, &plays_in_threads(&rt, rt.alloc()), &wanted);
+    let alloc = rt.alloc();
+    let program = parsed(&rt, alloc, BUSY);
+    let (system, answers) = played(&rt, alloc, &program);
+    check_replay(&rt, alloc, &program, ROOM, system, &answers);
 }
