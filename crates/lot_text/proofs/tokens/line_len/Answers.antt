@@ -1,4 +1,4 @@
-use Rattle.std.proofs.Common.{◌≡◌, ◌-◌, ℕ, ◌==◌, Bool, true, false, not, List, Option, None, Some, length, unwrap_or, eq-zero-or-pos, inl, inr, sym, ◌∙◌, arith}
+use Rattle.std.proofs.Common.{◌≡◌, ◌-◌, ℕ, ◌==◌, Bool, true, false, not, List, Option, None, Some, length, unwrap_or, eq-zero-or-pos, inl, inr, refl, sym, ◌∙◌, arith}
 use Rattle.std.specs.List.{prefix_len}
 use Rattle.std.proofs.lemmas.Bool.{false≢true}
 use Rattle.std.proofs.lemmas.List.Sums.{prefix_len-le-length, prefix_len_passes, prefix_len_stops}
