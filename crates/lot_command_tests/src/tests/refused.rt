@@ -111,7 +111,7 @@ const WITHOUT_DURATION: (&str, &str) = (
 nonsense
 ",
     "line 2: 'nonsense' is no body line
-line 2: the header doesn't say how long the input runs: 'for TICKS' comes before 'seed', 'limits' and all else
+line 2: the header doesn't say how long the input runs: 'for TICKS' comes before the first body line
 ",
 );
 
