@@ -1,11 +1,13 @@
 -- The text of a view of an input.
-use Rattle.std.specs.Prelude.{ℕ, Option, Result, Ok, Err, List}
+use Rattle.std.specs.Prelude.{ℕ, Option, Some, None, Result, Ok, Err, List}
 use Rattle.lot_simulation.specs.declared.input.InputFault.{InputFault}
 use Rattle.lot_simulation.specs.Grammar.{program_in}
 use Rattle.lot_simulation.specs.Output.{played_output}
 use Rattle.lot_simulation.specs.Seeded.{seeded}
 use Rattle.lot_simulation.specs.Texts.{fault_line}
 use Rattle.lot_simulation.specs.World.{Program}
+use Rattle.lot_play.specs.Seeds.{seeds_report}
+use Rattle.lot_play.specs.Texts.{last_report}
 use Rattle.lot_curves.specs.Curves.{curves_of}
 use Rattle.lot_explain.specs.Explained.{explained_program}
 use Rattle.lot_chart.specs.Charts.{chart}
@@ -16,6 +18,8 @@ use Rattle.lot_command.specs.declared.view.View.TheVariants as views
 -- the output for a program, where a picture has this title
 abbrev pub view_of : View → List ℕ → Program → List ℕ
 view_of views.Play title program = played_output program program.duration
+view_of (views.Report None) title program = last_report program program.duration
+view_of (views.Report (Some seeds)) title program = seeds_report seeds.first seeds.last program
 view_of views.Explain title program = explained_program program program.duration
 view_of (views.Shares measure) title program = table measure (curves_of program)
 view_of views.Chart title program = chart title (curves_of program)

@@ -4,6 +4,7 @@ use crate::view::{Showing, View};
 use clap::builder::ValueParser;
 use clap::{Arg, ArgAction, ArgMatches, Command, Error};
 use lot_curves::Measure;
+use lot_play::Seeds;
 use lot_simulation::ranges;
 use lot_text::Seed;
 use std::alloc::{AllocError, Global};
@@ -53,6 +54,7 @@ pub(crate) fn command_line_of<'a, S: AsStr>(
         .about("A lottery scheduler with ticket currencies, simulated")
         .subcommand_required(true)
         .subcommand(play_command(alloc)?)?
+        .subcommand(report_command(alloc)?)?
         .subcommand(explain_command(alloc)?)?
         .subcommand(run_command(alloc)?)?
         .subcommand(shares_command(alloc)?)?
@@ -74,15 +76,17 @@ fn showing<'a>(alloc: Global, name: &'a str, about: &'a str) -> Result<Command<'
         .long("seed")
         .value_name("S")
         .action(ArgAction::Set)
-        .value_parser(ValueParser::unsigned(
-            u64::from(ranges::SEED.first),
-            u64::from(ranges::SEED.last),
-        ))
+        .value_parser(seed_parser())
         .help(
             "Replaces the input's seeds: processor 1 has the seed S, 1 to 2147483646, and the others' are computed \
              from it",
         );
     reading(alloc, name, about)?.arg(seed)
+}
+
+/// What a seed may be.
+fn seed_parser<'a>() -> ValueParser<'a> {
+    ValueParser::unsigned(u64::from(ranges::SEED.first), u64::from(ranges::SEED.last))
 }
 
 /// A subcommand that reads an input, with a text on what it does.
@@ -102,6 +106,27 @@ fn play_command<'a>(alloc: Global) -> Result<Command<'a>, AllocError> {
         "Reads an input from FILE or standard input, makes the turns of its schedule and writes a line for each, and a \
          report",
     )
+}
+
+/// The command that writes the report.
+fn report_command<'a>(alloc: Global) -> Result<Command<'a>, AllocError> {
+    let seeds = Arg::new(alloc, "seeds")
+        .long("seeds")
+        .value_name("SEED")
+        .num_args(2)
+        .action(ArgAction::Set)
+        .value_parser(seed_parser())
+        .conflicts_with("seed")?
+        .help(
+            "Plays the input once with each seed from the first to the last, and writes the mean, the least and the \
+             most of each thread's draws, ticks and share",
+        );
+    showing(
+        alloc,
+        "report",
+        "Plays an input from FILE or standard input, and writes the report alone",
+    )?
+    .arg(seeds)
 }
 
 /// The command that writes the turns and the lots of each lottery.
@@ -158,6 +183,7 @@ fn chart_command<'a>(alloc: Global) -> Result<Command<'a>, AllocError> {
 fn request_of(name: &str, given: &ArgMatches<'_>) -> Request {
     let view = match name {
         "run" => return Request::Run,
+        "report" => View::Report(seeds_of(given)),
         "explain" => View::Explain,
         "shares" => View::Shares(measure_of(given)),
         "chart" => View::Chart,
@@ -187,6 +213,17 @@ fn measure_of(given: &ArgMatches<'_>) -> Measure {
 /// The seed that was given, or none for those of the input.
 fn seed_of(given: &ArgMatches<'_>) -> Option<Seed> {
     Seed::new(given.get_one("seed")?)
+}
+
+/// The seeds of several plays, if they were given.
+fn seeds_of(given: &ArgMatches<'_>) -> Option<Seeds> {
+    let [first, last] = given.get_strs("seeds")? else {
+        return None;
+    };
+    Some(Seeds {
+        first: Seed::new(first.parse().ok()?)?,
+        last: Seed::new(last.parse().ok()?)?,
+    })
 }
 
 /// The name of the file that was given, or none for standard input.

@@ -1,5 +1,6 @@
 //! Diagnostics in words on standard error.
 
+use crate::schedule::without_schedule;
 use lot_io::Watched;
 use lot_simulation::InputFault;
 use lot_system::Warnings;
@@ -18,7 +19,7 @@ const MORE_FAULTS: &str = "there are more faults\n";
 /// The diagnostics for standard error. The output and the status don't depend on them.
 #[derive(Drop)]
 pub(crate) struct Diagnostics {
-    /// The input, whose lines they name. It is kept during the play, since only the run determines the lines.
+    /// The input, whose lines they name; after a play without the lines of the schedule at its end.
     pub(crate) input: Vec<u8>,
     /// The warnings of its run.
     pub(crate) warnings: Warnings,
@@ -31,6 +32,15 @@ impl Diagnostics {
             input: Vec::new(alloc),
             warnings: Warnings::none(alloc)?,
         })
+    }
+
+    /// Keeps an input that is about to be played, since only its turns determine the lines to be named. None of them is
+    /// a line of the schedule, so it frees those at the end.
+    pub(crate) fn keep_played(&mut self, input: Vec<u8>) {
+        let kept = without_schedule(input.as_slice()).len();
+        self.input = input;
+        self.input.truncate(kept);
+        self.input.shrink_to_fit();
     }
 
     /// Writes the faults of the refused input, a line for each: the first, and up to nine others that aren't its

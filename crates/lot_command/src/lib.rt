@@ -7,6 +7,7 @@ mod diagnostics;
 mod exit_status;
 pub mod laws;
 mod run;
+mod schedule;
 mod source;
 mod view;
 

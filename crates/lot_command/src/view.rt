@@ -10,7 +10,7 @@ use lot_chart::{chart_program, shares_program};
 use lot_curves::Measure;
 use lot_explain::explain_program;
 use lot_io::{IoFault, Watched, read_input};
-use lot_play::play_program;
+use lot_play::{Seeds, play_program, report_program, report_seeds};
 use lot_system::{Played, Warnings, refuse};
 use lot_text::{ParseFault, Program, Seed, parse_seeded};
 use std::alloc::Global;
@@ -21,6 +21,8 @@ use std::io::{Read, Write};
 pub(crate) enum View {
     /// A line for each turn, and the report.
     Play,
+    /// The report alone; or, with seeds, that over a play with each of them.
+    Report(Option<Seeds>),
     /// A line for each turn, after the lots of its lottery if a thread won it, and the report.
     Explain,
     /// A table of this measure of each thread over time.
@@ -51,37 +53,37 @@ pub(crate) fn show<R: Read, W: Write>(
     ensures plays { PlaysInput (text_of showing.now.view title.now showing.now.seed)
         R.remaining reader.old reader.new W.contents writer.old writer.new result }
 {
-    diagnostics.input = read_input(alloc, reader)?;
-    show_bytes(
-        alloc,
-        showing,
-        title,
-        diagnostics.input.as_slice(),
-        &mut diagnostics.warnings,
-        writer,
-    )
+    let bytes = read_input(alloc, reader)?;
+    show_bytes(alloc, showing, title, bytes, diagnostics, writer)
 }
 
 /// Makes the turns of the input in `bytes`, and writes this view of them, or the line for a refused input. It stores
-/// the run's warnings in `warnings`.
+/// the input and the run's warnings in `diagnostics`.
 #[tactic(auto, using(crate::proofs::GivenSeeds::came_seeded))]
 fn show_bytes<W: Write>(
     alloc: Global,
     showing: &Showing,
     title: &str,
-    bytes: &[u8],
-    warnings: &mut Warnings,
+    bytes: Vec<u8>,
+    diagnostics: &mut Diagnostics,
     writer: &mut Watched<W>,
 ) -> Result<Played, IoFault>
     requires { writer.old.failed ≡ false }
     ensures flushed { OnOk result (writer.new.flushed ≡ true) }
-    ensures shown { Plays W.contents writer.old writer.new result (came_of (program_in bytes.now))
-        (text_of showing.now.view title.now showing.now.seed bytes.now) }
+    ensures shown { Plays W.contents writer.old writer.new result (came_of (program_in bytes.items))
+        (text_of showing.now.view title.now showing.now.seed bytes.items) }
 {
-    match parse_seeded(alloc, showing.seed, bytes) {
-        Ok(program) => show_program(alloc, showing.view, title, &program, warnings, writer),
+    match parse_seeded(alloc, showing.seed, bytes.as_slice()) {
+        Ok(program) => {
+            diagnostics.keep_played(bytes);
+            let warnings = &mut diagnostics.warnings;
+            show_program(alloc, showing.view, title, &program, warnings, writer)
+        }
         Err(ParseFault::Memory) => Err(IoFault::Memory),
-        Err(ParseFault::Input(fault)) => refuse(fault, writer),
+        Err(ParseFault::Input(fault)) => {
+            diagnostics.input = bytes;
+            refuse(fault, writer)
+        }
     }
 }
 
@@ -101,6 +103,8 @@ fn show_program<W: Write>(
 {
     match view {
         View::Play => play_program(alloc, program, warnings, writer),
+        View::Report(None) => report_program(alloc, program, warnings, writer),
+        View::Report(Some(seeds)) => report_seeds(alloc, program, seeds, warnings, writer),
         View::Explain => explain_program(alloc, program, warnings, writer),
         View::Shares(measure) => shares_program(alloc, measure, program, warnings, writer),
         View::Chart => chart_program(alloc, title, program, warnings, writer),

@@ -24,7 +24,8 @@ use Rattle.lot_simulation.specs.declared.input.ScriptWord.TheVariants as script
 use Rattle.lot_simulation.specs.declared.script.Line.{Line}
 use Rattle.lot_simulation.specs.declared.script.Line.TheVariants as line
 use Rattle.lot_simulation.specs.declared.script.ScriptTrap.TheVariants as trap
-use Rattle.lot_simulation.specs.Grammar.{ActorRun, Phrase, actors_of, add_command, add_line, add_runs, body_after_header, body_line, body_words_of, closed_program, first_line, fitting_line, header_in_order, header_line, header_words_of, is_full, is_late, lacks_duration, later_line, line_inside, line_outside, phrase_inside, phrases_inside, phrases_of, program_in, program_of, read_line, read_lines, refused_on, run_of, script_line, script_names, time_of_next, token_line, whole_program, with_header_word, with_line}
+use Rattle.lot_simulation.specs.declared.separators.Separators.{Separators}
+use Rattle.lot_simulation.specs.Grammar.{ActorRun, Phrase, actors_of, add_command, add_line, add_runs, body_after_header, body_line, body_words_of, closed_program, first_line, fitting_line, header_in_order, header_line, header_words_of, is_full, is_late, lacks_duration, later_line, line_inside, line_outside, phrase_inside, phrases_inside, phrases_of, program_in, program_of, read_line, read_lines, refused_on, run_of, script_line, script_names, separators_of, time_of_next, token_line, whole_program, with_header_word, with_line}
 use Rattle.lot_simulation.specs.Lines.{is_ignored, lines_of, number_of, tokens_of, without_end}
 use Rattle.lot_simulation.specs.Reading.{OpenScript, Reading, ◌>>=◌, actor_below, any_name, any_number, checked, each, each_pair, is_long_name, number_between, opening_reading, script_number}
 use Rattle.lot_simulation.specs.Timed.{end_of}
@@ -327,15 +328,15 @@ abbrev IsReadSoFar : Option Reading → Type 0
 IsReadSoFar reading = IfSome reading IsRead
 
 -- a line, ignored or not
-fitting-kept : (n : ℕ) (reading : Option Reading) (line : List ℕ) (is_skipped : Bool) → IsReadSoFar reading → Reads (fitting_line n reading line is_skipped) IsReadSoFar
-fitting-kept n reading line true is = reads IsReadSoFar reading is
-fitting-kept n reading line false is = any-read _ IsReadSoFar (λ whole. then-read IsRead IsReadSoFar (token-kept n reading is (tokens_of whole)) (λ after so_far. reads IsReadSoFar (Some after) so_far))
+fitting-kept : (n : ℕ) (reading : Option Reading) (s : Separators) (line : List ℕ) (is_skipped : Bool) → IsReadSoFar reading → Reads (fitting_line n reading s line is_skipped) IsReadSoFar
+fitting-kept n reading s line true is = reads IsReadSoFar reading is
+fitting-kept n reading s line false is = any-read _ IsReadSoFar (λ whole. then-read IsRead IsReadSoFar (token-kept n reading is (tokens_of s whole)) (λ after so_far. reads IsReadSoFar (Some after) so_far))
 
 -- a line that may be too long
 line-read : (n end : ℕ) (reading : Option Reading) (line : List ℕ) → IsReadSoFar reading → Reads (read_line n end reading line) IsReadSoFar
 line-read n end reading line is =
     let checks = (nat_lt 4096 (length line) || nat_lt 16777216 end, TooLong) ∷ [] in
-    any-read (checked checks line) IsReadSoFar (λ whole. fitting-kept n reading whole (is_ignored (tokens_of whole)) is)
+    any-read (checked checks line) IsReadSoFar (λ whole. fitting-kept n reading (separators_of reading whole) whole (is_ignored (tokens_of (separators_of reading whole) whole)) is)
 
 -- what is refused is refused on a line
 refused-kept : {A : Type 0} (P : A → Type 0) (n : ℕ) (read : Result A InputRefusal) → Reads read P → Reads (refused_on n read) P

@@ -4,3 +4,4 @@ pub mod TimedReportFacts
 pub mod TextFacts
 pub mod LineFacts
 pub mod PlayedFacts
+pub mod SeedFacts

@@ -13,7 +13,7 @@ use Rattle.lot_print.specs.Listings.{listing_line}
 use Rattle.lot_engine.specs.Seen.{given_count}
 use Rattle.lot_play.specs.Listing.{first_number, row_line, rows_among}
 
-numbers-push : (a k : ℕ) → range_with_len a (suc k) ≡ range_with_len a k ++ (a + k) ∷ []
+pub numbers-push : (a k : ℕ) → range_with_len a (suc k) ≡ range_with_len a k ++ (a + k) ∷ []
 numbers-push a zero = let e : a + 0 ≡ a = omega arith in ap (λ n. n ∷ []) (sym e)
 numbers-push a (suc k) = let e : a + 1 + k ≡ a + suc k = omega arith in ap (λ ns. a ∷ ns) (numbers-push (a + 1) k) ∙ ap (λ n. a ∷ (range_with_len (a + 1) k ++ n ∷ [])) e
 

@@ -22,3 +22,7 @@ module _ (old new : Option (List ℕ)) (turns last all : List ℕ) (is : all ≡
     -- or not at all
     pub ends-well : (failed ≡ false) × Appends mid new last → EndsPlay old new failed (Ok Done) Done all
     ends-well told = (refl, told.0, subst (Appends old new) (sym is) (appends-both old mid new turns last first told.1))
+
+-- a writer that fails in the only text
+pub ends-err : (old new : Option (List ℕ)) (text : List ℕ) (failed : Bool) (r : Result Played IoFault) (fault : IoFault) → r ≡ Err fault → (fault ≡ Write) × (failed ≡ true) × Begins old new text → EndsPlay old new failed r Done text
+ends-err old new text failed r fault err told = rw err (rw told.0 (told.1, told.2))

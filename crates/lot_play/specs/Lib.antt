@@ -8,3 +8,5 @@ pub mod Played
 pub mod Kept
 -- The warnings of a run.
 pub mod Leaving
+-- The report over several plays of a program, each with another seed.
+pub mod Seeds

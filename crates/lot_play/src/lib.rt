@@ -3,6 +3,7 @@
 
 mod answers;
 mod ending;
+mod figures;
 mod first_few;
 mod inputs;
 pub mod laws;
@@ -11,6 +12,8 @@ mod listing;
 mod playing;
 mod report;
 mod reports;
+mod seeds;
+mod summary;
 mod timed_report;
 mod warnings;
 
@@ -22,4 +25,6 @@ pub use lines::play_program;
 pub use playing::play_through;
 pub use report::write_report;
 pub use reports::{end_play, note_last};
+pub use seeds::{Seeds, report_seeds};
+pub use summary::report_program;
 pub use warnings::{RefusedCommand, StuckThread, Warnings};

@@ -1,14 +1,15 @@
 -- Words and lines that are printed, read again.
-use Rattle.std.proofs.Common.{◌≡◌, ◌<◌, ◌≤◌, ◌-◌, ◌^◌, ◌==◌, ℕ, zero, suc, Bool, true, false, not, ◌&&◌, Some, List, [], ◌∷◌, ◌++◌, length, take, filter, get_or, slice_index, refl, ap, ◌∙◌, arith, append-nil, le-leb}
+use Rattle.std.proofs.Common.{◌≡◌, ◌<◌, ◌≤◌, ◌-◌, ◌^◌, ◌==◌, ℕ, zero, suc, Bool, true, false, not, ◌&&◌, ◌||◌, Some, List, [], ◌∷◌, ◌++◌, length, take, filter, get_or, slice_index, refl, ap, ◌∙◌, arith, append-nil, le-leb}
 use Rattle.std.specs.Prelude.{⊤, nat_lt, nat_le}
 use Rattle.std.specs.Char.{is_ascii_digit}
 use Rattle.std.specs.Fmt.{decimal}
 use Rattle.std.specs.List.{flat_map, list_all, prefix_len, slice_split}
 use Rattle.std.specs.Str.Parse.{AllDigits, digits_value}
 use Rattle.std.proofs.Math.Seq.{take-append_seam}
-use Rattle.std.proofs.lemmas.Bool.{ne_eqb, lt-ltb}
+use Rattle.std.proofs.lemmas.Bool.{eqb-false, lt-ltb, ne_eqb}
 use Rattle.std.proofs.lemmas.Fmt.{decimal_is_IsNumeral, decimal_digit, first_decimal}
 use Rattle.std.proofs.lemmas.Str.Parse.{digit_from_value}
+use Rattle.lot_simulation.specs.declared.separators.Separators.TheVariants.{Spaces}
 use Rattle.lot_simulation.specs.Lines.{lines_of, without_end, tokens_of, is_printable, number_of}
 
 -- bytes that are no space, and print
@@ -43,9 +44,15 @@ Shown-spaced [] words = tt
 Shown-spaced (w ∷ ws) words = (omega arith, omega arith, Shown-append w (spaced ws) (Shown-word w words.1) (Shown-spaced ws words.2))
 
 -- what is shown is printable
-pub is_printable-shown : (xs : List ℕ) → Shown xs → is_printable xs ≡ true
+pub is_printable-shown : (xs : List ℕ) → Shown xs → is_printable Spaces xs ≡ true
 is_printable-shown [] shown = refl
-is_printable-shown (x ∷ xs) shown = rw (le-leb 32 x shown.0, le-leb x 126 shown.1) (is_printable-shown xs shown.2)
+is_printable-shown (x ∷ xs) shown = at (x == 32) refl (is_printable-shown xs shown.2)
+  where
+    at : (e : Bool) → (x == 32) ≡ e → is_printable Spaces xs ≡ true → (((e || (nat_le 33 x && nat_le x 126)) && is_printable Spaces xs) ≡ true)
+    at true is others = others
+    at false is others =
+        let above : 33 ≤ x = omega (arith, shown.0, eqb-false x 32 is) in
+        rw (le-leb 33 x above, le-leb x 126 shown.1) others
 
 -- ---- lines
 
@@ -86,7 +93,7 @@ all_tokens [] words = refl
 all_tokens (w ∷ ws) words = rw (lt-ltb 0 (length w) words.0, all_tokens ws words.2) refl
 
 -- words after a first one are read as those tokens
-pub tokens_of-words : (w : List ℕ) (ws : List (List ℕ)) → Words (w ∷ ws) → tokens_of (w ++ spaced ws) ≡ w ∷ ws
+pub tokens_of-words : (w : List ℕ) (ws : List (List ℕ)) → Words (w ∷ ws) → tokens_of Spaces (w ++ spaced ws) ≡ w ∷ ws
 tokens_of-words w ws words = rw (split-words w ws words.1 words.2) (all_tokens (w ∷ ws) words)
 
 -- ---- numbers

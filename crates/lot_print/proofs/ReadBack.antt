@@ -8,6 +8,7 @@ use Rattle.std.proofs.lemmas.Fmt.{length-decimal-le}
 use Rattle.lot_simulation.specs.declared.input.InputRefusal.{InputRefusal}
 use Rattle.lot_simulation.specs.declared.input.BodyWord.{BodyWord}
 use Rattle.lot_simulation.specs.declared.input.BodyWord.TheVariants as body
+use Rattle.lot_simulation.specs.declared.separators.Separators.TheVariants.{Spaces}
 use Rattle.lot_simulation.specs.Lines.{lines_of, tokens_of, is_comment, is_printable}
 use Rattle.lot_simulation.specs.Words.{word_in, header_words, body_words}
 use Rattle.lot_simulation.specs.Reading.{Reading, ◌>>=◌, actor_below, each}
@@ -24,12 +25,12 @@ scheduled r actors = record r { schedule = r.schedule ++ actors; place = 8 }
 
 -- a line of the body is read by its word
 pub read_line-words : (n end : ℕ) (r after : Reading) (line w : List ℕ) (ws : List (List ℕ)) (word : BodyWord)
-    → r.unclosed ≡ None → r.is_timed ≡ false → end ≤ 16777216 → length line ≤ 4096 → is_printable line ≡ true → tokens_of line ≡ w ∷ ws
+    → r.unclosed ≡ None → r.is_timed ≡ false → end ≤ 16777216 → length line ≤ 4096 → is_printable Spaces line ≡ true → tokens_of Spaces line ≡ w ∷ ws
     → is_comment w ≡ false → word_in header_words w ≡ None → word_in body_words w ≡ Some word → body_after_header n r word ws ≡ Ok after
     → read_line n end (Some r) line ≡ Ok (Some after)
 read_line-words n end r after line w ws word unclosed untimed within short printable tokens comment header known read =
     let by_word : read_line n end (Some r) line ≡ (body_after_header n r word ws >>= λ (now : Reading). Ok (Some now)) =
-    rw (le-ltb 4096 (length line) short, le-ltb 16777216 end within, tokens, comment, printable, tokens, unclosed, untimed, header, known) refl in
+    rw (le-ltb 4096 (length line) short, le-ltb 16777216 end within, untimed, tokens, comment, printable, tokens, unclosed, header, known) refl in
     by_word ∙ ap (λ (given : Result Reading InputRefusal). given >>= λ (now : Reading). Ok (Some now)) read
 
 -- the first line is read, and then the others

@@ -2,3 +2,4 @@ pub mod Listings
 pub mod Readback
 pub mod Totals
 pub mod Lots
+pub mod Figures

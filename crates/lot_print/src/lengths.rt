@@ -135,6 +135,16 @@ const TIMED_THREAD: usize = NAMED + COUNTS + PERCENT + PERCENT + WAITS + WAITS +
 /// The longest line of a timed report.
 pub(crate) const TIMED_ROW: usize = 512;
 
+/// A figure's word, and its mean, its least and its most over several plays.
+const SPREAD: usize = b" quanta".len()
+    + b" mean ".len()
+    + b" least ".len()
+    + b" most ".len()
+    + 3 * (QUOTIENT + 1);
+
+/// The longest line of a report over several plays.
+pub(crate) const FIGURES_ROW: usize = 640;
+
 /// A `schedule` line.
 pub(crate) const SCHEDULE_LINE: usize = SCHEDULE_WORD.len() + ACTORS * (1 + ACTOR) + 1;
 
@@ -143,3 +153,5 @@ const _: () = prove!(TURN == 192 && TURN <= PAGE);
 const _: () = prove!(TICKET_ROW <= ROW && CURRENCY_ROW <= ROW && THREAD_ROW <= ROW && LOT <= ROW);
 
 const _: () = prove!(TIMED_THREAD <= TIMED_ROW);
+
+const _: () = prove!(NAMED + b" plays ".len() + LONG_NUMBER + 3 * SPREAD + 1 <= FIGURES_ROW);

@@ -3,6 +3,7 @@
 //! on a page, and written together.
 #![tactic(auto)]
 
+mod figures;
 mod histories;
 mod laws;
 mod lengths;
@@ -16,6 +17,7 @@ mod runs;
 mod timed_totals;
 mod totals;
 
+pub use figures::{Figures, Spread, Unit, write_figures, write_seeds};
 pub use histories::write_history;
 pub use laws::histories_are_read_back;
 pub use lots::{Lot, Lottery, write_lot};

@@ -21,7 +21,9 @@ use Rattle.lot_simulation.specs.declared.input.InputRefusal.{InputRefusal}
 use Rattle.lot_simulation.specs.declared.input.InputRefusal.TheVariants.{BadHeader, BadLine, OpenScript as ScriptIsOpen, TooDeep, TooLong}
 use Rattle.lot_simulation.specs.declared.input.InputFault.{InputFault}
 use Rattle.lot_machine.specs.declared.sizes.Sizes.{Sizes}
-use Rattle.lot_simulation.specs.Lines.{lines_of, without_end, tokens_of, is_ignored, is_printable}
+use Rattle.lot_simulation.specs.declared.separators.Separators.{Separators}
+use Rattle.lot_simulation.specs.declared.separators.Separators.TheVariants.{Blanks}
+use Rattle.lot_simulation.specs.Lines.{lines_of, without_end, separators_in, tokens_of, is_ignored, is_printable}
 use Rattle.lot_simulation.specs.Words.{word_in, header_words, timed_header_words, header_place, body_words, timed_body_words, script_words, timed_script_words}
 use Rattle.lot_simulation.specs.Reading.{OpenScript, Reading, opening_reading, ◌>>=◌, checked, each, each_pair, number_between, any_number, actor_below, any_name, new_name, known_name, script_number}
 use Rattle.lot_machine.specs.Lottery.{mixed_seed}
@@ -321,19 +323,34 @@ token_line n None tokens = first_line tokens
 token_line n (Some r) [] = Ok r
 token_line n (Some r) (word ∷ tokens) = later_line n r r.unclosed word tokens
 
--- a line with this number that isn't too long
-abbrev pub fitting_line : ℕ → Option Reading → List ℕ → Bool → Result (Option Reading) InputRefusal
-fitting_line n reading line true = Ok reading
-fitting_line n reading line false = do
-  printable ← checked ((not (is_printable line), BadLine) ∷ []) line
-  after ← token_line n reading (tokens_of printable)
+-- whether these tokens say that the input is timed: they are `lottery` and `3`
+abbrev pub are_timed : List (List ℕ) → Bool
+are_timed (word ∷ version ∷ []) = bytes_eq word (codes "lottery") && bytes_eq version (codes "3")
+are_timed other = false
+
+-- whether the line, which isn't ignored, begins a timed input
+abbrev pub begins_timed : List ℕ → Bool
+begins_timed line = is_printable Blanks line && are_timed (tokens_of Blanks line)
+
+-- The separators in a line are those of its input. Before there is a reading, only the line that begins a timed input
+-- has blanks.
+abbrev pub separators_of : Option Reading → List ℕ → Separators
+separators_of None line = separators_in (begins_timed line)
+separators_of (Some r) line = separators_in r.is_timed
+
+-- a line with this number that isn't too long, by whether it is ignored
+abbrev pub fitting_line : ℕ → Option Reading → Separators → List ℕ → Bool → Result (Option Reading) InputRefusal
+fitting_line n reading separators line true = Ok reading
+fitting_line n reading separators line false = do
+  printable ← checked ((not (is_printable separators line), BadLine) ∷ []) line
+  after ← token_line n reading (tokens_of separators printable)
   Ok (Some after)
 
 -- The reading after the line with this number; the input up to its end has this many bytes.
 abbrev pub read_line : ℕ → ℕ → Option Reading → List ℕ → Result (Option Reading) InputRefusal
 read_line n end reading line = do
   fitting ← checked ((nat_lt 4096 (length line) || nat_lt 16777216 end, TooLong) ∷ []) line
-  fitting_line n reading fitting (is_ignored (tokens_of fitting))
+  fitting_line n reading (separators_of reading fitting) fitting (is_ignored (tokens_of (separators_of reading fitting) fitting))
 
 -- the result, with this line number in a refusal
 abbrev pub refused_on : {A : Type 0} → ℕ → Result A InputRefusal → Result A InputFault

@@ -2,7 +2,10 @@
 ghost use Rattle.std.specs.Prelude.{◌≡◌, ◌==◌, ◌||◌, not};
 ghost use Rattle.lot_machine.specs.Bounds.{IsUnit};
 ghost use Rattle.lot_simulation.specs.Formats as formats;
+ghost use Rattle.lot_simulation.specs.Lines.{separators_in};
 ghost use Rattle.lot_simulation.specs.Words.{word_in};
+
+use crate::separators::Separators;
 
 /// The format of an input, given on its first line. Code that depends on the format calls one of its methods.
 #[derive(Clone, Copy, Debug, PartialEq, Eq)]
@@ -48,6 +51,16 @@ impl Format {
         match self {
             Format::V1 | Format::V2 => false,
             Format::V3 => true,
+        }
+    }
+
+    /// The bytes that separate tokens in an input of this format.
+    pub fn separators(self) -> Separators
+        ensures { result ≡ separators_in (formats.is_timed self) }
+    {
+        match self {
+            Format::V1 | Format::V2 => Separators::Spaces,
+            Format::V3 => Separators::Blanks,
         }
     }
 

@@ -10,6 +10,7 @@ pub mod printed;
 pub mod ranges;
 pub mod read;
 mod script;
+mod separators;
 pub mod sliced;
 mod style;
 pub mod texts;
@@ -22,6 +23,7 @@ pub use format::Format;
 pub use forms::{Argument, Form, Range};
 pub use input::{BodyWord, HeaderWord, InputFault, InputRefusal, ScriptWord};
 pub use script::{Line, MutexTrap, PortTrap, ScriptTrap};
+pub use separators::Separators;
 pub use style::LineStyle;
 pub use timed::{Clock, Due, EarlyEnd, Sleeper, WaitChange, Waits};
 pub use words::{

@@ -4,12 +4,14 @@ ghost use Rattle.lot_simulation.specs.Grammar.{program_in};
 ghost use Rattle.lot_simulation.specs.Lines.{lines_of, tokens_of, number_of};
 ghost use Rattle.lot_simulation.specs.Output.{output};
 ghost use Rattle.lot_simulation.specs.Samples.{text, empty_report, refused_on_line, second_line, script_of};
+ghost use Rattle.lot_simulation.specs.declared.separators.Separators.TheVariants.{Spaces, Blanks};
 
 /// Lines, tokens and numbers.
 pub fn lines_and_tokens()
     ensures lines { lines_of (97 ∷ 10 ∷ 10 ∷ 98 ∷ []) ≡ (97 ∷ 10 ∷ []) ∷ (10 ∷ []) ∷ (98 ∷ []) ∷ [] }
     ensures ended { lines_of (97 ∷ 10 ∷ []) ≡ (97 ∷ 10 ∷ []) ∷ [] }
-    ensures tokens { tokens_of (codes "  lottery  1 ") ≡ codes "lottery" ∷ codes "1" ∷ [] }
+    ensures tokens { tokens_of Spaces (codes "  lottery  1 ") ≡ codes "lottery" ∷ codes "1" ∷ [] }
+    ensures blanks { tokens_of Blanks (9 ∷ codes "add" ++ 13 ∷ codes " 5" ++ 9 ∷ []) ≡ codes "add" ∷ codes "5" ∷ [] }
     ensures number { number_of (codes "18446744073709551615") ≡ Some 18446744073709551615 }
     ensures too_large { number_of (codes "18446744073709551616") ≡ None }
     ensures zero { number_of (codes "0") ≡ Some 0 }
@@ -28,6 +30,22 @@ pub fn lines()
     ensures comment { output (text (second_line (codes "mktkt 1 base # x"))) ≡ refused_on_line (codes "2 51 BadLine") }
     ensures earlier { output (text (codes "lottery 1" ∷ codes "script s" ∷ codes "yield" ∷ codes "port p" ∷ []))
         ≡ refused_on_line (codes "4 51 BadLine") }
+{}
+
+/// From its first line on, a timed input may have a tab or a carriage return for a space. Other lines may not.
+#[tactic(auto, unfolding(crate::specs::OnLiterals::texts_on_literals))]
+pub fn blanks()
+    ensures same { program_in (text ((codes "lottery 3" ++ 13 ∷ []) ∷ (codes "for" ++ 13 ∷ codes "9" ++ 13 ∷ [])
+        ∷ (9 ∷ []) ∷ (13 ∷ []) ∷ codes "script s" ∷ (9 ∷ codes "compute" ++ 9 ∷ codes "5" ++ 13 ∷ [])
+        ∷ (9 ∷ codes "# any") ∷ codes "endscript" ∷ []))
+        ≡ program_in (text (codes "lottery 3" ∷ codes "for 9" ∷ codes "script s" ∷ codes "compute 5"
+        ∷ codes "endscript" ∷ [])) }
+    ensures earlier { output (text ((13 ∷ []) ∷ codes "lottery 3" ∷ codes "for 9" ∷ []))
+        ≡ refused_on_line (codes "1 51 BadLine") }
+    ensures eleven { output (text (codes "lottery 3" ∷ (codes "for 9" ++ 11 ∷ []) ∷ []))
+        ≡ refused_on_line (codes "2 51 BadLine") }
+    ensures first { output (text (second_line (codes "port p" ++ 9 ∷ []))) ≡ refused_on_line (codes "2 51 BadLine") }
+    ensures second { output (text ((codes "lottery 2" ++ 9 ∷ []) ∷ [])) ≡ refused_on_line (codes "1 51 BadLine") }
 {}
 
 /// The header's order in an input that isn't timed.

@@ -1,114 +1,159 @@
--- The first token of a line, and those after it.
-use Rattle.std.proofs.Common.{◌≡◌, ◌<◌, ◌+◌, ◌-◌, ℕ, suc, ◌==◌, Bool, true, false, not, cond, List, [], ◌∷◌, length, take, drop, filter, refl, ap, ◌∙◌, arith, lt-ltb}
-use Rattle.std.specs.Prelude.{nat_lt}
+-- The first word of a line, and those after it.
+use Rattle.std.proofs.Common.{◌≡◌, ◌<◌, ◌+◌, ◌-◌, ℕ, zero, suc, ◌==◌, Bool, true, false, not, ◌&&◌, ◌||◌, cond, List, [], ◌∷◌, length, take, drop, filter, refl, ap, ◌∙◌, arith, lt-ltb}
+use Rattle.std.specs.Prelude.{nat_le, nat_lt}
 use Rattle.std.specs.List.{prefix_len, slice_split, onto_first}
+use Rattle.std.proofs.lemmas.Bool.{and_parts}
+use Rattle.std.proofs.lemmas.Bool.Decides.{nat_tests}
 use Rattle.std.proofs.lemmas.List.{take_rest, take_all, drop_all}
 use Rattle.std.proofs.lemmas.List.Folds.{length-prefix_len}
-use Rattle.lot_simulation.specs.Lines.{tokens_of}
+use Rattle.lot_simulation.specs.declared.separators.Separators.{Separators}
+use Rattle.lot_simulation.specs.declared.separators.Separators.TheVariants.{Spaces, Blanks}
+use Rattle.lot_simulation.specs.Lines.{is_comment, is_ignored, is_printable, separates, tokens_of}
+use Rattle.lot_text.specs.Tokens.{words_of}
 
-abbrev is_space : ℕ → Bool
-is_space b = b == 32
+abbrev is_word : List ℕ → Bool
+is_word word = nat_lt 0 (length word)
 
-abbrev is_token : List ℕ → Bool
-is_token token = nat_lt 0 (length token)
+-- the words of a line, where the bytes of which the test is true separate them
+abbrev pub parts : (ℕ → Bool) → List ℕ → List (List ℕ)
+parts p xs = filter is_word (slice_split p xs)
 
--- how many bytes stand before the first space
-abbrev pub word_len : List ℕ → ℕ
-word_len xs = prefix_len (λ b. not (b == 32)) xs
+-- how many bytes stand before the first that separates
+abbrev pub first_len : (ℕ → Bool) → List ℕ → ℕ
+first_len p xs = prefix_len (λ b. not (p b)) xs
 
--- spaces at the front say nothing
-pub tokens_of-spaces : (xs : List ℕ) → tokens_of xs ≡ tokens_of (drop (prefix_len (λ b. b == 32) xs) xs)
-tokens_of-spaces [] = refl
-tokens_of-spaces (x ∷ xs) = at (x == 32) refl (tokens_of-spaces xs)
+-- separators at the front say nothing
+parts-front : (p : ℕ → Bool) (xs : List ℕ) → parts p xs ≡ parts p (drop (prefix_len p xs) xs)
+parts-front p [] = refl
+parts-front p (x ∷ xs) = at (p x) refl (parts-front p xs)
   where
-    at : (e : Bool) → (x == 32) ≡ e → tokens_of xs ≡ tokens_of (drop (prefix_len is_space xs) xs)
-        → tokens_of (x ∷ xs) ≡ tokens_of (drop (cond e (1 + prefix_len is_space xs) 0) (x ∷ xs))
-    at true is others = let more : 1 + prefix_len is_space xs ≡ suc (prefix_len is_space xs) = omega arith in rw (is, more) others
+    at : (e : Bool) → p x ≡ e → parts p xs ≡ parts p (drop (prefix_len p xs) xs)
+        → parts p (x ∷ xs) ≡ parts p (drop (cond e (1 + prefix_len p xs) 0) (x ∷ xs))
+    at true is others = let more : 1 + prefix_len p xs ≡ suc (prefix_len p xs) = omega arith in rw (is, more) others
     at false is others = refl
 
 -- the first of the parts
-split-first : (xs : List ℕ) → slice_split is_space xs ≡ take (word_len xs) xs ∷ drop 1 (slice_split is_space xs)
-split-first [] = refl
-split-first (x ∷ xs) = at (x == 32) refl (split-first xs)
+split-first : (p : ℕ → Bool) (xs : List ℕ) → slice_split p xs ≡ take (first_len p xs) xs ∷ drop 1 (slice_split p xs)
+split-first p [] = refl
+split-first p (x ∷ xs) = at (p x) refl (split-first p xs)
   where
-    at : (e : Bool) → (x == 32) ≡ e → slice_split is_space xs ≡ take (word_len xs) xs ∷ drop 1 (slice_split is_space xs)
-        → cond e ([] ∷ slice_split is_space xs) (onto_first x (slice_split is_space xs))
-        ≡ take (cond (not e) (1 + word_len xs) 0) (x ∷ xs) ∷ drop 1 (cond e ([] ∷ slice_split is_space xs) (onto_first x (slice_split is_space xs)))
+    at : (e : Bool) → p x ≡ e → slice_split p xs ≡ take (first_len p xs) xs ∷ drop 1 (slice_split p xs)
+        → cond e ([] ∷ slice_split p xs) (onto_first x (slice_split p xs))
+        ≡ take (cond (not e) (1 + first_len p xs) 0) (x ∷ xs) ∷ drop 1 (cond e ([] ∷ slice_split p xs) (onto_first x (slice_split p xs)))
     at true is first = refl
-    at false is first = let more : 1 + word_len xs ≡ suc (word_len xs) = omega arith in rw (more, first) refl
+    at false is first = let more : 1 + first_len p xs ≡ suc (first_len p xs) = omega arith in rw (more, first) refl
 
 -- the other parts
-split-others : (xs : List ℕ) → filter is_token (drop 1 (slice_split is_space xs)) ≡ tokens_of (drop (word_len xs) xs)
-split-others [] = refl
-split-others (x ∷ xs) = at (x == 32) refl (split-first xs) (split-others xs)
+split-others : (p : ℕ → Bool) (xs : List ℕ) → filter is_word (drop 1 (slice_split p xs)) ≡ parts p (drop (first_len p xs) xs)
+split-others p [] = refl
+split-others p (x ∷ xs) = at (p x) refl (split-first p xs) (split-others p xs)
   where
-    at : (e : Bool) → (x == 32) ≡ e → slice_split is_space xs ≡ take (word_len xs) xs ∷ drop 1 (slice_split is_space xs)
-        → filter is_token (drop 1 (slice_split is_space xs)) ≡ tokens_of (drop (word_len xs) xs)
-        → filter is_token (drop 1 (cond e ([] ∷ slice_split is_space xs) (onto_first x (slice_split is_space xs)))) ≡ tokens_of (drop (cond (not e) (1 + word_len xs) 0) (x ∷ xs))
+    at : (e : Bool) → p x ≡ e → slice_split p xs ≡ take (first_len p xs) xs ∷ drop 1 (slice_split p xs)
+        → filter is_word (drop 1 (slice_split p xs)) ≡ parts p (drop (first_len p xs) xs)
+        → filter is_word (drop 1 (cond e ([] ∷ slice_split p xs) (onto_first x (slice_split p xs)))) ≡ parts p (drop (cond (not e) (1 + first_len p xs) 0) (x ∷ xs))
     at true is first others = rw is refl
     at false is first others =
-        let more : 1 + word_len xs ≡ suc (word_len xs) = omega arith in
-        let same : drop 1 (onto_first x (slice_split is_space xs)) ≡ drop 1 (slice_split is_space xs) = rw first refl in
+        let more : 1 + first_len p xs ≡ suc (first_len p xs) = omega arith in
+        let same : drop 1 (onto_first x (slice_split p xs)) ≡ drop 1 (slice_split p xs) = rw first refl in
         rw (more, same) others
 
--- a line that begins with a word has it as its first token
-pub tokens_of-word : (xs : List ℕ) → 0 < word_len xs → tokens_of xs ≡ take (word_len xs) xs ∷ tokens_of (drop (word_len xs) xs)
-tokens_of-word xs some =
-    let long : nat_lt 0 (length (take (word_len xs) xs)) ≡ true = rw length-prefix_len (lt-ltb 0 (word_len xs) some) in
-    ap (λ parts. filter is_token parts) (split-first xs) ∙ rw (long, split-others xs) refl
+-- a line that begins with a word has it as its first
+parts-word : (p : ℕ → Bool) (xs : List ℕ) → 0 < first_len p xs → parts p xs ≡ take (first_len p xs) xs ∷ parts p (drop (first_len p xs) xs)
+parts-word p xs some =
+    let long : nat_lt 0 (length (take (first_len p xs) xs)) ≡ true = rw length-prefix_len (lt-ltb 0 (first_len p xs) some) in
+    ap (λ each. filter is_word each) (split-first p xs) ∙ rw (long, split-others p xs) refl
 
--- after the spaces at the front a word begins
-word-begins : (xs : List ℕ) → 0 < length (drop (prefix_len is_space xs) xs) → 0 < word_len (drop (prefix_len is_space xs) xs)
-word-begins [] some = absurd (omega (arith, some))
-word-begins (x ∷ xs) some = at (x == 32) refl (word-begins xs) some
+-- after the separators at the front a word begins
+word-begins : (p : ℕ → Bool) (xs : List ℕ) → 0 < length (drop (prefix_len p xs) xs) → 0 < first_len p (drop (prefix_len p xs) xs)
+word-begins p [] some = absurd (omega (arith, some))
+word-begins p (x ∷ xs) some = at (p x) refl (word-begins p xs) some
   where
-    at : (e : Bool) → (x == 32) ≡ e → (0 < length (drop (prefix_len is_space xs) xs) → 0 < word_len (drop (prefix_len is_space xs) xs))
-        → 0 < length (drop (cond e (1 + prefix_len is_space xs) 0) (x ∷ xs)) → 0 < word_len (drop (cond e (1 + prefix_len is_space xs) 0) (x ∷ xs))
-    at true is others some = let more : 1 + prefix_len is_space xs ≡ suc (prefix_len is_space xs) = omega arith in rw more (others (rw more at some))
+    at : (e : Bool) → p x ≡ e → (0 < length (drop (prefix_len p xs) xs) → 0 < first_len p (drop (prefix_len p xs) xs))
+        → 0 < length (drop (cond e (1 + prefix_len p xs) 0) (x ∷ xs)) → 0 < first_len p (drop (cond e (1 + prefix_len p xs) 0) (x ∷ xs))
+    at true is others some = let more : 1 + prefix_len p xs ≡ suc (prefix_len p xs) = omega arith in rw more (others (rw more at some))
     at false is others some = rw is (omega arith)
 
 no_items : (xs : List ℕ) → length xs ≡ 0 → xs ≡ []
 no_items [] is = refl
 no_items (x ∷ xs) is = absurd (omega (arith, is))
 
--- if only spaces are left, there is no token
-pub tokens_of-end : (xs word : List ℕ) (start : ℕ) → start ≡ prefix_len (λ b. b == 32) xs → word ≡ take (length xs - start) (drop start xs) → length word ≡ 0
-    → tokens_of xs ≡ []
-tokens_of-end xs word start spaces is none =
-    let rest : word ≡ drop (prefix_len (λ b. b == 32) xs) xs = is ∙ take_rest xs start ∙ ap (λ n. drop n xs) spaces in
-    tokens_of-spaces xs ∙ rw (← rest, no_items word none) refl
+-- if only separators are left, there is no word
+pub parts-end : (p : ℕ → Bool) (xs word : List ℕ) (start : ℕ) → start ≡ prefix_len p xs → word ≡ take (length xs - start) (drop start xs) → length word ≡ 0
+    → parts p xs ≡ []
+parts-end p xs word start gap is none =
+    let rest : word ≡ drop (prefix_len p xs) xs = is ∙ take_rest xs start ∙ ap (λ n. drop n xs) gap in
+    parts-front p xs ∙ rw (← rest, no_items word none) refl
 
--- else the word after the spaces is the first token, and the others are those after it
-pub tokens_of-next : (xs word more : List ℕ) (start len : ℕ) → start ≡ prefix_len (λ b. b == 32) xs → word ≡ take (length xs - start) (drop start xs) → 0 < length word
-    → len ≡ prefix_len (λ b. not (b == 32)) word → more ≡ take (length word - len) (drop len word)
-    → tokens_of xs ≡ take len word ∷ tokens_of more
-tokens_of-next xs word more start len spaces is some before following =
-    let rest : word ≡ drop (prefix_len (λ b. b == 32) xs) xs = is ∙ take_rest xs start ∙ ap (λ n. drop n xs) spaces in
+-- else the word after the separators is the first, and the others are those after it
+pub parts-next : (p : ℕ → Bool) (xs word more : List ℕ) (start len : ℕ) → start ≡ prefix_len p xs → word ≡ take (length xs - start) (drop start xs) → 0 < length word
+    → len ≡ prefix_len (λ b. not (p b)) word → more ≡ take (length word - len) (drop len word)
+    → parts p xs ≡ take len word ∷ parts p more
+parts-next p xs word more start len gap is some before following =
+    let rest : word ≡ drop (prefix_len p xs) xs = is ∙ take_rest xs start ∙ ap (λ n. drop n xs) gap in
     let left : more ≡ drop len word = following ∙ take_rest word len in
-    let begins : 0 < word_len word = rw rest (word-begins xs (rw rest at some)) in
-    tokens_of-spaces xs ∙ rw (← rest, left, before) (tokens_of-word word begins)
+    let begins : 0 < first_len p word = rw rest (word-begins p xs (rw rest at some)) in
+    parts-front p xs ∙ rw (← rest, left, before) (parts-word p word begins)
 
 -- a word that is cut out ends where it ended
-word_len-cut : (xs : List ℕ) → word_len (take (word_len xs) xs) ≡ word_len xs
-word_len-cut [] = refl
-word_len-cut (x ∷ xs) = at (x == 32) refl (word_len-cut xs)
+first_len-cut : (p : ℕ → Bool) (xs : List ℕ) → first_len p (take (first_len p xs) xs) ≡ first_len p xs
+first_len-cut p [] = refl
+first_len-cut p (x ∷ xs) = at (p x) refl (first_len-cut p xs)
   where
-    at : (e : Bool) → (x == 32) ≡ e → word_len (take (word_len xs) xs) ≡ word_len xs
-        → word_len (take (cond (not e) (1 + word_len xs) 0) (x ∷ xs)) ≡ cond (not e) (1 + word_len xs) 0
+    at : (e : Bool) → p x ≡ e → first_len p (take (first_len p xs) xs) ≡ first_len p xs
+        → first_len p (take (cond (not e) (1 + first_len p xs) 0) (x ∷ xs)) ≡ cond (not e) (1 + first_len p xs) 0
     at true is others = refl
-    at false is others = let more : 1 + word_len xs ≡ suc (word_len xs) = omega arith in rw (more, is, others) more
+    at false is others = let more : 1 + first_len p xs ≡ suc (first_len p xs) = omega arith in rw (more, is, others) more
 
--- so it is the only token of itself
-cut-alone : (xs : List ℕ) → 0 < word_len xs → tokens_of (take (word_len xs) xs) ≡ take (word_len xs) xs ∷ []
-cut-alone xs some =
-    let same : take (word_len xs) (take (word_len xs) xs) ≡ take (word_len xs) xs = take_all (word_len xs) (take (word_len xs) xs) (omega (arith, length-prefix_len (λ b. not (b == 32)) xs)) in
-    let none : drop (word_len xs) (take (word_len xs) xs) ≡ [] = drop_all (word_len xs) (take (word_len xs) xs) (omega (arith, length-prefix_len (λ b. not (b == 32)) xs)) in
-    tokens_of-word (take (word_len xs) xs) (rw word_len-cut some) ∙ rw (word_len-cut, same, none) refl
+-- so it is the only word of itself
+cut-alone : (p : ℕ → Bool) (xs : List ℕ) → 0 < first_len p xs → parts p (take (first_len p xs) xs) ≡ take (first_len p xs) xs ∷ []
+cut-alone p xs some =
+    let same : take (first_len p xs) (take (first_len p xs) xs) ≡ take (first_len p xs) xs = take_all (first_len p xs) (take (first_len p xs) xs) (omega (arith, length-prefix_len (λ b. not (p b)) xs)) in
+    let none : drop (first_len p xs) (take (first_len p xs) xs) ≡ [] = drop_all (first_len p xs) (take (first_len p xs) xs) (omega (arith, length-prefix_len (λ b. not (p b)) xs)) in
+    parts-word p (take (first_len p xs) xs) (rw first_len-cut some) ∙ rw (first_len-cut, same, none) refl
 
--- the word after the spaces at the front is the only token of itself
-pub tokens_of-alone : (xs word : List ℕ) (start len : ℕ) → start ≡ prefix_len (λ b. b == 32) xs → word ≡ take (length xs - start) (drop start xs) → 0 < length word
-    → len ≡ prefix_len (λ b. not (b == 32)) word → tokens_of (take len word) ≡ take len word ∷ []
-tokens_of-alone xs word start len spaces is some before =
-    let rest : word ≡ drop (prefix_len (λ b. b == 32) xs) xs = is ∙ take_rest xs start ∙ ap (λ n. drop n xs) spaces in
-    let begins : 0 < word_len word = rw rest (word-begins xs (rw rest at some)) in
-    rw before (cut-alone word begins)
+-- the word after the separators at the front is the only word of itself
+pub parts-alone : (p : ℕ → Bool) (xs word : List ℕ) (start len : ℕ) → start ≡ prefix_len p xs → word ≡ take (length xs - start) (drop start xs) → 0 < length word
+    → len ≡ prefix_len (λ b. not (p b)) word → parts p (take len word) ≡ take len word ∷ []
+parts-alone p xs word start len gap is some before =
+    let rest : word ≡ drop (prefix_len p xs) xs = is ∙ take_rest xs start ∙ ap (λ n. drop n xs) gap in
+    let begins : 0 < first_len p word = rw rest (word-begins p xs (rw rest at some)) in
+    rw before (cut-alone p word begins)
+
+-- ---- ignored lines
+
+comment-cut : (word : List ℕ) (len : ℕ) → 0 < len → is_comment (take len word) ≡ is_comment word
+comment-cut word zero some = absurd (omega (arith, some))
+comment-cut [] (suc len) some = refl
+comment-cut (b ∷ bs) (suc len) some = refl
+
+-- whether a line is ignored is seen at the first byte after the separators at its front
+pub ignored-next : (p : ℕ → Bool) (xs word : List ℕ) (start : ℕ) → start ≡ prefix_len p xs → word ≡ take (length xs - start) (drop start xs) → 0 < length word
+    → is_ignored (parts p xs) ≡ is_comment word
+ignored-next p xs word start gap is some =
+    let len = first_len p word in
+    let rest : word ≡ drop (prefix_len p xs) xs = is ∙ take_rest xs start ∙ ap (λ n. drop n xs) gap in
+    let begins : 0 < first_len p word = rw rest (word-begins p xs (rw rest at some)) in
+    ap (λ each. is_ignored each) (parts-next p xs word (take (length word - len) (drop len word)) start len gap is some refl refl) ∙ comment-cut word len begins
+
+-- ---- printable lines
+
+spaces-low : (b : ℕ) → ((b == 32) || (nat_le 33 b && nat_le b 126)) ≡ true → (b == 32) ≡ nat_le b 32
+spaces-low b shown = grind (arith, nat_tests)
+
+blanks-low : (b : ℕ) → (((b == 9) || ((b == 13) || (b == 32))) || (nat_le 33 b && nat_le b 126)) ≡ true → ((b == 9) || ((b == 13) || (b == 32))) ≡ nat_le b 32
+blanks-low b shown = grind (arith, nat_tests)
+
+-- a byte of a printable line is a separator or above 32
+separates-low : (s : Separators) (b : ℕ) → (separates s b || (nat_le 33 b && nat_le b 126)) ≡ true → separates s b ≡ nat_le b 32
+separates-low Spaces b shown = spaces-low b shown
+separates-low Blanks b shown = blanks-low b shown
+
+split-low : (s : Separators) (xs : List ℕ) → is_printable s xs ≡ true → slice_split (separates s) xs ≡ slice_split (λ b. nat_le b 32) xs
+split-low s [] shown = refl
+split-low s (x ∷ xs) shown =
+    let each = and_parts (separates s x || (nat_le 33 x && nat_le x 126)) (is_printable s xs) shown in
+    rw (separates-low s x each.0, split-low s xs each.1) refl
+
+-- so its words are its tokens
+pub tokens_of-words : (s : Separators) (xs : List ℕ) → is_printable s xs ≡ true → tokens_of s xs ≡ words_of xs
+tokens_of-words s xs shown = ap (λ each. filter is_word each) (split-low s xs shown)

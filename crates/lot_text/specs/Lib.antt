@@ -3,3 +3,4 @@ pub mod Numbers
 pub mod Programs
 pub mod ReadingFields
 pub mod Readings
+pub mod Tokens

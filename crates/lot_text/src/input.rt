@@ -1,9 +1,12 @@
 //! Reading an input from its bytes.
 ghost use Rattle.std.specs.Prelude.{◌≡◌, ◌<◌, ◌≤◌, ◌∷◌, drop, false, length, OnOk, IfErr, IfOk, Ok};
 ghost use Rattle.lot_simulation.specs.Grammar.{program_in, header_words_of, body_words_of, phrases_of};
+ghost use Rattle.lot_simulation.specs.Grammar.{begins_timed as begins_timed_read, fitting_line as fitting_line_read};
 ghost use Rattle.lot_simulation.specs.Grammar.{later_line as later_line_read, line_inside as line_inside_read};
 ghost use Rattle.lot_simulation.specs.Grammar.{line_outside as line_outside_read, phrase_inside as phrase_inside_read};
 ghost use Rattle.lot_simulation.specs.Grammar.{phrases_inside as phrases_inside_read, read_line as read_line_read};
+ghost use Rattle.lot_simulation.specs.Grammar.{separators_of as separators_read};
+ghost use Rattle.lot_simulation.specs.Lines as lines;
 ghost use Rattle.lot_simulation.specs.Seeded.{seeded};
 ghost use Rattle.lot_simulation.specs.Words.{word_in, script_words};
 ghost use Rattle.lot_text.specs.Faults.{Gives, IsFaultOf};
@@ -14,10 +17,12 @@ use crate::fault::LineFault;
 use crate::header::{first_line, header_line};
 use crate::reading::{OpenScript, Reading};
 use crate::script_lines::script_line;
-use crate::tokens::{Tokens, begins_comment, is_printable, line_len};
+use crate::tokens::{Tokens, begins_comment, is_ignored, line_len};
 use crate::words::stands_alone;
 use crate::{ParseFault, Program, Seed};
-use lot_simulation::{BodyWord, Format, HeaderWord, InputFault, InputRefusal, ScriptWord};
+use lot_simulation::{
+    BodyWord, FIRST_WORD, Format, HeaderWord, InputFault, InputRefusal, ScriptWord, Separators,
+};
 use std::alloc::Global;
 
 /// Returns exactly the program in the bytes of an input. Otherwise returns the first faulty line with its first
@@ -75,15 +80,59 @@ fn read_line(
     if 4096 < line.len() || 16777216 < end {
         return Err(LineFault::Refused(InputRefusal::TooLong));
     }
-    let mut tokens = Tokens::of_line(line);
+    let separators = separators_of(reading, line);
+    fitting_line(alloc, reading, number, separators, line)
+}
+
+/// The separators in the line, which are those of its input.
+fn separators_of(reading: &Option<Reading>, line: &[u8]) -> Separators
+    ensures { result ≡ separators_read reading.now line.now }
+{
+    match reading {
+        Some(reading) => reading.format.separators(),
+        None if begins_timed(line) => Separators::Blanks,
+        None => Separators::Spaces,
+    }
+}
+
+/// Whether the line, which isn't ignored, begins a timed input.
+fn begins_timed(line: &[u8]) -> bool
+    ensures { result ≡ begins_timed_read line.now }
+{
+    let Some(mut tokens) = Tokens::of_line(Separators::Blanks, line) else {
+        return false;
+    };
+    let Some(word) = tokens.next_token() else {
+        return false;
+    };
+    match tokens.only() {
+        Ok(b"3") => word == FIRST_WORD,
+        _ => false,
+    }
+}
+
+/// Reads the line with this number, which isn't too long. These bytes separate its tokens.
+fn fitting_line(
+    alloc: Global,
+    reading: &mut Option<Reading>,
+    number: u32,
+    separators: Separators,
+    line: &[u8],
+) -> Result<(), LineFault>
+    ensures { Gives reading.new result (fitting_line_read number reading.old separators line.now
+        (lines.is_ignored (lines.tokens_of separators line.now))) }
+{
+    let Some(mut tokens) = Tokens::of_line(separators, line) else {
+        if is_ignored(separators, line) {
+            return Ok(());
+        }
+        return Err(LineFault::Refused(InputRefusal::BadLine));
+    };
     let Some(word) = tokens.next_token() else {
         return Ok(());
     };
     if begins_comment(word) {
         return Ok(());
-    }
-    if !is_printable(line) {
-        return Err(LineFault::Refused(InputRefusal::BadLine));
     }
     match reading {
         None => *reading = Some(first_line(alloc, word, tokens)?),
@@ -164,7 +213,7 @@ fn phrase_inside(
         return Err(LineFault::Refused(InputRefusal::BadLine));
     };
     if stands_alone(word) {
-        return script_line(reading, script, word, Tokens::of_line(&[]));
+        return script_line(reading, script, word, Tokens::empty());
     }
     script_line(reading, script, word, tokens.next_alone())
 }

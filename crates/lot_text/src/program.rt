@@ -14,6 +14,7 @@ use lot_script::Script;
 use lot_simulation::Format;
 use std::alloc::{AllocError, Global};
 use std::marker::Model;
+use std::sync::ArcSlice;
 
 /// A system and its commands; the turns of each processor in a free run, and the schedule; or the duration, if the
 /// program is timed.
@@ -24,14 +25,15 @@ pub struct Program {
     pub(crate) seeds: Vec<u32>,
     pub(crate) turns: u32,
     pub(crate) scripts: Vec<Script>,
-    pub(crate) commands: Vec<Command>,
-    pub(crate) schedule: Vec<u8>,
+    pub(crate) commands: ArcSlice<Command>,
+    pub(crate) schedule: ArcSlice<u8>,
     pub(crate) duration: Option<u32>,
-    pub(crate) times: Vec<u32>,
+    pub(crate) times: ArcSlice<u32>,
 }
 
 impl Model for Program {
     ghost use Rattle.std.specs.Prelude.{◌≡◌, is_some};
+    ghost use Rattle.std.specs.Arc.{arc_slice_items};
     ghost use Rattle.lot_machine.specs.State.{sizes_of};
     ghost use Rattle.lot_simulation.specs.Formats.{is_timed, unit_of};
     ghost use Rattle.lot_simulation.specs.World.{Program as ProgramRecord};
@@ -44,10 +46,10 @@ impl Model for Program {
       seeds = p.seeds.items;
       turns = p.turns;
       scripts = p.scripts.items;
-      commands = p.commands.items;
-      schedule = p.schedule.items;
+      commands = arc_slice_items p.commands;
+      schedule = arc_slice_items p.schedule;
       duration = p.duration;
-      times = p.times.items;
+      times = arc_slice_items p.times;
     } };
 
     ghost invariant = { λ p. record {
@@ -56,10 +58,10 @@ impl Model for Program {
         seeds = p.seeds.items;
         turns = p.turns;
         scripts = p.scripts.items;
-        commands = p.commands.items;
-        schedule = p.schedule.items;
+        commands = arc_slice_items p.commands;
+        schedule = arc_slice_items p.schedule;
         duration = p.duration;
-        times = p.times.items;
+        times = arc_slice_items p.times;
       });
       unit : unit_of p.format ≡ p.limits.unit;
       timed : is_timed p.format ≡ is_some p.duration;
@@ -163,7 +165,8 @@ impl Program {
         Ok(program)
     }
 
-    /// A copy of the program, in memory of its own. It fails only if out of memory.
+    /// A copy of the program. It shares the commands, the schedule and the times with this one, since no program ever
+    /// changes them. It fails only if out of memory.
     pub fn copied(&self, alloc: Global) -> Result<Program, AllocError>
         ensures { IfOk result (λ program. program ≡ self.now) }
     {
@@ -173,10 +176,10 @@ impl Program {
             seeds: Vec::from_slice(alloc, self.seeds())?,
             turns: self.turns,
             scripts: copied_scripts(alloc, self.scripts())?,
-            commands: copied_commands(alloc, self.commands())?,
-            schedule: Vec::from_slice(alloc, self.schedule())?,
+            commands: self.commands.clone()?,
+            schedule: self.schedule.clone()?,
             duration: self.duration,
-            times: Vec::from_slice(alloc, self.times())?,
+            times: self.times.clone()?,
         })
     }
 }
@@ -213,17 +216,6 @@ fn scripts_without_sleeps(alloc: Global, scripts: &[Script]) -> Result<Vec<Scrip
     let mut copies = Vec::with_capacity(alloc, scripts.len())?;
     for script in scripts {
         copies.push(script.without_sleeps(alloc)?)?;
-    }
-    Ok(copies)
-}
-
-/// A copy of the commands.
-fn copied_commands(alloc: Global, commands: &[Command]) -> Result<Vec<Command>, AllocError>
-    ensures { IfOk result (λ copies. copies.items ≡ commands.now) }
-{
-    let mut copies = Vec::with_capacity(alloc, commands.len())?;
-    for command in commands {
-        copies.push(command.copied())?;
     }
     Ok(copies)
 }

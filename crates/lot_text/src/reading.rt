@@ -1,6 +1,7 @@
 //! The state of reading an input.
 ghost use Rattle.std.specs.Prelude.{◌≡◌, ℕ, ◌<◌, ◌≤◌, max, false, All, length, map, option_map, position, unwrap_or};
 ghost use Rattle.std.specs.Prelude.{IfErr, IfOk, IfSome, IsTrue, Ok, OnOk, Some, if◌then◌else◌};
+ghost use Rattle.std.specs.Arc.{arc_slice_items};
 ghost use Rattle.std.specs.List.{range_with_len};
 ghost use Rattle.std.specs.Option.{ForSome};
 ghost use Rattle.std.specs.Str.{bytes_eq};
@@ -26,6 +27,7 @@ use lot_script::{Script, ScriptBuilder};
 use lot_simulation::{Format, HEADER_WORDS, HeaderWord, InputFault, InputRefusal};
 use std::alloc::{AllocError, Global};
 use std::marker::Model;
+use std::sync::ArcSlice;
 
 /// A closed script.
 #[derive(Drop)]
@@ -302,8 +304,14 @@ impl Reading {
                 refusal: InputRefusal::OpenScript,
             }));
         }
+        let tables = shared(commands, schedule, times)?;
         let seeds = seeds_or_own(alloc, seeds, processors, format)?;
         let scripts = without_names(alloc, scripts)?;
+        let SharedTables {
+            commands,
+            schedule,
+            times,
+        } = tables;
         Ok(Program {
             format,
             limits,
@@ -316,6 +324,31 @@ impl Reading {
             times,
         })
     }
+}
+
+/// The tables that copies of a program share.
+#[derive(Drop)]
+struct SharedTables {
+    commands: ArcSlice<Command>,
+    schedule: ArcSlice<u8>,
+    times: ArcSlice<u32>,
+}
+
+/// These tables, to be shared.
+fn shared(
+    commands: Vec<Command>,
+    schedule: Vec<u8>,
+    times: Vec<u32>,
+) -> Result<SharedTables, AllocError>
+    ensures commands { IfOk result (λ tables. arc_slice_items tables.commands ≡ commands.items) }
+    ensures schedule { IfOk result (λ tables. arc_slice_items tables.schedule ≡ schedule.items) }
+    ensures times { IfOk result (λ tables. arc_slice_items tables.times ≡ times.items) }
+{
+    Ok(SharedTables {
+        commands: ArcSlice::from_vec(commands)?,
+        schedule: ArcSlice::from_vec(schedule)?,
+        times: ArcSlice::from_vec(times)?,
+    })
 }
 
 /// The index of the first script with this name.

@@ -1,47 +1,62 @@
 //! The tokens of a line.
-ghost use Rattle.std.specs.Prelude.{◌≡◌, ◌≢◌, ◌==◌, ◌≤◌, ◌%◌, ◌&&◌, nat_le, not, drop, length, take, [], ◌∷◌, ◌↔◌, IsTrue, IfSome};
-ghost use Rattle.std.specs.Prelude.{MatchOption, MatchResult};
+ghost use Rattle.std.specs.Prelude.{◌≡◌, ◌≢◌, ◌==◌, ◌≤◌, ◌%◌, ◌&&◌, ◌||◌, ◌↔◌, [], ◌∷◌, IfSome, IsTrue, MatchOption};
+ghost use Rattle.std.specs.Prelude.{MatchResult, drop, false, length, nat_le, not, take, true};
 ghost use Rattle.std.specs.List.{prefix_len};
-ghost use Rattle.lot_simulation.specs.Lines.{tokens_of, is_comment, is_printable as is_printable_line};
+ghost use Rattle.lot_simulation.specs.Lines as lines;
+ghost use Rattle.lot_text.specs.Tokens.{words_of};
 
-use lot_simulation::InputRefusal;
+use lot_simulation::{InputRefusal, Separators};
 use memchr::memchr;
 use std::marker::Model;
 
-/// The remaining tokens of a line.
+/// The remaining tokens of a printable line.
 #[derive(Drop)]
 pub(crate) struct Tokens<'a> {
+    /// The rest of the line. It has no bytes up to 32 but separators, so one loop finds tokens in each format.
     rest: &'a [u8],
 }
 
 impl<'a> Model for Tokens<'a> {
     ghost use Rattle.std.specs.Prelude.{List, ℕ};
-    ghost use Rattle.lot_simulation.specs.Lines.{tokens_of};
+    ghost use Rattle.lot_text.specs.Tokens.{words_of};
 
     ghost Value = { List (List ℕ) };
 
-    ghost view = { λ t. tokens_of t.rest.now };
+    ghost view = { λ t. words_of t.rest.now };
 }
 
 impl<'a> Tokens<'a> {
-    /// All tokens of the line.
-    pub(crate) fn of_line(line: &'a [u8]) -> Self
-        ensures { result ≡ tokens_of line.now }
+    /// All tokens of the line, or `None` if it isn't printable.
+    pub(crate) fn of_line(separators: Separators, line: &'a [u8]) -> Option<Self>
+        ensures { MatchOption result (lines.is_printable separators line.now ≡ false)
+            (λ tokens. (lines.is_printable separators line.now ≡ true)
+            × (tokens ≡ lines.tokens_of separators line.now)) }
     {
-        Tokens { rest: line }
+        if is_printable(separators, line) {
+            Some(Tokens { rest: line })
+        } else {
+            None
+        }
+    }
+
+    /// No tokens.
+    pub(crate) fn empty() -> Self
+        ensures { result ≡ [] }
+    {
+        Tokens { rest: &[] }
     }
 
     /// The next token, or `None` at the end.
     pub(crate) fn next_token(&mut self) -> Option<&'a [u8]>
         ensures next { MatchOption result ((self.old ≡ []) × (self.new ≡ []))
             (λ token. self.old ≡ token.now ∷ self.new) }
-        ensures alone { IfSome result (λ token. tokens_of token.now ≡ token.now ∷ []) }
+        ensures alone { IfSome result (λ token. words_of token.now ≡ token.now ∷ []) }
     {
-        let word = &self.rest[spaces_in_front(self.rest)..];
+        let word = &self.rest[gap_len(self.rest)..];
         if word.is_empty() {
             return None;
         }
-        let len = len_before(b' ', word);
+        let len = word_len(word);
         self.rest = &word[len..];
         Some(&word[..len])
     }
@@ -53,7 +68,7 @@ impl<'a> Tokens<'a> {
     {
         match self.next_token() {
             Some(token) => Tokens { rest: token },
-            None => Tokens { rest: &[] },
+            None => Tokens::empty(),
         }
     }
 
@@ -124,12 +139,20 @@ impl<'a> Tokens<'a> {
     }
 }
 
-/// The number of spaces at the front of the bytes.
-fn spaces_in_front(bytes: &[u8]) -> usize
-    ensures spaces { result ≡ prefix_len (λ b. b == 32) bytes.now }
+/// The number of bytes up to 32 at the front of the bytes.
+fn gap_len(bytes: &[u8]) -> usize
+    ensures gap { result ≡ prefix_len (λ b. nat_le b 32) bytes.now }
     ensures within { result ≤ length bytes.now }
 {
-    bytes.iter().take_while(|b| **b == b' ').count()
+    bytes.iter().take_while(|b| **b <= b' ').count()
+}
+
+/// The number of bytes before the first up to 32, or of all bytes if there is none.
+fn word_len(bytes: &[u8]) -> usize
+    ensures word { result ≡ prefix_len (λ b. not (nat_le b 32)) bytes.now }
+    ensures within { result ≤ length bytes.now }
+{
+    bytes.iter().take_while(|b| **b > b' ').count()
 }
 
 /// The number of bytes before the first end of a line, or of all bytes if there is none.
@@ -140,36 +163,62 @@ pub(crate) fn line_len(bytes: &[u8]) -> usize
     memchr(b'\n', bytes).unwrap_or(bytes.len())
 }
 
-/// The number of bytes before the first with this value, or of all bytes if none has it.
-fn len_before(byte: u8, bytes: &[u8]) -> usize
-    ensures others { result ≡ prefix_len (λ b. not (b == byte)) bytes.now }
+/// Whether the line is ignored.
+pub(crate) fn is_ignored(separators: Separators, line: &[u8]) -> bool
+    ensures { result ≡ lines.is_ignored (lines.tokens_of separators line.now) }
+{
+    let rest = &line[separators_in_front(separators, line)..];
+    if rest.is_empty() {
+        return true;
+    }
+    begins_comment(rest)
+}
+
+/// The number of separators at the front of the bytes.
+fn separators_in_front(separators: Separators, bytes: &[u8]) -> usize
+    ensures front { result ≡ prefix_len (lines.separates separators) bytes.now }
     ensures within { result ≤ length bytes.now }
 {
-    bytes.iter().take_while(|b| **b != byte).count()
+    bytes
+        .iter()
+        .take_while(|b| separators.contains(**b))
+        .count()
 }
 
 /// Whether the token begins a comment.
 pub(crate) fn begins_comment(token: &[u8]) -> bool
-    ensures { result ≡ is_comment token.now }
+    ensures { result ≡ lines.is_comment token.now }
 {
     token.first() == Some(&b'#')
 }
 
-/// Whether each byte of the line is printable ASCII or a space. It doesn't end at the first other one, so the compiler
-/// tests many bytes at once.
-pub(crate) fn is_printable(line: &[u8]) -> bool
-    ensures { result ≡ is_printable_line line.now }
+/// Whether each byte of the line is a separator or printable ASCII.
+fn is_printable(separators: Separators, line: &[u8]) -> bool
+    ensures { result ≡ lines.is_printable separators line.now }
+{
+    // Each has a loop of its own, so the loop of spaces is as fast as if there were no other.
+    match separators {
+        Separators::Spaces => are_printable(Separators::Spaces, line),
+        Separators::Blanks => are_printable(Separators::Blanks, line),
+    }
+}
+
+/// As `is_printable`. It doesn't end at the first other byte, so the compiler tests many bytes at once.
+#[inline(always)]
+fn are_printable(separators: Separators, line: &[u8]) -> bool
+    ensures { result ≡ lines.is_printable separators line.now }
 {
     let mut all = true;
     for byte in line {
-        all &= is_printable_byte(*byte);
+        all &= is_printable_byte(separators, *byte);
     }
     all
 }
 
-/// Whether the byte is printable ASCII or a space.
-fn is_printable_byte(byte: u8) -> bool
-    ensures { result ≡ (nat_le 32 byte && nat_le byte 126) }
+/// Whether the byte is a separator or printable ASCII.
+#[inline(always)]
+fn is_printable_byte(separators: Separators, byte: u8) -> bool
+    ensures { result ≡ (lines.separates separators byte || (nat_le 33 byte && nat_le byte 126)) }
 {
-    32 <= byte && byte <= 126
+    separators.contains(byte) || (33 <= byte && byte <= 126)
 }

@@ -82,12 +82,16 @@ fn timed_header_problem<'a>(refused: &Refused<'a>, word: &'a str) -> HeaderProbl
     HeaderProblem::NoDuration
 }
 
-/// The problem with the line's bytes: too many, or the first that isn't printable ASCII.
-fn byte_problem(line: &[u8]) -> Option<ByteProblem> {
+/// The problem with the line's bytes: too many, or the first that is neither a separator nor printable ASCII.
+fn byte_problem(refused: &Refused<'_>) -> Option<ByteProblem> {
+    let line = refused.line;
     if 4096 < line.len() {
         return Some(ByteProblem::LongLine(line.len()));
     }
-    let place = line.iter().position(|byte| *byte < 32 || 126 < *byte)?;
+    let separators = refused.separators();
+    let place = line.iter().position(|byte| {
+        !separators.contains(*byte) && (*byte < 33 || 126 < *byte)
+    })?;
     match line[place] {
         b'\t' => Some(ByteProblem::Tab),
         b'\r' => Some(ByteProblem::CarriageReturn),
@@ -100,7 +104,7 @@ fn byte_problem(line: &[u8]) -> Option<ByteProblem> {
 
 /// The problem with the bytes or words of a line beginning with this word, if there is one.
 fn line_problem<'a>(alloc: Global, refused: &Refused<'a>, word: &'a str) -> Option<Problem<'a>> {
-    if let Some(problem) = byte_problem(refused.line) {
+    if let Some(problem) = byte_problem(refused) {
         return Some(Problem::Byte(problem));
     }
     match refused.script {

@@ -2,7 +2,7 @@
 
 use crate::keywords::{body_word, header_word};
 use crate::phrases::after_line;
-use lot_simulation::{BodyWord, Format, HeaderWord, ScriptWord};
+use lot_simulation::{BodyWord, Format, HeaderWord, ScriptWord, Separators};
 use std::str;
 use std::str::SplitAsciiWhitespace;
 
@@ -65,6 +65,14 @@ impl<'a> Refused<'a> {
             at = at.saturating_add(1);
         }
         refused
+    }
+
+    /// The bytes that separate tokens in the line. A refused first line has spaces alone.
+    pub(crate) fn separators(&self) -> Separators {
+        match self.format {
+            Some(format) => format.separators(),
+            None => Separators::Spaces,
+        }
     }
 
     /// Whether the input is timed.

@@ -161,7 +161,7 @@ fn unread_files(rt: HostRuntime) {
     let missing = "error: can't read 'y.lot': no such file\n";
     let directory = "error: can't read 'x.lot': is a directory\n";
     let broken = "error: can't read 'x.lot': operation interrupted\n";
-    for word in ["play", "explain", "run", "shares", "chart"] {
+    for word in ["play", "report", "explain", "run", "shares", "chart"] {
         check_unread(&rt, rt.alloc(), (word, "y.lot"), DIRECTORY, missing);
         check_unread(&rt, rt.alloc(), (word, "x.lot"), DIRECTORY, directory);
         check_unread(&rt, rt.alloc(), (word, "x.lot"), BROKEN, broken);

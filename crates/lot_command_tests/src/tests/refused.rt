@@ -135,7 +135,7 @@ fn faults(rt: HostRuntime) {
 #[test]
 fn faults_of_each_request(rt: HostRuntime) {
     let (input, expected) = OF_THIRD;
-    for word in ["play", "explain", "run", "shares", "chart"] {
+    for word in ["play", "report", "explain", "run", "shares", "chart"] {
         check_told(&rt, rt.alloc(), ["lot_sim", word], input, 1, expected);
     }
 }

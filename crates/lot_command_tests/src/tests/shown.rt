@@ -41,6 +41,34 @@ fn tables(rt: HostRuntime) {
     check_words_on(&rt, alloc, "chart", "lottery 9\n", 1, refused);
 }
 
+/// The report of `INPUT`.
+const REPORT: &str = "report
+thread 1 a quanta 2 ticks 4
+thread 2 b quanta 0 ticks 0
+processor 1 quanta 2 idle 0 ticks 4
+total turns 8 quanta 2 ticks 4
+";
+
+/// The report over two plays of `TIMED`, in which thread `a` wins a draw at the end, too.
+const PLAYS: &str = "seeds 1 to 2
+thread 1 a plays 2 quanta mean 3 least 3 most 3 ticks mean 4 least 4 most 4 \
+share mean 100% least 100% most 100%
+thread 2 b plays 2 quanta mean 0 least 0 most 0 ticks mean 0 least 0 most 0 \
+share mean 0% least 0% most 0%
+";
+
+/// The report alone, and that over several plays.
+#[test]
+fn reports(rt: HostRuntime) {
+    let alloc = rt.alloc();
+    check_words_on(&rt, alloc, "report", INPUT, 0, REPORT);
+    let words = ["lot_sim", "report", "--seeds", "1", "2"];
+    let ended = ended_on(&rt, alloc, &words, TIMED);
+    let is_report = ended.output.as_slice() == PLAYS.as_bytes();
+    check_same(&rt, &(ended.code, is_report), &(0, true));
+    check_words(&rt, alloc, &["lot_sim", "report", "--seeds", "1"], 2, false);
+}
+
 #[test]
 fn options(rt: HostRuntime) {
     let alloc = rt.alloc();
@@ -125,7 +153,7 @@ fn given_seeds(rt: HostRuntime) {
     let wanted = with_seeds(&rt, alloc, "seed 5 241355\n");
     for seeds in ["", "seed 1 2\n"] {
         let input = with_seeds(&rt, alloc, seeds);
-        for word in ["play", "explain", "shares", "chart"] {
+        for word in ["play", "report", "explain", "shares", "chart"] {
             let words = ["lot_sim", word, "--seed", "5"];
             let given = ended_on(&rt, alloc, &words, input.as_str());
             let written = ended_on(&rt, alloc, &["lot_sim", word], wanted.as_str());

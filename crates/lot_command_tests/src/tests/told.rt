@@ -399,7 +399,7 @@ fundx 5 base b one
 fn check_told_alike<H: Abort + Threads + Wait + Sync>(rt: &H, alloc: Global, input: &str) {
     let played = ended_on(rt, alloc, &["lot_sim", "play"], input);
     check_same_at(rt, &input, &played.errors.is_empty(), &false);
-    for word in ["explain", "shares", "chart"] {
+    for word in ["report", "explain", "shares", "chart"] {
         let shown = ended_on(rt, alloc, &["lot_sim", word], input);
         let is_same = shown.errors.as_slice() == played.errors.as_slice();
         check_same_at(rt, &word, &(shown.code, is_same), &(0, true));

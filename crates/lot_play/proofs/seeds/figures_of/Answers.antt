@@ -1,0 +1,46 @@
+use Rattle.std.proofs.Common.{◌≡◌, ℕ, ◌+◌, ◌-◌, ◌<◌, List, [], ◌∷◌, ◌++◌, replicate, ap, sym, ◌∙◌, subst, arith}
+use Rattle.std.specs.List.{range_with_len}
+use Rattle.lot_machine.specs.declared.sizes.Sizes.{Sizes}
+use Rattle.lot_play.specs.Seeds.{AreFigures, no_figures, seeds_between}
+use Rattle.lot_play.proofs.SeedFacts.{are-more, are-none, between-first, between-more}
+use Rattle.lot_play.proofs.seeds.figures_of.Goals as goal
+
+pub loop-number-init : goal.loop-number-init
+loop-number-init c =
+    let program = c.args.program.now in
+    let first = c.args.seeds.now.first in
+    let items = c.play_with.new.figures.items in
+    let threads : c.limits.result.threads ≡ program.limits.threads = ap (λ (sizes : Sizes). sizes.threads) c.limits.ensures.limits in
+    let none : AreFigures program [] c.in_ok-figures.figures.items = subst (AreFigures program []) (sym (c.in_ok-figures.ensures ∙ ap (λ n. replicate n no_figures) threads)) (are-none program) in
+    let one : AreFigures program (first ∷ []) items = are-more program [] first c.in_ok-figures.figures.items items none c.in_ok-play_with.ensures.count c.in_ok-play_with.ensures.each in
+    let number : c.number-number.result ≡ first = c.number-number.ensures.is in
+    record {
+      above = omega (arith, number);
+      within = omega (arith, number);
+      are = subst (λ (seeds : List ℕ). AreFigures program seeds items) (between-first first (c.number-number.result + 1 - 1) (omega (arith, number))) one;
+    }
+
+pub loop-number-preserved : goal.loop-number-preserved
+loop-number-preserved c =
+    let program = c.args.program.now in
+    let first = c.args.seeds.now.first in
+    let number = c.loop-number.number in
+    let i = c.loop-number.invariant in
+    let items = c.play_with-in-loop-number.new.figures.items in
+    let more = are-more program (seeds_between first (number - 1)) c.in-Some.seed c.loop-number.figures.items items i.are c.in_ok-play_with-2.ensures.count c.in_ok-play_with-2.ensures.each in
+    let back : number ≡ number + 1 - 1 = omega arith in
+    let seeds : seeds_between first (number - 1) ++ c.in-Some.seed ∷ [] ≡ seeds_between first (number + 1 - 1) =
+    ap (λ n. seeds_between first (number - 1) ++ n ∷ []) c.in-Some.ensures.seed ∙ between-more first number i.above ∙ ap (seeds_between first) back in
+    record {
+      above = omega (arith, i.above);
+      within = omega (arith, c.loop-number-test.true, c.number-number-end.ensures.is);
+      are = subst (λ (seeds : List ℕ). AreFigures program seeds items) seeds more;
+    }
+
+pub returns : goal.returns
+returns c =
+    let first = c.args.seeds.now.first in
+    let i = c.loop-number.invariant in
+    let count : c.loop-number.number - 1 - first ≡ c.args.seeds.now.last - first =
+    omega (arith, i.above, i.within, c.loop-number-test.false, c.number-number-end.ensures.is) in
+    subst (λ n. AreFigures c.args.program.now (first ∷ range_with_len (first + 1) n) c.loop-number.figures.items) count i.are

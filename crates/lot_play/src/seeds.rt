@@ -1,0 +1,145 @@
+//! The report over several plays of a program, each with another seed.
+ghost use Rattle.std.specs.Prelude.{◌≡◌, ◌<◌, ◌+◌, ℕ, false, true, IfOk, OnOk, Some, length, slice_index_or};
+ghost use Rattle.std.specs.List.{flat_map, range_with_len};
+ghost use Rattle.lot_io.specs.Writing.{Writes};
+ghost use Rattle.lot_simulation.specs.Seeded.{with_seed};
+ghost use Rattle.lot_print.specs.declared.figures.Figures.{Figures as FiguresRecord};
+ghost use Rattle.lot_play.specs.Played.{Plays};
+ghost use Rattle.lot_play.specs.Seeds.{AreFigures, figures_over, figures_played, figures_text, seeds_between};
+ghost use Rattle.lot_play.specs.Seeds.{seeds_report};
+ghost use Rattle.lot_play.specs.declared.inputs.Played.TheVariants.{Done};
+
+use crate::figures::{add_play, no_figures};
+use crate::summary::note_turns;
+use crate::{Played, Warnings, note_last};
+use lot_io::{IoFault, Watched, flush};
+use lot_playback::Playback;
+use lot_print::{Figures, write_figures, write_seeds};
+use lot_text::{Program, Seed};
+use std::alloc::{AllocError, Global};
+use std::io::Write;
+
+/// The seeds from a first to a last one, or the first alone if the last is below it.
+#[derive(Clone, Copy, Debug)]
+pub struct Seeds {
+    pub first: Seed,
+    pub last: Seed,
+}
+
+/// Plays the program once with each of these seeds, and writes for each thread the mean, the least and the most of
+/// its figures at the ends of the plays. It stores the warnings of the first play in `warnings`. If out of memory, it
+/// writes nothing.
+pub fn report_seeds<W: Write>(
+    alloc: Global,
+    program: &Program,
+    seeds: &Seeds,
+    warnings: &mut Warnings,
+    writer: &mut Watched<W>,
+) -> Result<Played, IoFault>
+    requires { writer.old.failed ≡ false }
+    ensures flushed { OnOk result (writer.new.flushed ≡ true) }
+    ensures reported { Plays W.contents writer.old writer.new result Done
+        (seeds_report seeds.now.first seeds.now.last program.now) }
+{
+    let Ok(figures) = figures_of(alloc, program, seeds, warnings) else {
+        return Err(IoFault::Memory);
+    };
+    write_report(program, seeds, figures.as_slice(), writer)?;
+    Ok(Played::Done)
+}
+
+/// Each thread's figures over a play with each of these seeds. It stores the warnings of the first play in `warnings`.
+fn figures_of(
+    alloc: Global,
+    program: &Program,
+    seeds: &Seeds,
+    warnings: &mut Warnings,
+) -> Result<Vec<Figures>, AllocError>
+    ensures { IfOk result (λ figures. AreFigures program.now (seeds_between seeds.now.first seeds.now.last) figures.items) }
+{
+    let mut figures = no_figures(alloc, program.limits().threads)?;
+    play_with(alloc, program, seeds.first, warnings, &mut figures)?;
+    let mut unsaid = Warnings::none(alloc)?;
+    for number in seeds.first.number() + 1..seeds.last.number() + 1 {
+        let Some(seed) = Seed::new(number) else {
+            unreachable!();
+        };
+        play_with(alloc, program, seed, &mut unsaid, &mut figures)?;
+    }
+    Ok(figures)
+}
+
+/// Plays the program with this seed, and adds each thread's figures at the end of the play.
+fn play_with(
+    alloc: Global,
+    program: &Program,
+    seed: Seed,
+    warnings: &mut Warnings,
+    figures: &mut Vec<Figures>,
+) -> Result<(), AllocError>
+    requires { length figures.old.items ≡ program.now.limits.threads }
+    ensures count { length figures.new.items ≡ length figures.old.items }
+    ensures each { OnOk result ((place : ℕ) (d : FiguresRecord) → place < length figures.old.items
+        → slice_index_or figures.new.items place d ≡ figures_played (place + 1)
+        (slice_index_or figures.old.items place d) (with_seed (Some seed) program.now)) }
+{
+    let program = program.copied(alloc)?.with_seed(alloc, Some(seed))?;
+    let mut playback = Playback::open(alloc, &program)?;
+    note_turns(&program, &mut playback, warnings);
+    let (mut system, order) = playback.into_parts();
+    note_last(&program, &mut system, &order, warnings);
+    add_play(figures, program.limits().threads, &mut system);
+    Ok(())
+}
+
+/// Writes the first line and each thread's line, and flushes.
+fn write_report<W: Write>(
+    program: &Program,
+    seeds: &Seeds,
+    figures: &[Figures],
+    writer: &mut Watched<W>,
+) -> Result<(), IoFault>
+    requires are { AreFigures program.now (seeds_between seeds.now.first seeds.now.last) figures.now }
+    requires working { writer.old.failed ≡ false }
+    ensures flushed { OnOk result (writer.new.flushed ≡ true) }
+    ensures text { Writes W.contents writer.old writer.new result
+        (seeds_report seeds.now.first seeds.now.last program.now) }
+{
+    write_seeds(writer, seeds.first.number(), seeds.last.number())?;
+    write_threads(program, seeds, figures, writer)?;
+    flush(writer)
+}
+
+/// Writes each thread's line.
+fn write_threads<W: Write>(
+    program: &Program,
+    seeds: &Seeds,
+    figures: &[Figures],
+    writer: &mut Watched<W>,
+) -> Result<(), IoFault>
+    requires are { AreFigures program.now (seeds_between seeds.now.first seeds.now.last) figures.now }
+    requires working { writer.old.failed ≡ false }
+    ensures { Writes W.contents writer.old writer.new result (flat_map
+        (λ t. figures_text t (figures_over program.now (seeds_between seeds.now.first seeds.now.last) t))
+        (range_with_len 1 program.now.limits.threads)) }
+{
+    for place in 0..program.limits().threads {
+        write_thread(place + 1, &figures[place as usize], writer)?;
+    }
+    Ok(())
+}
+
+/// Writes the line of the thread with this number, if a play ended with it.
+fn write_thread<W: Write>(
+    number: u32,
+    figures: &Figures,
+    writer: &mut Watched<W>,
+) -> Result<(), IoFault>
+    requires { writer.old.failed ≡ false }
+    ensures { Writes W.contents writer.old writer.new result (figures_text number figures.now) }
+{
+    if figures.plays == 0 {
+        return Ok(());
+    }
+    write_figures(writer, number, figures)
+}

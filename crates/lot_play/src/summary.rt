@@ -1,0 +1,84 @@
+//! A play that writes its report alone.
+ghost use Rattle.std.specs.Prelude.{◌≡◌, [], false, true, OnOk, ⊤};
+ghost use Rattle.lot_play.specs.Played.{Plays};
+ghost use Rattle.lot_play.specs.Texts.{last_report};
+ghost use Rattle.lot_play.specs.declared.inputs.Played.TheVariants.{Done};
+ghost use Rattle.lot_playback.specs.Stages.{HasMade, turns_left};
+ghost use Rattle.lot_playback.specs.Turns.{program_turns};
+
+use crate::{Played, Warnings, end_play, play_through};
+use lot_engine::System;
+use lot_io::{IoFault, Watched};
+use lot_playback::{Observer, Playback, Turn};
+use lot_text::Program;
+use std::alloc::Global;
+use std::io::Write;
+
+/// Records the warnings of turns.
+#[derive(Drop)]
+struct Noting<'a> {
+    warnings: &'a mut Warnings,
+}
+
+impl<'a> Observer for Noting<'a> {
+    type Fault = IoFault;
+
+    ghost observed = { λ program turns first now. ⊤ };
+
+    ghost awaits = { λ program turns world actor first now. ⊤ };
+
+    // it never stops
+    ghost stopped = { λ program turns first now fault. ⊥ };
+
+    #[inline(always)]
+    fn before(&mut self, program: &Program, system: &mut System, actor: u32) {}
+
+    #[inline(always)]
+    fn after(
+        &mut self,
+        program: &Program,
+        system: &mut System,
+        turn: &Turn,
+    ) -> Result<(), IoFault> {
+        if !turn.has_ended {
+            self.warnings.note(turn.actor, &turn.reply);
+        }
+        Ok(())
+    }
+}
+
+/// Makes all turns of a program, none of which has been made, and records their warnings.
+pub(crate) fn note_turns(program: &Program, playback: &mut Playback, warnings: &mut Warnings)
+    requires none { playback.old.made ≡ 0 }
+    requires made { HasMade program.now [] playback.old.seen }
+    ensures setting { playback.new.seen.setting ≡ playback.old.seen.setting }
+    ensures ended { turns_left playback.new ≡ [] }
+    ensures made { HasMade program.now (program_turns program.now) playback.new.seen }
+{
+    let mut noting = Noting { warnings };
+    match play_through(program, playback, &mut noting) {
+        Ok(()) => (),
+        Err(_) => unreachable!(),
+    }
+}
+
+/// Makes the program's turns in a system of its own, and writes the report alone. It stores the run's warnings in
+/// `warnings`. It allocates all its memory before the first turn.
+pub fn report_program<W: Write>(
+    alloc: Global,
+    program: &Program,
+    warnings: &mut Warnings,
+    writer: &mut Watched<W>,
+) -> Result<Played, IoFault>
+    requires { writer.old.failed ≡ false }
+    ensures flushed { OnOk result (writer.new.flushed ≡ true) }
+    ensures reported { Plays W.contents writer.old writer.new result Done
+        (last_report program.now program.now.duration) }
+{
+    let Ok(mut playback) = Playback::open(alloc, program) else {
+        return Err(IoFault::Memory);
+    };
+    note_turns(program, &mut playback, warnings);
+    end_play(program, playback, warnings, writer)?;
+    Ok(Played::Done)
+}

@@ -1,6 +1,0 @@
-use Rattle.std.proofs.Common.{◌≡◌, ◌&&◌, drop}
-use Rattle.lot_simulation.specs.Lines.{is_printable}
-use Rattle.lot_text.proofs.tokens.is_printable.Given as goal
-
-abbrev pub invariant-loop-byte : goal.invariant-loop-byte
-invariant-loop-byte l = (l.all && is_printable (drop l.byte-index l.line)) ≡ is_printable l.line
