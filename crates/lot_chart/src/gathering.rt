@@ -49,8 +49,8 @@ impl<'a> Observer for Stretches<'a> {
         if turn.has_ended {
             return Ok(());
         }
-        self.warnings.note(turn.actor, &turn.reply);
         let stretch = Stretch::new(end_of(system, turn), turn.reply);
+        self.warnings.note(system, turn);
         self.stretches.push(stretch)?;
         Ok(())
     }

@@ -131,7 +131,7 @@ fn put_explained<W: Write>(
     if turn.has_ended {
         return write_ended(writer, page, heading);
     }
-    warnings.note(turn.actor, &turn.reply);
+    warnings.note(system, turn);
     put_turn(
         system,
         heading,

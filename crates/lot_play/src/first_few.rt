@@ -1,6 +1,6 @@
 //! The first few items of a kind.
-ghost use Rattle.std.specs.Prelude.{◌≡◌, ◌-◌, ◌≤◌, IfOk, length};
-ghost use Rattle.lot_play.specs.Kept.{kept_with, none_kept};
+ghost use Rattle.std.specs.Prelude.{◌≡◌, ◌-◌, ◌≤◌, IfOk, length, nat_lt, slice_set};
+ghost use Rattle.lot_play.specs.Kept.{kept_with, none_kept, one_more};
 
 use std::alloc::{AllocError, Global};
 use std::marker::Model;
@@ -48,6 +48,29 @@ impl<T: Drop> FirstFew<T> {
             self.first.push_reserved(one);
         }
         self.count = self.count.saturating_add(1);
+    }
+
+    /// Whether the next item will be listed.
+    pub(crate) fn has_room(&self) -> bool
+        ensures { result ≡ nat_lt (length self.now.first) 8 }
+    {
+        self.first.len() < LISTED
+    }
+
+    /// Counts one more item without listing it.
+    pub(crate) fn add_unlisted(&mut self)
+        ensures { self.new ≡ record self.old { count = one_more self.old.count } }
+    {
+        self.count = self.count.saturating_add(1);
+    }
+
+    /// Replaces the listed item with this index, if there is one.
+    pub(crate) fn replace(&mut self, place: usize, one: T)
+        ensures { self.new ≡ record self.old { first = slice_set self.old.first place one } }
+    {
+        if place < self.first.len() {
+            self.first[place] = one;
+        }
     }
 
     /// The listed items, in order.

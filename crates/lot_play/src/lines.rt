@@ -88,7 +88,7 @@ fn put_made<W: Write>(
     if turn.has_ended {
         return write_ended(writer, page, heading(system, style, actor));
     }
-    warnings.note(turn.actor, &turn.reply);
+    warnings.note(system, turn);
     put_answer(system, style, actor, &turn.event, &turn.reply, writer, page)
 }
 

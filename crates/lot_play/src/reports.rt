@@ -44,7 +44,8 @@ pub fn note_last(program: &Program, system: &mut System, order: &Order, warnings
     requires program { system.old.setting.program ≡ program.now }
     requires order { IsInOrder system.old order.now }
     ensures same { system.new ≡ system.old }
-    ensures kept { (warnings.new.made ≡ warnings.old.made) × (warnings.new.refused ≡ warnings.old.refused) }
+    ensures kept { (warnings.new.made ≡ warnings.old.made) × (warnings.new.refused ≡ warnings.old.refused)
+        × (warnings.new.refused_traps ≡ warnings.old.refused_traps) }
     ensures unmade { warnings.new.unmade ≡ length (world_of system.old).commands }
     ensures early { warnings.new.early ≡ early_in program.now system.old order.now }
 {

@@ -5,9 +5,11 @@ ghost use Rattle.lot_play.specs.Kept.{none_kept};
 ghost use Rattle.lot_play.specs.Leaving.{command_noted, noted};
 ghost use Rattle.lot_engine.specs.Seen.{world_of};
 
-use crate::FirstFew;
+use crate::refused_traps::{is_refused_trap, note_new_thread, note_trap};
+use crate::{FirstFew, RefusedTrap};
 use lot_engine::System;
 use lot_machine::{Name, Refusal, Reply, Status, ThreadRow};
+use lot_playback::Turn;
 use lot_simulation::EarlyEnd;
 use std::alloc::{AllocError, Global};
 
@@ -38,6 +40,8 @@ pub struct Warnings {
     pub made: usize,
     /// The refused ones among them.
     pub refused: FirstFew<RefusedCommand>,
+    /// The refused traps: those of a thread by the same word for the same reason are one item, as often as they come.
+    pub refused_traps: FirstFew<RefusedTrap>,
     /// The number of commands never made.
     pub unmade: usize,
     /// How a timed run ended before its time, if it did.
@@ -55,6 +59,7 @@ impl Warnings {
             ≡ record {
               made = 0;
               refused = none_kept;
+              refused_traps = none_kept;
               unmade = 0;
               early = None;
               weightless = none_kept;
@@ -64,6 +69,7 @@ impl Warnings {
         Ok(Warnings {
             made: 0,
             refused: FirstFew::none(alloc)?,
+            refused_traps: FirstFew::none(alloc)?,
             unmade: 0,
             early: None,
             weightless: FirstFew::none(alloc)?,
@@ -76,30 +82,42 @@ impl Warnings {
         self.refused.allocator()
     }
 
-    /// Records the reply to the actor's turn.
+    /// Records a turn: the reply to a command, or a refused trap. It is the system's last turn. It allocates no memory.
     #[inline(always)]
-    pub fn note(&mut self, actor: u32, reply: &Reply)
-        ensures { self.new ≡ noted self.old actor reply.now }
+    pub fn note(&mut self, system: &mut System, turn: &Turn)
+        ensures noted { self.new ≡ record (noted self.old turn.now.actor turn.now.reply) {
+          refused_traps = self.new.refused_traps;
+        } }
+        ensures same { system.new ≡ system.old }
     {
-        if actor == 0 {
-            self.note_command(reply);
+        if turn.actor == 0 {
+            self.note_command(&turn.reply);
+        } else if is_refused_trap(&turn.reply) {
+            note_trap(&mut self.refused_traps, system, turn);
         }
     }
 
     /// Records the reply to the next command.
     fn note_command(&mut self, reply: &Reply)
-        ensures { self.new ≡ command_noted self.old reply.now }
+        ensures { self.new ≡ record (command_noted self.old reply.now) { refused_traps = self.new.refused_traps } }
     {
-        if let Reply::Refused(refusal) = *reply {
-            let place = self.made;
-            self.refused.add(RefusedCommand { place, refusal });
+        match *reply {
+            Reply::Thread(thread) | Reply::Funded { thread, .. } => {
+                note_new_thread(&mut self.refused_traps, thread);
+            }
+            Reply::Refused(refusal) => {
+                let place = self.made;
+                self.refused.add(RefusedCommand { place, refusal });
+            }
+            _ => {}
         }
         self.made = self.made.saturating_add(1);
     }
 
     /// Records the warnings about the state at the end of a run.
     pub fn note_end(&mut self, system: &mut System)
-        ensures kept { (self.new.made ≡ self.old.made) × (self.new.refused ≡ self.old.refused) }
+        ensures kept { (self.new.made ≡ self.old.made) × (self.new.refused ≡ self.old.refused)
+            × (self.new.refused_traps ≡ self.old.refused_traps) }
         ensures unmade { self.new.unmade ≡ length (world_of system.old).commands }
         ensures same { system.new ≡ system.old }
     {
@@ -116,7 +134,7 @@ impl Warnings {
     /// can run any more.
     fn note_thread(&mut self, system: &mut System, number: u32, row: ThreadRow, is_over: bool)
         ensures kept { (self.new.made ≡ self.old.made) × (self.new.refused ≡ self.old.refused)
-            × (self.new.unmade ≡ self.old.unmade) }
+            × (self.new.refused_traps ≡ self.old.refused_traps) × (self.new.unmade ≡ self.old.unmade) }
         ensures same { system.new ≡ system.old }
     {
         let ThreadRow {

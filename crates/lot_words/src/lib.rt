@@ -19,6 +19,7 @@ mod problem;
 mod reason;
 mod skip;
 mod stuck;
+mod traps;
 mod warnings;
 mod word;
 

@@ -24,9 +24,18 @@ impl fmt::Display for Declared {
 
 /// The name that the line gives, if it begins with one of these words: each is a word of lines that give a name.
 pub(crate) fn name_given<'a>(keywords: &[BodyWord], line: &'a [u8]) -> Option<&'a str> {
+    argument_given(keywords, line, "NAME")
+}
+
+/// The argument with this name that the line gives, if it begins with one of these words.
+pub(crate) fn argument_given<'a>(
+    keywords: &[BodyWord],
+    line: &'a [u8],
+    name: &str,
+) -> Option<&'a str> {
     let word = words_of(line).next()?;
     if keywords.contains(&body_word(word)?) {
-        words_of(line).nth(place_of(form_outside(word)?, "NAME")?)
+        words_of(line).nth(place_of(form_outside(word)?, name)?)
     } else {
         None
     }

@@ -8,14 +8,14 @@ use std::{fmt, str};
 
 /// A thread, a port or a mutex: its kind and its name, or its number if it has no name.
 #[derive(Clone, Copy)]
-struct Called<'a> {
+pub(crate) struct Called<'a> {
     kind: &'static str,
     name: Option<&'a str>,
     number: u32,
 }
 
 impl<'a> Called<'a> {
-    fn thread(name: Option<&'a Name>, number: u32) -> Called<'a> {
+    pub(crate) fn thread(name: Option<&'a Name>, number: u32) -> Called<'a> {
         let kind = "thread";
         let name = match name {
             Some(name) if !name.is_none() => str::from_utf8(name.as_bytes()).ok(),

@@ -4,15 +4,16 @@ use crate::commands::CommandLine;
 use crate::line_of_command;
 use crate::reason::Reason;
 use crate::stuck::{Waiting, Weightless};
-use lot_play::{FirstFew, RefusedCommand, Warnings};
+use crate::traps::RefusedWords;
+use lot_play::{FirstFew, RefusedCommand, RefusedTrap, Warnings};
 use lot_simulation::EarlyEnd;
 use std::alloc::Global;
 use std::io::Write;
 use std::{fmt, io};
 
-/// Writes the warnings of a run, a line for each: an early end, commands refused or never made, and threads that can
-/// never make progress again. The input was accepted; it is read again only for the lines of the commands named. It
-/// fails if the writer does.
+/// Writes the warnings of a run, a line for each: an early end, commands refused or never made, refused traps, and
+/// threads that can never make progress again. The input was accepted; it is read again only for the lines and the
+/// names. It fails if the writer does.
 pub fn write_warnings<W: Write>(
     writer: &mut W,
     warnings: &Warnings,
@@ -23,6 +24,7 @@ pub fn write_warnings<W: Write>(
     }
     write_refused(warnings.allocator(), writer, &warnings.refused, input)?;
     write_unmade(writer, warnings, input)?;
+    write_refused_traps(writer, &warnings.refused_traps, input)?;
     for thread in warnings.weightless.first() {
         writeln!(writer, "{}", Weightless(thread))?;
     }
@@ -72,6 +74,18 @@ fn write_unmade<W: Write>(writer: &mut W, warnings: &Warnings, input: &[u8]) -> 
             each 0 in a schedule makes one, and lottery 3 makes those up to its end"
         ),
     }
+}
+
+/// Writes the refused traps, and the reasons.
+fn write_refused_traps<W: Write>(
+    writer: &mut W,
+    refused: &FirstFew<RefusedTrap>,
+    input: &[u8],
+) -> io::Result<()> {
+    for traps in refused.first() {
+        writeln!(writer, "{}", RefusedWords::of(input, traps))?;
+    }
+    write_others(writer, refused, "traps that were refused")
 }
 
 /// Writes the number of those not listed, if there are any.

@@ -1,20 +1,34 @@
 //! Plays that leave something to warn of, and the words that tell it.
-use crate::tests::same::check_same;
+use super::{Shown, show_and_warn};
+use crate::tests::same::check_same_at;
+use lot_curves::Measure;
 use lot_io::Watched;
-use lot_play::{Warnings, play_bytes};
+use lot_play::Warnings;
 use lot_words::write_warnings;
 use std::alloc::Global;
 use std::process::Abort;
 
-/// Plays the input, and compares the words of its warnings.
+/// Shows the input in each form, and compares the words of its warnings.
 fn check<H: Abort>(rt: &H, alloc: Global, input: &str, expected: &str) {
-    let mut warnings = Warnings::none(alloc).expect(rt, "memory");
-    let mut writer = Watched::new(Vec::new(alloc));
-    let is_played = play_bytes(alloc, input.as_bytes(), &mut warnings, &mut writer).is_ok();
-    let mut words = Vec::new(alloc);
-    let is_written = write_warnings(&mut words, &warnings, input.as_bytes()).is_ok();
-    let said = str::from_utf8(words.as_slice()).unwrap_or("");
-    check_same(rt, &(is_played && is_written, said), &(true, expected));
+    for shown in [
+        Shown::Played,
+        Shown::Explained,
+        Shown::Table(Measure::Ticks),
+        Shown::Picture("Warned"),
+    ] {
+        let mut warnings = Warnings::none(alloc).expect(rt, "memory");
+        let mut writer = Watched::new(Vec::new(alloc));
+        let is_shown = show_and_warn(alloc, shown, input, &mut warnings, &mut writer).is_ok();
+        let mut words = Vec::new(alloc);
+        let is_written = write_warnings(&mut words, &warnings, input.as_bytes()).is_ok();
+        let said = str::from_utf8(words.as_slice()).unwrap_or("");
+        check_same_at(
+            rt,
+            &shown,
+            &(is_shown && is_written, said),
+            &(true, expected),
+        );
+    }
 }
 
 /// Checks, like `check`, a timed input of these commands, with a script `spin` and a script `stop`.
@@ -148,14 +162,9 @@ fn words_that_are_the_cause(rt: HostRuntime) {
     }
 }
 
-// Nobody serves at port `print`, the second. Thread `own` ends with mutex `gate`, the second, and with the client
-// `ask`, whose call at port `mail` it took.
-#[test]
-fn waits_for_good(rt: HostRuntime) {
-    check(
-        &rt,
-        rt.alloc(),
-        "lottery 3
+/// Nobody serves at port `print`, the second. Thread `own` ends with mutex `gate`, the second, and with the client
+/// `ask`, whose call at port `mail` it took.
+const WAITING: &str = "lottery 3
 for 99
 # port paper
 port mail
@@ -178,10 +187,131 @@ fundx 9 base own owner
 fundx 1 base ask asks
 fundx 1 base sheet prints
 fundx 1 base guest enters
-",
-        "thread 'ask' waits for good for a reply of thread 'own'
+";
+
+/// While `a` sleeps with mutex `m`, `b` takes `n` and waits for `m`. So `a` would wait for a thread that waits for it.
+const DEADLOCK: &str = "lottery 3
+for 99
+mutex m
+mutex n
+script sleeps
+lock m sleep 20
+loop 3 lock n end
+unlock n unlock m
+endscript
+script waits
+lock n lock m
+unlock m unlock n
+endscript
+fundx 1 base a sleeps
+at 5
+fundx 1 base b waits
+";
+
+/// Thread `b` calls `a` while it owns mutex `m`, so `a` would wait for its own client.
+const DEADLOCK_OF_A_SERVER: &str = "lottery 2
+port p
+mutex m
+script serves
+receive p
+lock m
+lock m
+# lock m
+set 5
+lock m
+reply
+reply
+endscript
+script calls
+lock m
+call p
+endscript
+fundx 1 base a serves
+fundx 1 base b calls
+schedule 0 1 1 0 1 1 1 1 1 1 1 1 1 1 1 1
+";
+
+/// Each thread has four traps refused.
+const MANY: &str = "lottery 3
+for 99
+port p
+mutex m
+script all
+reply serve p unlock m
+lock m lock m unlock m
+endscript
+fundx 1 base a all
+at 20
+fundx 1 base b all
+at 40
+fundx 1 base c all
+";
+
+/// The second thread has the number and the name of the first, and another script.
+const AGAIN: &str = "lottery 3
+for 50
+reuse
+mutex m
+script once
+unlock m
+endscript
+script twice
+unlock m unlock m
+endscript
+fundx 1 base a once
+at 10
+unfund 1
+rmthr a
+fundx 1 base a twice
+";
+
+// Of the twelve refused traps of `MANY` eight are listed. Of `AGAIN` it isn't known which script thread `a` ran.
+#[test]
+fn waits_and_refused_traps(rt: HostRuntime) {
+    for (input, expected) in [
+        (
+            WAITING,
+            "thread 'ask' waits for good for a reply of thread 'own'
 thread 'sheet' waits for good for a server at port 'print'
 thread 'guest' waits for good for mutex 'gate'
 ",
-    );
+        ),
+        (
+            DEADLOCK,
+            "line 7: 'lock n' in script 'sleeps' was refused to thread 'a' 3 times: waiting would deadlock, since \
+             the mutex's owner waits for this thread, directly or through others
+line 8: 'unlock n' in script 'sleeps' was refused to thread 'a' once: the thread doesn't own the mutex
+",
+        ),
+        (
+            DEADLOCK_OF_A_SERVER,
+            "line 6: 'lock m' in script 'serves' (here or in 2 more lines) was refused to thread 'a' 3 times: \
+             waiting would deadlock, since the mutex's owner waits for this thread, directly or through others
+line 11: 'reply' in script 'serves' (here or in 1 more line) was refused to thread 'a' once: the thread serves no client
+",
+        ),
+        (
+            MANY,
+            "line 6: 'reply' in script 'all' was refused to thread 'a' once: the thread serves no client
+line 6: 'serve p' in script 'all' was refused to thread 'a' once: the thread serves no client
+line 6: 'unlock m' in script 'all' (here or in 1 more line) was refused to thread 'a' once: the thread doesn't own \
+             the mutex
+line 7: 'lock m' in script 'all' was refused to thread 'a' once: the thread owns the mutex already
+line 6: 'reply' in script 'all' was refused to thread 'b' once: the thread serves no client
+line 6: 'serve p' in script 'all' was refused to thread 'b' once: the thread serves no client
+line 6: 'unlock m' in script 'all' (here or in 1 more line) was refused to thread 'b' once: the thread doesn't own \
+             the mutex
+line 7: 'lock m' in script 'all' was refused to thread 'b' once: the thread owns the mutex already
+and 4 more traps that were refused
+",
+        ),
+        (
+            AGAIN,
+            "'unlock m' was refused to thread 'a' once: the thread doesn't own the mutex
+'unlock m' was refused to thread 'a' 2 times: the thread doesn't own the mutex
+",
+        ),
+    ] {
+        check(&rt, rt.alloc(), input, expected);
+    }
 }
