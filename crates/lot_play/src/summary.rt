@@ -41,7 +41,7 @@ impl<'a> Observer for Noting<'a> {
         turn: &Turn,
     ) -> Result<(), IoFault> {
         if !turn.has_ended {
-            self.warnings.note(turn.actor, &turn.reply);
+            self.warnings.note(system, turn);
         }
         Ok(())
     }
