@@ -125,7 +125,7 @@ pub(crate) enum NumberProblem<'a> {
         first: u32,
         last: u32,
     },
-    #[error("'{word}': there are {processors} processors, and 0 is the console")]
+    #[error("'{word}': the last processor is {processors}, and 0 is the console")]
     NoActor {
         word: &'a str,
         processors: u32,

@@ -27,7 +27,7 @@ schedule 0 2
 line 5: 'comptue' is no word of a script; did you mean 'compute'?
 line 7: 'mktk' is no body line; did you mean 'mktkt'?
 line 8: this line is written 'fund TICKET TARGET', and here are 4 words
-line 9: '2': there are 1 processors, and 0 is the console
+line 9: '2': the last processor is 1, and 0 is the console
 ",
 );
 

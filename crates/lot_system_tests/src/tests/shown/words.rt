@@ -201,7 +201,7 @@ fn numbers(rt: HostRuntime) {
         rt,
         alloc,
         b"lottery 1\nprocessors 2\nschedule 0 1 2 3\n",
-        "line 3: '3': there are 2 processors, and 0 is the console\n",
+        "line 3: '3': the last processor is 2, and 0 is the console\n",
     );
 }
 
