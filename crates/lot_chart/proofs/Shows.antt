@@ -3,8 +3,7 @@ use Rattle.std.proofs.Common.{◌≡◌, ℕ, false, Option, Some, None, Result,
 use Rattle.std.specs.Prelude.{IfOk}
 use Rattle.std.specs.Io.KnownBytes.{Keeps}
 use Rattle.std.specs.declared.alloc.AllocError.{AllocError}
-use Rattle.lot_simulation.specs.World.{Program}
-use Rattle.lot_curves.specs.Curves.{Curves, curves_of}
+use Rattle.lot_curves.specs.Curves.{Curves}
 use Rattle.lot_io.specs.Watching.{Watch}
 use Rattle.lot_play.specs.Played.{Plays}
 use Rattle.lot_play.specs.declared.inputs.Played.{Played}
@@ -23,7 +22,7 @@ module _ {T V : Type 0} (contents : T → Option (List ℕ)) (old new : Watch T)
       subst (λ (r : Result Played IoFault). Plays contents old new r came text) (sym is)
       (subst (λ (w : Watch T). Plays contents old w (Err Memory) came text) (sym same) (working, keeps-all (contents old.inner)))
 
-  -- the text of the curves was written, if they are those of the program
-  pub shows-plays : (program : Program) (curves : Curves) (text : Result V AllocError) → curves ≡ curves_of program → IfOk text (λ v. bytes v ≡ show curves) → Shows contents old new text bytes result → Plays contents old new result Done (show (curves_of program))
-  shows-plays program curves (Ok v) same is shows = subst (Plays contents old new result Done) (is ∙ ap show same) shows
-  shows-plays program curves (Err fault) same is shows = kept shows.0 shows.1 Done (show (curves_of program))
+  -- the text of the curves was written, if they are those that were wanted
+  pub shows-plays : (wanted curves : Curves) (text : Result V AllocError) → curves ≡ wanted → IfOk text (λ v. bytes v ≡ show curves) → Shows contents old new text bytes result → Plays contents old new result Done (show wanted)
+  shows-plays wanted curves (Ok v) same is shows = subst (Plays contents old new result Done) (is ∙ ap show same) shows
+  shows-plays wanted curves (Err fault) same is shows = kept shows.0 shows.1 Done (show wanted)

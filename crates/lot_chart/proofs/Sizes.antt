@@ -1,12 +1,13 @@
 -- How long a picture is at most.
-use Rattle.std.proofs.Common.{◌≡◌, ℕ, zero, suc, ◌+◌, ◌*◌, ◌/◌, ◌%◌, ◌^◌, ◌<◌, ◌≤◌, ◌==◌, ◌&&◌, Bool, true, false, cond, nat_lt, nat_le, Option, Some, None, List, [], ◌∷◌, ◌++◌, codes, length, get_or, refl, sym, ◌∙◌, ap, subst, arith}
+use Rattle.std.proofs.Common.{◌≡◌, ℕ, zero, suc, ◌+◌, ◌-◌, ◌*◌, ◌/◌, ◌%◌, ◌^◌, ◌<◌, ◌≤◌, ◌==◌, ◌&&◌, Bool, true, false, cond, nat_lt, nat_le, Option, Some, None, List, [], ◌∷◌, ◌++◌, codes, length, get_or, map, refl, sym, ◌∙◌, ap, subst, arith}
 use Rattle.std.specs.Prelude.{All, find, unwrap_or}
-use Rattle.std.specs.List.{flat_map, list_all}
+use Rattle.std.specs.List.{flat_map, list_all, range_with_len}
 use Rattle.std.specs.Fmt.{decimal}
-use Rattle.std.proofs.Math.Nat.{mul-le-mul_left}
-use Rattle.std.proofs.lemmas.Bool.{leb-true}
+use Rattle.std.proofs.Math.Nat.{mul-le-mul_left, mul-le-mul_right}
+use Rattle.std.proofs.lemmas.Bool.{leb-true, ltb-true}
 use Rattle.std.proofs.lemmas.Fmt.{length-decimal-le}
 use Rattle.std.proofs.lemmas.List.FromFn.{get_or-map-range_with_len, length-map-range_with_len}
+use Rattle.std.proofs.lemmas.Nat.{mod_below}
 use Rattle.lot_machine.specs.Numbered.{at_number}
 use Rattle.lot_curves.specs.declared.stretch.Measure.TheVariants.{Ticks}
 use Rattle.lot_curves.specs.declared.stretch.Stretch.{Stretch}
@@ -14,7 +15,7 @@ use Rattle.lot_curves.specs.Curves.{Curves, sample_ticks}
 use Rattle.lot_curves.specs.Stretches.{had_at, last_end}
 use Rattle.lot_curves.proofs.Ends.{samples-few}
 use Rattle.lot_chart.specs.declared.lines.Line.{Line}
-use Rattle.lot_chart.specs.Axes.{axis_step, mark_count, marks, steps}
+use Rattle.lot_chart.specs.Axes.{axis_step, lead, mark_count, marks, steps, time_mark_count, time_marks}
 use Rattle.lot_chart.specs.Charts.{across, axes, chart, colour, curve, drawn_of, head, height_mark, label, leader, name_of, name_text, picture, point, points, share_of, strokes, tenths, time_mark, total}
 use Rattle.lot_chart.specs.Escapes.{escaped, escaped_byte}
 use Rattle.lot_chart.specs.Lines.{height_of, lines_after, lines_of, most_in, place_of}
@@ -68,6 +69,17 @@ step-small most = within steps refl
         at true rest = leb-true x 2000000000 (and-left (nat_le x 2000000000) (list_all (λ s. nat_le s 2000000000) xs) all)
         at false rest = rest
 
+step-positive : (most : ℕ) → 0 < axis_step most
+step-positive most = within steps
+  where
+    within : (xs : List ℕ) → 0 < unwrap_or (find (λ s. nat_lt most (6 * s)) xs) 2000000000
+    within [] = omega arith
+    within (x ∷ xs) = at (nat_lt most (6 * x)) refl (within xs)
+      where
+        at : (b : Bool) → nat_lt most (6 * x) ≡ b → 0 < unwrap_or (find (λ s. nat_lt most (6 * s)) xs) 2000000000 → 0 < unwrap_or (cond b (Some x) (find (λ s. nat_lt most (6 * s)) xs)) 2000000000
+        at true wide rest = omega (arith, ltb-true most (6 * x) wide)
+        at false narrow rest = rest
+
 height-mark-short : (most ticks : ℕ) → ticks < 10 ^ 11 → length (height_mark most ticks) ≤ 111
 height-mark-short most ticks small =
     let height = tenths-short (height_of most ticks) (omega arith) in
@@ -78,39 +90,48 @@ height-mark-short most ticks small =
     (both 5 46 (tenths (height_of most ticks)) (codes "' dy='4' text-anchor='end'>" ++ (decimal ticks ++ codes "</text>\n")) height
     (both 27 19 (codes "' dy='4' text-anchor='end'>") (decimal ticks ++ codes "</text>\n") (omega arith) (both 11 8 (decimal ticks) (codes "</text>\n") number (omega arith))))))
 
-time-mark-short : (last tick : ℕ) → tick < 10 ^ 11 → length (time_mark last tick) ≤ 106
-time-mark-short last tick small =
+time-mark-short : (curves : Curves) → curves.origin < 2 ^ 56 → (tick : ℕ) → tick < 10 ^ 11 → length (time_mark curves tick) ≤ 115
+time-mark-short curves early tick small =
+    let last = last_end curves.stretches in
+    let at = curves.origin + tick in
     let place = tenths-short (across last tick) (omega arith) in
-    let number = length-decimal-le 11 tick (omega arith) small (omega (arith, small)) in
-    both 10 96 (codes "<path d='M") (tenths (across last tick) ++ (codes " 460v5' stroke='#222222'/>\n<text x='" ++ (tenths (across last tick) ++ (codes "' y='480' text-anchor='middle'>" ++ (decimal tick ++ codes "</text>\n"))))) (omega arith)
-    (both 5 91 (tenths (across last tick)) (codes " 460v5' stroke='#222222'/>\n<text x='" ++ (tenths (across last tick) ++ (codes "' y='480' text-anchor='middle'>" ++ (decimal tick ++ codes "</text>\n")))) place
-    (both 36 55 (codes " 460v5' stroke='#222222'/>\n<text x='") (tenths (across last tick) ++ (codes "' y='480' text-anchor='middle'>" ++ (decimal tick ++ codes "</text>\n"))) (omega arith)
-    (both 5 50 (tenths (across last tick)) (codes "' y='480' text-anchor='middle'>" ++ (decimal tick ++ codes "</text>\n")) place
-    (both 31 19 (codes "' y='480' text-anchor='middle'>") (decimal tick ++ codes "</text>\n") (omega arith) (both 11 8 (decimal tick) (codes "</text>\n") number (omega arith))))))
+    let number = length-decimal-le 20 at (omega arith) (omega (arith, early, small)) (omega (arith, early, small)) in
+    both 10 105 (codes "<path d='M") (tenths (across last tick) ++ (codes " 460v5' stroke='#222222'/>\n<text x='" ++ (tenths (across last tick) ++ (codes "' y='480' text-anchor='middle'>" ++ (decimal at ++ codes "</text>\n"))))) (omega arith)
+    (both 5 100 (tenths (across last tick)) (codes " 460v5' stroke='#222222'/>\n<text x='" ++ (tenths (across last tick) ++ (codes "' y='480' text-anchor='middle'>" ++ (decimal at ++ codes "</text>\n")))) place
+    (both 36 64 (codes " 460v5' stroke='#222222'/>\n<text x='") (tenths (across last tick) ++ (codes "' y='480' text-anchor='middle'>" ++ (decimal at ++ codes "</text>\n"))) (omega arith)
+    (both 5 59 (tenths (across last tick)) (codes "' y='480' text-anchor='middle'>" ++ (decimal at ++ codes "</text>\n")) place
+    (both 31 28 (codes "' y='480' text-anchor='middle'>") (decimal at ++ codes "</text>\n") (omega arith) (both 20 8 (decimal at) (codes "</text>\n") number (omega arith))))))
 
--- marks of an axis are few and small
-marks-short : (f : ℕ → List ℕ) (m most : ℕ) → ((tick : ℕ) → tick < 10 ^ 11 → length (f tick) ≤ m) → length (flat_map f (marks most)) ≤ length (marks most) * m
-marks-short f m most short = all-short f m (marks most) each
+-- at most six marks, at small numbers
+marks-short : (f : ℕ → List ℕ) (m : ℕ) (at : ℕ → ℕ) (count : ℕ) → count ≤ 5 → ((tick : ℕ) → tick < 10 ^ 11 → length (f tick) ≤ m) → ((k : ℕ) → k ≤ 5 → at k < 10 ^ 11)
+    → length (flat_map f (map at (range_with_len 0 (count + 1)))) ≤ 6 * m
+marks-short f m at count few short small =
+    let six : length (map at (range_with_len 0 (count + 1))) ≤ 6 = omega (arith, length-map-range_with_len at 0 (count + 1), few) in
+    omega (arith, all-short f m (map at (range_with_len 0 (count + 1))) each, mul-le-mul_right m six)
   where
-    each : All (λ tick. length (f tick) ≤ m) (marks most)
+    each : All (λ tick. length (f tick) ≤ m) (map at (range_with_len 0 (count + 1)))
     each k d below =
-        let count = length-map-range_with_len (λ n. n * axis_step most) 0 (mark_count most + 1) in
-        let few : k ≤ 5 = omega (arith, count, below) in
-        let product = mul-le-mul_left (axis_step most) few in
-        subst (λ tick. length (f tick) ≤ m) (sym (get_or-map-range_with_len (λ n. n * axis_step most) 0 (mark_count most + 1) k k d (omega (arith, count, below)) (omega arith)))
-        (short (k * axis_step most) (omega (arith, product, step-small most)))
+        let many = length-map-range_with_len at 0 (count + 1) in
+        subst (λ tick. length (f tick) ≤ m) (sym (get_or-map-range_with_len at 0 (count + 1) k k d (omega (arith, many, below)) (omega arith)))
+        (short (at k) (small k (omega (arith, many, below, few))))
 
-marks-few : (most : ℕ) → length (marks most) ≤ 6
-marks-few most = omega (arith, length-map-range_with_len (λ n. n * axis_step most) 0 (mark_count most + 1))
+heights-short : (most : ℕ) → length (flat_map (height_mark most) (marks most)) ≤ 666
+heights-short most =
+    marks-short (height_mark most) 111 (λ n. n * axis_step most) (mark_count most) (omega arith) (height-mark-short most) (λ k few. omega (arith, mul-le-mul_left (axis_step most) few, step-small most))
 
-axes-short : (last most : ℕ) → length (axes last most) ≤ 1536
-axes-short last most =
+times-short : (curves : Curves) → curves.origin < 2 ^ 56 → length (flat_map (time_mark curves) (time_marks curves.origin (last_end curves.stretches))) ≤ 690
+times-short curves early =
+    let origin = curves.origin in
+    let last = last_end curves.stretches in
+    let step = axis_step last in
+    let first = mod_below (step - origin % step) step (step-positive last) in
+    marks-short (time_mark curves) 115 (λ n. lead step origin + n * step) (time_mark_count origin last) (omega arith) (time-mark-short curves early) (λ k few. omega (arith, first, mul-le-mul_left step few, step-small last))
+
+axes-short : (curves : Curves) (most : ℕ) → curves.origin < 2 ^ 56 → length (axes curves most) ≤ 1590
+axes-short curves most early =
     let frame = codes "<path d='M100 60V460H770' fill='none' stroke='#222222'/>\n<text x='435' y='512' text-anchor='middle'>time, in ticks</text>\n<text transform='translate(14 260) rotate(-90)' text-anchor='middle'>what each thread has run, in ticks</text>\n" in
-    let heights = marks-short (height_mark most) 111 most (height-mark-short most) in
-    let times = marks-short (time_mark last) 106 last (time-mark-short last) in
-    let high : length (flat_map (height_mark most) (marks most)) ≤ 666 = omega (arith, heights, marks-few most) in
-    let wide : length (flat_map (time_mark last) (marks last)) ≤ 636 = omega (arith, times, marks-few last) in
-    both 666 870 (flat_map (height_mark most) (marks most)) (flat_map (time_mark last) (marks last) ++ frame) high (both 636 234 (flat_map (time_mark last) (marks last)) frame wide (omega arith))
+    let times = flat_map (time_mark curves) (time_marks curves.origin (last_end curves.stretches)) in
+    both 666 924 (flat_map (height_mark most) (marks most)) (times ++ frame) (heights-short most) (both 690 234 times frame (times-short curves early) (omega arith))
 
 -- ---- the lines
 
@@ -223,9 +244,9 @@ head-short title =
     let whole = both 198 (5 * t + (94 + (5 * t + 8))) first (escaped title ++ (second ++ (escaped title ++ third))) (omega arith) middle in
     omega (arith, whole)
 
-pub chart-short : (title : List ℕ) (curves : Curves) → All (λ (name : List ℕ). length name ≤ 16) curves.names → length (chart title curves) ≤ 34000 + 10 * length title
+pub chart-short : (title : List ℕ) (curves : Curves) → All (λ (name : List ℕ). length name ≤ 16) curves.names → curves.origin < 2 ^ 56 → length (chart title curves) ≤ 34000 + 10 * length title
 unfolding picture
-chart-short title curves short =
+chart-short title curves short early =
     let shown = (selection curves).shown in
     let others = (selection curves).others in
     let most = most_in shown in
@@ -240,6 +261,6 @@ chart-short title curves short =
     let four = both 5 2119 (codes "</g>\n") (flat_map (label curves.names (total curves)) lines ++ codes "</svg>\n") (omega arith) end in
     let three = both 29688 2124 (flat_map (curve curves others most) lines) (codes "</g>\n" ++ (flat_map (label curves.names (total curves)) lines ++ codes "</svg>\n")) curved four in
     let two = both 57 31812 (codes "<g fill='none' stroke-width='2' stroke-linejoin='round'>\n") (flat_map (curve curves others most) lines ++ (codes "</g>\n" ++ (flat_map (label curves.names (total curves)) lines ++ codes "</svg>\n"))) (omega arith) three in
-    let one = both 1536 31869 (axes (last_end curves.stretches) most) (codes "<g fill='none' stroke-width='2' stroke-linejoin='round'>\n" ++ (flat_map (curve curves others most) lines ++ (codes "</g>\n" ++ (flat_map (label curves.names (total curves)) lines ++ codes "</svg>\n")))) (axes-short (last_end curves.stretches) most) two in
-    let whole = both (300 + 10 * length title) 33405 (head title) (axes (last_end curves.stretches) most ++ (codes "<g fill='none' stroke-width='2' stroke-linejoin='round'>\n" ++ (flat_map (curve curves others most) lines ++ (codes "</g>\n" ++ (flat_map (label curves.names (total curves)) lines ++ codes "</svg>\n"))))) (head-short title) one in
+    let one = both 1590 31869 (axes curves most) (codes "<g fill='none' stroke-width='2' stroke-linejoin='round'>\n" ++ (flat_map (curve curves others most) lines ++ (codes "</g>\n" ++ (flat_map (label curves.names (total curves)) lines ++ codes "</svg>\n")))) (axes-short curves most early) two in
+    let whole = both (300 + 10 * length title) 33459 (head title) (axes curves most ++ (codes "<g fill='none' stroke-width='2' stroke-linejoin='round'>\n" ++ (flat_map (curve curves others most) lines ++ (codes "</g>\n" ++ (flat_map (label curves.names (total curves)) lines ++ codes "</svg>\n"))))) (head-short title) one in
     omega (arith, whole)

@@ -83,14 +83,14 @@ header-short names short =
 -- ---- the table
 
 pub table-short : (measure : Measure) (curves : Curves) → All (λ (name : List ℕ). length name ≤ 16) curves.names → length curves.stretches < 2 ^ 32
-    → All (λ (s : Stretch). s.ticks < 2 ^ 32) curves.stretches → All (λ (s : Stretch). s.draws < 2 ^ 32) curves.stretches → last_end curves.stretches < 2 ^ 64
+    → All (λ (s : Stretch). s.ticks < 2 ^ 32) curves.stretches → All (λ (s : Stretch). s.draws < 2 ^ 32) curves.stretches → curves.origin + last_end curves.stretches < 2 ^ 64
     → length (table measure curves) ≤ 4226 + 4238 * length curves.names
 table-short measure curves names turns ticks draws early =
     let n = length curves.names in
     let last = last_end curves.stretches in
     let wide : (tick : ℕ) → length (row_at measure curves tick) ≡ n = λ tick. length-map-range_with_len (share_at measure curves tick) 1 n in
     let line : (tick : ℕ) → tick ≤ last → length (sampled_line measure curves tick) ≤ 21 + n * 21 =
-    λ tick within. subst (λ m. length (sampled_line measure curves tick) ≤ 21 + m * 21) (wide tick) (row-short tick (row_at measure curves tick) (omega (arith, within, early)) (row-small measure curves turns ticks draws tick)) in
+    λ tick within. subst (λ m. length (sampled_line measure curves tick) ≤ 21 + m * 21) (wide tick) (row-short (curves.origin + tick) (row_at measure curves tick) (omega (arith, within, early)) (row-small measure curves turns ticks draws tick)) in
     let lines = all-short (sampled_line measure curves) (21 + n * 21) (sample_ticks last) (λ k d below. line (get_or (sample_ticks last) k d) (samples-early last k d below)) in
     let few = mul-le-mul_right (21 + n * 21) (samples-few last) in
     omega (arith, both (5 + n * 17) (length (sample_ticks last) * (21 + n * 21)) (header_line curves.names) (flat_map (sampled_line measure curves) (sample_ticks last)) (header-short curves.names names) lines, few)

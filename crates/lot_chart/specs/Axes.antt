@@ -1,5 +1,5 @@
 -- The marks of axes.
-use Rattle.std.specs.Prelude.{ℕ, ◌+◌, ◌*◌, ◌/◌, min, max, nat_lt, List, [], ◌∷◌, find, map, unwrap_or}
+use Rattle.std.specs.Prelude.{ℕ, ◌+◌, ◌-◌, ◌*◌, ◌/◌, ◌%◌, min, max, nat_lt, List, [], ◌∷◌, find, map, unwrap_or}
 use Rattle.std.specs.List.{range_with_len}
 
 -- the possible distances between marks
@@ -19,3 +19,17 @@ mark_count most = min (most / max (axis_step most) 1) 5
 -- the values of the marks, 0 first
 abbrev pub marks : ℕ → List ℕ
 marks most = map (λ n. n * axis_step most) (range_with_len 0 (mark_count most + 1))
+
+-- ---- the axis of time, which begins at an origin
+
+-- the distance from the origin to the first multiple of the step, from the origin itself on
+abbrev pub lead : ℕ → ℕ → ℕ
+lead step origin = (step - origin % step) % step
+
+-- the number of marks after the first
+abbrev pub time_mark_count : ℕ → ℕ → ℕ
+time_mark_count origin last = min ((last - lead (axis_step last) origin) / axis_step last) 5
+
+-- the marks, at multiples of the step: their distances from the origin
+abbrev pub time_marks : ℕ → ℕ → List ℕ
+time_marks origin last = map (λ n. lead (axis_step last) origin + n * axis_step last) (range_with_len 0 (time_mark_count origin last + 1))

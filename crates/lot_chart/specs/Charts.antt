@@ -9,7 +9,7 @@ use Rattle.lot_curves.specs.declared.stretch.Stretch.{Stretch}
 use Rattle.lot_curves.specs.Curves.{Curves, sample_ticks}
 use Rattle.lot_curves.specs.Stretches.{had_at, last_end, stretches_of}
 use Rattle.lot_chart.specs.declared.lines.Line.{Line}
-use Rattle.lot_chart.specs.Axes.{marks}
+use Rattle.lot_chart.specs.Axes.{marks, time_marks}
 use Rattle.lot_chart.specs.Escapes.{escaped}
 use Rattle.lot_chart.specs.Lines.{scaled, height_of, lines_of, most_in}
 use Rattle.lot_chart.specs.Standings.{Selected, selection}
@@ -36,16 +36,16 @@ height_mark most ticks =
     codes "<path d='M100 " ++ (tenths (height_of most ticks) ++ (codes "H770' stroke='#dddddd'/>\n<text x='92' y='"
     ++ (tenths (height_of most ticks) ++ (codes "' dy='4' text-anchor='end'>" ++ (decimal ticks ++ codes "</text>\n")))))
 
--- the mark of a tick on the axis of time
-abbrev pub time_mark : ℕ → ℕ → List ℕ
-time_mark last tick =
-    codes "<path d='M" ++ (tenths (across last tick) ++ (codes " 460v5' stroke='#222222'/>\n<text x='"
-    ++ (tenths (across last tick) ++ (codes "' y='480' text-anchor='middle'>" ++ (decimal tick ++ codes "</text>\n")))))
+-- the mark of a tick on the axis of time; the tick counts from the curves' origin, and its number from tick 0
+abbrev pub time_mark : Curves → ℕ → List ℕ
+time_mark curves tick =
+    codes "<path d='M" ++ (tenths (across (last_end curves.stretches) tick) ++ (codes " 460v5' stroke='#222222'/>\n<text x='"
+    ++ (tenths (across (last_end curves.stretches) tick) ++ (codes "' y='480' text-anchor='middle'>" ++ (decimal (curves.origin + tick) ++ codes "</text>\n")))))
 
--- both axes and their labels, given the last tick and the most ticks of a line
-abbrev pub axes : ℕ → ℕ → List ℕ
-axes last most =
-    flat_map (height_mark most) (marks most) ++ (flat_map (time_mark last) (marks last)
+-- both axes and their labels, given the most ticks of a line
+abbrev pub axes : Curves → ℕ → List ℕ
+axes curves most =
+    flat_map (height_mark most) (marks most) ++ (flat_map (time_mark curves) (time_marks curves.origin (last_end curves.stretches))
     ++ codes "<path d='M100 60V460H770' fill='none' stroke='#222222'/>\n<text x='435' y='512' text-anchor='middle'>time, in ticks</text>\n<text transform='translate(14 260) rotate(-90)' text-anchor='middle'>what each thread has run, in ticks</text>\n")
 
 -- ---- the lines
@@ -111,7 +111,7 @@ total curves = had_at Ticks (last_end curves.stretches) curves.stretches
 -- the picture with these lines
 unfoldable pub picture : List ℕ → Curves → Selected → List Line → List ℕ
 picture title curves selected lines =
-    head title ++ (axes (last_end curves.stretches) (most_in selected.shown)
+    head title ++ (axes curves (most_in selected.shown)
     ++ (codes "<g fill='none' stroke-width='2' stroke-linejoin='round'>\n" ++ (flat_map (curve curves selected.others (most_in selected.shown)) lines
     ++ (codes "</g>\n" ++ (flat_map (label curves.names (total curves)) lines ++ codes "</svg>\n")))))
 

@@ -16,6 +16,16 @@ three_ticks = record first_run {
 abbrev pub three_tick_curves : Curves
 three_tick_curves = curves_of three_ticks
 
+-- thread a wins at tick 0 and runs to tick 4, and thread b wins then and runs to tick 7
+abbrev pub seven_tick_curves : Curves
+seven_tick_curves = record {
+  names = codes "a" ∷ codes "b" ∷ [];
+  stretches =
+      record { thread = 1; end = 0; ticks = 0; draws = 1 } ∷ record { thread = 1; end = 4; ticks = 4; draws = 0 }
+      ∷ record { thread = 2; end = 4; ticks = 0; draws = 1 } ∷ record { thread = 2; end = 7; ticks = 3; draws = 0 } ∷ [];
+  origin = 0;
+}
+
 -- the picture of `three_ticks` with the title `a < b`
 abbrev pub three_tick_picture : List ℕ
 three_tick_picture = text (

@@ -1,5 +1,5 @@
 -- Curves as a table with comma-separated fields.
-use Rattle.std.specs.Prelude.{ℕ, List, ◌++◌, codes}
+use Rattle.std.specs.Prelude.{ℕ, ◌+◌, List, ◌++◌, codes}
 use Rattle.std.specs.List.{flat_map}
 use Rattle.std.specs.Fmt.{decimal}
 use Rattle.lot_simulation.specs.Texts.{newline}
@@ -19,9 +19,9 @@ header_line names = codes "tick" ++ (flat_map next_field names ++ newline)
 abbrev pub row_line : ℕ → List ℕ → List ℕ
 row_line tick row = decimal tick ++ (flat_map (λ figure. next_field (decimal figure)) row ++ newline)
 
--- the line of the curves for a tick
+-- the line of the curves for a tick, which counts from their origin
 abbrev pub sampled_line : Measure → Curves → ℕ → List ℕ
-sampled_line measure curves tick = row_line tick (row_at measure curves tick)
+sampled_line measure curves tick = row_line (curves.origin + tick) (row_at measure curves tick)
 
 -- the table: the line of names, and then a line for each sample
 abbrev pub table : Measure → Curves → List ℕ

@@ -12,6 +12,7 @@ const STEPS: [u32; 28] = [
 /// The distance between the marks of an axis that ends at this value.
 pub(crate) fn axis_step(most: u64) -> u64
     ensures exact { result ≡ definitions.axis_step most }
+    ensures positive { 0 < result }
     ensures small { result < 2 ^ 32 }
 {
     for step in STEPS {
@@ -29,4 +30,22 @@ pub(crate) fn mark_count(most: u64) -> u64
     ensures few { result ≤ 5 }
 {
     (most / axis_step(most).max(1)).min(5)
+}
+
+/// The distance from the origin to the first multiple of the step, from the origin itself on.
+pub(crate) fn lead(step: u64, origin: u64) -> u64
+    requires { 0 < step }
+    ensures exact { result ≡ definitions.lead step origin }
+    ensures short { result ≤ step }
+{
+    (step - origin % step) % step
+}
+
+/// The number of marks after the first on an axis of time from the origin to this last tick, which counts from it.
+pub(crate) fn time_mark_count(origin: u64, last: u64) -> u64
+    ensures exact { result ≡ definitions.time_mark_count origin last }
+    ensures few { result ≤ 5 }
+{
+    let step = axis_step(last);
+    (last.saturating_sub(lead(step, origin)) / step).min(5)
 }

@@ -4,9 +4,10 @@ ghost use Rattle.std.specs.List.{flat_map};
 ghost use Rattle.lot_chart.specs.Charts as definitions;
 ghost use Rattle.lot_chart.specs.Charts.{axes, curve, drawn_of, head, height_mark, label, leader, name_text, picture};
 ghost use Rattle.lot_chart.specs.Charts.{point, points, time_mark};
-ghost use Rattle.lot_chart.specs.Axes.{marks};
+ghost use Rattle.lot_chart.specs.Axes.{marks, time_marks};
+ghost use Rattle.lot_curves.specs.Stretches.{last_end};
 
-use crate::axes::{axis_step, mark_count};
+use crate::axes::{axis_step, lead, mark_count, time_mark_count};
 use crate::escapes::push_escaped;
 use crate::lines::{height_of, lines_of, most_in, scaled};
 use crate::standings::{select, stretches_of_thread};
@@ -68,7 +69,7 @@ fn push_picture(
 {
     let most = most_in(shown);
     push_head(text, title)?;
-    push_axes(text, curves.last(), most)?;
+    push_axes(text, curves, most)?;
     text.push("<g fill='none' stroke-width='2' stroke-linejoin='round'>\n")?;
     push_curves(alloc, text, curves, others, most, lines)?;
     text.push("</g>\n")?;
@@ -92,11 +93,11 @@ fn push_head(text: &mut Text, title: &[u8]) -> Result<(), AllocError>
 }
 
 /// Adds the axes.
-fn push_axes(text: &mut Text, last: u64, most: u64) -> Result<(), AllocError>
-    ensures { OnOk result (text.new ≡ text.old ++ axes last most) }
+fn push_axes(text: &mut Text, curves: &Curves, most: u64) -> Result<(), AllocError>
+    ensures { OnOk result (text.new ≡ text.old ++ axes curves.now most) }
 {
     push_height_marks(text, most)?;
-    push_time_marks(text, last)?;
+    push_time_marks(text, curves)?;
     text.push(FRAME)?;
     Ok(())
 }
@@ -128,27 +129,32 @@ fn push_height_mark(text: &mut Text, most: u64, ticks: u64) -> Result<(), AllocE
 }
 
 /// Adds the marks of the axis of time.
-fn push_time_marks(text: &mut Text, last: u64) -> Result<(), AllocError>
-    ensures { OnOk result (text.new ≡ text.old ++ flat_map (time_mark last) (marks last)) }
+fn push_time_marks(text: &mut Text, curves: &Curves) -> Result<(), AllocError>
+    ensures { OnOk result (text.new ≡ text.old
+        ++ flat_map (time_mark curves.now) (time_marks curves.now.origin (last_end curves.now.stretches))) }
 {
+    let origin = curves.origin();
+    let last = curves.last();
     let step = axis_step(last);
-    for mark in 0..mark_count(last) + 1 {
-        push_time_mark(text, last, mark * step)?;
+    let first = lead(step, origin);
+    for mark in 0..time_mark_count(origin, last) + 1 {
+        push_time_mark(text, curves, first + mark * step)?;
     }
     Ok(())
 }
 
-/// Adds one mark of the axis of time.
-fn push_time_mark(text: &mut Text, last: u64, tick: u64) -> Result<(), AllocError>
-    ensures { OnOk result (text.new ≡ text.old ++ time_mark last tick) }
+/// Adds the mark of a tick, which counts from the origin, on the axis of time.
+fn push_time_mark(text: &mut Text, curves: &Curves, tick: u64) -> Result<(), AllocError>
+    requires { tick < 2 ^ 56 }
+    ensures { OnOk result (text.new ≡ text.old ++ time_mark curves.now tick) }
 {
-    let across = across(last, tick);
+    let across = across(curves.last(), tick);
     text.push("<path d='M")?;
     push_tenths(text, across)?;
     text.push(" 460v5' stroke='#222222'/>\n<text x='")?;
     push_tenths(text, across)?;
     text.push("' y='480' text-anchor='middle'>")?;
-    text.push_number(tick)?;
+    text.push_number(curves.origin() + tick)?;
     text.push("</text>\n")?;
     Ok(())
 }

@@ -41,10 +41,10 @@ pub fn names_do_not_overlap()
 {}
 
 /// A picture of threads whose names have at most 16 bytes, as all names do, has at most 34000 bytes plus ten for each
-/// byte of its title.
+/// byte of its title. Any `Curves` meets the other premise too: it begins before 2 ^ 56.
 pub fn pictures_are_short()
     ensures { (title : List ℕ) (curves : curves.Curves) → All (λ name. length name ≤ 16) curves.names
-        → length (chart title curves) ≤ 34000 + 10 * length title }
+        → curves.origin < 2 ^ 56 → length (chart title curves) ≤ 34000 + 10 * length title }
 {}
 
 /// A table of threads whose names have at most 16 bytes, as all names do, has at most 4226 bytes plus 4238 for each
@@ -54,7 +54,7 @@ pub fn tables_are_short()
     ensures { (measure : Measured) (curves : curves.Curves) → All (λ name. length name ≤ 16) curves.names
         → length curves.stretches < 2 ^ 32
         → All (λ s. s.ticks < 2 ^ 32) curves.stretches → All (λ s. s.draws < 2 ^ 32) curves.stretches
-        → last_end curves.stretches < 2 ^ 64
+        → curves.origin + last_end curves.stretches < 2 ^ 64
         → length (table measure curves) ≤ 4226 + 4238 * length curves.names }
 {}
 

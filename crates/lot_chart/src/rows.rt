@@ -1,9 +1,11 @@
 //! Worked rows for small runs, and their curves as a table and as a picture.
-ghost use Rattle.std.specs.Prelude.{◌≡◌, [], ◌∷◌, codes};
+ghost use Rattle.std.specs.Prelude.{◌≡◌, None, Some, [], ◌∷◌, codes};
 ghost use Rattle.lot_curves.specs.declared.stretch.Measure.TheVariants.{Draws, Ticks};
+ghost use Rattle.lot_curves.specs.Intervals.{curves_within};
 ghost use Rattle.lot_simulation.specs.Samples.{text};
+ghost use Rattle.lot_chart.specs.Axes.{time_marks};
 ghost use Rattle.lot_chart.specs.Charts.{chart};
-ghost use Rattle.lot_chart.specs.Samples.{three_tick_curves, three_tick_picture};
+ghost use Rattle.lot_chart.specs.Samples.{seven_tick_curves, three_tick_curves, three_tick_picture};
 ghost use Rattle.lot_chart.specs.Shown.{shares_output};
 ghost use Rattle.lot_chart.specs.Tables.{table};
 
@@ -14,6 +16,19 @@ pub fn tables()
         ≡ text (codes "tick,a,b" ∷ codes "0,0,0" ∷ codes "1,1,0" ∷ codes "2,2,0" ∷ codes "3,2,1" ∷ []) }
     ensures draws { table Draws three_tick_curves
         ≡ text (codes "tick,a,b" ∷ codes "0,1,0" ∷ codes "1,2,0" ∷ codes "2,2,1" ∷ codes "3,2,1" ∷ []) }
+{}
+
+/// Between ticks 3 and 6 thread a runs for one tick more, and thread b, which wins at tick 4, for two. An interval
+/// after the end begins at the end. From tick 3 on the marks of six ticks are at 4, 6 and 8.
+#[tactic(auto, unfolding(lot_simulation::specs::OnLiterals::texts_on_literals))]
+pub fn intervals()
+    ensures ticks { table Ticks (curves_within (Some (record { from = 3; to = Some 6 })) seven_tick_curves)
+        ≡ text (codes "tick,a,b" ∷ codes "3,0,0" ∷ codes "4,1,0" ∷ codes "5,1,1" ∷ codes "6,1,2" ∷ []) }
+    ensures draws { table Draws (curves_within (Some (record { from = 3; to = Some 6 })) seven_tick_curves)
+        ≡ text (codes "tick,a,b" ∷ codes "3,0,0" ∷ codes "4,0,1" ∷ codes "5,0,1" ∷ codes "6,0,1" ∷ []) }
+    ensures late { table Ticks (curves_within (Some (record { from = 9; to = None })) seven_tick_curves)
+        ≡ text (codes "tick,a,b" ∷ codes "7,0,0" ∷ []) }
+    ensures marks { time_marks 3 6 ≡ 1 ∷ 3 ∷ 5 ∷ [] }
 {}
 
 /// The run as a picture, with a title that needs escapes.

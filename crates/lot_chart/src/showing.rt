@@ -4,13 +4,14 @@ ghost use Rattle.lot_simulation.specs.Grammar.{program_in};
 ghost use Rattle.lot_play.specs.Played.{Plays, came_of};
 ghost use Rattle.lot_io.specs.Writing.{Writes};
 ghost use Rattle.lot_curves.specs.Curves.{curves_of};
+ghost use Rattle.lot_curves.specs.Intervals.{curves_within};
 ghost use Rattle.lot_play.specs.declared.inputs.Played.TheVariants.{Done};
 ghost use Rattle.lot_chart.specs.Charts as charts;
 ghost use Rattle.lot_chart.specs.Shown.{Shows, chart_output, shares_output};
 ghost use Rattle.lot_chart.specs.Tables as tables;
 
 use crate::{chart_of, gather, table};
-use lot_curves::Measure;
+use lot_curves::{Interval, Measure};
 use lot_io::{IoFault, Watched, flush, write_bytes};
 use lot_play::{Played, Warnings, refuse};
 use lot_text::{ParseFault, Program, parse};
@@ -32,7 +33,7 @@ pub fn shares_bytes<W: Write>(
         (shares_output measure bytes.now) }
 {
     match parse(alloc, bytes) {
-        Ok(program) => shares_program(alloc, measure, &program, warnings, writer),
+        Ok(program) => shares_program(alloc, measure, None, &program, warnings, writer),
         Err(ParseFault::Memory) => Err(IoFault::Memory),
         Err(ParseFault::Input(fault)) => refuse(fault, writer),
     }
@@ -53,17 +54,18 @@ pub fn chart_bytes<W: Write>(
         (chart_output title.now bytes.now) }
 {
     match parse(alloc, bytes) {
-        Ok(program) => chart_program(alloc, title, &program, warnings, writer),
+        Ok(program) => chart_program(alloc, title, None, &program, warnings, writer),
         Err(ParseFault::Memory) => Err(IoFault::Memory),
         Err(ParseFault::Input(fault)) => refuse(fault, writer),
     }
 }
 
-/// Makes the program's turns, and writes a table of each thread's ticks or draws over time. It stores the run's
-/// warnings in `warnings`. If out of memory, it writes nothing.
+/// Makes the program's turns, and writes a table of each thread's ticks or draws over time, or in this interval of it.
+/// It stores the run's warnings in `warnings`. If out of memory, it writes nothing.
 pub fn shares_program<W: Write>(
     alloc: Global,
     measure: Measure,
+    interval: Option<Interval>,
     program: &Program,
     warnings: &mut Warnings,
     writer: &mut Watched<W>,
@@ -71,19 +73,23 @@ pub fn shares_program<W: Write>(
     requires { writer.old.failed ≡ false }
     ensures flushed { OnOk result (writer.new.flushed ≡ true) }
     ensures shown { Plays W.contents writer.old writer.new result Done
-        (tables.table measure (curves_of program.now)) }
+        (tables.table measure (curves_within interval (curves_of program.now))) }
 {
     match gather(alloc, program, warnings) {
-        Ok(curves) => write_text(table(alloc, &curves, measure), writer),
+        Ok(curves) => {
+            let curves = curves.within(interval);
+            write_text(table(alloc, &curves, measure), writer)
+        }
         Err(_) => Err(IoFault::Memory),
     }
 }
 
-/// Makes the program's turns, and writes a picture with this title of each thread's ticks over time. It stores the
-/// run's warnings in `warnings`. If out of memory, it writes nothing.
+/// Makes the program's turns, and writes a picture with this title of each thread's ticks over time, or in this
+/// interval of it. It stores the run's warnings in `warnings`. If out of memory, it writes nothing.
 pub fn chart_program<W: Write>(
     alloc: Global,
     title: &str,
+    interval: Option<Interval>,
     program: &Program,
     warnings: &mut Warnings,
     writer: &mut Watched<W>,
@@ -91,10 +97,13 @@ pub fn chart_program<W: Write>(
     requires { writer.old.failed ≡ false }
     ensures flushed { OnOk result (writer.new.flushed ≡ true) }
     ensures shown { Plays W.contents writer.old writer.new result Done
-        (charts.chart title.now (curves_of program.now)) }
+        (charts.chart title.now (curves_within interval (curves_of program.now))) }
 {
     match gather(alloc, program, warnings) {
-        Ok(curves) => write_text(chart_of(alloc, &curves, title), writer),
+        Ok(curves) => {
+            let curves = curves.within(interval);
+            write_text(chart_of(alloc, &curves, title), writer)
+        }
         Err(_) => Err(IoFault::Memory),
     }
 }

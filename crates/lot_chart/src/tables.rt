@@ -49,7 +49,7 @@ fn push_rows(
     for sample in 0..curves.sample_count() + 1 {
         let tick = curves.sample_tick(sample);
         curves.fill_row(measure, tick, row);
-        push_row(text, tick, row)?;
+        push_row(text, curves.origin() + tick, row)?;
     }
     Ok(())
 }

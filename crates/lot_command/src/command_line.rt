@@ -2,8 +2,9 @@
 
 use crate::view::{Showing, View};
 use clap::builder::ValueParser;
+use clap::error::ErrorKind;
 use clap::{Arg, ArgAction, ArgMatches, Command, Error};
-use lot_curves::Measure;
+use lot_curves::{Interval, Measure};
 use lot_play::Seeds;
 use lot_simulation::ranges;
 use lot_text::Seed;
@@ -12,6 +13,14 @@ use std::convert::AsStr;
 
 /// The title of a picture, unless the command line gives one.
 const TITLE: &str = "What each thread has run";
+
+/// The text for an interval that is empty.
+const EMPTY_INTERVAL: &str = "the interval is empty: '--from <A>' has to be less than '--to <B>'";
+
+/// The text for seeds that aren't from one to another.
+const WRONG_SEEDS: &str =
+    "the seeds are wrong: '--seeds <A..B>' has two numbers from 1 to 2147483646 with '..' \
+    between them, of which the first is at most the second";
 
 /// The word for standard input in place of a file's name.
 const STANDARD: &str = "-";
@@ -50,7 +59,7 @@ pub(crate) fn command_line_of<'a, S: AsStr>(
     alloc: Global,
     words: &'a [S],
 ) -> Result<CommandLine<'a>, Error> {
-    let command = Command::new(alloc, "lot_sim")
+    let mut command = Command::new(alloc, "lot_sim")
         .about("A lottery scheduler with ticket currencies, simulated")
         .subcommand_required(true)
         .subcommand(play_command(alloc)?)?
@@ -59,15 +68,19 @@ pub(crate) fn command_line_of<'a, S: AsStr>(
         .subcommand(run_command(alloc)?)?
         .subcommand(shares_command(alloc)?)?
         .subcommand(chart_command(alloc)?)?;
-    let matches = command.try_get_matches_from(words)?;
-    match matches.subcommand() {
-        Some((name, given)) => Ok(CommandLine {
-            request: request_of(name, given),
-            title: title_of(name, given),
-            file: file_of(given),
-        }),
-        None => Ok(PLAY),
+    let matches = command.try_get_matches_from_mut(words)?;
+    let Some((name, given)) = matches.subcommand() else {
+        return Ok(PLAY);
+    };
+    if let Some(fault) = fault_of(name, given) {
+        let error = command.error(ErrorKind::ValueValidation, fault)?;
+        return Err(error);
     }
+    Ok(CommandLine {
+        request: request_of(name, given),
+        title: title_of(name, given),
+        file: file_of(given),
+    })
 }
 
 /// A subcommand that shows an input, with a text on what it does.
@@ -76,7 +89,10 @@ fn showing<'a>(alloc: Global, name: &'a str, about: &'a str) -> Result<Command<'
         .long("seed")
         .value_name("S")
         .action(ArgAction::Set)
-        .value_parser(seed_parser())
+        .value_parser(ValueParser::unsigned(
+            u64::from(ranges::SEED.first),
+            u64::from(ranges::SEED.last),
+        ))
         .help(
             "Replaces the input's seeds: processor 1 has the seed S, 1 to 2147483646, and the others' are computed \
              from it",
@@ -84,9 +100,28 @@ fn showing<'a>(alloc: Global, name: &'a str, about: &'a str) -> Result<Command<'
     reading(alloc, name, about)?.arg(seed)
 }
 
-/// What a seed may be.
-fn seed_parser<'a>() -> ValueParser<'a> {
-    ValueParser::unsigned(u64::from(ranges::SEED.first), u64::from(ranges::SEED.last))
+/// A subcommand that shows an interval of the time of an input, with a text on what it does.
+fn showing_interval<'a>(
+    alloc: Global,
+    name: &'a str,
+    about: &'a str,
+) -> Result<Command<'a>, AllocError> {
+    let from = tick_option(alloc, "from", "A").help(
+        "The tick at which it begins, and from which threads' ticks count; 0 if it is left out",
+    );
+    let to = tick_option(alloc, "to", "B").help(
+        "The tick at which it ends; the end of the last turn if it is left out",
+    );
+    showing(alloc, name, about)?.arg(from)?.arg(to)
+}
+
+/// An option whose value is a tick.
+fn tick_option<'a>(alloc: Global, name: &'a str, value: &'a str) -> Arg<'a> {
+    Arg::new(alloc, name)
+        .long(name)
+        .value_name(value)
+        .action(ArgAction::Set)
+        .value_parser(ValueParser::unsigned(0, u64::MAX))
 }
 
 /// A subcommand that reads an input, with a text on what it does.
@@ -112,14 +147,12 @@ fn play_command<'a>(alloc: Global) -> Result<Command<'a>, AllocError> {
 fn report_command<'a>(alloc: Global) -> Result<Command<'a>, AllocError> {
     let seeds = Arg::new(alloc, "seeds")
         .long("seeds")
-        .value_name("SEED")
-        .num_args(2)
+        .value_name("A..B")
         .action(ArgAction::Set)
-        .value_parser(seed_parser())
         .conflicts_with("seed")?
         .help(
-            "Plays the input once with each seed from the first to the last, and writes the mean, the least and the \
-             most of each thread's draws, ticks and share",
+            "Plays the input once with each seed from A to B, and writes the mean, the least and the most of each \
+             thread's draws, ticks and share",
         );
     showing(
         alloc,
@@ -155,7 +188,7 @@ fn shares_command<'a>(alloc: Global) -> Result<Command<'a>, AllocError> {
         .long("quanta")
         .action(ArgAction::SetTrue)
         .help("The draws that each thread has won, and not its ticks");
-    showing(
+    showing_interval(
         alloc,
         "shares",
         "Reads an input from FILE or standard input, makes the turns of its schedule and writes a table of the ticks \
@@ -170,7 +203,7 @@ fn chart_command<'a>(alloc: Global) -> Result<Command<'a>, AllocError> {
         .long("title")
         .action(ArgAction::Set)
         .help("What the picture is called");
-    showing(
+    showing_interval(
         alloc,
         "chart",
         "Reads an input from FILE or standard input, makes the turns of its schedule and writes a picture of the ticks \
@@ -179,18 +212,57 @@ fn chart_command<'a>(alloc: Global) -> Result<Command<'a>, AllocError> {
     .arg(title)
 }
 
-/// The request of the subcommand with this name, and with these options.
+/// What is wrong with the options of the subcommand with this name, if anything is.
+fn fault_of(name: &str, given: &ArgMatches<'_>) -> Option<&'static str> {
+    if is_empty(interval_of(name, given)) {
+        Some(EMPTY_INTERVAL)
+    } else if name == "report" && given.get_str("seeds").is_some() && seeds_of(given).is_none() {
+        Some(WRONG_SEEDS)
+    } else {
+        None
+    }
+}
+
+/// The request of the subcommand with this name, with these options.
 fn request_of(name: &str, given: &ArgMatches<'_>) -> Request {
+    let interval = interval_of(name, given);
     let view = match name {
         "run" => return Request::Run,
         "report" => View::Report(seeds_of(given)),
         "explain" => View::Explain,
-        "shares" => View::Shares(measure_of(given)),
-        "chart" => View::Chart,
+        "shares" => View::Shares {
+            measure: measure_of(given),
+            interval,
+        },
+        "chart" => View::Chart { interval },
         _ => View::Play,
     };
     let seed = seed_of(given);
     Request::Show(Showing { view, seed })
+}
+
+/// The interval of the time, which `shares` and `chart` may give; none for the whole.
+fn interval_of(name: &str, given: &ArgMatches<'_>) -> Option<Interval> {
+    if name != "shares" && name != "chart" {
+        return None;
+    }
+    let from: Option<u64> = given.get_one("from");
+    let to: Option<u64> = given.get_one("to");
+    if from.is_none() && to.is_none() {
+        return None;
+    }
+    Some(Interval {
+        from: from.unwrap_or(0),
+        to,
+    })
+}
+
+/// Whether this is an interval that ends at its beginning or before.
+fn is_empty(interval: Option<Interval>) -> bool {
+    match interval {
+        Some(Interval { from, to: Some(to) }) => to <= from,
+        _ => false,
+    }
 }
 
 /// The title of a picture, which `chart` may give.
@@ -215,15 +287,15 @@ fn seed_of(given: &ArgMatches<'_>) -> Option<Seed> {
     Seed::new(given.get_one("seed")?)
 }
 
-/// The seeds of several plays, if they were given.
+/// The seeds of several plays, if they were given and are right.
 fn seeds_of(given: &ArgMatches<'_>) -> Option<Seeds> {
-    let [first, last] = given.get_strs("seeds")? else {
+    let (first, last) = given.get_str("seeds")?.split_once("..")?;
+    let first = Seed::new(first.parse::<u32>().ok()?)?;
+    let last = Seed::new(last.parse::<u32>().ok()?)?;
+    if first.number() > last.number() {
         return None;
-    };
-    Some(Seeds {
-        first: Seed::new(first.parse().ok()?)?,
-        last: Seed::new(last.parse().ok()?)?,
-    })
+    }
+    Some(Seeds { first, last })
 }
 
 /// The name of the file that was given, or none for standard input.

@@ -7,7 +7,7 @@ ghost use Rattle.lot_command.specs.Views.{text_of, view_of};
 
 use crate::diagnostics::Diagnostics;
 use lot_chart::{chart_program, shares_program};
-use lot_curves::Measure;
+use lot_curves::{Interval, Measure};
 use lot_explain::explain_program;
 use lot_io::{IoFault, Watched, read_input};
 use lot_play::{Seeds, play_program, report_program, report_seeds};
@@ -25,10 +25,15 @@ pub(crate) enum View {
     Report(Option<Seeds>),
     /// A line for each turn, after the lots of its lottery if a thread won it, and the report.
     Explain,
-    /// A table of this measure of each thread over time.
-    Shares(Measure),
-    /// A picture of the ticks of each thread over time.
-    Chart,
+    /// A table of this measure of each thread over time, or in an interval of it.
+    Shares {
+        measure: Measure,
+        interval: Option<Interval>,
+    },
+    /// A picture of the ticks of each thread over time, or in an interval of it.
+    Chart {
+        interval: Option<Interval>,
+    },
 }
 
 /// A view of an input, and the seed that the input is played with.
@@ -77,7 +82,7 @@ fn show_bytes<W: Write>(
         Ok(program) => {
             diagnostics.keep_played(bytes);
             let warnings = &mut diagnostics.warnings;
-            show_program(alloc, showing.view, title, &program, warnings, writer)
+            show_program(alloc, &showing.view, title, &program, warnings, writer)
         }
         Err(ParseFault::Memory) => Err(IoFault::Memory),
         Err(ParseFault::Input(fault)) => {
@@ -90,7 +95,7 @@ fn show_bytes<W: Write>(
 /// Makes the program's turns, and writes this view of them. It stores the run's warnings in `warnings`.
 fn show_program<W: Write>(
     alloc: Global,
-    view: View,
+    view: &View,
     title: &str,
     program: &Program,
     warnings: &mut Warnings,
@@ -99,14 +104,18 @@ fn show_program<W: Write>(
     requires { writer.old.failed ≡ false }
     ensures flushed { OnOk result (writer.new.flushed ≡ true) }
     ensures shown { Plays W.contents writer.old writer.new result Done
-        (view_of view title.now program.now) }
+        (view_of view.now title.now program.now) }
 {
     match view {
         View::Play => play_program(alloc, program, warnings, writer),
         View::Report(None) => report_program(alloc, program, warnings, writer),
         View::Report(Some(seeds)) => report_seeds(alloc, program, seeds, warnings, writer),
         View::Explain => explain_program(alloc, program, warnings, writer),
-        View::Shares(measure) => shares_program(alloc, measure, program, warnings, writer),
-        View::Chart => chart_program(alloc, title, program, warnings, writer),
+        View::Shares { measure, interval } => {
+            shares_program(alloc, *measure, *interval, program, warnings, writer)
+        }
+        View::Chart { interval } => {
+            chart_program(alloc, title, *interval, program, warnings, writer)
+        }
     }
 }

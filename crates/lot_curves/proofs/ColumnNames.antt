@@ -1,5 +1,5 @@
 -- No two threads' columns have the same name.
-use Rattle.std.proofs.Common.{◌≡◌, ℕ, zero, suc, ◌+◌, ◌^◌, ◌<◌, ◌≤◌, ◌==◌, Bool, true, false, cond, Option, Some, None, List, [], ◌∷◌, ◌++◌, unwrap_or, refl, sym, ◌∙◌, ap, subst, arith}
+use Rattle.std.proofs.Common.{◌≡◌, ℕ, ◌+◌, ◌^◌, ◌<◌, ◌≤◌, ◌==◌, Bool, true, false, cond, Option, Some, None, List, [], ◌∷◌, ◌++◌, unwrap_or, refl, sym, ◌∙◌, ap, arith}
 use Rattle.std.specs.Prelude.{◌&&◌, ◌||◌, ◌%◌, nat_le}
 use Rattle.std.specs.Fmt.{decimal}
 use Rattle.std.specs.List.{list_all}
@@ -9,7 +9,6 @@ use Rattle.lot_machine.specs.declared.command.Command.{Command}
 use Rattle.lot_machine.specs.declared.event.Event.{Event}
 use Rattle.lot_machine.specs.declared.event.Event.TheVariants as event
 use Rattle.lot_machine.specs.declared.sizes.Sizes.{Sizes}
-use Rattle.lot_machine.specs.declared.ticket.Target.{Target}
 use Rattle.lot_machine.specs.declared.ticket.Target.TheVariants.{Thread}
 use Rattle.lot_machine.specs.Commands.{is_good_name, is_plain_name, is_letter, is_name_byte, is_no_name, is_thread_name}
 use Rattle.lot_machine.specs.Rows.{thread_name}
@@ -18,7 +17,7 @@ use Rattle.lot_machine.specs.Step.{step}
 use Rattle.lot_machine.proofs.NamesKept.{AreOwn, opening-own, step-own}
 use Rattle.lot_machine.proofs.StepSizes.{step-limits}
 use Rattle.lot_simulation.specs.World.{Program, Turn, World, console_turn, opening_world, actor_event, processor_turn, system_after, system_run, system_turn}
-use Rattle.lot_curves.specs.Curves.{name_in, name_or_number}
+use Rattle.lot_curves.specs.Curves.{name_in}
 
 -- ---- names in a run
 

@@ -1,3 +1,4 @@
 pub mod Ends
 pub mod Rows
 pub mod ColumnNames
+pub mod Cuts

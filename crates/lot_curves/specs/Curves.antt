@@ -14,10 +14,12 @@ use Rattle.lot_curves.specs.OwnTimes.{own_turns}
 use Rattle.lot_curves.specs.Stretches.{had_at, stretch_of, stretches_of}
 
 -- The names of the columns, one for each number of a thread in ascending order, and the stretches of the turns. If
--- numbers are given again, a column counts the turns of each thread that had its number.
+-- numbers are given again, a column counts the turns of each thread that had its number. The stretches count their ticks
+-- from the origin, the tick at which the curves begin.
 pub record Curves : Type 0 where
   pub names : List (List ℕ)
   pub stretches : List Stretch
+  pub origin : ℕ
 
 -- a thread's name, or its number if it has no name
 abbrev pub name_or_number : List ℕ → ℕ → List ℕ
@@ -42,7 +44,7 @@ timed_stretches program = map (λ done. stretch_of (record { time = done.time; a
 -- The curves in a world, with the stretches of the program's run with its history. A column has the name of the last
 -- thread with its number, and the stretches of all of them.
 abbrev pub curves_in : Program → World → Curves
-curves_in program w = record { names = names_in w.state; stretches = stretches_made program w.history }
+curves_in program w = record { names = names_in w.state; stretches = stretches_made program w.history; origin = 0 }
 
 -- the curves of the program's schedule
 abbrev pub scheduled_curves : Program → Curves
@@ -50,7 +52,7 @@ scheduled_curves program = curves_in program (system_run program program.schedul
 
 -- the curves of the timed program's turns
 abbrev pub timed_curves : Program → Curves
-timed_curves program = record { names = names_in (system_run program (timed_schedule program)).state; stretches = timed_stretches program }
+timed_curves program = record { names = names_in (system_run program (timed_schedule program)).state; stretches = timed_stretches program; origin = 0 }
 
 -- the curves of the program: those of its timed turns if it has a duration, and otherwise those of its schedule
 abbrev pub curves_of : Program → Curves

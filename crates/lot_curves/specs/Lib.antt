@@ -4,3 +4,5 @@ pub mod OwnTimes
 pub mod Stretches
 -- Each thread's ticks or draws at each sample.
 pub mod Curves
+-- The curves of an interval of the time.
+pub mod Intervals

@@ -1,11 +1,13 @@
 //! The ticks and the draws of each thread over time: a column for each number of a thread. If numbers are given again,
 //! a column counts the turns of each thread that had its number, and has the name of the last.
-ghost use Rattle.std.specs.Prelude.{◌≡◌, ℕ, ◌+◌, ◌<◌, ◌≤◌, ◌^◌, ◌==◌, All, if◌then◌else◌, length, slice_index, vec_len};
+ghost use Rattle.std.specs.Prelude.{◌≡◌, ℕ, ◌+◌, ◌<◌, ◌≤◌, ◌^◌, ◌==◌, All, if◌then◌else◌, length, map, slice_index};
+ghost use Rattle.std.specs.Prelude.{vec_len};
 ghost use Rattle.lot_curves.specs.Curves as curves;
 ghost use Rattle.lot_curves.specs.Curves.{row_at};
+ghost use Rattle.lot_curves.specs.Intervals.{curves_between, curves_within, stretch_between};
 ghost use Rattle.lot_curves.specs.Stretches.{last_end};
 
-use crate::{Measure, Stretch};
+use crate::{Interval, Measure, Stretch};
 use lot_machine::{Name, index_of};
 use std::marker::Model;
 
@@ -17,40 +19,77 @@ const SAMPLES: u64 = 200;
 pub struct Curves {
     names: Vec<Name>,
     stretches: Vec<Stretch>,
+    /// The tick at which the curves begin. Other ticks count from it.
+    origin: u64,
     /// The end of the last stretch.
     last: u64,
 }
 
 impl Model for Curves {
-    ghost use Rattle.std.specs.Prelude.{◌≡◌, ◌<◌, ◌^◌, vec_len};
+    ghost use Rattle.std.specs.Prelude.{◌≡◌, ◌+◌, ◌<◌, ◌^◌, vec_len};
     ghost use Rattle.lot_curves.specs.Curves.{Curves as CurvesRecord};
     ghost use Rattle.lot_curves.specs.Stretches.{last_end};
 
     ghost Value = { CurvesRecord };
 
-    ghost view = { λ c. record { names = c.names.items; stretches = c.stretches.items } };
+    ghost view = { λ c. record { names = c.names.items; stretches = c.stretches.items; origin = c.origin } };
 
     ghost invariant = { λ c. record {
       last : c.last ≡ last_end c.stretches.items;
-      early : c.last < 2 ^ 56;
+      early : c.origin + c.last < 2 ^ 56;
       threads : vec_len c.names < 2 ^ 32;
       turns : vec_len c.stretches < 2 ^ 32;
     } };
 }
 
 impl Curves {
-    /// The curves of columns with these names, from the stretches of the turns.
+    /// The curves of columns with these names, from the stretches of the turns. They begin at tick 0.
     pub fn new(names: Vec<Name>, stretches: Vec<Stretch>) -> Curves
         requires threads { vec_len names < 2 ^ 32 }
         requires turns { vec_len stretches < 2 ^ 32 }
         requires early { last_end stretches.items < 2 ^ 56 }
-        ensures { result ≡ record { names = names.items; stretches = stretches.items } }
+        ensures { result ≡ record { names = names.items; stretches = stretches.items; origin = 0 } }
     {
         let last = last_of(stretches.as_slice());
         Curves {
             names,
             stretches,
+            origin: 0,
             last,
+        }
+    }
+
+    /// The curves of this interval, or all of them without one. An interval that begins after the last turn begins at
+    /// its end instead.
+    pub fn within(self, interval: Option<Interval>) -> Curves
+        ensures { result ≡ curves_within interval self }
+    {
+        match interval {
+            Some(interval) => {
+                let last = self.last;
+                self.between(interval.from.min(last), interval.to.unwrap_or(last))
+            }
+            None => self,
+        }
+    }
+
+    /// The curves between two ticks.
+    fn between(self, from: u64, to: u64) -> Curves
+        requires { from ≤ last_end self.stretches }
+        ensures { result ≡ curves_between from to self }
+    {
+        let Curves {
+            names,
+            mut stretches,
+            origin,
+            last,
+        } = self;
+        cut(stretches.as_mut_slice(), from, to);
+        Curves {
+            names,
+            stretches,
+            origin: origin + from,
+            last: last.min(to).saturating_sub(from),
         }
     }
 
@@ -69,6 +108,14 @@ impl Curves {
         ensures few { length self.now.stretches < 2 ^ 32 }
     {
         self.stretches.as_slice()
+    }
+
+    /// The tick at which the curves begin. Other ticks count from it.
+    pub fn origin(&self) -> u64
+        ensures origin { result ≡ self.now.origin }
+        ensures early { result + last_end self.now.stretches < 2 ^ 56 }
+    {
+        self.origin
     }
 
     /// The end of the last turn.
@@ -105,6 +152,15 @@ impl Curves {
         for stretch in self.stretches() {
             add_part(row, stretch.thread, stretch.part_at(measure, tick));
         }
+    }
+}
+
+/// Cuts the stretches to those between two ticks.
+fn cut(stretches: &mut [Stretch], from: u64, to: u64)
+    ensures { stretches.new ≡ map (stretch_between from to) stretches.old }
+{
+    for place in 0..stretches.len() {
+        stretches[place] = stretches[place].between(from, to);
     }
 }
 

@@ -1,11 +1,12 @@
 //! Laws of the definitions of curves, without executable code.
-ghost use Rattle.std.specs.Prelude.{◌≡◌, ◌<◌, ◌≤◌, ◌^◌, ℕ, List, false, length, sum_by};
+ghost use Rattle.std.specs.Prelude.{◌≡◌, ◌+◌, ◌<◌, ◌≤◌, ◌^◌, ℕ, List, false, length, sum_by};
 ghost use Rattle.lot_simulation.specs.World.{Program, system_run};
 ghost use Rattle.lot_curves.specs.declared.stretch.Measure.{Measure as Measured};
 ghost use Rattle.lot_curves.specs.declared.stretch.Measure.TheVariants.{Draws, Ticks};
 ghost use Rattle.lot_curves.specs.declared.stretch.Stretch.{Stretch as StretchRecord};
 ghost use Rattle.lot_curves.specs.Curves as curves;
 ghost use Rattle.lot_curves.specs.Curves.{name_in, sample_count, sample_tick, sample_ticks, share_at};
+ghost use Rattle.lot_curves.specs.Intervals.{curves_between};
 ghost use Rattle.lot_curves.specs.Stretches.{had_at, last_end, stretches_of};
 
 /// There are at most 201 samples, and the last is at the last tick.
@@ -29,6 +30,13 @@ pub fn curves_end_at_all()
 pub fn curves_rise()
     ensures { (measure : Measured) (earlier later : ℕ) (stretches : List StretchRecord) → earlier ≤ later
         → had_at measure earlier stretches ≤ had_at measure later stretches }
+{}
+
+/// In an interval a curve has the ticks by which the whole curve rises from the interval's beginning on.
+pub fn intervals_are_differences()
+    ensures { (curves : curves.Curves) (from to tick t : ℕ) → from + tick ≤ to
+        → share_at Ticks curves from t + share_at Ticks (curves_between from to curves) tick t
+        ≡ share_at Ticks curves (from + tick) t }
 {}
 
 /// No two curves have one name, those of removed threads and of threads without a name included, unless the program has

@@ -2,8 +2,10 @@
 #![tactic(auto)]
 
 mod curves;
+mod interval;
 pub mod laws;
 mod stretch;
 
 pub use curves::Curves;
+pub use interval::Interval;
 pub use stretch::{Measure, Stretch, had_at};

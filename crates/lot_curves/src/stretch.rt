@@ -2,6 +2,7 @@
 ghost use Rattle.std.specs.Prelude.{◌≡◌, ◌<◌, ◌≤◌, ◌^◌, length};
 ghost use Rattle.lot_machine.specs.declared.event.Event.{Event};
 ghost use Rattle.lot_simulation.specs.World.Answer.{Answered};
+ghost use Rattle.lot_curves.specs.Intervals.{stretch_between};
 ghost use Rattle.lot_curves.specs.Stretches as definitions;
 ghost use Rattle.lot_curves.specs.Stretches.{stretch_of};
 
@@ -63,6 +64,26 @@ impl Stretch {
                     0
                 }
             }
+        }
+    }
+
+    /// The stretch between two ticks: its ticks after the first and up to the second, and its draw if it was won at
+    /// the first or later, and up to the second. Its end counts from the first.
+    pub(crate) fn between(self, from: u64, to: u64) -> Stretch
+        ensures { result ≡ stretch_between from to self }
+    {
+        let before = self.part_at(Measure::Ticks, from);
+        let ticks = self.part_at(Measure::Ticks, to).saturating_sub(before);
+        let draws = if from <= self.end {
+            self.part_at(Measure::Draws, to)
+        } else {
+            0
+        };
+        Stretch {
+            thread: self.thread,
+            end: self.end.min(to).saturating_sub(from),
+            ticks: ticks as u32,
+            draws: draws as u32,
         }
     }
 }

@@ -59,8 +59,14 @@ const TICKS: &str = "tick,a\n0,0\n1,1\n2,2\n3,3\n4,4\n";
 
 const DRAWS: &str = "tick,a\n0,1\n1,1\n2,2\n3,2\n4,2\n";
 
+/// The ticks after tick 1 and up to tick 3: one of each quantum.
+const TICKS_BETWEEN: &str = "tick,a\n1,0\n2,1\n3,2\n";
+
+/// The draws between the same ticks: that of tick 2 alone.
+const DRAWS_BETWEEN: &str = "tick,a\n1,0\n2,1\n3,1\n";
+
 /// The words, and what the program writes.
-const ROWS: [(&[&str], &str); 11] = [
+const ROWS: [(&[&str], &str); 18] = [
     (&["lot_sim", "play", "x.lot"], PLAYED),
     (&["lot_sim", "play", "--", "x.lot"], PLAYED),
     (&["lot_sim", "explain", "x.lot"], EXPLAINED),
@@ -69,6 +75,33 @@ const ROWS: [(&[&str], &str); 11] = [
     (&["lot_sim", "shares", "x.lot", "--quanta"], DRAWS),
     (&["lot_sim", "shares", "--quanta", "x.lot"], DRAWS),
     (&["lot_sim", "shares", "--quanta", "-"], "tick\n0\n"),
+    (
+        &["lot_sim", "shares", "x.lot", "--from", "1", "--to", "3"],
+        TICKS_BETWEEN,
+    ),
+    (
+        &[
+            "lot_sim", "shares", "--to=3", "--from=1", "--quanta", "x.lot",
+        ],
+        DRAWS_BETWEEN,
+    ),
+    (
+        &["lot_sim", "shares", "--from", "3", "x.lot"],
+        "tick,a\n3,0\n4,1\n",
+    ),
+    (
+        &["lot_sim", "shares", "--to", "1", "x.lot"],
+        "tick,a\n0,0\n1,1\n",
+    ),
+    (
+        &["lot_sim", "shares", "--from", "3", "--to", "9", "x.lot"],
+        "tick,a\n3,0\n4,1\n",
+    ),
+    (
+        &["lot_sim", "shares", "--from", "9", "x.lot"],
+        "tick,a\n4,0\n",
+    ),
+    (&["lot_sim", "shares", "--from", "0", "x.lot"], TICKS),
     (&["lot_sim", "play"], EMPTY_REPORT),
     (&["lot_sim", "play", "-"], EMPTY_REPORT),
     (&["lot_sim", "play", "--", "-"], EMPTY_REPORT),

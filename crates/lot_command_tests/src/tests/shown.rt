@@ -1,5 +1,5 @@
 //! Tables and pictures of what threads have run, and lotteries that are explained.
-use super::same::check_same;
+use super::same::{check_same, check_same_at};
 use super::{check_words, check_words_on, ended_on};
 use std::alloc::Global;
 use std::process::Abort;
@@ -62,11 +62,19 @@ share mean 0% least 0% most 0%
 fn reports(rt: HostRuntime) {
     let alloc = rt.alloc();
     check_words_on(&rt, alloc, "report", INPUT, 0, REPORT);
-    let words = ["lot_sim", "report", "--seeds", "1", "2"];
+    let words = ["lot_sim", "report", "--seeds", "1..2"];
     let ended = ended_on(&rt, alloc, &words, TIMED);
     let is_report = ended.output.as_slice() == PLAYS.as_bytes();
     check_same(&rt, &(ended.code, is_report), &(0, true));
-    check_words(&rt, alloc, &["lot_sim", "report", "--seeds", "1"], 2, false);
+    for seeds in ["1", "2..1", "0..2", "1..2147483647"] {
+        check_words(
+            &rt,
+            alloc,
+            &["lot_sim", "report", "--seeds", seeds],
+            2,
+            false,
+        );
+    }
 }
 
 #[test]
@@ -76,6 +84,11 @@ fn options(rt: HostRuntime) {
     check_words(&rt, alloc, &["lot_sim", "shares", "--title", "x"], 2, false);
     check_words(&rt, alloc, &["lot_sim", "chart", "--title"], 2, false);
     check_words(&rt, alloc, &["lot_sim", "play", "--quanta"], 2, false);
+    check_words(&rt, alloc, &["lot_sim", "play", "--from", "1"], 2, false);
+    for (from, to) in [("3", "3"), ("3", "2"), ("x", "9"), ("0", "0")] {
+        let words = ["lot_sim", "chart", "--from", from, "--to", to];
+        check_words(&rt, alloc, &words, 2, false);
+    }
 }
 
 /// The columns count draws.
@@ -88,15 +101,34 @@ fn draws(rt: HostRuntime) {
     check_same(&rt, &(ended.code, is_table), &(0, true));
 }
 
+/// The words, and parts of the picture that the program draws. Between ticks 1 and 4 thread a runs for three ticks.
+const PICTURES: [(&[&str], &[&str]); 2] = [
+    (
+        &["lot_sim", "chart", "--title", "One & none"],
+        &["<title id='title'>One &amp; none</title>\n"],
+    ),
+    (
+        &["lot_sim", "chart", "--from", "1", "--to", "9"],
+        &[
+            "<text x='100.0' y='480' text-anchor='middle'>1</text>\n",
+            "<text x='770.0' y='480' text-anchor='middle'>4</text>\n",
+            "<polyline points=' 100.0,460.0 323.3,326.7 546.6,193.4 770.0,60.0' stroke='#0072b2'/>\n",
+            "<text x='788' y='60.0' dy='4'>a 100.0%</text>\n",
+        ],
+    ),
+];
+
 #[test]
-fn titles(rt: HostRuntime) {
-    let words = ["lot_sim", "chart", "--title", "One & none"];
-    let ended = ended_on(&rt, rt.alloc(), &words, INPUT);
-    let picture = String::from_utf8(ended.output).expect(&rt, "a text");
-    let text = picture.as_str();
-    let has_title = text.contains("<title id='title'>One &amp; none</title>\n");
-    let is_whole = text.ends_with("</svg>\n");
-    check_same(&rt, &(ended.code, has_title, is_whole), &(0, true, true));
+fn pictures(rt: HostRuntime) {
+    for (words, parts) in PICTURES {
+        let ended = ended_on(&rt, rt.alloc(), words, INPUT);
+        let picture = str::from_utf8(ended.output.as_slice()).unwrap_or("");
+        let is_whole = picture.ends_with("</svg>\n");
+        check_same_at(&rt, &words, &(ended.code, is_whole), &(0, true));
+        for part in parts {
+            check_same_at(&rt, part, &picture.contains(*part), &true);
+        }
+    }
 }
 
 /// The explanation of the input.

@@ -1,5 +1,5 @@
-use Rattle.std.proofs.Common.{◌≡◌, ◌++◌, ap, ◌∙◌, rules}
-use Rattle.lot_curves.specs.Curves.{sample_tick}
+use Rattle.std.proofs.Common.{◌≡◌, ◌+◌, ◌++◌, ap, ◌∙◌, rules}
+use Rattle.lot_curves.specs.Curves.{row_at, sample_tick}
 use Rattle.lot_curves.specs.Stretches.{last_end}
 use Rattle.lot_chart.specs.Tables.{row_line, sampled_line}
 use Rattle.lot_chart.proofs.Parts.{parts-more}
@@ -10,8 +10,10 @@ loop-sample-preserved c =
     let i = c.loop-sample.invariant in
     let curves = c.args.curves.now in
     let tick = c.sample_tick-tick.ensures.tick in
-    let line : row_line c.sample_tick-tick.result c.fill_row.new.row ≡ sampled_line c.args.measure curves (sample_tick (last_end curves.stretches) c.loop-sample.sample) =
-    ap (row_line c.sample_tick-tick.result) c.fill_row.ensures ∙ ap (sampled_line c.args.measure curves) tick in
+    let line : row_line (c.origin.result + c.sample_tick-tick.result) c.fill_row.new.row ≡ sampled_line c.args.measure curves (sample_tick (last_end curves.stretches) c.loop-sample.sample) =
+    ap (row_line (c.origin.result + c.sample_tick-tick.result)) c.fill_row.ensures
+    ∙ ap (λ n. row_line (n + c.sample_tick-tick.result) (row_at c.args.measure curves c.sample_tick-tick.result)) c.origin.ensures.origin
+    ∙ ap (sampled_line c.args.measure curves) tick in
     record {
       text = parts-more (sampled_line c.args.measure curves) (sample_tick (last_end curves.stretches)) c.loop-sample.sample c.args.text.now c.loop-sample.text c.push_row.new.text i.text (c.in_ok-push_row.ensures ∙ ap (λ xs. c.loop-sample.text ++ xs) line);
       places = search rules;
