@@ -65,7 +65,6 @@ impl Write for Counting {
 /// The form in which an input is shown.
 #[derive(Clone, Copy, Debug)]
 enum Shown {
-    Played,
     Explained,
     Table(Measure),
     Picture(&'static str),
@@ -83,25 +82,11 @@ fn show<W: Write>(
     let Ok(mut warnings) = Warnings::none(alloc) else {
         return Err(IoFault::Memory);
     };
-    show_and_warn(alloc, shown, input, &mut warnings, writer)
-}
-
-/// Shows the input, and stores the warnings of its run.
-fn show_and_warn<W: Write>(
-    alloc: Global,
-    shown: Shown,
-    input: &str,
-    warnings: &mut Warnings,
-    writer: &mut Watched<W>,
-) -> Result<Played, IoFault>
-    requires { writer.old.failed ≡ false }
-{
     let bytes = input.as_bytes();
     match shown {
-        Shown::Played => play_bytes(alloc, bytes, warnings, writer),
-        Shown::Explained => explain_bytes(alloc, bytes, warnings, writer),
-        Shown::Table(measure) => shares_bytes(alloc, measure, bytes, warnings, writer),
-        Shown::Picture(title) => chart_bytes(alloc, title, bytes, warnings, writer),
+        Shown::Explained => explain_bytes(alloc, bytes, &mut warnings, writer),
+        Shown::Table(measure) => shares_bytes(alloc, measure, bytes, &mut warnings, writer),
+        Shown::Picture(title) => chart_bytes(alloc, title, bytes, &mut warnings, writer),
     }
 }
 

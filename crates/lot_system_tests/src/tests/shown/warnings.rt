@@ -1,34 +1,20 @@
 //! Plays that leave something to warn of, and the words that tell it.
-use super::{Shown, show_and_warn};
-use crate::tests::same::check_same_at;
-use lot_curves::Measure;
+use crate::tests::same::check_same;
 use lot_io::Watched;
-use lot_play::Warnings;
+use lot_play::{Warnings, play_bytes};
 use lot_words::write_warnings;
 use std::alloc::Global;
 use std::process::Abort;
 
-/// Shows the input in each form, and compares the words of its warnings.
+/// Plays the input, and compares the words of its warnings.
 fn check<H: Abort>(rt: &H, alloc: Global, input: &str, expected: &str) {
-    for shown in [
-        Shown::Played,
-        Shown::Explained,
-        Shown::Table(Measure::Ticks),
-        Shown::Picture("Warned"),
-    ] {
-        let mut warnings = Warnings::none(alloc).expect(rt, "memory");
-        let mut writer = Watched::new(Vec::new(alloc));
-        let is_shown = show_and_warn(alloc, shown, input, &mut warnings, &mut writer).is_ok();
-        let mut words = Vec::new(alloc);
-        let is_written = write_warnings(&mut words, &warnings, input.as_bytes()).is_ok();
-        let said = str::from_utf8(words.as_slice()).unwrap_or("");
-        check_same_at(
-            rt,
-            &shown,
-            &(is_shown && is_written, said),
-            &(true, expected),
-        );
-    }
+    let mut warnings = Warnings::none(alloc).expect(rt, "memory");
+    let mut writer = Watched::new(Vec::new(alloc));
+    let is_played = play_bytes(alloc, input.as_bytes(), &mut warnings, &mut writer).is_ok();
+    let mut words = Vec::new(alloc);
+    let is_written = write_warnings(&mut words, &warnings, input.as_bytes()).is_ok();
+    let said = str::from_utf8(words.as_slice()).unwrap_or("");
+    check_same(rt, &(is_played && is_written, said), &(true, expected));
 }
 
 /// Checks, like `check`, a timed input of these commands, with a script `spin` and a script `stop`.
