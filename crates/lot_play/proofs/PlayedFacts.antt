@@ -1,5 +1,6 @@
 -- A play whose turns are written first, and then the report.
-use Rattle.std.proofs.Common.{◌≡◌, ℕ, Bool, true, false, Option, Result, Ok, Err, List, ◌++◌, refl, sym, subst}
+use Rattle.std.proofs.Common.{◌≡◌, ℕ, Bool, true, false, Option, Result, Ok, Err, List, ◌++◌, refl, sym, ap, subst}
+use Rattle.std.specs.Result.{IsErrAnd}
 use Rattle.std.specs.Io.KnownBytes.{Appends}
 use Rattle.lot_io.specs.declared.fault.IoFault.{IoFault}
 use Rattle.lot_io.specs.declared.fault.IoFault.TheVariants.{Write}
@@ -26,3 +27,8 @@ module _ (old new : Option (List ℕ)) (turns last all : List ℕ) (is : all ≡
 -- a writer that fails in the only text
 pub ends-err : (old new : Option (List ℕ)) (text : List ℕ) (failed : Bool) (r : Result Played IoFault) (fault : IoFault) → r ≡ Err fault → (fault ≡ Write) × (failed ≡ true) × Begins old new text → EndsPlay old new failed r Done text
 ends-err old new text failed r fault err told = rw err (rw told.0 (told.1, told.2))
+
+-- the fault that `?` hands on
+pub err-is : {A : Type 0} (r : Result A IoFault) (fault : IoFault) → IsErrAnd r (λ other. other ≡ fault) → r ≡ Err fault
+err-is (Ok x) fault told = absurd told
+err-is (Err other) fault told = ap Err told
