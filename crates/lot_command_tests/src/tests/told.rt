@@ -395,6 +395,19 @@ fundx 5 base a one
 fundx 5 base b one
 ";
 
+/// A thread that locks its own mutex again.
+const LOCKED_TWICE: &str = "lottery 3
+quantum 10
+for 40
+mutex m
+script one
+lock m
+lock m
+compute 100
+endscript
+fundx 5 base a one
+";
+
 /// Shows the input with each subcommand that does, and checks that it tells what `play` does.
 fn check_told_alike<H: Abort + Threads + Wait + Sync>(rt: &H, alloc: Global, input: &str) {
     let played = ended_on(rt, alloc, &["lot_sim", "play"], input);
@@ -410,6 +423,7 @@ fn check_told_alike<H: Abort + Threads + Wait + Sync>(rt: &H, alloc: Global, inp
 fn told_alike(rt: HostRuntime) {
     check_told_alike(&rt, rt.alloc(), REFUSED_UNMADE_WEIGHTLESS);
     check_told_alike(&rt, rt.alloc(), WAITING);
+    check_told_alike(&rt, rt.alloc(), LOCKED_TWICE);
 }
 
 /// Shows the input, and returns the exit status, whether the output ends with this, and whether the diagnostics begin

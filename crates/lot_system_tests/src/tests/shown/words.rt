@@ -141,6 +141,13 @@ fn bytes(rt: HostRuntime) {
         b"lottery 1\nmkcur \xc3\xa9\n",
         "line 2: byte 195 in column 7: outside comments only ASCII is read\n",
     );
+    // In this format a tab and a carriage return separate words, and no other control character does.
+    check(
+        rt,
+        alloc,
+        b"lottery 3\r\nfor 5\r\n\tport\tp\r\n\tmutex\x0bm\r\n",
+        "line 4: byte 11 in column 7: outside comments only ASCII is read\n",
+    );
 }
 
 #[test]
