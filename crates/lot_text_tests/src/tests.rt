@@ -136,7 +136,8 @@ fn check_command(rt: &impl Abort, found: &Command, asked: Asked<'_>) {
 
 fn check_commands(rt: &impl Abort, commands: &Commands, wanted: &[Asked<'_>]) {
     check_same(rt, &commands.len(), &wanted.len());
-    for (index, asked) in (0..commands.len()).zip(wanted) {
+    for index in 0..commands.len() {
+        let asked = wanted.get(index).expect(rt, "there are as many");
         check_command(rt, &commands.at(index), *asked);
     }
 }

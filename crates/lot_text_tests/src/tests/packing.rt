@@ -109,7 +109,8 @@ fn listed(alloc: Global, commands: &[Command]) -> Result<CommandList, AllocError
 /// Compares the commands that are kept with these.
 fn check_kept(rt: &impl Abort, kept: &Commands, wanted: &[Command]) {
     check_same(rt, &kept.len(), &wanted.len());
-    for (index, command) in (0..kept.len()).zip(wanted) {
+    for index in 0..kept.len() {
+        let command = wanted.get(index).expect(rt, "there are as many");
         check_same_at(rt, &index, &kept.at(index), command);
     }
 }
