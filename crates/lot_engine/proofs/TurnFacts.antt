@@ -6,6 +6,8 @@ use Rattle.std.proofs.Math.ListN.{drop_of_length-le, length-set}
 use Rattle.std.proofs.lemmas.Bool.{le-leb, ltb-true, ltb-false}
 use Rattle.std.proofs.lemmas.List.Sums.{sum_by_push}
 use Rattle.std.proofs.lemmas.List.Elements.{All-push}
+use Rattle.std.proofs.lemmas.Option.{get_or_from_slice_get}
+use Rattle.std.specs.List.{slice_get}
 use Rattle.std.specs.Option.{IfSome, option_flatten}
 use Rattle.lot_machine.specs.declared.record.Record.{Record}
 use Rattle.lot_machine.specs.declared.record.Thread.{Thread}
@@ -96,11 +98,12 @@ module _ (program : Program) (w : World) (s : State) (places : List Place) (seed
           cons-nil : {x : Command} {xs : List Command} → x ∷ xs ≡ [] → ⊥
           cons-nil e = cc
 
-  pub command-next : (commands : List Command) (c d : Command) → spent < length program.commands → commands ≡ program.commands → d ≡ get_or commands spent d → c ≡ d → w.commands ≡ c ∷ drop (spent + 1) program.commands
-  command-next commands c d below same is copy =
+  pub command-next : (commands : List Command) (c : Command) → spent < length program.commands → commands ≡ program.commands → slice_get commands spent ≡ Some c
+      → w.commands ≡ c ∷ drop (spent + 1) program.commands
+  command-next commands c below same is =
       let next : spent + 1 ≡ suc spent = omega arith in
-      let first : c ≡ get_or program.commands spent d = copy ∙ is ∙ ap (λ (cs : List Command). get_or cs spent d) same in
-      sym held.commands ∙ drop-cons program.commands spent d below ∙ ap (λ (x : Command). x ∷ drop (suc spent) program.commands) (sym first) ∙ ap (λ n. c ∷ drop n program.commands) (sym next)
+      let first : c ≡ get_or program.commands spent c = sym (get_or_from_slice_get commands spent c c is) ∙ ap (λ (cs : List Command). get_or cs spent c) same in
+      sym held.commands ∙ drop-cons program.commands spent c below ∙ ap (λ (x : Command). x ∷ drop (suc spent) program.commands) (sym first) ∙ ap (λ n. c ∷ drop n program.commands) (sym next)
 
   module _ (c : Command) (cs : List Command) (is : w.commands ≡ c ∷ cs) (after : State) (r : Reply) (state : after ≡ (step s (event.Command c)).state) (replied : r ≡ (step s (event.Command c)).reply) where
     pub command-made : IsInOrder s → MakesThread s after r

@@ -372,7 +372,7 @@ impl System {
         ensures answer { (system_turn self.old.setting.program (world_of self.old) 0).answer
             ≡ Answered event.new reply.new }
     {
-        *event = Event::Command(self.program.commands()[self.spent].copied());
+        *event = Event::Command(self.program.commands().at(self.spent));
         self.kernel.answer(event, reply);
         let told = *reply;
         self.spent += 1;

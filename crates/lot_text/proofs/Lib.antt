@@ -2,6 +2,7 @@ pub mod FaultLemmas
 pub mod FirstLine
 pub mod HeaderLemmas
 pub mod NumberLemmas
+pub mod PackedLemmas
 pub mod PhraseLemmas
 pub mod RunLemmas
 pub mod ScriptLemmas

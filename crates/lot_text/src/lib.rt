@@ -2,11 +2,13 @@
 #![tactic(auto)]
 
 mod body;
+mod commands;
 mod fault;
 mod header;
 mod input;
 mod name;
 mod number;
+mod packed;
 mod program;
 mod reading;
 mod runs;
@@ -15,6 +17,7 @@ mod seed;
 mod tokens;
 mod words;
 
+pub use commands::{CommandList, Commands};
 pub use fault::ParseFault;
 pub use input::{parse, parse_seeded};
 pub use lot_io::Watched;

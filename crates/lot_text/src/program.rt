@@ -8,8 +8,8 @@ ghost use Rattle.lot_simulation.specs.World.{without_time};
 ghost use Rattle.lot_text.specs.Programs.{IsProgram};
 ghost use Rattle.lot_text.specs.Readings.{AreSeeds};
 
-use crate::Seed;
-use lot_machine::{Command, Limits};
+use crate::{Commands, Seed};
+use lot_machine::Limits;
 use lot_script::Script;
 use lot_simulation::Format;
 use std::alloc::{AllocError, Global};
@@ -25,7 +25,7 @@ pub struct Program {
     pub(crate) seeds: Vec<u32>,
     pub(crate) turns: u32,
     pub(crate) scripts: Vec<Script>,
-    pub(crate) commands: ArcSlice<Command>,
+    pub(crate) commands: Commands,
     pub(crate) schedule: ArcSlice<u8>,
     pub(crate) duration: Option<u32>,
     pub(crate) times: ArcSlice<u32>,
@@ -46,7 +46,7 @@ impl Model for Program {
       seeds = p.seeds.items;
       turns = p.turns;
       scripts = p.scripts.items;
-      commands = arc_slice_items p.commands;
+      commands = p.commands;
       schedule = arc_slice_items p.schedule;
       duration = p.duration;
       times = arc_slice_items p.times;
@@ -58,7 +58,7 @@ impl Model for Program {
         seeds = p.seeds.items;
         turns = p.turns;
         scripts = p.scripts.items;
-        commands = arc_slice_items p.commands;
+        commands = p.commands;
         schedule = arc_slice_items p.schedule;
         duration = p.duration;
         times = arc_slice_items p.times;
@@ -112,11 +112,12 @@ impl Program {
     }
 
     /// The console's commands, in order, at most 100000.
-    pub fn commands(&self) -> &[Command]
+    #[inline(always)]
+    pub fn commands(&self) -> &Commands
         ensures commands { result.now ≡ self.now.commands }
         ensures legal { IsProgram self.now }
     {
-        self.commands.as_slice()
+        &self.commands
     }
 
     /// The actors of a scheduled run in order, 0 for the console and otherwise a processor's number, at most 1000000.
@@ -176,7 +177,7 @@ impl Program {
             seeds: Vec::from_slice(alloc, self.seeds())?,
             turns: self.turns,
             scripts: copied_scripts(alloc, self.scripts())?,
-            commands: self.commands.clone()?,
+            commands: self.commands.shared()?,
             schedule: self.schedule.clone()?,
             duration: self.duration,
             times: self.times.clone()?,

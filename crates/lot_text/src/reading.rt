@@ -19,9 +19,10 @@ ghost use Rattle.lot_machine.specs.State.{sizes_of};
 ghost use Rattle.lot_text.specs.Faults.{Gives, IsFaultOf};
 ghost use Rattle.lot_text.specs.Readings.{AreSeeds, after_header};
 
+use crate::commands::CommandList;
 use crate::fault::LineFault;
 use crate::runs::{ActorRun, actors_of, have_room};
-use crate::{ParseFault, Program};
+use crate::{Commands, ParseFault, Program};
 use lot_machine::{Command, Limits, Name, Sizes};
 use lot_script::{Script, ScriptBuilder};
 use lot_simulation::{Format, HEADER_WORDS, HeaderWord, InputFault, InputRefusal};
@@ -88,7 +89,7 @@ pub(crate) struct Reading {
     pub(crate) mutexes: Vec<Name>,
     pub(crate) scripts: Vec<NamedScript>,
     pub(crate) unclosed: Option<OpenScript>,
-    pub(crate) commands: Vec<Command>,
+    pub(crate) commands: CommandList,
     /// The time of the next commands.
     pub(crate) time: u32,
     /// The times of the commands so far, in a timed input.
@@ -131,7 +132,7 @@ impl Reading {
             mutexes: Vec::new(alloc),
             scripts: Vec::new(alloc),
             unclosed: None,
-            commands: Vec::new(alloc),
+            commands: CommandList::new(alloc),
             time: 0,
             times: Vec::new(alloc),
             schedule: Vec::new(alloc),
@@ -329,23 +330,23 @@ impl Reading {
 /// The tables that copies of a program share.
 #[derive(Drop)]
 struct SharedTables {
-    commands: ArcSlice<Command>,
+    commands: Commands,
     schedule: ArcSlice<u8>,
     times: ArcSlice<u32>,
 }
 
 /// These tables, to be shared.
 fn shared(
-    commands: Vec<Command>,
+    commands: CommandList,
     schedule: Vec<u8>,
     times: Vec<u32>,
 ) -> Result<SharedTables, AllocError>
-    ensures commands { IfOk result (λ tables. arc_slice_items tables.commands ≡ commands.items) }
+    ensures commands { IfOk result (λ tables. tables.commands ≡ commands) }
     ensures schedule { IfOk result (λ tables. arc_slice_items tables.schedule ≡ schedule.items) }
     ensures times { IfOk result (λ tables. arc_slice_items tables.times ≡ times.items) }
 {
     Ok(SharedTables {
-        commands: ArcSlice::from_vec(commands)?,
+        commands: commands.into_commands()?,
         schedule: ArcSlice::from_vec(schedule)?,
         times: ArcSlice::from_vec(times)?,
     })

@@ -1,3 +1,4 @@
+mod packing;
 mod printing;
 mod same;
 mod slices;
@@ -6,7 +7,7 @@ use crate::fault_of;
 use lot_machine::{Command, CurrencyRef, Kind, Limits, Name, Sizes, TargetRef, ThreadRef};
 use lot_script::Script;
 use lot_simulation::{InputFault, InputRefusal, Line, MutexTrap, PortTrap, ScriptTrap};
-use lot_text::{ParseFault, Program, Seed, parse, parse_seeded};
+use lot_text::{Commands, ParseFault, Program, Seed, parse, parse_seeded};
 use same::{check_same, check_same_at};
 use std::alloc::Global;
 use std::fmt::Debug;
@@ -133,10 +134,11 @@ fn check_command(rt: &impl Abort, found: &Command, asked: Asked<'_>) {
     check_same(rt, found, &command(rt, asked));
 }
 
-fn check_commands(rt: &impl Abort, commands: &[Command], wanted: &[Asked<'_>]) {
+fn check_commands(rt: &impl Abort, commands: &Commands, wanted: &[Asked<'_>]) {
     check_same(rt, &commands.len(), &wanted.len());
-    for (found, asked) in commands.iter().zip(wanted) {
-        check_command(rt, found, *asked);
+    for index in 0..commands.len() {
+        let asked = wanted.get(index).expect(rt, "there are as many");
+        check_command(rt, &commands.at(index), *asked);
     }
 }
 

@@ -19,10 +19,10 @@ follow_command-requires-clause-made c =
     let w = system_run s.program s.history.items in
     let below = command-left s.program w s.kernel.state s.places.items s.generators.items s.spent i.held left in
     let order : IsInOrder s.kernel.state = subst IsInOrder (sym i.held.state) (run-in-order s.program s.history.items i.program.limits) in
-    let next = command-next s.program w s.kernel.state s.places.items s.generators.items s.spent i.held c.commands.result.now c.copied.result c.index-commands-self.result below c.commands.ensures.commands c.index-commands-self.is c.copied.ensures in (
+    let next = command-next s.program w s.kernel.state s.places.items s.generators.items s.spent i.held c.commands.result.now c.at.result below c.commands.ensures.commands c.at.ensures in (
       s.kernel.state,
       w.contexts,
-      command-made s.program w s.kernel.state s.places.items s.generators.items s.spent i.held c.copied.result _ next c.answer.new.self.state c.answer.new.reply c.answer.ensures.state c.answer.ensures.reply order,
+      command-made s.program w s.kernel.state s.places.items s.generators.items s.spent i.held c.at.result _ next c.answer.new.self.state c.answer.new.reply c.answer.ensures.state c.answer.ensures.reply order,
       i.held.places_at,
       ap (λ l. l.scripts) i.held.kept.limits ∙ sym i.program.script_count,
       i.held.kept.count,
@@ -50,16 +50,16 @@ invariant_of-self c =
     let w = system_run s.program s.history.items in
     let below = command-left s.program w s.kernel.state s.places.items s.generators.items s.spent i.held requires.left in
     let order : IsInOrder s.kernel.state = subst IsInOrder (sym i.held.state) (run-in-order s.program s.history.items i.program.limits) in
-    let next = command-next s.program w s.kernel.state s.places.items s.generators.items s.spent i.held c.commands.result.now c.copied.result c.index-commands-self.result below c.commands.ensures.commands c.index-commands-self.is c.copied.ensures in
-    let made = command-made s.program w s.kernel.state s.places.items s.generators.items s.spent i.held c.copied.result _ next c.answer.new.self.state c.answer.new.reply c.answer.ensures.state c.answer.ensures.reply order in
+    let next = command-next s.program w s.kernel.state s.places.items s.generators.items s.spent i.held c.commands.result.now c.at.result below c.commands.ensures.commands c.at.ensures in
+    let made = command-made s.program w s.kernel.state s.places.items s.generators.items s.spent i.held c.at.result _ next c.answer.new.self.state c.answer.new.reply c.answer.ensures.state c.answer.ensures.reply order in
     let held =
-    command-held s.program w s.kernel.state s.places.items s.generators.items s.spent i.held c.copied.result _ next c.answer.new.self.state c.answer.new.reply c.answer.ensures.state c.answer.ensures.reply order refl
+    command-held s.program w s.kernel.state s.places.items s.generators.items s.spent i.held c.at.result _ next c.answer.new.self.state c.answer.new.reply c.answer.ensures.state c.answer.ensures.reply order refl
     c.follow_command.new.places.items (c.follow_command.ensures.at s.kernel.state w.contexts made i.held.places_at) in
     let answer =
-    command-answer s.program w s.kernel.state s.places.items s.generators.items s.spent i.held c.copied.result _ next c.answer.new.self.state c.answer.new.reply c.answer.ensures.state c.answer.ensures.reply in
-    rw c.remember.ensures.items (console-more s.program s.room s.is_wide s.has_timer s.history.items s.kernel.state s.places.items s.generators.items _ s.spent s.counts.items _ s.total _ _ i requires.room (event.Command c.copied.result) c.answer.new.reply answer
+    command-answer s.program w s.kernel.state s.places.items s.generators.items s.spent i.held c.at.result _ next c.answer.new.self.state c.answer.new.reply c.answer.ensures.state c.answer.ensures.reply in
+    rw c.remember.ensures.items (console-more s.program s.room s.is_wide s.has_timer s.history.items s.kernel.state s.places.items s.generators.items _ s.spent s.counts.items _ s.total _ _ i requires.room (event.Command c.at.result) c.answer.new.reply answer
     below c.answer.new.self.state c.follow_command.new.places.items held
-    c.count_turn.new.counts.items (c.count_turn.ensures.exact (turns_made s.program s.history.items) (length s.history.items) (event.Command c.copied.result) i.each_counted) _ c.count_turn.ensures.count
+    c.count_turn.new.counts.items (c.count_turn.ensures.exact (turns_made s.program s.history.items) (length s.history.items) (event.Command c.at.result) i.each_counted) _ c.count_turn.ensures.count
     _ c.count_turn.ensures.total (c.count_turn.ensures.total_small (length s.history.items) i.total_counted.small) _ _ c.follow_command.ensures.room c.remember.ensures.capacity)
 
 pub returns-clause-answer : goal.returns-clause-answer
@@ -70,6 +70,6 @@ returns-clause-answer c =
     let w = system_run s.program s.history.items in
     let below = command-left s.program w s.kernel.state s.places.items s.generators.items s.spent i.held requires.left in
     let order : IsInOrder s.kernel.state = subst IsInOrder (sym i.held.state) (run-in-order s.program s.history.items i.program.limits) in
-    let next = command-next s.program w s.kernel.state s.places.items s.generators.items s.spent i.held c.commands.result.now c.copied.result c.index-commands-self.result below c.commands.ensures.commands c.index-commands-self.is c.copied.ensures in
-    subst (λ (x : Seen). (system_turn x.setting.program (world_of x) 0).answer ≡ Answered (event.Command c.copied.result) c.answer.new.reply) c.self.view_is
-    (command-answer s.program w s.kernel.state s.places.items s.generators.items s.spent i.held c.copied.result _ next c.answer.new.self.state c.answer.new.reply c.answer.ensures.state c.answer.ensures.reply)
+    let next = command-next s.program w s.kernel.state s.places.items s.generators.items s.spent i.held c.commands.result.now c.at.result below c.commands.ensures.commands c.at.ensures in
+    subst (λ (x : Seen). (system_turn x.setting.program (world_of x) 0).answer ≡ Answered (event.Command c.at.result) c.answer.new.reply) c.self.view_is
+    (command-answer s.program w s.kernel.state s.places.items s.generators.items s.spent i.held c.at.result _ next c.answer.new.self.state c.answer.new.reply c.answer.ensures.state c.answer.ensures.reply)
