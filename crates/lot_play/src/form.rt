@@ -3,8 +3,8 @@
 /// The form of a report.
 #[derive(Clone, Copy, Debug)]
 pub enum Form {
-    /// Lines of words and numbers: of the threads, of the processors, and of the totals.
+    /// Lines of words and numbers.
     Lines,
-    /// A table: a row for each thread, whose fields have commas between them.
+    /// A table: the columns' names, and a row for each thread, with commas between the fields.
     Table,
 }
