@@ -5,7 +5,7 @@ use Rattle.lot_play.proofs.TableFacts.{scheduled-is, timed-is}
 use Rattle.lot_play.proofs.report_table.write_table.Goals as goal
 
 pub write_timed-requires-clause-end : goal.write_timed-requires-clause-end
-write_timed-requires-clause-end g c = time-end c.args.system.now c.in-InTime.timekeeper.now (rw c.in-InTime.is at c.requires.order) (rw c.in-InTime.is at c.requires.ended)
+write_timed-requires-clause-end g c = time-end c.args.system.now c.in-InTime.timekeeper (rw c.in-InTime.is at c.requires.order) (rw c.in-InTime.is at c.requires.ended)
 
 pub returns-in-Scheduled-clause-text : goal.returns-in-Scheduled-clause-text
 returns-in-Scheduled-clause-text g c =
