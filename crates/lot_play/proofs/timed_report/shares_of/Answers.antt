@@ -1,4 +1,4 @@
-use Rattle.std.proofs.Common.{length, ◌∙◌}
+use Rattle.std.proofs.Common.{length}
 use Rattle.lot_simulation.specs.Timed.{timed_turns}
 use Rattle.lot_simulation.specs.TimedReport.{mutex_change, reply_change}
 use Rattle.lot_engine.specs.Seen.{world_of}
