@@ -6,8 +6,8 @@ use Rattle.lot_simulation.specs.Output.{played_output}
 use Rattle.lot_simulation.specs.Seeded.{seeded}
 use Rattle.lot_simulation.specs.Texts.{fault_line}
 use Rattle.lot_simulation.specs.World.{Program}
+use Rattle.lot_play.specs.ReportTable.{report_text}
 use Rattle.lot_play.specs.Seeds.{seeds_report}
-use Rattle.lot_play.specs.Texts.{last_report}
 use Rattle.lot_curves.specs.Curves.{curves_of}
 use Rattle.lot_curves.specs.Intervals.{curves_within}
 use Rattle.lot_explain.specs.Explained.{explained_program}
@@ -19,8 +19,8 @@ use Rattle.lot_command.specs.declared.view.View.TheVariants as views
 -- the output for a program, where a picture has this title; a table and a picture may be those of an interval of the time
 abbrev pub view_of : View → List ℕ → Program → List ℕ
 view_of views.Play title program = played_output program program.duration
-view_of (views.Report None) title program = last_report program program.duration
-view_of (views.Report (Some seeds)) title program = seeds_report seeds.first seeds.last program
+view_of (views.Report None form) title program = report_text form program
+view_of (views.Report (Some seeds) form) title program = seeds_report form seeds.first seeds.last program
 view_of views.Explain title program = explained_program program program.duration
 view_of (views.Shares measure interval) title program = table measure (curves_within interval (curves_of program))
 view_of (views.Chart interval) title program = chart title (curves_within interval (curves_of program))

@@ -5,7 +5,7 @@ use clap::builder::ValueParser;
 use clap::error::ErrorKind;
 use clap::{Arg, ArgAction, ArgMatches, Command, Error};
 use lot_curves::{Interval, Measure};
-use lot_play::Seeds;
+use lot_play::{Form, Seeds};
 use lot_simulation::ranges;
 use lot_text::Seed;
 use std::alloc::{AllocError, Global};
@@ -154,12 +154,19 @@ fn report_command<'a>(alloc: Global) -> Result<Command<'a>, AllocError> {
             "Plays the input once with each seed from A to B, and writes the mean, the least and the most of each \
              thread's draws, ticks and share",
         );
+    let csv = Arg::new(alloc, "csv")
+        .long("csv")
+        .action(ArgAction::SetTrue)
+        .help(
+            "Writes a table with commas between the fields: the columns' names, and a row for each thread",
+        );
     showing(
         alloc,
         "report",
         "Plays an input from FILE or standard input, and writes the report alone",
     )?
-    .arg(seeds)
+    .arg(seeds)?
+    .arg(csv)
 }
 
 /// The command that writes the turns and the lots of each lottery.
@@ -228,7 +235,10 @@ fn request_of(name: &str, given: &ArgMatches<'_>) -> Request {
     let interval = interval_of(name, given);
     let view = match name {
         "run" => return Request::Run,
-        "report" => View::Report(seeds_of(given)),
+        "report" => View::Report {
+            seeds: seeds_of(given),
+            form: form_of(given),
+        },
         "explain" => View::Explain,
         "shares" => View::Shares {
             measure: measure_of(given),
@@ -296,6 +306,15 @@ fn seeds_of(given: &ArgMatches<'_>) -> Option<Seeds> {
         return None;
     }
     Some(Seeds { first, last })
+}
+
+/// The form of a report.
+fn form_of(given: &ArgMatches<'_>) -> Form {
+    if given.get_flag("csv") {
+        Form::Table
+    } else {
+        Form::Lines
+    }
 }
 
 /// The name of the file that was given, or none for standard input.

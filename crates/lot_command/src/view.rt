@@ -10,7 +10,7 @@ use lot_chart::{chart_program, shares_program};
 use lot_curves::{Interval, Measure};
 use lot_explain::explain_program;
 use lot_io::{IoFault, Watched, read_input};
-use lot_play::{Seeds, play_program, report_program, report_seeds};
+use lot_play::{Form, Seeds, play_program, report_program, report_seeds};
 use lot_system::{Played, Warnings, refuse};
 use lot_text::{ParseFault, Program, Seed, parse_seeded};
 use std::alloc::Global;
@@ -21,8 +21,11 @@ use std::io::{Read, Write};
 pub(crate) enum View {
     /// A line for each turn, and the report.
     Play,
-    /// The report alone; or, with seeds, that over a play with each of them.
-    Report(Option<Seeds>),
+    /// The report alone, in this form; or, with seeds, that over a play with each of them.
+    Report {
+        seeds: Option<Seeds>,
+        form: Form,
+    },
     /// A line for each turn, after the lots of its lottery if a thread won it, and the report.
     Explain,
     /// A table of this measure of each thread over time, or in an interval of it.
@@ -108,8 +111,13 @@ fn show_program<W: Write>(
 {
     match view {
         View::Play => play_program(alloc, program, warnings, writer),
-        View::Report(None) => report_program(alloc, program, warnings, writer),
-        View::Report(Some(seeds)) => report_seeds(alloc, program, seeds, warnings, writer),
+        View::Report { seeds: None, form } => {
+            report_program(alloc, program, *form, warnings, writer)
+        }
+        View::Report {
+            seeds: Some(seeds),
+            form,
+        } => report_seeds(alloc, program, seeds, *form, warnings, writer),
         View::Explain => explain_program(alloc, program, warnings, writer),
         View::Shares { measure, interval } => {
             shares_program(alloc, *measure, *interval, program, warnings, writer)

@@ -5,3 +5,4 @@ pub mod TextFacts
 pub mod LineFacts
 pub mod PlayedFacts
 pub mod SeedFacts
+mod TableFacts

@@ -1,5 +1,5 @@
 -- Figures over one more play.
-use Rattle.std.proofs.Common.{◌≡◌, ◌≢◌, ◌≤◌, ◌⊎◌, inl, inr, ℕ, zero, suc, ◌+◌, ◌-◌, ◌<◌, Option, Some, List, [], ◌∷◌, ◌++◌, length, replicate, get_or, sym, ◌∙◌, ap, arith}
+use Rattle.std.proofs.Common.{◌≡◌, ◌≢◌, ◌≤◌, ◌⊎◌, inl, inr, ℕ, suc, ◌+◌, ◌-◌, ◌<◌, Option, Some, List, [], ◌∷◌, ◌++◌, length, replicate, sym, ◌∙◌, ap, arith}
 use Rattle.std.specs.Prelude.{slice_index_or}
 use Rattle.std.specs.List.{range_with_len}
 use Rattle.std.proofs.lemmas.List.{get_or-replicate, length-replicate}
@@ -7,7 +7,7 @@ use Rattle.std.proofs.lemmas.List.Sums.{fold_push}
 use Rattle.std.proofs.lemmas.Bool.{cases_eq}
 use Rattle.lot_machine.specs.declared.row.ThreadRow.{ThreadRow}
 use Rattle.lot_machine.specs.Rows.{thread_row}
-use Rattle.lot_simulation.specs.Report.{ActorTurn, ticks_in, total_of, turns_made}
+use Rattle.lot_simulation.specs.Report.{ticks_in, total_of, turns_made}
 use Rattle.lot_simulation.specs.Seeded.{with_seed}
 use Rattle.lot_simulation.specs.World.{Program, World}
 use Rattle.lot_engine.specs.Seen.{Seen, world_of}

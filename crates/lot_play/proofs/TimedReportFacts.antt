@@ -12,19 +12,23 @@ use Rattle.lot_machine.specs.Lends.{is_live}
 use Rattle.lot_machine.specs.Numbered.{at_number}
 use Rattle.lot_machine.specs.Rows.{row_of_thread, thread_name, thread_row}
 use Rattle.lot_machine.specs.State.{State, live_of, value_of}
+use Rattle.lot_print.specs.declared.timed_totals.ThreadShares.{ThreadShares}
+use Rattle.lot_print.specs.TableRows.{timed_thread_record}
 use Rattle.lot_print.specs.Totals.{timed_processor_line, timed_thread_line, timed_total_line}
 use Rattle.lot_simulation.specs.declared.timed.Due.{Due}
 use Rattle.lot_simulation.specs.declared.timed.EarlyEnd.{EarlyEnd}
 use Rattle.lot_simulation.specs.declared.timed.Waits.{Waits}
 use Rattle.lot_simulation.specs.Report.{ActorTurn, ticks_in, total_of, turns_made, turns_of}
 use Rattle.lot_simulation.specs.Timed.{Moment, TimedTurn, clock_of, end_of, ended_at, last_moment, moment_after_all, next_due, opening_moment, timed_turns}
-use Rattle.lot_simulation.specs.TimedReport.{actor_turns, early_end, early_text, idle_until, live_part, mutex_change, refusals_in, refused_traps_in, reply_change, report_at, timed_processor_total, timed_report, timed_report_of, timed_thread_total, timed_whole_total, waits_in}
+use Rattle.lot_simulation.specs.TimedReport.{actor_turns, early_end, early_text, idle_until, live_part, mutex_change, refusals_in, refused_traps_in, reply_change, report_at, timed_processor_total, timed_report, timed_report_of, timed_whole_total, waits_in}
 use Rattle.lot_simulation.specs.World.{Program}
 use Rattle.lot_engine.specs.declared.counts.Counts.{Counts}
 use Rattle.lot_playback.specs.declared.timekeeper.Timekeeper.{Timekeeper}
 use Rattle.lot_engine.specs.Counted.{counted}
 use Rattle.lot_playback.specs.InTime.{AreRefusedTraps, AreWaits, IsAtEnd, moment_in}
 use Rattle.lot_engine.specs.Seen.{Seen, world_of}
+use Rattle.lot_play.specs.declared.form.Form.TheVariants.{Lines, Table}
+use Rattle.lot_play.specs.ReportTable.{shares_in, timed_thread_text}
 use Rattle.lot_simulation.proofs.TimedRuns.{room-small, timed-made}
 use Rattle.lot_playback.proofs.FollowFacts.{within-room}
 
@@ -107,26 +111,39 @@ row-value s t row None o is = absurd (cc)
 row-value s t row (Some name) None is = absurd (cc)
 row-value s t row (Some name) (Some r) is = let e : row_of_thread s t r ≡ row = cc in sym (ap (λ (x : ThreadRow). x.value) e)
 
-pub thread-line : (s : State) (turns : List TimedTurn) (t : ℕ) (row : ThreadRow) (all live values : ℕ) (mutexes replies : Waits) (refused : ℕ) → thread_row s t ≡ Some row
-    → all ≡ total_of ticks_in (actor_turns turns) → live ≡ live_part s t (value_of s t) → values ≡ live_value s → mutexes ≡ waits_in mutex_change turns t → replies ≡ waits_in reply_change turns t
-    → refused ≡ refused_traps_in turns t
-    → timed_thread_line t row all live values mutexes replies refused ≡ option_map_or (timed_thread_total s turns (total_of ticks_in (actor_turns turns)) t) (thread_row s t) []
-thread-line s turns t row all live values mutexes replies refused is ticks own whole for_mutex for_reply traps =
-    let value = row-value s t row (thread_name s t) (at_number s.records t) is in
-    let part : live ≡ live_part s t row.value = own ∙ ap (live_part s t) (sym value) in
-    rw (is, ticks, part, whole, for_mutex, for_reply, traps) (refl {a = timed_thread_total s turns (total_of ticks_in (actor_turns turns)) t row})
+-- what the report tells of a thread, by what was asked of the system
+pub shares-are : (s : State) (turns : List TimedTurn) (t all live values : ℕ) (mutexes replies : Waits) (refused : ℕ) → all ≡ total_of ticks_in (actor_turns turns) → live ≡ live_part s t (value_of s t)
+    → values ≡ live_value s → mutexes ≡ waits_in mutex_change turns t → replies ≡ waits_in reply_change turns t → refused ≡ refused_traps_in turns t
+    → record { all_ticks = all; live_value = live; all_values = values; mutexes = mutexes; replies = replies; refused_traps = refused } ≡ shares_in s turns t
+shares-are s turns t all live values mutexes replies refused ticks own whole for_mutex for_reply traps = rw (ticks, own, whole, for_mutex, for_reply, traps) (refl {a = shares_in s turns t})
 
--- a thread's line by what was asked of the system, which stays as it is
-pub asked-line : (seen mid last : Seen) (timekeeper : Timekeeper) (t : ℕ) (row : ThreadRow) (c : Counts) (live values : ℕ) (mutexes replies : Waits) (refused : ℕ) → IsAtEnd seen timekeeper → mid ≡ seen → last ≡ mid
-    → Some row ≡ thread_row (world_of mid).state t → c ≡ counted (turns_made last.setting.program last.history) → live ≡ live_part (world_of seen).state t (value_of (world_of seen).state t) → values ≡ live_value (world_of seen).state
-    → mutexes ≡ waits_in mutex_change (timed_turns seen.setting.program) t → replies ≡ waits_in reply_change (timed_turns seen.setting.program) t
-    → refused ≡ refused_traps_in (timed_turns seen.setting.program) t
-    → timed_thread_line t row c.ticks live values mutexes replies refused ≡ option_map_or (timed_thread_total (world_of seen).state (timed_turns seen.setting.program) (total_of ticks_in (actor_turns (timed_turns seen.setting.program))) t) (thread_row (world_of seen).state t) []
-asked-line seen mid last timekeeper t row c live values mutexes replies refused end same still is counts own whole for_mutex for_reply traps =
-    let there : thread_row (world_of seen).state t ≡ Some row = ap (λ (x : Seen). thread_row (world_of x).state t) (sym same) ∙ sym is in
-    let ticks : c.ticks ≡ total_of ticks_in (actor_turns (timed_turns seen.setting.program)) =
-    ap (λ (x : Counts). x.ticks) counts ∙ ap (λ (x : Seen). total_of ticks_in (turns_made x.setting.program x.history)) (still ∙ same) ∙ ap (total_of ticks_in) (turns-are seen timekeeper end) in
-    thread-line (world_of seen).state (timed_turns seen.setting.program) t row c.ticks live values mutexes replies refused there ticks own whole for_mutex for_reply traps
+-- the ticks of all turns
+pub ticks-are : (seen last : Seen) (timekeeper : Timekeeper) (c : Counts) → IsAtEnd seen timekeeper → last ≡ seen → c ≡ counted (turns_made last.setting.program last.history)
+    → c.ticks ≡ total_of ticks_in (actor_turns (timed_turns seen.setting.program))
+ticks-are seen last timekeeper c end same counts =
+    ap (λ (x : Counts). x.ticks) counts ∙ ap (λ (x : Seen). total_of ticks_in (turns_made x.setting.program x.history)) same ∙ ap (total_of ticks_in) (turns-are seen timekeeper end)
+
+module _ (seen mid : Seen) (t : ℕ) (row : ThreadRow) (shares : ThreadShares) (same : mid ≡ seen) (is : Some row ≡ thread_row (world_of mid).state t)
+    (own : shares ≡ shares_in (world_of seen).state (timed_turns seen.setting.program) t) where
+  there : thread_row (world_of seen).state t ≡ Some row
+  there = ap (λ (x : Seen). thread_row (world_of x).state t) (sym same) ∙ sym is
+
+  -- a thread's line by its row, which the system shows while it stays as it is
+  pub thread-line : timed_thread_line t row shares.all_ticks shares.live_value shares.all_values shares.mutexes shares.replies shares.refused_traps
+      ≡ option_map_or (timed_thread_text Lines (world_of seen).state (timed_turns seen.setting.program) t) (thread_row (world_of seen).state t) []
+  thread-line =
+      let s = (world_of seen).state in
+      let turns = timed_turns seen.setting.program in
+      let part : live_part s t (value_of s t) ≡ live_part s t row.value = ap (live_part s t) (sym (row-value s t row (thread_name s t) (at_number s.records t) there)) in
+      ap (λ (x : ThreadShares). timed_thread_line t row x.all_ticks x.live_value x.all_values x.mutexes x.replies x.refused_traps) own
+      ∙ ap (λ live. timed_thread_line t row (total_of ticks_in (actor_turns turns)) live (live_value s) (waits_in mutex_change turns t) (waits_in reply_change turns t) (refused_traps_in turns t)) part
+      ∙ sym (ap (λ o. option_map_or (timed_thread_text Lines s turns t) o []) there)
+
+  -- the same for its row in the table
+  pub thread-record : timed_thread_record t row shares ≡ option_map_or (timed_thread_text Table (world_of seen).state (timed_turns seen.setting.program) t) (thread_row (world_of seen).state t) []
+  thread-record =
+      ap (timed_thread_record t row) own
+      ∙ sym (ap (λ o. option_map_or (timed_thread_text Table (world_of seen).state (timed_turns seen.setting.program) t) o []) there)
 
 -- ---- the value of live threads
 

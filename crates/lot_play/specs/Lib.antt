@@ -10,3 +10,5 @@ pub mod Kept
 pub mod Leaving
 -- The report over several plays of a program, each with another seed.
 pub mod Seeds
+-- The report of a program, in lines or as a table.
+pub mod ReportTable

@@ -10,6 +10,10 @@ use Rattle.lot_playback.specs.Turns.{counted_turns, program_turns, world_after_t
 use Rattle.lot_print.specs.Figures.{figures_line, seeds_line}
 use Rattle.lot_print.specs.declared.figures.Figures.{Figures}
 use Rattle.lot_print.specs.declared.figures.Spread.{Spread}
+use Rattle.lot_print.specs.declared.table_rows.Columns.TheVariants as columns
+use Rattle.lot_print.specs.TableRows.{figures_record, header_row}
+use Rattle.lot_play.specs.declared.form.Form.{Form}
+use Rattle.lot_play.specs.declared.form.Form.TheVariants.{Lines, Table}
 use Rattle.lot_play.specs.Kept.{one_more}
 
 -- ---- a play
@@ -84,11 +88,24 @@ pub record AreFigures (program : Program) (seeds : List ℕ) (figures : List Fig
 abbrev pub seeds_between : ℕ → ℕ → List ℕ
 seeds_between first last = first ∷ range_with_len (first + 1) (last - first)
 
--- the line of a thread with these figures; nothing if no play ended with it
-abbrev pub figures_text : ℕ → Figures → List ℕ
-figures_text t figures = if figures.plays == 0 then [] else figures_line t figures
+-- the first line or row: the seeds, or the columns' names
+abbrev pub seeds_heading : Form → ℕ → ℕ → List ℕ
+seeds_heading Lines first last = seeds_line first last
+seeds_heading Table first last = header_row columns.Figures
 
--- the report over a play with each seed from the first to the last: a line for each thread that a play ended with
-abbrev pub seeds_report : ℕ → ℕ → Program → List ℕ
-seeds_report first last program =
-    seeds_line first last ++ flat_map (λ t. figures_text t (figures_over program (seeds_between first last) t)) (range_with_len 1 program.limits.threads)
+-- the line or the row of a thread with these figures
+abbrev pub figures_in : Form → ℕ → Figures → List ℕ
+figures_in Lines = figures_line
+figures_in Table = figures_record
+
+-- the same, or nothing if no play ended with the thread
+abbrev pub figures_text : Form → ℕ → Figures → List ℕ
+figures_text form t figures = if figures.plays == 0 then [] else figures_in form t figures
+
+-- The report over a play with each seed from the first to the last: a line or a row for each thread that a play ended
+-- with.
+abbrev pub seeds_report : Form → ℕ → ℕ → Program → List ℕ
+seeds_report form first last program =
+    seeds_heading form first last
+    ++ flat_map (λ t. figures_text form t (figures_over program (seeds_between first last) t))
+    (range_with_len 1 program.limits.threads)

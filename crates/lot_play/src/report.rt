@@ -9,44 +9,54 @@ ghost use Rattle.lot_machine.specs.Rows.{thread_row};
 ghost use Rattle.lot_simulation.specs.Texts.{lines_for};
 ghost use Rattle.lot_engine.specs.Seen.{world_of};
 ghost use Rattle.lot_io.specs.Writing.{Writes};
+ghost use Rattle.lot_play.specs.ReportTable.{thread_text};
 
+use crate::Form;
 use lot_engine::System;
 use lot_io::{IoFault, Watched};
 use lot_print::{
-    ProcessorTotal, WholeTotal, write_processor_total, write_report_line, write_thread_total,
-    write_whole_total,
+    ProcessorTotal, WholeTotal, write_processor_total, write_report_line, write_thread_record,
+    write_thread_total, write_whole_total,
 };
 use std::io::Write;
 
-/// Writes each thread's line.
-fn write_threads<W: Write>(system: &mut System, writer: &mut Watched<W>) -> Result<(), IoFault>
+/// Writes each thread's line or row.
+pub(crate) fn write_threads<W: Write>(
+    system: &mut System,
+    form: Form,
+    writer: &mut Watched<W>,
+) -> Result<(), IoFault>
     requires { writer.old.failed ≡ false }
     ensures same { system.new ≡ system.old }
     ensures text { Writes W.contents writer.old writer.new result
-        (lines_for reports.thread_total (thread_row (world_of system.old).state)
+        (lines_for (thread_text form) (thread_row (world_of system.old).state)
         (numbers (world_of system.old).state.records)) }
 {
     for place in 0..system.thread_count() {
-        write_thread(system, place + 1, writer)?;
+        write_thread(system, form, place + 1, writer)?;
     }
     Ok(())
 }
 
-/// Writes the line of the thread with this number, if it exists.
+/// Writes the line or the row of the thread with this number, if it exists.
 fn write_thread<W: Write>(
     system: &mut System,
+    form: Form,
     number: u32,
     writer: &mut Watched<W>,
 ) -> Result<(), IoFault>
     requires { writer.old.failed ≡ false }
     ensures same { system.new ≡ system.old }
     ensures text { Writes W.contents writer.old writer.new result
-        (option_map_or (reports.thread_total number) (thread_row (world_of system.old).state number) []) }
+        (option_map_or (thread_text form number) (thread_row (world_of system.old).state number) []) }
 {
-    if let Some(row) = system.thread_row(number) {
-        write_thread_total(writer, number, &row)?;
+    let Some(row) = system.thread_row(number) else {
+        return Ok(());
+    };
+    match form {
+        Form::Lines => write_thread_total(writer, number, &row),
+        Form::Table => write_thread_record(writer, number, &row),
     }
-    Ok(())
 }
 
 /// Writes each processor's line.
@@ -107,7 +117,7 @@ pub fn write_report<W: Write>(system: &mut System, writer: &mut Watched<W>) -> R
         (reports.report system.old.setting.program system.old.history) }
 {
     write_report_line(writer)?;
-    write_threads(system, writer)?;
+    write_threads(system, Form::Lines, writer)?;
     write_processors(system, writer)?;
     write_total(system, writer)
 }

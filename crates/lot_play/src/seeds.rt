@@ -6,15 +6,15 @@ ghost use Rattle.lot_simulation.specs.Seeded.{with_seed};
 ghost use Rattle.lot_print.specs.declared.figures.Figures.{Figures as FiguresRecord};
 ghost use Rattle.lot_play.specs.Played.{Plays};
 ghost use Rattle.lot_play.specs.Seeds.{AreFigures, figures_over, figures_played, figures_text, seeds_between};
-ghost use Rattle.lot_play.specs.Seeds.{seeds_report};
+ghost use Rattle.lot_play.specs.Seeds.{seeds_heading, seeds_report};
 ghost use Rattle.lot_play.specs.declared.inputs.Played.TheVariants.{Done};
 
 use crate::figures::{add_play, no_figures};
 use crate::summary::note_turns;
-use crate::{Played, Warnings, note_last};
+use crate::{Form, Played, Warnings, note_last};
 use lot_io::{IoFault, Watched, flush};
 use lot_playback::Playback;
-use lot_print::{Figures, write_figures, write_seeds};
+use lot_print::{Columns, Figures, write_figures, write_figures_record, write_header, write_seeds};
 use lot_text::{Program, Seed};
 use std::alloc::{AllocError, Global};
 use std::io::Write;
@@ -27,24 +27,25 @@ pub struct Seeds {
 }
 
 /// Plays the program once with each of these seeds, and writes for each thread the mean, the least and the most of
-/// its figures at the ends of the plays. It stores the warnings of the first play in `warnings`. If out of memory, it
-/// writes nothing.
+/// its figures at the ends of the plays, in this form. It stores the warnings of the first play in `warnings`. If out
+/// of memory, it writes nothing.
 pub fn report_seeds<W: Write>(
     alloc: Global,
     program: &Program,
     seeds: &Seeds,
+    form: Form,
     warnings: &mut Warnings,
     writer: &mut Watched<W>,
 ) -> Result<Played, IoFault>
     requires { writer.old.failed ≡ false }
     ensures flushed { OnOk result (writer.new.flushed ≡ true) }
     ensures reported { Plays W.contents writer.old writer.new result Done
-        (seeds_report seeds.now.first seeds.now.last program.now) }
+        (seeds_report form seeds.now.first seeds.now.last program.now) }
 {
     let Ok(figures) = figures_of(alloc, program, seeds, warnings) else {
         return Err(IoFault::Memory);
     };
-    write_report(program, seeds, figures.as_slice(), writer)?;
+    write_report(program, seeds, figures.as_slice(), form, writer)?;
     Ok(Played::Done)
 }
 
@@ -55,7 +56,8 @@ fn figures_of(
     seeds: &Seeds,
     warnings: &mut Warnings,
 ) -> Result<Vec<Figures>, AllocError>
-    ensures { IfOk result (λ figures. AreFigures program.now (seeds_between seeds.now.first seeds.now.last) figures.items) }
+    ensures { IfOk result (λ figures.
+        AreFigures program.now (seeds_between seeds.now.first seeds.now.last) figures.items) }
 {
     let mut figures = no_figures(alloc, program.limits().threads)?;
     play_with(alloc, program, seeds.first, warnings, &mut figures)?;
@@ -92,54 +94,76 @@ fn play_with(
     Ok(())
 }
 
-/// Writes the first line and each thread's line, and flushes.
+/// Writes the first line and each thread's line, or the rows of the table, and flushes.
 fn write_report<W: Write>(
     program: &Program,
     seeds: &Seeds,
     figures: &[Figures],
+    form: Form,
     writer: &mut Watched<W>,
 ) -> Result<(), IoFault>
     requires are { AreFigures program.now (seeds_between seeds.now.first seeds.now.last) figures.now }
     requires working { writer.old.failed ≡ false }
     ensures flushed { OnOk result (writer.new.flushed ≡ true) }
     ensures text { Writes W.contents writer.old writer.new result
-        (seeds_report seeds.now.first seeds.now.last program.now) }
+        (seeds_report form seeds.now.first seeds.now.last program.now) }
 {
-    write_seeds(writer, seeds.first.number(), seeds.last.number())?;
-    write_threads(program, seeds, figures, writer)?;
+    write_heading(seeds, form, writer)?;
+    write_threads(program, seeds, figures, form, writer)?;
     flush(writer)
 }
 
-/// Writes each thread's line.
+/// Writes the first line or row.
+fn write_heading<W: Write>(
+    seeds: &Seeds,
+    form: Form,
+    writer: &mut Watched<W>,
+) -> Result<(), IoFault>
+    requires { writer.old.failed ≡ false }
+    ensures { Writes W.contents writer.old writer.new result
+        (seeds_heading form seeds.now.first seeds.now.last) }
+{
+    match form {
+        Form::Lines => write_seeds(writer, seeds.first.number(), seeds.last.number()),
+        Form::Table => write_header(writer, Columns::Figures),
+    }
+}
+
+/// Writes each thread's line or row.
 fn write_threads<W: Write>(
     program: &Program,
     seeds: &Seeds,
     figures: &[Figures],
+    form: Form,
     writer: &mut Watched<W>,
 ) -> Result<(), IoFault>
     requires are { AreFigures program.now (seeds_between seeds.now.first seeds.now.last) figures.now }
     requires working { writer.old.failed ≡ false }
     ensures { Writes W.contents writer.old writer.new result (flat_map
-        (λ t. figures_text t (figures_over program.now (seeds_between seeds.now.first seeds.now.last) t))
+        (λ t. figures_text form t (figures_over program.now (seeds_between seeds.now.first seeds.now.last) t))
         (range_with_len 1 program.now.limits.threads)) }
 {
     for place in 0..program.limits().threads {
-        write_thread(place + 1, &figures[place as usize], writer)?;
+        write_thread(place + 1, &figures[place as usize], form, writer)?;
     }
     Ok(())
 }
 
-/// Writes the line of the thread with this number, if a play ended with it.
+/// Writes the line or the row of the thread with this number, if a play ended with it.
 fn write_thread<W: Write>(
     number: u32,
     figures: &Figures,
+    form: Form,
     writer: &mut Watched<W>,
 ) -> Result<(), IoFault>
     requires { writer.old.failed ≡ false }
-    ensures { Writes W.contents writer.old writer.new result (figures_text number figures.now) }
+    ensures { Writes W.contents writer.old writer.new result (figures_text form number figures.now) }
 {
     if figures.plays == 0 {
         return Ok(());
     }
-    write_figures(writer, number, figures)
+    match form {
+        Form::Lines => write_figures(writer, number, figures),
+        Form::Table => write_figures_record(writer, number, figures),
+    }
 }

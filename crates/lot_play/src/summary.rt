@@ -1,12 +1,14 @@
 //! A play that writes its report alone.
 ghost use Rattle.std.specs.Prelude.{◌≡◌, [], false, true, OnOk, ⊤};
+ghost use Rattle.lot_io.specs.Writing.{Writes};
 ghost use Rattle.lot_play.specs.Played.{Plays};
-ghost use Rattle.lot_play.specs.Texts.{last_report};
+ghost use Rattle.lot_play.specs.ReportTable.{report_text};
 ghost use Rattle.lot_play.specs.declared.inputs.Played.TheVariants.{Done};
 ghost use Rattle.lot_playback.specs.Stages.{HasMade, turns_left};
 ghost use Rattle.lot_playback.specs.Turns.{program_turns};
 
-use crate::{Played, Warnings, end_play, play_through};
+use crate::report_table::end_with_table;
+use crate::{Form, Played, Warnings, end_play, play_through};
 use lot_engine::System;
 use lot_io::{IoFault, Watched};
 use lot_playback::{Observer, Playback, Turn};
@@ -62,23 +64,44 @@ pub(crate) fn note_turns(program: &Program, playback: &mut Playback, warnings: &
     }
 }
 
-/// Makes the program's turns in a system of its own, and writes the report alone. It stores the run's warnings in
-/// `warnings`. It allocates all its memory before the first turn.
+/// Makes the program's turns in a system of its own, and writes the report alone, in this form. It stores the run's
+/// warnings in `warnings`. It allocates all its memory before the first turn.
 pub fn report_program<W: Write>(
     alloc: Global,
     program: &Program,
+    form: Form,
     warnings: &mut Warnings,
     writer: &mut Watched<W>,
 ) -> Result<Played, IoFault>
     requires { writer.old.failed ≡ false }
     ensures flushed { OnOk result (writer.new.flushed ≡ true) }
-    ensures reported { Plays W.contents writer.old writer.new result Done
-        (last_report program.now program.now.duration) }
+    ensures reported { Plays W.contents writer.old writer.new result Done (report_text form program.now) }
 {
     let Ok(mut playback) = Playback::open(alloc, program) else {
         return Err(IoFault::Memory);
     };
     note_turns(program, &mut playback, warnings);
-    end_play(program, playback, warnings, writer)?;
+    end_in_form(program, playback, form, warnings, writer)?;
     Ok(Played::Done)
+}
+
+/// Ends a play whose turns are all made: writes the report in this form, flushes, and records the end of the system in
+/// the warnings.
+fn end_in_form<W: Write>(
+    program: &Program,
+    playback: Playback,
+    form: Form,
+    warnings: &mut Warnings,
+    writer: &mut Watched<W>,
+) -> Result<(), IoFault>
+    requires made { HasMade program.now (program_turns program.now) playback.seen }
+    requires ended { turns_left playback ≡ [] }
+    requires working { writer.old.failed ≡ false }
+    ensures flushed { OnOk result (writer.new.flushed ≡ true) }
+    ensures text { Writes W.contents writer.old writer.new result (report_text form program.now) }
+{
+    match form {
+        Form::Lines => end_play(program, playback, warnings, writer),
+        Form::Table => end_with_table(program, playback, warnings, writer),
+    }
 }

@@ -4,9 +4,10 @@ ghost use Rattle.std.specs.List.{flat_map, range_with_len};
 ghost use Rattle.std.specs.Option.{option_map_or};
 ghost use Rattle.lot_machine.specs.Bounds.{IsBetween};
 ghost use Rattle.lot_machine.specs.Facts as facts;
+ghost use Rattle.lot_machine.specs.Numbered.{numbers};
 ghost use Rattle.lot_machine.specs.Rows.{thread_row};
 ghost use Rattle.lot_machine.specs.State.{is_live_status, value_of};
-ghost use Rattle.lot_simulation.specs.Report.{ticks_in, total_of};
+ghost use Rattle.lot_simulation.specs.Texts.{lines_for};
 ghost use Rattle.lot_simulation.specs.Timed as timed;
 ghost use Rattle.lot_simulation.specs.Timed.{timed_turns};
 ghost use Rattle.lot_simulation.specs.TimedReport as reports;
@@ -14,14 +15,17 @@ ghost use Rattle.lot_simulation.specs.TimedReport.{actor_turns, live_part};
 ghost use Rattle.lot_playback.specs.InTime.{IsAtEnd, IsFollowed, moment_in};
 ghost use Rattle.lot_engine.specs.Seen.{world_of};
 ghost use Rattle.lot_io.specs.Writing.{Writes};
+ghost use Rattle.lot_play.specs.ReportTable.{shares_in, timed_thread_text};
 
+use crate::Form;
 use lot_engine::System;
 use lot_io::{IoFault, Watched};
 use lot_machine::Status;
 use lot_playback::Timekeeper;
 use lot_print::{
     ThreadShares, TimedProcessorTotal, TimedWholeTotal, write_early_end, write_report_line,
-    write_timed_processor_total, write_timed_thread_total, write_timed_whole_total,
+    write_timed_processor_total, write_timed_thread_record, write_timed_thread_total,
+    write_timed_whole_total,
 };
 use lot_simulation::EarlyEnd;
 use lot_text::Program;
@@ -92,7 +96,7 @@ fn write_lines<W: Write>(
 {
     write_report_line(writer)?;
     let end = ended_at(program, system, timekeeper);
-    write_threads(system, timekeeper, writer)?;
+    write_threads(system, timekeeper, Form::Lines, writer)?;
     write_processors(system, timekeeper, end, writer)?;
     write_total(system, timekeeper, writer)
 }
@@ -109,22 +113,23 @@ fn ended_at(program: &Program, system: &System, timekeeper: &Timekeeper) -> u32
     }
 }
 
-/// Writes each thread's line.
-fn write_threads<W: Write>(
+/// Writes each thread's line or row.
+pub(crate) fn write_threads<W: Write>(
     system: &mut System,
     timekeeper: &Timekeeper,
+    form: Form,
     writer: &mut Watched<W>,
 ) -> Result<(), IoFault>
     requires end { IsAtEnd system.old timekeeper.now }
     requires working { writer.old.failed ≡ false }
     ensures same { system.new ≡ system.old }
     ensures text { Writes W.contents writer.old writer.new result
-        (reports.timed_thread_lines (world_of system.old).state (timed_turns system.old.setting.program)
-        (total_of ticks_in (actor_turns (timed_turns system.old.setting.program)))) }
+        (lines_for (timed_thread_text form (world_of system.old).state (timed_turns system.old.setting.program))
+        (thread_row (world_of system.old).state) (numbers (world_of system.old).state.records)) }
 {
     let all_values = live_value(system);
     for place in 0..system.thread_count() {
-        write_thread(system, timekeeper, place + 1, all_values, writer)?;
+        write_thread(system, timekeeper, form, place + 1, all_values, writer)?;
     }
     Ok(())
 }
@@ -165,10 +170,11 @@ fn is_live(status: Status) -> bool
     }
 }
 
-/// Writes the thread's line.
+/// Writes the thread's line or row.
 fn write_thread<W: Write>(
     system: &mut System,
     timekeeper: &Timekeeper,
+    form: Form,
     thread: u32,
     all_values: u128,
     writer: &mut Watched<W>,
@@ -180,24 +186,42 @@ fn write_thread<W: Write>(
     requires working { writer.old.failed ≡ false }
     ensures same { system.new ≡ system.old }
     ensures text { Writes W.contents writer.old writer.new result
-        (option_map_or (reports.timed_thread_total (world_of system.old).state
-        (timed_turns system.old.setting.program) (total_of ticks_in
-        (actor_turns (timed_turns system.old.setting.program))) thread)
-        (thread_row (world_of system.old).state thread) []) }
+        (option_map_or (timed_thread_text form (world_of system.old).state
+        (timed_turns system.old.setting.program) thread) (thread_row (world_of system.old).state thread) []) }
 {
-    let live_value = live_value_of(system, thread);
+    let shares = shares_of(system, timekeeper, thread, all_values);
     let Some(row) = system.thread_row(thread) else {
         return Ok(());
     };
-    let shares = ThreadShares {
+    match form {
+        Form::Lines => write_timed_thread_total(writer, thread, &row, shares),
+        Form::Table => write_timed_thread_record(writer, thread, &row, shares),
+    }
+}
+
+/// What the report tells of the thread, in addition to its row.
+fn shares_of(
+    system: &mut System,
+    timekeeper: &Timekeeper,
+    thread: u32,
+    all_values: u128,
+) -> ThreadShares
+    requires end { IsAtEnd system.old timekeeper.now }
+    requires there { IsBetween 1 system.old.setting.program.limits.threads thread }
+    requires values { all_values ≡ facts.live_value (world_of system.old).state }
+    ensures same { system.new ≡ system.old }
+    ensures shares { result
+        ≡ shares_in (world_of system.old).state (timed_turns system.old.setting.program) thread }
+{
+    let live_value = live_value_of(system, thread);
+    ThreadShares {
         all_ticks: system.total().ticks,
         live_value,
         all_values,
         mutexes: timekeeper.mutexes.of(thread),
         replies: timekeeper.replies.of(thread),
         refused_traps: timekeeper.refused_traps.of(thread),
-    };
-    write_timed_thread_total(writer, thread, &row, shares)
+    }
 }
 
 /// Writes each processor's line.

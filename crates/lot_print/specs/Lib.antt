@@ -3,3 +3,4 @@ pub mod Readback
 pub mod Totals
 pub mod Lots
 pub mod Figures
+pub mod TableRows

@@ -145,6 +145,24 @@ const SPREAD: usize = b" quanta".len()
 /// The longest line of a report over several plays.
 pub(crate) const FIGURES_ROW: usize = 640;
 
+/// A thread's number and its name, the first fields of a row in a table.
+const NAMED_FIELDS: usize = NUMBER + 1 + NAME;
+
+/// A thread's row in the table of a timed report.
+const TIMED_FIELDS: usize = NAMED_FIELDS
+    + 2 * (1 + LONG_NUMBER)
+    + 2 * (1 + QUOTIENT)
+    + 2 * (1 + NUMBER + 1 + QUOTIENT + 1 + NUMBER)
+    + 1
+    + NUMBER
+    + 1;
+
+/// A thread's row in the table of a report over several plays.
+const FIGURES_FIELDS: usize = NAMED_FIELDS + 1 + LONG_NUMBER + 9 * (1 + QUOTIENT) + 1;
+
+/// The longest row of a table.
+pub(crate) const TABLE_ROW: usize = 512;
+
 /// A `schedule` line.
 pub(crate) const SCHEDULE_LINE: usize = SCHEDULE_WORD.len() + ACTORS * (1 + ACTOR) + 1;
 
@@ -155,3 +173,5 @@ const _: () = prove!(TICKET_ROW <= ROW && CURRENCY_ROW <= ROW && THREAD_ROW <= R
 const _: () = prove!(TIMED_THREAD <= TIMED_ROW);
 
 const _: () = prove!(NAMED + b" plays ".len() + LONG_NUMBER + 3 * SPREAD + 1 <= FIGURES_ROW);
+
+const _: () = prove!(TIMED_FIELDS <= TABLE_ROW && FIGURES_FIELDS <= TABLE_ROW);

@@ -14,6 +14,7 @@ mod refused;
 mod replies;
 mod rows;
 mod runs;
+mod table_rows;
 mod timed_totals;
 mod totals;
 
@@ -25,6 +26,9 @@ pub use page::Page;
 pub use refused::write_fault;
 pub use replies::{Heading, write_ended, write_reply};
 pub use rows::{write_currency, write_listing_line, write_thread, write_ticket};
+pub use table_rows::{
+    Columns, write_figures_record, write_header, write_thread_record, write_timed_thread_record,
+};
 pub use timed_totals::{
     ThreadShares, TimedProcessorTotal, TimedWholeTotal, write_early_end,
     write_timed_processor_total, write_timed_thread_total, write_timed_whole_total,

@@ -57,6 +57,37 @@ thread 2 b plays 2 quanta mean 0 least 0 most 0 ticks mean 0 least 0 most 0 \
 share mean 0% least 0% most 0%
 ";
 
+/// The report of `TIMED` as a table. Nobody waits: there are no waits, no mean of them, and no longest one.
+const TABLE: &str = "thread,name,quanta,ticks,share_percent,value_percent,\
+mutex_waits,mutex_mean,mutex_longest,reply_waits,reply_mean,reply_longest,refused
+1,a,3,4,100,100,0,,,0,,,0
+2,b,0,0,0,0,0,,,0,,,0
+";
+
+/// The report over two plays of `TIMED` as a table.
+const TABLE_OF_PLAYS: &str = "thread,name,plays,quanta_mean,quanta_least,quanta_most,\
+ticks_mean,ticks_least,ticks_most,share_percent_mean,share_percent_least,share_percent_most
+1,a,2,3,3,3,4,4,4,100,100,100
+2,b,2,0,0,0,0,0,0,0,0,0
+";
+
+/// The report as a table, and that over several plays. Without threads a table has its first row alone.
+#[test]
+fn report_tables(rt: HostRuntime) {
+    let words: &[&str] = &["lot_sim", "report", "--csv"];
+    let over_plays: &[&str] = &["lot_sim", "report", "--csv", "--seeds", "1..2"];
+    for (words, input, table) in [
+        (words, INPUT, "thread,name,quanta,ticks\n1,a,2,4\n2,b,0,0\n"),
+        (words, TIMED, TABLE),
+        (words, "lottery 1\n", "thread,name,quanta,ticks\n"),
+        (over_plays, TIMED, TABLE_OF_PLAYS),
+    ] {
+        let ended = ended_on(&rt, rt.alloc(), words, input);
+        let is_table = ended.output.as_slice() == table.as_bytes();
+        check_same(&rt, &(ended.code, is_table), &(0, true));
+    }
+}
+
 /// The report alone, and that over several plays.
 #[test]
 fn reports(rt: HostRuntime) {
@@ -84,6 +115,7 @@ fn options(rt: HostRuntime) {
     check_words(&rt, alloc, &["lot_sim", "shares", "--title", "x"], 2, false);
     check_words(&rt, alloc, &["lot_sim", "chart", "--title"], 2, false);
     check_words(&rt, alloc, &["lot_sim", "play", "--quanta"], 2, false);
+    check_words(&rt, alloc, &["lot_sim", "play", "--csv"], 2, false);
     check_words(&rt, alloc, &["lot_sim", "play", "--from", "1"], 2, false);
     for (from, to) in [("3", "3"), ("3", "2"), ("x", "9"), ("0", "0")] {
         let words = ["lot_sim", "chart", "--from", from, "--to", to];

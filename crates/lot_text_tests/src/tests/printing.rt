@@ -8,11 +8,12 @@ use lot_machine::{
     ThreadRow, TicketRow, TrapRefusal,
 };
 use lot_print::{
-    Heading, Page, ProcessorTotal, ThreadShares, TimedProcessorTotal, TimedWholeTotal, WholeTotal,
-    write_currency, write_early_end, write_ended, write_fault, write_history, write_listing_line,
-    write_processor_total, write_reply, write_report_line, write_thread, write_thread_total,
-    write_ticket, write_timed_processor_total, write_timed_thread_total, write_timed_whole_total,
-    write_whole_total,
+    Columns, Figures, Heading, Page, ProcessorTotal, Spread, ThreadShares, TimedProcessorTotal,
+    TimedWholeTotal, WholeTotal, write_currency, write_early_end, write_ended, write_fault,
+    write_figures_record, write_header, write_history, write_listing_line, write_processor_total,
+    write_reply, write_report_line, write_thread, write_thread_record, write_thread_total,
+    write_ticket, write_timed_processor_total, write_timed_thread_record, write_timed_thread_total,
+    write_timed_whole_total, write_whole_total,
 };
 use lot_simulation::{EarlyEnd, Format, InputFault, InputRefusal, LineStyle, Waits};
 use std::alloc::Global;
@@ -898,8 +899,8 @@ const NO_WAITS: Waits = Waits {
     since: None,
 };
 
-/// Checks the line of thread 1 with 4 quanta and 2 ticks, among totals of which it has these shares.
-fn check_shares(rt: &impl Abort, alloc: Global, shares: ThreadShares, wanted: &str)
+/// Checks the line and the row of thread 1 with 4 quanta and 2 ticks, among totals of which it has these shares.
+fn check_shares(rt: &impl Abort, alloc: Global, shares: ThreadShares, wanted: &str, fields: &str)
     requires { shares.all_values < 2 ^ 96 }
 {
     let row = ThreadRow {
@@ -910,6 +911,9 @@ fn check_shares(rt: &impl Abort, alloc: Global, shares: ThreadShares, wanted: &s
     let mut writer = Watched::new(Vec::new(alloc));
     let ended = write_timed_thread_total(&mut writer, 1, &row, shares);
     check(rt, writer, ended, wanted);
+    let mut writer = Watched::new(Vec::new(alloc));
+    let ended = write_timed_thread_record(&mut writer, 1, &row, shares);
+    check(rt, writer, ended, fields);
 }
 
 // 2 of 3 ticks are 66.666%; 5 waits of 12 ticks in all are 2.4 on average. 18446744073709551615 / 4294967295 is
@@ -931,7 +935,8 @@ fn prints_timed_totals(rt: HostRuntime) {
     };
     let wanted =
         "thread 1 thread2 quanta 4 ticks 2 share 66.666% value 12.5% mutex waits 5 mean 2.4 longest 4\n";
-    check_shares(&rt, rt.alloc(), shares, wanted);
+    let fields = "1,thread2,4,2,66.666,12.5,5,2.4,4,0,,,0\n";
+    check_shares(&rt, rt.alloc(), shares, wanted, fields);
     let shares = ThreadShares {
         all_ticks: 0,
         live_value: 0,
@@ -942,7 +947,62 @@ fn prints_timed_totals(rt: HostRuntime) {
     };
     let wanted = "thread 1 thread2 quanta 4 ticks 2 share 0% value 0% \
         reply waits 4294967295 mean 4294967297 longest 4294967295 refused 12\n";
-    check_shares(&rt, rt.alloc(), shares, wanted);
+    let fields = "1,thread2,4,2,0,0,0,,,4294967295,4294967297,4294967295,12\n";
+    check_shares(&rt, rt.alloc(), shares, wanted, fields);
+}
+
+#[test]
+fn prints_headers(rt: HostRuntime) {
+    for (columns, wanted) in [
+        (Columns::Totals, "thread,name,quanta,ticks\n"),
+        (
+            Columns::TimedTotals,
+            "thread,name,quanta,ticks,share_percent,value_percent,mutex_waits,mutex_mean,mutex_longest,\
+             reply_waits,reply_mean,reply_longest,refused\n",
+        ),
+        (
+            Columns::Figures,
+            "thread,name,plays,quanta_mean,quanta_least,quanta_most,ticks_mean,ticks_least,ticks_most,\
+             share_percent_mean,share_percent_least,share_percent_most\n",
+        ),
+    ] {
+        let mut writer = Watched::new(Vec::new(rt.alloc()));
+        let ended = write_header(&mut writer, columns);
+        check(&rt, writer, ended, wanted);
+    }
+}
+
+#[test]
+fn prints_records(rt: HostRuntime) {
+    let row = ThreadRow {
+        quanta: 4,
+        ticks: u64::MAX,
+        ..thread_row(&rt, Status::Dead)
+    };
+    let mut writer = Watched::new(Vec::new(rt.alloc()));
+    let ended = write_thread_record(&mut writer, 4096, &row);
+    check(&rt, writer, ended, "4096,thread2,4,18446744073709551615\n");
+}
+
+/// The spread of these figures.
+fn spread(sum: u128, least: u128, most: u128) -> Spread {
+    Spread { sum, least, most }
+}
+
+// Of three plays the draws are 10 in all, 3.333 on average; shares are in thousandths of a percent.
+#[test]
+fn prints_figures(rt: HostRuntime) {
+    let figures = Figures {
+        name: name(&rt, "a"),
+        plays: 3,
+        quanta: spread(10, 3, 4),
+        ticks: spread(90, 0, 90),
+        share: spread(150000, 45500, 54001),
+    };
+    let mut writer = Watched::new(Vec::new(rt.alloc()));
+    let ended = write_figures_record(&mut writer, 2, &figures);
+    let wanted = "2,a,3,3.333,3,4,30,0,90,50,45.5,54.001\n";
+    check(&rt, writer, ended, wanted);
 }
 
 #[test]

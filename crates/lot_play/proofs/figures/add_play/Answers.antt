@@ -1,4 +1,4 @@
-use Rattle.std.proofs.Common.{◌≡◌, ℕ, ◌+◌, ◌∙◌, ap, subst}
+use Rattle.std.proofs.Common.{◌≡◌, ℕ, ◌+◌, ◌∙◌, ap}
 use Rattle.lot_machine.specs.Rows.{thread_row}
 use Rattle.lot_simulation.specs.Report.{ticks_in, total_of, turns_made}
 use Rattle.lot_engine.specs.Seen.{Seen, world_of}

@@ -1,14 +1,15 @@
 use Rattle.std.proofs.Common.{◌≡◌, ◌+◌, ℕ, List, [], length, Err, rules, ◌∙◌, arith}
 use Rattle.std.specs.Option.{option_map_or}
-use Rattle.lot_simulation.specs.Report.{thread_total}
 use Rattle.lot_machine.specs.Rows.{thread_row}
 use Rattle.lot_engine.specs.Seen.{Seen, world_of}
+use Rattle.lot_play.specs.declared.form.Form.{Form}
+use Rattle.lot_play.specs.ReportTable.{thread_text}
 use Rattle.lot_play.proofs.WritingFacts.{range-more, range-stops}
 use Rattle.lot_play.proofs.report.write_threads.Goals as goal
 
--- the line of the thread with a number, if there is one
-abbrev line : Seen → ℕ → List ℕ
-line seen n = option_map_or (thread_total n) (thread_row (world_of seen).state n) []
+-- the line or row of the thread with a number, if there is one
+abbrev line : Form → Seen → ℕ → List ℕ
+line form seen n = option_map_or (thread_text form n) (thread_row (world_of seen).state n) []
 
 pub returns-in_err-write_thread-clause-text : goal.returns-in_err-write_thread-clause-text
 returns-in_err-write_thread-clause-text g c =
@@ -18,7 +19,7 @@ returns-in_err-write_thread-clause-text g c =
     rw is (
       told.0,
       told.1,
-      range-stops (g.W.Write.contents c.args.writer.now.inner) (g.W.Write.contents c.loop-place.writer.inner) (g.W.Write.contents c.write_thread.new.writer.inner) (line c.args.system.now) 1 c.loop-place.place
+      range-stops (g.W.Write.contents c.args.writer.now.inner) (g.W.Write.contents c.loop-place.writer.inner) (g.W.Write.contents c.write_thread.new.writer.inner) (line c.args.form c.args.system.now) 1 c.loop-place.place
           (length (world_of c.args.system.now).state.records) (c.loop-place.place + 1) (omega (arith, c.loop-place-test.true, c.thread_count-place-end.ensures.count)) (omega arith) i.bytes told.2,
     )
 
@@ -29,5 +30,5 @@ loop-place-preserved g c =
     record {
       working = told.0;
       system = c.in_ok-write_thread.ensures.same ∙ i.system;
-      bytes = range-more (g.W.Write.contents c.args.writer.now.inner) (g.W.Write.contents c.loop-place.writer.inner) (g.W.Write.contents c.write_thread.new.writer.inner) (line c.args.system.now) 1 c.loop-place.place (c.loop-place.place + 1) (omega arith) i.bytes told.1;
+      bytes = range-more (g.W.Write.contents c.args.writer.now.inner) (g.W.Write.contents c.loop-place.writer.inner) (g.W.Write.contents c.write_thread.new.writer.inner) (line c.args.form c.args.system.now) 1 c.loop-place.place (c.loop-place.place + 1) (omega arith) i.bytes told.1;
     }

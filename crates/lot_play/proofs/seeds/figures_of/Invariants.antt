@@ -1,4 +1,4 @@
-use Rattle.std.proofs.Common.{◌≡◌, ◌-◌, ◌<◌, ◌≤◌}
+use Rattle.std.proofs.Common.{◌-◌, ◌<◌, ◌≤◌}
 use Rattle.lot_play.specs.Seeds.{AreFigures, seeds_between}
 use Rattle.lot_play.proofs.seeds.figures_of.Given as goal
 

@@ -1,8 +1,6 @@
 use Rattle.std.proofs.Common.{◌≡◌, ◌+◌, Some, length, sym, ◌∙◌, ap, subst}
 use Rattle.std.specs.Prelude.{slice_index_or}
 use Rattle.lot_simulation.specs.Seeded.{with_seed}
-use Rattle.lot_simulation.specs.World.{Program}
-use Rattle.lot_engine.specs.Seen.{Seen}
 use Rattle.lot_playback.specs.Stages.{HasMade}
 use Rattle.lot_playback.specs.Turns.{program_turns}
 use Rattle.lot_play.specs.Seeds.{figures_played}

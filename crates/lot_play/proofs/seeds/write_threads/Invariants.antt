@@ -9,5 +9,5 @@ abbrev pub invariant-loop-place : goal.invariant-loop-place
 invariant-loop-place g l = record {
   working : l.writer.failed ≡ false;
   bytes : Appends (g.W.Write.contents l.fn.writer.inner) (g.W.Write.contents l.writer.inner)
-      (flat_map (λ t. figures_text t (figures_over l.fn.program (seeds_between l.fn.seeds.first l.fn.seeds.last) t)) (range_with_len 1 l.place));
+      (flat_map (λ t. figures_text l.fn.form t (figures_over l.fn.program (seeds_between l.fn.seeds.first l.fn.seeds.last) t)) (range_with_len 1 l.place));
 }

@@ -3,10 +3,9 @@ use Rattle.std.specs.List.{flat_map, range_with_len}
 use Rattle.std.specs.Option.{option_map_or}
 use Rattle.std.specs.Io.KnownBytes.{Appends}
 use Rattle.lot_machine.specs.Rows.{thread_row}
-use Rattle.lot_simulation.specs.Report.{ticks_in, total_of}
 use Rattle.lot_simulation.specs.Timed.{timed_turns}
-use Rattle.lot_simulation.specs.TimedReport.{actor_turns, timed_thread_total}
 use Rattle.lot_engine.specs.Seen.{world_of}
+use Rattle.lot_play.specs.ReportTable.{timed_thread_text}
 use Rattle.lot_play.proofs.timed_report.write_threads.Given as goal
 
 -- the lines of the threads passed so far are written
@@ -15,6 +14,6 @@ invariant-loop-place g l = record {
   working : l.writer.failed ≡ false;
   system : l.system ≡ l.fn.system;
   bytes : Appends (g.W.Write.contents l.fn.writer.inner) (g.W.Write.contents l.writer.inner)
-      (flat_map (λ n. option_map_or (timed_thread_total (world_of l.fn.system).state (timed_turns l.fn.system.setting.program) (total_of ticks_in (actor_turns (timed_turns l.fn.system.setting.program))) n) (thread_row (world_of l.fn.system).state n) [])
+      (flat_map (λ n. option_map_or (timed_thread_text l.fn.form (world_of l.fn.system).state (timed_turns l.fn.system.setting.program) n) (thread_row (world_of l.fn.system).state n) [])
       (range_with_len 1 l.place));
 }

@@ -1,0 +1,66 @@
+-- The report of a program, in lines or as a table.
+use Rattle.std.specs.Prelude.{ℕ, Option, Some, None, List, ◌++◌}
+use Rattle.lot_machine.specs.declared.row.ThreadRow.{ThreadRow}
+use Rattle.lot_machine.specs.Facts as facts
+use Rattle.lot_machine.specs.Numbered.{numbers}
+use Rattle.lot_machine.specs.Rows.{thread_row}
+use Rattle.lot_machine.specs.State.{State, value_of}
+use Rattle.lot_simulation.specs.Report.{thread_total, ticks_in, total_of}
+use Rattle.lot_simulation.specs.Texts.{lines_for}
+use Rattle.lot_simulation.specs.Timed.{TimedTurn, timed_turns}
+use Rattle.lot_simulation.specs.TimedReport.{actor_turns, live_part, mutex_change, refused_traps_in, reply_change}
+use Rattle.lot_simulation.specs.TimedReport.{timed_thread_total, waits_in}
+use Rattle.lot_simulation.specs.World.{Program}
+use Rattle.lot_print.specs.declared.table_rows.Columns.TheVariants.{TimedTotals, Totals}
+use Rattle.lot_print.specs.declared.timed_totals.ThreadShares.{ThreadShares}
+use Rattle.lot_print.specs.TableRows.{header_row, thread_record, timed_thread_record}
+use Rattle.lot_play.specs.declared.form.Form.{Form}
+use Rattle.lot_play.specs.declared.form.Form.TheVariants.{Lines, Table}
+use Rattle.lot_play.specs.Seeds.{last_world}
+use Rattle.lot_play.specs.Texts.{last_report}
+
+-- ---- threads
+
+-- a thread's line or row
+abbrev pub thread_text : Form → ℕ → ThreadRow → List ℕ
+thread_text Lines = thread_total
+thread_text Table = thread_record
+
+-- what the report of a timed program tells of a thread after these turns, in addition to its row
+abbrev pub shares_in : State → List TimedTurn → ℕ → ThreadShares
+shares_in s turns t = record {
+  all_ticks = total_of ticks_in (actor_turns turns);
+  live_value = live_part s t (value_of s t);
+  all_values = facts.live_value s;
+  mutexes = waits_in mutex_change turns t;
+  replies = waits_in reply_change turns t;
+  refused_traps = refused_traps_in turns t;
+}
+
+-- the line or the row of a timed program's thread after these turns
+abbrev pub timed_thread_text : Form → State → List TimedTurn → ℕ → ThreadRow → List ℕ
+timed_thread_text Lines s turns = timed_thread_total s turns (total_of ticks_in (actor_turns turns))
+timed_thread_text Table s turns = λ t row. timed_thread_record t row (shares_in s turns t)
+
+-- ---- tables
+
+-- the table of a schedule that has come to this state: the columns' names, and a row for each thread
+abbrev pub scheduled_table : State → List ℕ
+scheduled_table s = header_row Totals ++ lines_for (thread_text Table) (thread_row s) (numbers s.records)
+
+-- the table of a timed program that has come to this state by these turns
+abbrev pub timed_table : State → List TimedTurn → List ℕ
+timed_table s turns =
+    header_row TimedTotals ++ lines_for (timed_thread_text Table s turns) (thread_row s) (numbers s.records)
+
+-- the table after all turns, of a schedule or of a timed program
+abbrev pub last_table : Program → Option ℕ → List ℕ
+last_table program None = scheduled_table (last_world program).state
+last_table program (Some duration) = timed_table (last_world program).state (timed_turns program)
+
+-- ---- the report
+
+-- the report after all turns, in this form
+abbrev pub report_text : Form → Program → List ℕ
+report_text Lines program = last_report program program.duration
+report_text Table program = last_table program program.duration

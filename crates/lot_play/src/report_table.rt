@@ -1,0 +1,85 @@
+//! The report as a table.
+ghost use Rattle.std.specs.Prelude.{◌≡◌, [], false, true, OnOk};
+ghost use Rattle.lot_simulation.specs.Timed.{timed_turns};
+ghost use Rattle.lot_engine.specs.Seen.{world_of};
+ghost use Rattle.lot_io.specs.Writing.{Writes};
+ghost use Rattle.lot_playback.specs.InTime.{IsAtEnd};
+ghost use Rattle.lot_playback.specs.Orders.{IsInOrder, made_in};
+ghost use Rattle.lot_playback.specs.Stages.{HasMade, turns_left};
+ghost use Rattle.lot_playback.specs.Turns.{program_turns};
+ghost use Rattle.lot_play.specs.ReportTable.{last_table, scheduled_table, timed_table};
+
+use crate::{Form, Warnings, note_last, report, timed_report};
+use lot_engine::System;
+use lot_io::{IoFault, Watched, flush};
+use lot_playback::{Order, Playback, Timekeeper};
+use lot_print::{Columns, write_header};
+use lot_text::Program;
+use std::io::Write;
+
+/// Ends a play whose turns are all made: writes the table, flushes, and records the end of the system in the warnings.
+pub(crate) fn end_with_table<W: Write>(
+    program: &Program,
+    playback: Playback,
+    warnings: &mut Warnings,
+    writer: &mut Watched<W>,
+) -> Result<(), IoFault>
+    requires made { HasMade program.now (program_turns program.now) playback.seen }
+    requires ended { turns_left playback ≡ [] }
+    requires working { writer.old.failed ≡ false }
+    ensures flushed { OnOk result (writer.new.flushed ≡ true) }
+    ensures text { Writes W.contents writer.old writer.new result (last_table program.now program.now.duration) }
+{
+    let (mut system, order) = playback.into_parts();
+    write_table(program, &mut system, &order, writer)?;
+    flush(writer)?;
+    note_last(program, &mut system, &order, warnings);
+    Ok(())
+}
+
+/// Writes the table of a system that has made all of its program's turns.
+fn write_table<W: Write>(
+    program: &Program,
+    system: &mut System,
+    order: &Order,
+    writer: &mut Watched<W>,
+) -> Result<(), IoFault>
+    requires made { HasMade program.now (program_turns program.now) system.old }
+    requires order { IsInOrder system.old order.now }
+    requires ended { turns_left (record { seen = system.old; made = made_in system.old order.now }) ≡ [] }
+    requires working { writer.old.failed ≡ false }
+    ensures same { system.new ≡ system.old }
+    ensures text { Writes W.contents writer.old writer.new result (last_table program.now program.now.duration) }
+{
+    match order {
+        Order::Scheduled(_) => write_scheduled(system, writer),
+        Order::InTime(timekeeper) => write_timed(system, timekeeper, writer),
+    }
+}
+
+/// Writes the table of a schedule: the columns' names, and each thread's row.
+fn write_scheduled<W: Write>(system: &mut System, writer: &mut Watched<W>) -> Result<(), IoFault>
+    requires { writer.old.failed ≡ false }
+    ensures same { system.new ≡ system.old }
+    ensures text { Writes W.contents writer.old writer.new result
+        (scheduled_table (world_of system.old).state) }
+{
+    write_header(writer, Columns::Totals)?;
+    report::write_threads(system, Form::Table, writer)
+}
+
+/// Writes the table of a timed program: the columns' names, and each thread's row.
+fn write_timed<W: Write>(
+    system: &mut System,
+    timekeeper: &Timekeeper,
+    writer: &mut Watched<W>,
+) -> Result<(), IoFault>
+    requires end { IsAtEnd system.old timekeeper.now }
+    requires working { writer.old.failed ≡ false }
+    ensures same { system.new ≡ system.old }
+    ensures text { Writes W.contents writer.old writer.new result
+        (timed_table (world_of system.old).state (timed_turns system.old.setting.program)) }
+{
+    write_header(writer, Columns::TimedTotals)?;
+    timed_report::write_threads(system, timekeeper, Form::Table, writer)
+}

@@ -1,0 +1,215 @@
+//! The rows of a report as a table: fields with commas between them.
+ghost use Rattle.std.specs.Prelude.{◌≡◌, ◌<◌, ◌≤◌, ◌+◌, ◌^◌, ◌++◌, codes, false, length};
+ghost use Rattle.std.specs.Fmt.{decimal};
+ghost use Rattle.lot_print.specs.TableRows as rows;
+ghost use Rattle.lot_print.specs.TableRows.{figures_record, header_row, next_field, part_field, percent_field};
+ghost use Rattle.lot_print.specs.TableRows.{spread_fields, thread_fields, thread_record, timed_thread_record};
+ghost use Rattle.lot_print.specs.TableRows.{waits_fields};
+ghost use Rattle.lot_io.specs.Writing.{Writes};
+
+use crate::figures::{Figures, Spread, Unit};
+use crate::lengths::TABLE_ROW;
+use crate::line::Line;
+use crate::timed_totals::ThreadShares;
+use lot_io::{IoFault, Watched};
+use lot_machine::{Name, ThreadRow};
+use lot_simulation::Waits;
+use std::io::Write;
+
+/// A row of a table.
+type TableRow = Line<TABLE_ROW>;
+
+/// The columns of a report's table.
+#[derive(Clone, Copy, Debug)]
+pub enum Columns {
+    /// Those of a schedule's report.
+    Totals,
+    /// Those of a timed report.
+    TimedTotals,
+    /// Those of a report over several plays.
+    Figures,
+}
+
+/// Writes the first row of a table with these columns.
+pub fn write_header<W: Write>(writer: &mut Watched<W>, columns: Columns) -> Result<(), IoFault>
+    requires { writer.old.failed ≡ false }
+    ensures { Writes W.contents writer.old writer.new result (header_row columns) }
+{
+    header_of(columns).write_to(writer)
+}
+
+/// The first row of a table with these columns.
+fn header_of(columns: Columns) -> TableRow
+    ensures { result ≡ header_row columns }
+{
+    let mut row = TableRow::new();
+    match columns {
+        Columns::Totals => row.push_text("thread,name,quanta,ticks\n"),
+        Columns::TimedTotals => {
+            row.push_text("thread,name,quanta,ticks,share_percent,value_percent");
+            row.push_text(
+                ",mutex_waits,mutex_mean,mutex_longest,reply_waits,reply_mean,reply_longest,refused\n",
+            );
+        }
+        Columns::Figures => {
+            row.push_text(
+                "thread,name,plays,quanta_mean,quanta_least,quanta_most,ticks_mean,ticks_least,ticks_most",
+            );
+            row.push_text(",share_percent_mean,share_percent_least,share_percent_most\n");
+        }
+    }
+    row
+}
+
+/// Writes a thread's row in the table of a schedule's report.
+pub fn write_thread_record<W: Write>(
+    writer: &mut Watched<W>,
+    number: u32,
+    row: &ThreadRow,
+) -> Result<(), IoFault>
+    requires { writer.old.failed ≡ false }
+    ensures { Writes W.contents writer.old writer.new result (thread_record number row.now) }
+{
+    let mut fields = TableRow::new();
+    push_thread(&mut fields, number, row);
+    fields.push_text("\n");
+    fields.write_to(writer)
+}
+
+/// Writes a thread's row in the table of a timed report.
+pub fn write_timed_thread_record<W: Write>(
+    writer: &mut Watched<W>,
+    number: u32,
+    row: &ThreadRow,
+    shares: ThreadShares,
+) -> Result<(), IoFault>
+    requires working { writer.old.failed ≡ false }
+    requires values { shares.all_values < 2 ^ 96 }
+    ensures { Writes W.contents writer.old writer.new result (timed_thread_record number row.now shares) }
+{
+    timed_row(number, row, shares).write_to(writer)
+}
+
+/// A thread's row in the table of a timed report.
+fn timed_row(number: u32, row: &ThreadRow, shares: ThreadShares) -> TableRow
+    requires { shares.all_values < 2 ^ 96 }
+    ensures { result ≡ timed_thread_record number row.now shares }
+{
+    let mut fields = TableRow::new();
+    push_thread(&mut fields, number, row);
+    push_percent(&mut fields, row.ticks, u128::from(shares.all_ticks));
+    push_percent(&mut fields, shares.live_value, shares.all_values);
+    push_waits(&mut fields, shares.mutexes);
+    push_waits(&mut fields, shares.replies);
+    fields.push_field(",", shares.refused_traps);
+    fields.push_text("\n");
+    fields
+}
+
+/// Writes a thread's row in the table of a report over several plays.
+pub fn write_figures_record<W: Write>(
+    writer: &mut Watched<W>,
+    number: u32,
+    figures: &Figures,
+) -> Result<(), IoFault>
+    requires working { writer.old.failed ≡ false }
+    requires some { 0 < figures.now.plays }
+    ensures { Writes W.contents writer.old writer.new result (figures_record number figures.now) }
+{
+    figures_row(number, figures).write_to(writer)
+}
+
+/// A thread's row in the table of a report over several plays.
+fn figures_row(number: u32, figures: &Figures) -> TableRow
+    requires { 0 < figures.now.plays }
+    ensures { result ≡ figures_record number figures.now }
+{
+    let plays = figures.plays;
+    let mut fields = TableRow::new();
+    push_named(&mut fields, number, &figures.name);
+    fields.push_field(",", plays);
+    push_spread(&mut fields, plays, Unit::One, figures.quanta);
+    push_spread(&mut fields, plays, Unit::One, figures.ticks);
+    push_spread(&mut fields, plays, Unit::PercentThousandth, figures.share);
+    fields.push_text("\n");
+    fields
+}
+
+/// Appends a thread's number and its name.
+fn push_named(fields: &mut TableRow, number: u32, name: &Name)
+    requires { length fields.old ≤ 200 }
+    ensures text { fields.new ≡ fields.old ++ (decimal number ++ next_field name.now) }
+    ensures len { length fields.new ≤ length fields.old + 27 }
+{
+    fields.push_number(number);
+    fields.push_text(",");
+    fields.push_bytes(name.as_bytes());
+}
+
+/// Appends a thread's first fields: its number and name, the draws it has won, and the ticks it has used.
+fn push_thread(fields: &mut TableRow, number: u32, row: &ThreadRow)
+    requires { length fields.old ≤ 100 }
+    ensures text { fields.new ≡ fields.old ++ thread_fields number row.now }
+    ensures len { length fields.new ≤ length fields.old + 69 }
+{
+    push_named(fields, number, &row.name);
+    fields.push_field(",", row.quanta);
+    fields.push_field(",", row.ticks);
+}
+
+/// Appends a field with a part of a whole in percent; 0 if the whole is 0.
+fn push_percent(fields: &mut TableRow, part: u64, whole: u128)
+    requires room { length fields.old ≤ 300 }
+    requires whole { whole < 2 ^ 96 }
+    ensures text { fields.new ≡ fields.old ++ next_field (percent_field part whole) }
+    ensures len { length fields.new ≤ length fields.old + 44 }
+{
+    if whole == 0 {
+        fields.push_text(",");
+        fields.push_text("0");
+    } else {
+        fields.push_quotient(",", u128::from(part) * 100, whole);
+    }
+}
+
+/// Appends the number of a thread's waits of one kind, their mean, and the longest.
+fn push_waits(fields: &mut TableRow, waits: Waits)
+    requires { length fields.old ≤ 300 }
+    ensures text { fields.new ≡ fields.old ++ waits_fields waits }
+    ensures len { length fields.new ≤ length fields.old + 66 }
+{
+    fields.push_field(",", waits.count);
+    if waits.count == 0 {
+        fields.push_text(",");
+        fields.push_text(",");
+        return;
+    }
+    fields.push_quotient(",", u128::from(waits.total), u128::from(waits.count));
+    fields.push_field(",", waits.longest);
+}
+
+/// Appends the mean, the least and the most of a figure over so many plays.
+fn push_spread(fields: &mut TableRow, plays: u64, unit: Unit, spread: Spread)
+    requires room { length fields.old ≤ 350 }
+    requires some { 0 < plays }
+    ensures text { fields.new ≡ fields.old ++ spread_fields plays unit spread }
+    ensures len { length fields.new ≤ length fields.old + 132 }
+{
+    push_part(fields, unit, spread.sum, plays);
+    push_part(fields, unit, spread.least, 1);
+    push_part(fields, unit, spread.most, 1);
+}
+
+/// Appends a field with one of so many parts of a figure.
+fn push_part(fields: &mut TableRow, unit: Unit, figure: u128, parts: u64)
+    requires room { length fields.old ≤ 450 }
+    requires some { 0 < parts }
+    ensures text { fields.new ≡ fields.old ++ next_field (part_field unit figure parts) }
+    ensures len { length fields.new ≤ length fields.old + 44 }
+{
+    let whole = match unit {
+        Unit::One => u128::from(parts),
+        Unit::PercentThousandth => u128::from(parts) * 1000,
+    };
+    fields.push_quotient(",", figure, whole);
+}
