@@ -5,21 +5,21 @@ use Rattle.lot_curves.specs.declared.stretch.Stretch.{Stretch}
 use Rattle.lot_curves.specs.Curves.{Curves}
 use Rattle.lot_chart.specs.declared.lines.Line.{Line}
 use Rattle.lot_chart.specs.declared.standings.Standing.{Standing}
-use Rattle.lot_chart.specs.Charts.{axes, chart, curve, head, label, picture, total}
-use Rattle.lot_chart.specs.Lines.{lines_of, most_in}
+use Rattle.lot_chart.specs.Charts.{axes, chart, curve, head, label, lines_in, picture, total}
+use Rattle.lot_chart.specs.Lines.{most_in}
 use Rattle.lot_chart.specs.Standings.{Selected, selection}
 use Rattle.lot_chart.proofs.Parts.{parts-seven}
 
 -- the picture with the lines of those that are selected
 pub chart-is : (title given : List ℕ) (curves : Curves) (shown picked : List Standing) (others rest : List Stretch) (lines : List Line) (none text : List ℕ) → none ≡ [] → given ≡ title → picked ≡ shown → rest ≡ others
-    → record { shown = shown; others = others } ≡ selection curves → lines ≡ lines_of picked → text ≡ none ++ picture given curves (record { shown = picked; others = rest }) lines → text ≡ chart title curves
+    → record { shown = shown; others = others } ≡ selection curves → lines ≡ lines_in curves (record { shown = picked; others = rest }) → text ≡ none ++ picture given curves (record { shown = picked; others = rest }) lines → text ≡ chart title curves
 chart-is title given curves shown picked others rest lines none text empty same first second is drawn put =
     put ∙ ap (λ xs. xs ++ picture given curves (record { shown = picked; others = rest }) lines) empty
     ∙ ap (λ (t : List ℕ). picture t curves (record { shown = picked; others = rest }) lines) same
     ∙ ap (λ (ls : List Line). picture title curves (record { shown = picked; others = rest }) ls) drawn
-    ∙ ap (λ (p : List Standing). picture title curves (record { shown = p; others = rest }) (lines_of p)) first
-    ∙ ap (λ (r : List Stretch). picture title curves (record { shown = shown; others = r }) (lines_of shown)) second
-    ∙ ap (λ (s : Selected). picture title curves s (lines_of s.shown)) is
+    ∙ ap (λ (p : List Standing). picture title curves (record { shown = p; others = rest }) (lines_in curves (record { shown = p; others = rest }))) first
+    ∙ ap (λ (r : List Stretch). picture title curves (record { shown = shown; others = r }) (lines_in curves (record { shown = shown; others = r }))) second
+    ∙ ap (λ (s : Selected). picture title curves s (lines_in curves s)) is
 
 -- the picture, if its parts are put one after another
 pub picture-is : (title : List ℕ) (curves : Curves) (shown : List Standing) (others : List Stretch) (lines : List Line) (most all : ℕ) (names : List (List ℕ)) (old one two three four five six seven : List ℕ)

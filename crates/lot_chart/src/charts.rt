@@ -1,19 +1,20 @@
 //! Curves as a picture.
-ghost use Rattle.std.specs.Prelude.{◌≡◌, ◌<◌, ◌≤◌, ◌^◌, ◌++◌, IfOk, OnOk, length};
+ghost use Rattle.std.specs.Prelude.{◌≡◌, ◌<◌, ◌≤◌, ◌^◌, ◌++◌, IfOk, OnOk, Some, length};
 ghost use Rattle.std.specs.List.{flat_map};
 ghost use Rattle.lot_chart.specs.Charts as definitions;
-ghost use Rattle.lot_chart.specs.Charts.{axes, curve, drawn_of, head, height_mark, label, leader, name_text, picture};
-ghost use Rattle.lot_chart.specs.Charts.{point, points, time_mark};
+ghost use Rattle.lot_chart.specs.Charts.{axes, curve, drawn_of, frame, head, height_mark, heights_label, label};
+ghost use Rattle.lot_chart.specs.Charts.{leader, name_text, picture, point, points, time_mark};
 ghost use Rattle.lot_chart.specs.Axes.{marks, time_marks};
 ghost use Rattle.lot_curves.specs.Stretches.{last_end};
 
 use crate::axes::{axis_step, lead, mark_count, time_mark_count};
 use crate::escapes::push_escaped;
 use crate::lines::{height_of, lines_of, most_in, scaled};
+use crate::shares::{share_of, whole_at};
 use crate::standings::{select, stretches_of_thread};
 use crate::text::Text;
 use crate::{Line, Standing};
-use lot_curves::{Curves, Measure, Stretch, had_at};
+use lot_curves::{Curves, Measure, Stretch, had_in};
 use lot_machine::{Name, index_of};
 use std::alloc::{AllocError, Global};
 
@@ -28,25 +29,28 @@ const BEGINNING: &str =
     "<svg xmlns='http://www.w3.org/2000/svg' width='1040' height='540' viewBox='0 0 1040 540' role='img' \
     aria-labelledby='title' font-family='sans-serif' font-size='12' fill='#222222'>\n<title id='title'>";
 
-/// The part of the picture after the axes' marks.
+/// The part of the picture after the axes' marks, up to the label of heights.
 const FRAME: &str = "<path d='M100 60V460H770' fill='none' stroke='#222222'/>\n\
     <text x='435' y='512' text-anchor='middle'>time, in ticks</text>\n\
-    <text transform='translate(14 260) rotate(-90)' text-anchor='middle'>what each thread has run, in ticks</text>\n";
+    <text transform='translate(14 260) rotate(-90)' text-anchor='middle'>";
 
 /// The picture of the curves, an SVG with this title: a line for each thread, or for the eleven that have run longest
-/// and one for the others together. At each line's end are the thread's name and its share of all ticks.
+/// and one for the others together. At each line's end are the thread's name and its share of all ticks. With a window,
+/// lines show shares of the last ticks, and the eleven are those that have run longest in the last window.
 pub fn chart_of(alloc: Global, curves: &Curves, title: &str) -> Result<Vec<u8>, AllocError>
     ensures { IfOk result (λ text. text.items ≡ definitions.chart title.now curves.now) }
 {
     let selection = select(alloc, curves)?;
-    let lines = lines_of(alloc, selection.shown.as_slice())?;
+    let shown = selection.shown.as_slice();
+    let top = top_at(curves, most_in(shown), curves.last());
+    let lines = lines_of(alloc, top, shown)?;
     let mut text = Text::new(alloc);
     push_picture(
         alloc,
         &mut text,
         title.as_bytes(),
         curves,
-        selection.shown.as_slice(),
+        shown,
         selection.others.as_slice(),
         lines.as_slice(),
     )?;
@@ -96,9 +100,49 @@ fn push_head(text: &mut Text, title: &[u8]) -> Result<(), AllocError>
 fn push_axes(text: &mut Text, curves: &Curves, most: u64) -> Result<(), AllocError>
     ensures { OnOk result (text.new ≡ text.old ++ axes curves.now most) }
 {
-    push_height_marks(text, most)?;
+    push_height_marks(text, highest(curves, most))?;
     push_time_marks(text, curves)?;
+    push_frame(text, curves.window())?;
+    Ok(())
+}
+
+/// The number at the top of the axis of heights: the most ticks of a line, or with a window 100 percent.
+fn highest(curves: &Curves, most: u64) -> u64
+    ensures { result ≡ definitions.highest curves.now.window most }
+{
+    match curves.window() {
+        None => most,
+        Some(_) => 100,
+    }
+}
+
+/// Adds the lines of both axes, and their labels.
+fn push_frame(text: &mut Text, window: Option<u32>) -> Result<(), AllocError>
+    ensures { OnOk result (text.new ≡ text.old ++ frame window) }
+{
     text.push(FRAME)?;
+    push_heights_label(text, window)?;
+    text.push("</text>\n")?;
+    Ok(())
+}
+
+/// Adds what heights mean.
+fn push_heights_label(text: &mut Text, window: Option<u32>) -> Result<(), AllocError>
+    ensures { OnOk result (text.new ≡ text.old ++ heights_label window) }
+{
+    match window {
+        None => text.push("what each thread has run, in ticks"),
+        Some(window) => push_window_label(text, window),
+    }
+}
+
+/// Adds what heights mean with a window.
+fn push_window_label(text: &mut Text, window: u32) -> Result<(), AllocError>
+    ensures { OnOk result (text.new ≡ text.old ++ heights_label (Some window)) }
+{
+    text.push("what each thread has run in the last ")?;
+    text.push_number(u64::from(window))?;
+    text.push(" ticks, in percent")?;
     Ok(())
 }
 
@@ -113,15 +157,15 @@ fn push_height_marks(text: &mut Text, most: u64) -> Result<(), AllocError>
     Ok(())
 }
 
-/// Adds one mark of the axis of heights.
+/// Adds the mark of a number of ticks, or of a percentage, on the axis of heights.
 fn push_height_mark(text: &mut Text, most: u64, ticks: u64) -> Result<(), AllocError>
     ensures { OnOk result (text.new ≡ text.old ++ height_mark most ticks) }
 {
     let height = height_of(most, ticks);
     text.push("<path d='M100 ")?;
-    push_tenths(text, height)?;
+    text.push_tenths(height)?;
     text.push("H770' stroke='#dddddd'/>\n<text x='92' y='")?;
-    push_tenths(text, height)?;
+    text.push_tenths(height)?;
     text.push("' dy='4' text-anchor='end'>")?;
     text.push_number(ticks)?;
     text.push("</text>\n")?;
@@ -150,9 +194,9 @@ fn push_time_mark(text: &mut Text, curves: &Curves, tick: u64) -> Result<(), All
 {
     let across = across(curves.last(), tick);
     text.push("<path d='M")?;
-    push_tenths(text, across)?;
+    text.push_tenths(across)?;
     text.push(" 460v5' stroke='#222222'/>\n<text x='")?;
-    push_tenths(text, across)?;
+    text.push_tenths(across)?;
     text.push("' y='480' text-anchor='middle'>")?;
     text.push_number(curves.origin() + tick)?;
     text.push("</text>\n")?;
@@ -164,16 +208,6 @@ fn across(last: u64, tick: u64) -> u32
     ensures { result ≡ definitions.across last tick }
 {
     LEFT + scaled(tick, last, WIDTH)
-}
-
-/// Adds a number of tenths, with a point.
-fn push_tenths(text: &mut Text, tenths: u32) -> Result<(), AllocError>
-    ensures { OnOk result (text.new ≡ text.old ++ definitions.tenths tenths) }
-{
-    text.push_number(u64::from(tenths / 10))?;
-    text.push(".")?;
-    text.push_number(u64::from(tenths % 10))?;
-    Ok(())
 }
 
 /// Adds the lines.
@@ -235,7 +269,7 @@ fn push_points_of(
     push_points(text, curves, most, own.as_slice())
 }
 
-/// Adds a point for each sample: the ticks in these stretches up to the sample's tick.
+/// Adds a point for each sample: the ticks of these stretches at the sample's tick.
 fn push_points(
     text: &mut Text,
     curves: &Curves,
@@ -247,7 +281,7 @@ fn push_points(
 {
     for sample in 0..curves.sample_count() + 1 {
         let tick = curves.sample_tick(sample);
-        push_point(text, curves.last(), most, stretches, tick)?;
+        push_point(text, curves, most, stretches, tick)?;
     }
     Ok(())
 }
@@ -255,22 +289,28 @@ fn push_points(
 /// Adds one point.
 fn push_point(
     text: &mut Text,
-    last: u64,
+    curves: &Curves,
     most: u64,
     stretches: &[Stretch],
     tick: u64,
 ) -> Result<(), AllocError>
     requires { length stretches.now < 2 ^ 32 }
-    ensures { OnOk result (text.new ≡ text.old ++ point last most stretches.now tick) }
+    ensures { OnOk result (text.new ≡ text.old ++ point curves.now most stretches.now tick) }
 {
     text.push(" ")?;
-    push_tenths(text, across(last, tick))?;
+    text.push_tenths(across(curves.last(), tick))?;
     text.push(",")?;
-    push_tenths(
-        text,
-        height_of(most, had_at(Measure::Ticks, tick, stretches)),
-    )?;
+    let ticks = had_in(Measure::Ticks, curves.window(), tick, stretches);
+    text.push_tenths(height_of(top_at(curves, most, tick), ticks))?;
     Ok(())
+}
+
+/// The ticks that the top of the plot stands for at this tick: with a window all in the one that ends there, and
+/// otherwise the most of a line.
+fn top_at(curves: &Curves, most: u64, tick: u64) -> u64
+    ensures { result ≡ definitions.top_at curves.now most tick }
+{
+    whole_at(curves, Measure::Ticks, tick).unwrap_or(most)
 }
 
 /// The colour of a style.
@@ -299,11 +339,11 @@ fn strokes(style: u32) -> &'static str
     " stroke-dasharray='7 4'"
 }
 
-/// All ticks that threads have run.
+/// All ticks that threads have run, or with a window those in the last.
 fn total_of(curves: &Curves) -> u64
     ensures { result ≡ definitions.total curves.now }
 {
-    had_at(Measure::Ticks, curves.last(), curves.stretches())
+    curves.total_at(Measure::Ticks, curves.last())
 }
 
 /// Adds the lines' names.
@@ -335,9 +375,9 @@ fn push_leader(text: &mut Text, line: &Line) -> Result<(), AllocError>
     ensures { OnOk result (text.new ≡ text.old ++ leader line.now) }
 {
     text.push("<path d='M770 ")?;
-    push_tenths(text, line.height)?;
+    text.push_tenths(line.height)?;
     text.push("L784 ")?;
-    push_tenths(text, line.place)?;
+    text.push_tenths(line.place)?;
     text.push("' stroke='")?;
     text.push(colour(line.style))?;
     text.push("'/>\n")?;
@@ -349,11 +389,11 @@ fn push_name(text: &mut Text, names: &[Name], total: u64, line: &Line) -> Result
     ensures { OnOk result (text.new ≡ text.old ++ name_text names.now total line.now) }
 {
     text.push("<text x='788' y='")?;
-    push_tenths(text, line.place)?;
+    text.push_tenths(line.place)?;
     text.push("' dy='4'>")?;
     push_escaped(text, name_of(names, line.thread))?;
     text.push(" ")?;
-    push_tenths(text, share_of(total, line.ticks))?;
+    text.push_tenths(share_of(total, line.ticks))?;
     text.push("%</text>\n")?;
     Ok(())
 }
@@ -366,12 +406,4 @@ fn name_of(names: &[Name], thread: u32) -> &[u8]
         return b"others";
     }
     names[index_of(thread)].as_bytes()
-}
-
-/// A part of the whole, in tenths of a percent.
-fn share_of(total: u64, ticks: u64) -> u32
-    ensures { result ≡ definitions.share_of total ticks }
-{
-    let share = (1000 * u128::from(ticks) + u128::from(total / 2)) / u128::from(total.max(1));
-    share.min(1000) as u32
 }

@@ -9,6 +9,7 @@ mod gathering;
 pub mod laws;
 mod lines;
 pub mod rows;
+mod shares;
 mod showing;
 mod standings;
 mod tables;

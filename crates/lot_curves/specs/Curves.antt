@@ -74,9 +74,10 @@ curves_of program = by program.duration
 abbrev pub share_at : Measure → Curves → ℕ → ℕ → ℕ
 share_at measure curves tick thread = had_at measure tick (stretches_of thread curves.stretches)
 
--- the curves with this window, or without one
+-- the curves with this window, or as they are
 abbrev pub windowed : Option ℕ → Curves → Curves
-windowed window curves = record curves { window = window }
+windowed None curves = curves
+windowed (Some window) curves = record curves { window = Some window }
 
 -- the ticks or draws that the curves show at this tick, of the threads that had this number
 abbrev pub shown_at : Measure → Curves → ℕ → ℕ → ℕ

@@ -98,11 +98,14 @@ impl Curves {
         }
     }
 
-    /// The curves with a window of this many ticks, or without one.
+    /// The curves with a window of this many ticks, or as they are.
     pub fn with_window(self, window: Option<u32>) -> Curves
         ensures { result ≡ windowed window self }
     {
-        Curves { window, ..self }
+        match window {
+            Some(_) => Curves { window, ..self },
+            None => self,
+        }
     }
 
     /// The columns' names, in ascending order of number: each is that of the last thread with the number, or the number

@@ -7,4 +7,4 @@ use Rattle.lot_chart.proofs.charts.push_points.Given as goal
 
 -- the points of the samples passed so far are put
 abbrev pub invariant-loop-sample : goal.invariant-loop-sample
-invariant-loop-sample l = l.text ≡ l.initial.text ++ flat_map (point (last_end l.curves.stretches) l.most l.stretches) (map (sample_tick (last_end l.curves.stretches)) (range_with_len 0 l.sample))
+invariant-loop-sample l = l.text ≡ l.initial.text ++ flat_map (point l.curves l.most l.stretches) (map (sample_tick (last_end l.curves.stretches)) (range_with_len 0 l.sample))
