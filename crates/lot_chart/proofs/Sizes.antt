@@ -17,7 +17,7 @@ use Rattle.lot_curves.specs.Windows.{had_in}
 use Rattle.lot_curves.proofs.Ends.{samples-few}
 use Rattle.lot_chart.specs.declared.lines.Line.{Line}
 use Rattle.lot_chart.specs.Axes.{axis_step, lead, mark_count, marks, steps, time_mark_count, time_marks}
-use Rattle.lot_chart.specs.Charts.{across, axes, chart, colour, curve, drawn_of, frame, head, height_mark, heights_label, highest, label, leader, lines_in, name_of, name_text, picture, point, points, strokes, time_mark, top_at, total}
+use Rattle.lot_chart.specs.Charts.{across, axes, chart, colour, curve, drawn_of, frame, head, height_mark, heights_label, highest, label, leader, lines_in, longest_name, name_of, name_text, picture, point, points, strokes, time_mark, top_at, total, width_for}
 use Rattle.lot_chart.specs.Escapes.{escaped, escaped_byte}
 use Rattle.lot_chart.specs.Lines.{height_of, lines_after, most_in, place_of}
 use Rattle.lot_chart.specs.Shares.{share_of, tenths}
@@ -245,18 +245,30 @@ lines-high most style least (s ∷ shown) = All-cons (λ (line : Line). line.hei
 
 -- ---- the picture
 
-head-short : (title : List ℕ) → length (head title) ≤ 300 + 10 * length title
-head-short title =
+head-short : (width : ℕ) (title : List ℕ) → width ≤ 1040 → length (head width title) ≤ 300 + 10 * length title
+head-short width title narrow =
     let t = length title in
     let text : length (escaped title) ≤ 5 * t = omega (arith, escaped-short title) in
-    let first = codes "<svg xmlns='http://www.w3.org/2000/svg' width='1040' height='540' viewBox='0 0 1040 540' role='img' aria-labelledby='title' font-family='sans-serif' font-size='12' fill='#222222'>\n<title id='title'>" in
-    let second = codes "</title>\n<rect width='1040' height='540' fill='#ffffff'/>\n<text x='100' y='34' font-size='18'>" in
-    let third = codes "</text>\n" in
-    let end = both (5 * t) 8 (escaped title) third text (omega arith) in
-    let rest = both 94 (5 * t + 8) second (escaped title ++ third) (omega arith) end in
-    let middle = both (5 * t) (94 + (5 * t + 8)) (escaped title) (second ++ (escaped title ++ third)) text rest in
-    let whole = both 198 (5 * t + (94 + (5 * t + 8))) first (escaped title ++ (second ++ (escaped title ++ third))) (omega arith) middle in
-    omega (arith, whole)
+    let number : length (decimal width) ≤ 4 = length-decimal-le 4 width (omega arith) (omega (arith, narrow)) (omega (arith, narrow)) in
+    let first = codes "<svg xmlns='http://www.w3.org/2000/svg' width='" in
+    let second = codes "' height='540' viewBox='0 0 " in
+    let third = codes " 540' role='img' aria-labelledby='title' font-family='sans-serif' font-size='12' fill='#222222'>\n<title id='title'>" in
+    let fourth = codes "</title>\n<rect width='" in
+    let fifth = codes "' height='540' fill='#ffffff'/>\n<text x='100' y='34' font-size='18'>" in
+    let last = codes "</text>\n" in
+    let shown = escaped title ++ last in
+    let named = escaped title ++ (fourth ++ (decimal width ++ (fifth ++ shown))) in
+    let one = both (5 * t) 8 (escaped title) last text (omega arith) in
+    let two = both 68 (5 * t + 8) fifth shown (omega arith) one in
+    let three = both 4 (68 + (5 * t + 8)) (decimal width) (fifth ++ shown) number two in
+    let four = both 22 (4 + (68 + (5 * t + 8))) fourth (decimal width ++ (fifth ++ shown)) (omega arith) three in
+    let five = both (5 * t) (22 + (4 + (68 + (5 * t + 8)))) (escaped title) (fourth ++ (decimal width ++ (fifth ++ shown))) text four in
+    let six = both 115 (5 * t + (22 + (4 + (68 + (5 * t + 8))))) third named (omega arith) five in
+    let seven = both 4 (115 + (5 * t + (22 + (4 + (68 + (5 * t + 8)))))) (decimal width) (third ++ named) number six in
+    let eight = both 28 (4 + (115 + (5 * t + (22 + (4 + (68 + (5 * t + 8))))))) second (decimal width ++ (third ++ named)) (omega arith) seven in
+    let nine = both 4 (28 + (4 + (115 + (5 * t + (22 + (4 + (68 + (5 * t + 8)))))))) (decimal width) (second ++ (decimal width ++ (third ++ named))) number eight in
+    let ten = both 47 (4 + (28 + (4 + (115 + (5 * t + (22 + (4 + (68 + (5 * t + 8))))))))) first (decimal width ++ (second ++ (decimal width ++ (third ++ named)))) (omega arith) nine in
+    omega (arith, ten)
 
 pub chart-short : (title : List ℕ) (curves : Curves) → All (λ (name : List ℕ). length name ≤ 16) curves.names → curves.origin < 2 ^ 56 → unwrap_or curves.window 0 < 2 ^ 32 → length (chart title curves) ≤ 34000 + 10 * length title
 unfolding picture
@@ -277,5 +289,6 @@ chart-short title curves short early narrow =
     let three = both 29688 2124 (flat_map (curve curves others most) lines) (codes "</g>\n" ++ (flat_map (label curves.names (total curves)) lines ++ codes "</svg>\n")) curved four in
     let two = both 57 31812 (codes "<g fill='none' stroke-width='2' stroke-linejoin='round'>\n") (flat_map (curve curves others most) lines ++ (codes "</g>\n" ++ (flat_map (label curves.names (total curves)) lines ++ codes "</svg>\n"))) (omega arith) three in
     let one = both 1621 31869 (axes curves most) (codes "<g fill='none' stroke-width='2' stroke-linejoin='round'>\n" ++ (flat_map (curve curves others most) lines ++ (codes "</g>\n" ++ (flat_map (label curves.names (total curves)) lines ++ codes "</svg>\n")))) (axes-short curves most early narrow) two in
-    let whole = both (300 + 10 * length title) 33490 (head title) (axes curves most ++ (codes "<g fill='none' stroke-width='2' stroke-linejoin='round'>\n" ++ (flat_map (curve curves others most) lines ++ (codes "</g>\n" ++ (flat_map (label curves.names (total curves)) lines ++ codes "</svg>\n"))))) (head-short title) one in
+    let width = width_for (longest_name curves.names lines) (length title) in
+    let whole = both (300 + 10 * length title) 33490 (head width title) (axes curves most ++ (codes "<g fill='none' stroke-width='2' stroke-linejoin='round'>\n" ++ (flat_map (curve curves others most) lines ++ (codes "</g>\n" ++ (flat_map (label curves.names (total curves)) lines ++ codes "</svg>\n"))))) (head-short width title (omega arith)) one in
     omega (arith, whole)

@@ -1,6 +1,6 @@
 -- Curves as a picture, which is an SVG. Lengths are in tenths of its unit; the plot extends horizontally from 1000 to
 -- 7700, and vertically from 600 to 4600.
-use Rattle.std.specs.Prelude.{ℕ, ◌+◌, ◌%◌, ◌==◌, nat_le, Option, Some, None, List, [], ◌++◌, codes, unwrap_or, if◌then◌else◌}
+use Rattle.std.specs.Prelude.{ℕ, ◌+◌, ◌*◌, ◌%◌, min, max, ◌==◌, nat_le, Option, Some, None, List, [], ◌++◌, codes, fold, length, unwrap_or, if◌then◌else◌}
 use Rattle.std.specs.List.{flat_map}
 use Rattle.std.specs.Fmt.{decimal}
 use Rattle.lot_machine.specs.Numbered.{at_number}
@@ -22,11 +22,13 @@ across last tick = 1000 + scaled tick last 6700
 
 -- ---- the frame
 
--- the part up to the axes: the title, for screen readers and above the plot, on white
-abbrev pub head : List ℕ → List ℕ
-head title =
-    codes "<svg xmlns='http://www.w3.org/2000/svg' width='1040' height='540' viewBox='0 0 1040 540' role='img' aria-labelledby='title' font-family='sans-serif' font-size='12' fill='#222222'>\n<title id='title'>"
-    ++ (escaped title ++ (codes "</title>\n<rect width='1040' height='540' fill='#ffffff'/>\n<text x='100' y='34' font-size='18'>" ++ (escaped title ++ codes "</text>\n")))
+-- the part up to the axes: the title, for screen readers and above the plot, on white; the picture is this many units wide
+abbrev pub head : ℕ → List ℕ → List ℕ
+head width title =
+    codes "<svg xmlns='http://www.w3.org/2000/svg' width='" ++ (decimal width ++ (codes "' height='540' viewBox='0 0 " ++ (decimal width
+    ++ (codes " 540' role='img' aria-labelledby='title' font-family='sans-serif' font-size='12' fill='#222222'>\n<title id='title'>"
+    ++ (escaped title ++ (codes "</title>\n<rect width='" ++ (decimal width
+    ++ (codes "' height='540' fill='#ffffff'/>\n<text x='100' y='34' font-size='18'>" ++ (escaped title ++ codes "</text>\n")))))))))
 
 -- the mark of a number of ticks, or of a percentage, on the axis of heights, and a thin line from it across the plot
 abbrev pub height_mark : ℕ → ℕ → List ℕ
@@ -129,10 +131,18 @@ total curves = total_at Ticks curves (last_end curves.stretches)
 abbrev pub lines_in : Curves → Selected → List Line
 lines_in curves selected = lines_of (top_at curves (most_in selected.shown) (last_end curves.stretches)) selected.shown
 
+-- the bytes of the longest name beside a line
+abbrev pub longest_name : List (List ℕ) → List Line → ℕ
+longest_name names lines = fold (λ most line. max (length (name_of names line.thread)) most) 0 lines
+
+-- the width of the picture, in its unit: room for the longest name and its share, and for the title, but at most 1040
+abbrev pub width_for : ℕ → ℕ → ℕ
+width_for name title = min 1040 (max (848 + 12 * name) (110 + 11 * title))
+
 -- the picture with these lines
 unfoldable pub picture : List ℕ → Curves → Selected → List Line → List ℕ
 picture title curves selected lines =
-    head title ++ (axes curves (most_in selected.shown)
+    head (width_for (longest_name curves.names lines) (length title)) title ++ (axes curves (most_in selected.shown)
     ++ (codes "<g fill='none' stroke-width='2' stroke-linejoin='round'>\n" ++ (flat_map (curve curves selected.others (most_in selected.shown)) lines
     ++ (codes "</g>\n" ++ (flat_map (label curves.names (total curves)) lines ++ codes "</svg>\n")))))
 

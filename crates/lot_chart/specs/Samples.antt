@@ -30,9 +30,9 @@ seven_tick_curves = record {
 -- the picture of `three_ticks` with the title `a < b`
 abbrev pub three_tick_picture : List ℕ
 three_tick_picture = text (
-    codes "<svg xmlns='http://www.w3.org/2000/svg' width='1040' height='540' viewBox='0 0 1040 540' role='img' aria-labelledby='title' font-family='sans-serif' font-size='12' fill='#222222'>"
+    codes "<svg xmlns='http://www.w3.org/2000/svg' width='860' height='540' viewBox='0 0 860 540' role='img' aria-labelledby='title' font-family='sans-serif' font-size='12' fill='#222222'>"
     ∷ codes "<title id='title'>a &lt; b</title>"
-    ∷ codes "<rect width='1040' height='540' fill='#ffffff'/>"
+    ∷ codes "<rect width='860' height='540' fill='#ffffff'/>"
     ∷ codes "<text x='100' y='34' font-size='18'>a &lt; b</text>"
     ∷ codes "<path d='M100 460.0H770' stroke='#dddddd'/>"
     ∷ codes "<text x='92' y='460.0' dy='4' text-anchor='end'>0</text>"
@@ -64,9 +64,9 @@ three_tick_picture = text (
 -- the same with a window of two ticks: at tick 3 each thread has run one of the last two
 abbrev pub three_tick_window_picture : List ℕ
 three_tick_window_picture = text (
-    codes "<svg xmlns='http://www.w3.org/2000/svg' width='1040' height='540' viewBox='0 0 1040 540' role='img' aria-labelledby='title' font-family='sans-serif' font-size='12' fill='#222222'>"
+    codes "<svg xmlns='http://www.w3.org/2000/svg' width='860' height='540' viewBox='0 0 860 540' role='img' aria-labelledby='title' font-family='sans-serif' font-size='12' fill='#222222'>"
     ∷ codes "<title id='title'>a &lt; b</title>"
-    ∷ codes "<rect width='1040' height='540' fill='#ffffff'/>"
+    ∷ codes "<rect width='860' height='540' fill='#ffffff'/>"
     ∷ codes "<text x='100' y='34' font-size='18'>a &lt; b</text>"
     ∷ codes "<path d='M100 460.0H770' stroke='#dddddd'/>"
     ∷ codes "<text x='92' y='460.0' dy='4' text-anchor='end'>0</text>"

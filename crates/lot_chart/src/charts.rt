@@ -18,16 +18,19 @@ use lot_curves::{Curves, Measure, Stretch, had_in};
 use lot_machine::{Name, index_of};
 use std::alloc::{AllocError, Global};
 
+/// The width of the widest picture, in whole units.
+const WIDEST: usize = 1040;
+
 /// The left edge of the plot.
 const LEFT: u32 = 1000;
 
 /// The width of the plot.
 const WIDTH: u32 = 6700;
 
-/// The part of the picture before the title.
-const BEGINNING: &str =
-    "<svg xmlns='http://www.w3.org/2000/svg' width='1040' height='540' viewBox='0 0 1040 540' role='img' \
-    aria-labelledby='title' font-family='sans-serif' font-size='12' fill='#222222'>\n<title id='title'>";
+/// The part of the picture from its size to the title.
+const FONT: &str =
+    " 540' role='img' aria-labelledby='title' font-family='sans-serif' font-size='12' \
+    fill='#222222'>\n<title id='title'>";
 
 /// The part of the picture after the axes' marks, up to the label of heights.
 const FRAME: &str = "<path d='M100 60V460H770' fill='none' stroke='#222222'/>\n\
@@ -72,25 +75,53 @@ fn push_picture(
         ++ picture title.now curves.now (record { shown = shown.now; others = others.now }) lines.now) }
 {
     let most = most_in(shown);
-    push_head(text, title)?;
+    let names = curves.names();
+    let width = width_for(longest_name(names, lines), title.len());
+    push_head(text, width, title)?;
     push_axes(text, curves, most)?;
     text.push("<g fill='none' stroke-width='2' stroke-linejoin='round'>\n")?;
     push_curves(alloc, text, curves, others, most, lines)?;
     text.push("</g>\n")?;
-    push_labels(text, curves.names(), total_of(curves), lines)?;
+    push_labels(text, names, total_of(curves), lines)?;
     text.push("</svg>\n")?;
     Ok(())
 }
 
-/// Adds the part before the axes.
-fn push_head(text: &mut Text, title: &[u8]) -> Result<(), AllocError>
-    ensures { OnOk result (text.new ≡ text.old ++ head title.now) }
+/// The bytes of the longest name beside a line.
+fn longest_name(names: &[Name], lines: &[Line]) -> usize
+    ensures exact { result ≡ definitions.longest_name names.now lines.now }
+    ensures short { result ≤ 16 }
 {
-    text.push(BEGINNING)?;
+    let mut longest = 0;
+    for line in lines {
+        longest = name_of(names, line.thread).len().max(longest);
+    }
+    longest
+}
+
+/// The width of the picture: room for a name of this many bytes and its share, and for a title, but at most 1040.
+fn width_for(name: usize, title: usize) -> u64
+    requires { name ≤ 16 }
+    ensures { result ≡ definitions.width_for name title }
+{
+    let named = 848 + 12 * name;
+    let titled = 110 + 11 * title.min(WIDEST);
+    named.max(titled).min(WIDEST) as u64
+}
+
+/// Adds the part before the axes.
+fn push_head(text: &mut Text, width: u64, title: &[u8]) -> Result<(), AllocError>
+    ensures { OnOk result (text.new ≡ text.old ++ head width title.now) }
+{
+    text.push("<svg xmlns='http://www.w3.org/2000/svg' width='")?;
+    text.push_number(width)?;
+    text.push("' height='540' viewBox='0 0 ")?;
+    text.push_number(width)?;
+    text.push(FONT)?;
     push_escaped(text, title)?;
-    text.push(
-        "</title>\n<rect width='1040' height='540' fill='#ffffff'/>\n<text x='100' y='34' font-size='18'>",
-    )?;
+    text.push("</title>\n<rect width='")?;
+    text.push_number(width)?;
+    text.push("' height='540' fill='#ffffff'/>\n<text x='100' y='34' font-size='18'>")?;
     push_escaped(text, title)?;
     text.push("</text>\n")?;
     Ok(())
@@ -400,7 +431,8 @@ fn push_name(text: &mut Text, names: &[Name], total: u64, line: &Line) -> Result
 
 /// The name of the thread; thread 0 stands for the others.
 fn name_of(names: &[Name], thread: u32) -> &[u8]
-    ensures { result.now ≡ definitions.name_of names.now thread }
+    ensures name { result.now ≡ definitions.name_of names.now thread }
+    ensures short { length result.now ≤ 16 }
 {
     if thread == 0 || thread as usize > names.len() {
         return b"others";
