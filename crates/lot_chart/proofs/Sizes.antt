@@ -6,18 +6,17 @@ use Rattle.std.specs.Fmt.{decimal}
 use Rattle.std.proofs.Math.Nat.{mul-le-mul_left, mul-le-mul_right}
 use Rattle.std.proofs.lemmas.Bool.{leb-true, ltb-true}
 use Rattle.std.proofs.lemmas.Fmt.{length-decimal-le}
-use Rattle.std.proofs.lemmas.List.FromFn.{get_or-map-range_with_len, length-map-range_with_len}
+use Rattle.std.proofs.lemmas.List.FromFn.{get_or-map-range_with_len, length-map-range_with_len, length-range_with_len}
 use Rattle.std.proofs.lemmas.Nat.{mod_below}
 use Rattle.lot_machine.specs.Numbered.{at_number}
 use Rattle.lot_curves.specs.declared.stretch.Measure.TheVariants.{Ticks}
 use Rattle.lot_curves.specs.declared.stretch.Stretch.{Stretch}
-use Rattle.lot_curves.specs.Curves.{Curves, sample_ticks}
+use Rattle.lot_curves.specs.Curves.{Curves, sample_count, sample_tick}
 use Rattle.lot_curves.specs.Stretches.{last_end}
 use Rattle.lot_curves.specs.Windows.{had_in}
-use Rattle.lot_curves.proofs.Ends.{samples-few}
 use Rattle.lot_chart.specs.declared.lines.Line.{Line}
 use Rattle.lot_chart.specs.Axes.{axis_step, lead, mark_count, marks, steps, time_mark_count, time_marks}
-use Rattle.lot_chart.specs.Charts.{across, axes, chart, colour, curve, drawn_of, frame, head, height_mark, heights_label, highest, label, leader, lines_in, longest_name, name_of, name_text, picture, point, points, strokes, time_mark, top_at, total, width_for}
+use Rattle.lot_chart.specs.Charts.{across, axes, chart, colour, curve, drawn_of, frame, head, height_mark, heights_label, highest, label, leader, lines_in, longest_name, name_of, name_text, picture, point, points, sample_point, strokes, time_mark, top_at, tops, total, width_for}
 use Rattle.lot_chart.specs.Escapes.{escaped, escaped_byte}
 use Rattle.lot_chart.specs.Lines.{height_of, lines_after, most_in, place_of}
 use Rattle.lot_chart.specs.Shares.{share_of, tenths}
@@ -168,24 +167,26 @@ strokes-short style = at (nat_le 8 style)
     at true = omega arith
     at false = omega arith
 
-point-short : (curves : Curves) (most : ℕ) (stretches : List Stretch) (tick : ℕ) → length (point curves most stretches tick) ≤ 12
-point-short curves most stretches tick =
+point-short : (curves : Curves) (top : ℕ) (stretches : List Stretch) (tick : ℕ) → length (point curves top stretches tick) ≤ 12
+point-short curves top stretches tick =
     let last = last_end curves.stretches in
-    let height = height_of (top_at curves most tick) (had_in Ticks curves.window tick stretches) in
+    let height = height_of top (had_in Ticks curves.window tick stretches) in
     both 1 11 (codes " ") (tenths (across last tick) ++ (codes "," ++ tenths height)) (omega arith)
     (both 5 6 (tenths (across last tick)) (codes "," ++ tenths height) (tenths-short (across last tick) (omega arith))
     (both 1 5 (codes ",") (tenths height) (omega arith) (tenths-short height (omega arith))))
 
-points-short : (curves : Curves) (most : ℕ) (stretches : List Stretch) → length (points curves most stretches) ≤ 2412
-points-short curves most stretches =
+points-short : (curves : Curves) (heads : List ℕ) (stretches : List Stretch) → length (points curves heads stretches) ≤ 2412
+points-short curves heads stretches =
     let last = last_end curves.stretches in
-    omega (arith, all-short (point curves most stretches) 12 (sample_ticks last) (λ k d below. point-short curves most stretches (get_or (sample_ticks last) k d)), samples-few last)
+    let samples = range_with_len 0 (sample_count last + 1) in
+    let each = λ (k d : ℕ) (below : k < length samples). point-short curves (get_or heads (get_or samples k d) 0) stretches (sample_tick last (get_or samples k d)) in
+    omega (arith, all-short (sample_point curves heads stretches) 12 samples each, length-range_with_len 0 (sample_count last + 1))
 
-curve-short : (curves : Curves) (others : List Stretch) (most : ℕ) (line : Line) → length (curve curves others most line) ≤ 2474
-curve-short curves others most line =
-    let own = points curves most (drawn_of curves others line.thread) in
+curve-short : (curves : Curves) (others : List Stretch) (heads : List ℕ) (line : Line) → length (curve curves others heads line) ≤ 2474
+curve-short curves others heads line =
+    let own = points curves heads (drawn_of curves others line.thread) in
     both 18 2456 (codes "<polyline points='") (own ++ (codes "' stroke='" ++ (colour line.style ++ (codes "'" ++ (strokes line.style ++ codes "/>\n"))))) (omega arith)
-    (both 2412 44 own (codes "' stroke='" ++ (colour line.style ++ (codes "'" ++ (strokes line.style ++ codes "/>\n")))) (points-short curves most (drawn_of curves others line.thread))
+    (both 2412 44 own (codes "' stroke='" ++ (colour line.style ++ (codes "'" ++ (strokes line.style ++ codes "/>\n")))) (points-short curves heads (drawn_of curves others line.thread))
     (both 10 34 (codes "' stroke='") (colour line.style ++ (codes "'" ++ (strokes line.style ++ codes "/>\n"))) (omega arith)
     (both 7 27 (colour line.style) (codes "'" ++ (strokes line.style ++ codes "/>\n")) (colour-short line.style)
     (both 1 26 (codes "'") (strokes line.style ++ codes "/>\n") (omega arith) (both 23 3 (strokes line.style) (codes "/>\n") (strokes-short line.style) (omega arith))))))
@@ -278,17 +279,18 @@ chart-short title curves short early narrow =
     let most = most_in shown in
     let lines = lines_in curves (selection curves) in
     let top = top_at curves most (last_end curves.stretches) in
+    let heads = tops curves most in
     let many = lines-many top 0 600 shown in
     let few = shown-few curves in
     let drawn : All (λ (line : Line). length (label curves.names (total curves) line) ≤ 176) lines =
     λ k d below. label-short curves.names short (total curves) (get_or lines k d) (record { height = lines-high top 0 600 shown k d below; place = names-within top shown few k d below }) in
-    let curved : length (flat_map (curve curves others most) lines) ≤ 29688 = omega (arith, all-short (curve curves others most) 2474 lines (λ k d below. curve-short curves others most (get_or lines k d)), many, few) in
+    let curved : length (flat_map (curve curves others heads) lines) ≤ 29688 = omega (arith, all-short (curve curves others heads) 2474 lines (λ k d below. curve-short curves others heads (get_or lines k d)), many, few) in
     let named : length (flat_map (label curves.names (total curves)) lines) ≤ 2112 = omega (arith, all-short (label curves.names (total curves)) 176 lines drawn, many, few) in
     let end = both 2112 7 (flat_map (label curves.names (total curves)) lines) (codes "</svg>\n") named (omega arith) in
     let four = both 5 2119 (codes "</g>\n") (flat_map (label curves.names (total curves)) lines ++ codes "</svg>\n") (omega arith) end in
-    let three = both 29688 2124 (flat_map (curve curves others most) lines) (codes "</g>\n" ++ (flat_map (label curves.names (total curves)) lines ++ codes "</svg>\n")) curved four in
-    let two = both 57 31812 (codes "<g fill='none' stroke-width='2' stroke-linejoin='round'>\n") (flat_map (curve curves others most) lines ++ (codes "</g>\n" ++ (flat_map (label curves.names (total curves)) lines ++ codes "</svg>\n"))) (omega arith) three in
-    let one = both 1621 31869 (axes curves most) (codes "<g fill='none' stroke-width='2' stroke-linejoin='round'>\n" ++ (flat_map (curve curves others most) lines ++ (codes "</g>\n" ++ (flat_map (label curves.names (total curves)) lines ++ codes "</svg>\n")))) (axes-short curves most early narrow) two in
+    let three = both 29688 2124 (flat_map (curve curves others heads) lines) (codes "</g>\n" ++ (flat_map (label curves.names (total curves)) lines ++ codes "</svg>\n")) curved four in
+    let two = both 57 31812 (codes "<g fill='none' stroke-width='2' stroke-linejoin='round'>\n") (flat_map (curve curves others heads) lines ++ (codes "</g>\n" ++ (flat_map (label curves.names (total curves)) lines ++ codes "</svg>\n"))) (omega arith) three in
+    let one = both 1621 31869 (axes curves most) (codes "<g fill='none' stroke-width='2' stroke-linejoin='round'>\n" ++ (flat_map (curve curves others heads) lines ++ (codes "</g>\n" ++ (flat_map (label curves.names (total curves)) lines ++ codes "</svg>\n")))) (axes-short curves most early narrow) two in
     let width = width_for (longest_name curves.names lines) (length title) in
-    let whole = both (300 + 10 * length title) 33490 (head width title) (axes curves most ++ (codes "<g fill='none' stroke-width='2' stroke-linejoin='round'>\n" ++ (flat_map (curve curves others most) lines ++ (codes "</g>\n" ++ (flat_map (label curves.names (total curves)) lines ++ codes "</svg>\n"))))) (head-short width title (omega arith)) one in
+    let whole = both (300 + 10 * length title) 33490 (head width title) (axes curves most ++ (codes "<g fill='none' stroke-width='2' stroke-linejoin='round'>\n" ++ (flat_map (curve curves others heads) lines ++ (codes "</g>\n" ++ (flat_map (label curves.names (total curves)) lines ++ codes "</svg>\n"))))) (head-short width title (omega arith)) one in
     omega (arith, whole)

@@ -5,7 +5,7 @@ use Rattle.lot_curves.specs.declared.stretch.Stretch.{Stretch}
 use Rattle.lot_curves.specs.Curves.{Curves}
 use Rattle.lot_chart.specs.declared.lines.Line.{Line}
 use Rattle.lot_chart.specs.declared.standings.Standing.{Standing}
-use Rattle.lot_chart.specs.Charts.{axes, chart, curve, head, label, lines_in, longest_name, picture, total, width_for}
+use Rattle.lot_chart.specs.Charts.{axes, chart, curve, head, label, lines_in, longest_name, picture, tops, total, width_for}
 use Rattle.lot_chart.specs.Lines.{most_in}
 use Rattle.lot_chart.specs.Standings.{Selected, selection}
 use Rattle.lot_chart.proofs.Parts.{parts-seven}
@@ -22,13 +22,13 @@ chart-is title given curves shown picked others rest lines none text empty same 
     ∙ ap (λ (s : Selected). picture title curves s (lines_in curves s)) is
 
 -- the picture, if its parts are put one after another
-pub picture-is : (title : List ℕ) (curves : Curves) (shown : List Standing) (others : List Stretch) (lines : List Line) (width most all : ℕ) (names : List (List ℕ)) (old one two three four five six seven : List ℕ)
-    → width ≡ width_for (longest_name curves.names lines) (length title) → most ≡ most_in shown → all ≡ total curves → names ≡ curves.names
-    → one ≡ old ++ head width title → two ≡ one ++ axes curves most → three ≡ two ++ codes "<g fill='none' stroke-width='2' stroke-linejoin='round'>\n" → four ≡ three ++ flat_map (curve curves others most) lines → five ≡ four ++ codes "</g>\n"
+pub picture-is : (title : List ℕ) (curves : Curves) (shown : List Standing) (others : List Stretch) (lines : List Line) (width most all : ℕ) (heads : List ℕ) (names : List (List ℕ)) (old one two three four five six seven : List ℕ)
+    → width ≡ width_for (longest_name curves.names lines) (length title) → most ≡ most_in shown → heads ≡ tops curves most → all ≡ total curves → names ≡ curves.names
+    → one ≡ old ++ head width title → two ≡ one ++ axes curves most → three ≡ two ++ codes "<g fill='none' stroke-width='2' stroke-linejoin='round'>\n" → four ≡ three ++ flat_map (curve curves others heads) lines → five ≡ four ++ codes "</g>\n"
     → six ≡ five ++ flat_map (label names all) lines → seven ≡ six ++ codes "</svg>\n" → seven ≡ old ++ picture title curves (record { shown = shown; others = others }) lines
 unfolding picture
-picture-is title curves shown others lines width most all names old one two three four five six seven wide highest whole named first second third fourth fifth sixth seventh =
-    parts-seven old (head (width_for (longest_name curves.names lines) (length title)) title) (axes curves (most_in shown)) (codes "<g fill='none' stroke-width='2' stroke-linejoin='round'>\n") (flat_map (curve curves others (most_in shown)) lines) (codes "</g>\n")
+picture-is title curves shown others lines width most all heads names old one two three four five six seven wide highest scaled whole named first second third fourth fifth sixth seventh =
+    parts-seven old (head (width_for (longest_name curves.names lines) (length title)) title) (axes curves (most_in shown)) (codes "<g fill='none' stroke-width='2' stroke-linejoin='round'>\n") (flat_map (curve curves others (tops curves (most_in shown))) lines) (codes "</g>\n")
     (flat_map (label curves.names (total curves)) lines) (codes "</svg>\n") one two three four five six seven
-    (first ∙ ap (λ n. old ++ head n title) wide) (second ∙ ap (λ n. one ++ axes curves n) highest) third (fourth ∙ ap (λ n. three ++ flat_map (curve curves others n) lines) highest) fifth
+    (first ∙ ap (λ n. old ++ head n title) wide) (second ∙ ap (λ n. one ++ axes curves n) highest) third (fourth ∙ ap (λ (ns : List ℕ). three ++ flat_map (curve curves others ns) lines) (scaled ∙ ap (tops curves) highest)) fifth
     (sixth ∙ ap (λ n. five ++ flat_map (label names n) lines) whole ∙ ap (λ (ns : List (List ℕ)). five ++ flat_map (label ns (total curves)) lines) named) seventh

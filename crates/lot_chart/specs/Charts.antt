@@ -1,12 +1,12 @@
 -- Curves as a picture, which is an SVG. Lengths are in tenths of its unit; the plot extends horizontally from 1000 to
 -- 7700, and vertically from 600 to 4600.
-use Rattle.std.specs.Prelude.{ℕ, ◌+◌, ◌*◌, ◌%◌, min, max, ◌==◌, nat_le, Option, Some, None, List, [], ◌++◌, codes, fold, length, unwrap_or, if◌then◌else◌}
-use Rattle.std.specs.List.{flat_map}
+use Rattle.std.specs.Prelude.{ℕ, ◌+◌, ◌*◌, ◌%◌, min, max, ◌==◌, nat_le, Option, Some, None, List, [], ◌++◌, codes, fold, length, map, slice_index, unwrap_or, if◌then◌else◌}
+use Rattle.std.specs.List.{flat_map, range_with_len}
 use Rattle.std.specs.Fmt.{decimal}
 use Rattle.lot_machine.specs.Numbered.{at_number}
 use Rattle.lot_curves.specs.declared.stretch.Measure.TheVariants.{Ticks}
 use Rattle.lot_curves.specs.declared.stretch.Stretch.{Stretch}
-use Rattle.lot_curves.specs.Curves.{Curves, sample_ticks, total_at}
+use Rattle.lot_curves.specs.Curves.{Curves, sample_count, sample_tick, sample_ticks, total_at}
 use Rattle.lot_curves.specs.Stretches.{last_end, stretches_of}
 use Rattle.lot_curves.specs.Windows.{had_in}
 use Rattle.lot_chart.specs.declared.lines.Line.{Line}
@@ -22,7 +22,8 @@ across last tick = 1000 + scaled tick last 6700
 
 -- ---- the frame
 
--- the part up to the axes: the title, for screen readers and above the plot, on white; the picture is this many units wide
+-- the part up to the axes: the title, for screen readers and above the plot, on white; the picture is this many units
+-- wide
 abbrev pub head : ℕ → List ℕ → List ℕ
 head width title =
     codes "<svg xmlns='http://www.w3.org/2000/svg' width='" ++ (decimal width ++ (codes "' height='540' viewBox='0 0 " ++ (decimal width
@@ -50,7 +51,8 @@ highest (Some window) most = 100
 -- what heights mean
 abbrev pub heights_label : Option ℕ → List ℕ
 heights_label None = codes "what each thread has run, in ticks"
-heights_label (Some window) = codes "what each thread has run in the last " ++ (decimal window ++ codes " ticks, in percent")
+heights_label (Some window) =
+    codes "what each thread has run in the last " ++ (decimal window ++ codes " ticks, in percent")
 
 -- the lines of both axes, and their labels
 abbrev pub frame : Option ℕ → List ℕ
@@ -76,29 +78,39 @@ colour style =
 abbrev pub strokes : ℕ → List ℕ
 strokes style = if nat_le 8 style then codes " stroke-dasharray='7 4'" else []
 
--- the ticks that the top of the plot stands for at a tick: with a window all in the one that ends there, and otherwise the
--- most of a line
+-- the ticks that the top of the plot stands for at a tick: with a window all in the one that ends there, and otherwise
+-- the most of a line
 abbrev pub top_at : Curves → ℕ → ℕ → ℕ
 top_at curves most tick = unwrap_or (whole_at Ticks curves tick) most
 
--- the point for the ticks of these stretches at this tick
+-- the ticks at the top of the plot at each sample
+abbrev pub tops : Curves → ℕ → List ℕ
+tops curves most = map (top_at curves most) (sample_ticks (last_end curves.stretches))
+
+-- the point for the ticks of these stretches at this tick, given the ticks at the top of the plot
 abbrev pub point : Curves → ℕ → List Stretch → ℕ → List ℕ
-point curves most stretches tick =
+point curves top stretches tick =
     codes " " ++ (tenths (across (last_end curves.stretches) tick)
-    ++ (codes "," ++ tenths (height_of (top_at curves most tick) (had_in Ticks curves.window tick stretches))))
+    ++ (codes "," ++ tenths (height_of top (had_in Ticks curves.window tick stretches))))
+
+-- the point of a sample, given the tops at all samples
+abbrev pub sample_point : Curves → List ℕ → List Stretch → ℕ → List ℕ
+sample_point curves tops stretches sample =
+    point curves (slice_index tops sample) stretches (sample_tick (last_end curves.stretches) sample)
 
 -- a point for each sample
-abbrev pub points : Curves → ℕ → List Stretch → List ℕ
-points curves most stretches = flat_map (point curves most stretches) (sample_ticks (last_end curves.stretches))
+abbrev pub points : Curves → List ℕ → List Stretch → List ℕ
+points curves tops stretches =
+    flat_map (sample_point curves tops stretches) (range_with_len 0 (sample_count (last_end curves.stretches) + 1))
 
 -- the stretches that a line shows: those of its thread, or of all threads without a line
 abbrev pub drawn_of : Curves → List Stretch → ℕ → List Stretch
 drawn_of curves others thread = if thread == 0 then others else stretches_of thread curves.stretches
 
 -- a line, with a point for each sample
-abbrev pub curve : Curves → List Stretch → ℕ → Line → List ℕ
-curve curves others most line =
-    codes "<polyline points='" ++ (points curves most (drawn_of curves others line.thread)
+abbrev pub curve : Curves → List Stretch → List ℕ → Line → List ℕ
+curve curves others tops line =
+    codes "<polyline points='" ++ (points curves tops (drawn_of curves others line.thread)
     ++ (codes "' stroke='" ++ (colour line.style ++ (codes "'" ++ (strokes line.style ++ codes "/>\n")))))
 
 -- ---- their names
@@ -143,7 +155,7 @@ width_for name title = min 1040 (max (848 + 12 * name) (110 + 11 * title))
 unfoldable pub picture : List ℕ → Curves → Selected → List Line → List ℕ
 picture title curves selected lines =
     head (width_for (longest_name curves.names lines) (length title)) title ++ (axes curves (most_in selected.shown)
-    ++ (codes "<g fill='none' stroke-width='2' stroke-linejoin='round'>\n" ++ (flat_map (curve curves selected.others (most_in selected.shown)) lines
+    ++ (codes "<g fill='none' stroke-width='2' stroke-linejoin='round'>\n" ++ (flat_map (curve curves selected.others (tops curves (most_in selected.shown))) lines
     ++ (codes "</g>\n" ++ (flat_map (label curves.names (total curves)) lines ++ codes "</svg>\n")))))
 
 -- the picture of the curves, with this title

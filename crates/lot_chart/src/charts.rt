@@ -1,10 +1,11 @@
 //! Curves as a picture.
-ghost use Rattle.std.specs.Prelude.{◌≡◌, ◌<◌, ◌≤◌, ◌^◌, ◌++◌, IfOk, OnOk, Some, length};
+ghost use Rattle.std.specs.Prelude.{◌≡◌, ◌+◌, ◌<◌, ◌≤◌, ◌^◌, ◌++◌, IfOk, OnOk, Some, length};
 ghost use Rattle.std.specs.List.{flat_map};
 ghost use Rattle.lot_chart.specs.Charts as definitions;
 ghost use Rattle.lot_chart.specs.Charts.{axes, curve, drawn_of, frame, head, height_mark, heights_label, label};
 ghost use Rattle.lot_chart.specs.Charts.{leader, name_text, picture, point, points, time_mark};
 ghost use Rattle.lot_chart.specs.Axes.{marks, time_marks};
+ghost use Rattle.lot_curves.specs.Curves.{sample_count};
 ghost use Rattle.lot_curves.specs.Stretches.{last_end};
 
 use crate::axes::{axis_step, lead, mark_count, time_mark_count};
@@ -80,7 +81,8 @@ fn push_picture(
     push_head(text, width, title)?;
     push_axes(text, curves, most)?;
     text.push("<g fill='none' stroke-width='2' stroke-linejoin='round'>\n")?;
-    push_curves(alloc, text, curves, others, most, lines)?;
+    let tops = tops_of(alloc, curves, most)?;
+    push_curves(alloc, text, curves, others, tops.as_slice(), lines)?;
     text.push("</g>\n")?;
     push_labels(text, names, total_of(curves), lines)?;
     text.push("</svg>\n")?;
@@ -247,14 +249,15 @@ fn push_curves(
     text: &mut Text,
     curves: &Curves,
     others: &[Stretch],
-    most: u64,
+    tops: &[u64],
     lines: &[Line],
 ) -> Result<(), AllocError>
-    requires { length others.now < 2 ^ 32 }
-    ensures { OnOk result (text.new ≡ text.old ++ flat_map (curve curves.now others.now most) lines.now) }
+    requires few { length others.now < 2 ^ 32 }
+    requires tops { length tops.now ≡ sample_count (last_end curves.now.stretches) + 1 }
+    ensures { OnOk result (text.new ≡ text.old ++ flat_map (curve curves.now others.now tops.now) lines.now) }
 {
     for line in lines {
-        push_curve(alloc, text, curves, others, most, line)?;
+        push_curve(alloc, text, curves, others, tops, line)?;
     }
     Ok(())
 }
@@ -265,14 +268,15 @@ fn push_curve(
     text: &mut Text,
     curves: &Curves,
     others: &[Stretch],
-    most: u64,
+    tops: &[u64],
     line: &Line,
 ) -> Result<(), AllocError>
-    requires { length others.now < 2 ^ 32 }
-    ensures { OnOk result (text.new ≡ text.old ++ curve curves.now others.now most line.now) }
+    requires few { length others.now < 2 ^ 32 }
+    requires tops { length tops.now ≡ sample_count (last_end curves.now.stretches) + 1 }
+    ensures { OnOk result (text.new ≡ text.old ++ curve curves.now others.now tops.now line.now) }
 {
     text.push("<polyline points='")?;
-    push_points_of(alloc, text, curves, others, most, line.thread)?;
+    push_points_of(alloc, text, curves, others, tops, line.thread)?;
     text.push("' stroke='")?;
     text.push(colour(line.style))?;
     text.push("'")?;
@@ -287,53 +291,66 @@ fn push_points_of(
     text: &mut Text,
     curves: &Curves,
     others: &[Stretch],
-    most: u64,
+    tops: &[u64],
     thread: u32,
 ) -> Result<(), AllocError>
-    requires { length others.now < 2 ^ 32 }
-    ensures { OnOk result (text.new ≡ text.old ++ points curves.now most (drawn_of curves.now others.now thread)) }
+    requires few { length others.now < 2 ^ 32 }
+    requires tops { length tops.now ≡ sample_count (last_end curves.now.stretches) + 1 }
+    ensures { OnOk result (text.new ≡ text.old ++ points curves.now tops.now (drawn_of curves.now others.now thread)) }
 {
     if thread == 0 {
-        return push_points(text, curves, most, others);
+        return push_points(text, curves, tops, others);
     }
     let own = stretches_of_thread(alloc, curves.stretches(), thread)?;
-    push_points(text, curves, most, own.as_slice())
+    push_points(text, curves, tops, own.as_slice())
 }
 
 /// Adds a point for each sample: the ticks of these stretches at the sample's tick.
 fn push_points(
     text: &mut Text,
     curves: &Curves,
-    most: u64,
+    tops: &[u64],
     stretches: &[Stretch],
 ) -> Result<(), AllocError>
-    requires { length stretches.now < 2 ^ 32 }
-    ensures { OnOk result (text.new ≡ text.old ++ points curves.now most stretches.now) }
+    requires few { length stretches.now < 2 ^ 32 }
+    requires tops { length tops.now ≡ sample_count (last_end curves.now.stretches) + 1 }
+    ensures { OnOk result (text.new ≡ text.old ++ points curves.now tops.now stretches.now) }
 {
     for sample in 0..curves.sample_count() + 1 {
-        let tick = curves.sample_tick(sample);
-        push_point(text, curves, most, stretches, tick)?;
+        let top = tops[sample as usize];
+        push_point(text, curves, top, stretches, curves.sample_tick(sample))?;
     }
     Ok(())
 }
 
-/// Adds one point.
+/// Adds one point, given the ticks that the top of the plot stands for.
 fn push_point(
     text: &mut Text,
     curves: &Curves,
-    most: u64,
+    top: u64,
     stretches: &[Stretch],
     tick: u64,
 ) -> Result<(), AllocError>
     requires { length stretches.now < 2 ^ 32 }
-    ensures { OnOk result (text.new ≡ text.old ++ point curves.now most stretches.now tick) }
+    ensures { OnOk result (text.new ≡ text.old ++ point curves.now top stretches.now tick) }
 {
     text.push(" ")?;
     text.push_tenths(across(curves.last(), tick))?;
     text.push(",")?;
     let ticks = had_in(Measure::Ticks, curves.window(), tick, stretches);
-    text.push_tenths(height_of(top_at(curves, most, tick), ticks))?;
+    text.push_tenths(height_of(top, ticks))?;
     Ok(())
+}
+
+/// The ticks that the top of the plot stands for at each sample.
+fn tops_of(alloc: Global, curves: &Curves, most: u64) -> Result<Vec<u64>, AllocError>
+    ensures { IfOk result (λ tops. tops.items ≡ definitions.tops curves.now most) }
+{
+    let mut tops = Vec::new(alloc);
+    for sample in 0..curves.sample_count() + 1 {
+        tops.push(top_at(curves, most, curves.sample_tick(sample)))?;
+    }
+    Ok(tops)
 }
 
 /// The ticks that the top of the plot stands for at this tick: with a window all in the one that ends there, and

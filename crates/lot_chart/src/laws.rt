@@ -44,7 +44,8 @@ pub fn names_do_not_overlap()
 /// byte of its title. Any `Curves` meets the other premises too: it begins before 2 ^ 56, and its window is a `u32`.
 pub fn pictures_are_short()
     ensures { (title : List ℕ) (curves : curves.Curves) → All (λ name. length name ≤ 16) curves.names
-        → curves.origin < 2 ^ 56 → unwrap_or curves.window 0 < 2 ^ 32 → length (chart title curves) ≤ 34000 + 10 * length title }
+        → curves.origin < 2 ^ 56 → unwrap_or curves.window 0 < 2 ^ 32
+        → length (chart title curves) ≤ 34000 + 10 * length title }
 {}
 
 /// A table of threads whose names have at most 16 bytes, as all names do, has at most 4226 bytes plus 4238 for each

@@ -87,8 +87,8 @@ pub fn shares_program<W: Write>(
 }
 
 /// Makes the program's turns, and writes a picture with this title of each thread's ticks over time, or in this
-/// interval of it; with a window, of the shares of the last ticks. It stores the run's warnings in `warnings`. If out of
-/// memory, it writes nothing.
+/// interval of it; with a window, of the shares of the last ticks. It stores the run's warnings in `warnings`. If out
+/// of memory, it writes nothing.
 pub fn chart_program<W: Write>(
     alloc: Global,
     title: &str,

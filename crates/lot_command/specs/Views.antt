@@ -23,8 +23,10 @@ view_of views.Play title program = played_output program program.duration
 view_of (views.Report None) title program = last_report program program.duration
 view_of (views.Report (Some seeds)) title program = seeds_report seeds.first seeds.last program
 view_of views.Explain title program = explained_program program program.duration
-view_of (views.Shares measure interval window) title program = table measure (windowed window (curves_within interval (curves_of program)))
-view_of (views.Chart interval window) title program = chart title (windowed window (curves_within interval (curves_of program)))
+view_of (views.Shares measure interval window) title program =
+    table measure (windowed window (curves_within interval (curves_of program)))
+view_of (views.Chart interval window) title program =
+    chart title (windowed window (curves_within interval (curves_of program)))
 
 -- the same for an input, or the line for a refused one
 abbrev pub shown_of : View → List ℕ → Result Program InputFault → List ℕ

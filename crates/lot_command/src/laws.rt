@@ -13,5 +13,6 @@ pub fn texts_without_a_seed()
     ensures explain { (title bytes : List ℕ) → text_of views.Explain title None bytes ≡ explained_output bytes }
     ensures shares { (measure : Measure) (title bytes : List ℕ)
         → text_of (views.Shares measure None None) title None bytes ≡ shares_output measure bytes }
-    ensures chart { (title bytes : List ℕ) → text_of (views.Chart None None) title None bytes ≡ chart_output title bytes }
+    ensures chart { (title bytes : List ℕ)
+        → text_of (views.Chart None None) title None bytes ≡ chart_output title bytes }
 {}

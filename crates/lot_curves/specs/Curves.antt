@@ -16,8 +16,8 @@ use Rattle.lot_curves.specs.Windows.{had_in}
 
 -- The names of the columns, one for each number of a thread in ascending order, and the stretches of the turns. If
 -- numbers are given again, a column counts the turns of each thread that had its number. The stretches count their ticks
--- from the origin, the tick at which the curves begin. With a window, the curves show at each tick what is in the window
--- that ends there, and otherwise all up to it.
+-- from the origin, the tick at which the curves begin. With a window, the curves show at each tick what is in the
+-- window that ends there, and otherwise all up to it.
 pub record Curves : Type 0 where
   pub names : List (List ℕ)
   pub stretches : List Stretch
@@ -47,7 +47,12 @@ timed_stretches program = map (λ done. stretch_of (record { time = done.time; a
 -- The curves in a world, with the stretches of the program's run with its history. A column has the name of the last
 -- thread with its number, and the stretches of all of them.
 abbrev pub curves_in : Program → World → Curves
-curves_in program w = record { names = names_in w.state; stretches = stretches_made program w.history; origin = 0; window = None }
+curves_in program w = record {
+  names = names_in w.state;
+  stretches = stretches_made program w.history;
+  origin = 0;
+  window = None;
+}
 
 -- the curves of the program's schedule
 abbrev pub scheduled_curves : Program → Curves

@@ -6,7 +6,10 @@ use Rattle.lot_curves.specs.Stretches.{last_end, stretch_between}
 
 -- the curves between two ticks, which begin at the first
 abbrev pub curves_between : ℕ → ℕ → Curves → Curves
-curves_between from to curves = record curves { stretches = map (stretch_between from to) curves.stretches; origin = curves.origin + from }
+curves_between from to curves = record curves {
+  stretches = map (stretch_between from to) curves.stretches;
+  origin = curves.origin + from;
+}
 
 -- The curves of an interval, or all without one. If the interval begins after the last turn, it begins at its end
 -- instead; without an end it ends there too.

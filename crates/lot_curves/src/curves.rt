@@ -1,7 +1,7 @@
 //! The ticks and the draws of each thread over time: a column for each number of a thread. If numbers are given again,
 //! a column counts the turns of each thread that had its number, and has the name of the last.
-ghost use Rattle.std.specs.Prelude.{◌≡◌, ℕ, ◌+◌, ◌<◌, ◌≤◌, ◌^◌, ◌==◌, All, None, if◌then◌else◌, length, map, slice_index};
-ghost use Rattle.std.specs.Prelude.{vec_len};
+ghost use Rattle.std.specs.Prelude.{◌≡◌, ℕ, ◌+◌, ◌<◌, ◌≤◌, ◌^◌, ◌==◌, All, None, if◌then◌else◌, length, map};
+ghost use Rattle.std.specs.Prelude.{slice_index, vec_len};
 ghost use Rattle.lot_curves.specs.Curves as curves;
 ghost use Rattle.lot_curves.specs.Curves.{row_at, windowed};
 ghost use Rattle.lot_curves.specs.Intervals.{curves_between, curves_within};
@@ -34,7 +34,12 @@ impl Model for Curves {
 
     ghost Value = { CurvesRecord };
 
-    ghost view = { λ c. record { names = c.names.items; stretches = c.stretches.items; origin = c.origin; window = c.window } };
+    ghost view = { λ c. record {
+      names = c.names.items;
+      stretches = c.stretches.items;
+      origin = c.origin;
+      window = c.window;
+    } };
 
     ghost invariant = { λ c. record {
       last : c.last ≡ last_end c.stretches.items;
