@@ -132,11 +132,11 @@ curves-are program None is =
     let stretches : stretches_made program (system_run program program.schedule).history ≡ stretches_in [] (program_turns program) =
     ap (λ (ts : List ActorTurn). map stretch_of (ended_after [] ts)) (counted-is program) ∙ stretches-scheduled program [] (opening_world program) program.schedule ∙ ap (stretches_in []) turns in
     let curves : curves_of program ≡ scheduled_curves program = rw is refl in
-    curves ∙ (λ i. record { names = names_in (world i).state; stretches = stretches i; origin = 0 })
+    curves ∙ (λ i. record { names = names_in (world i).state; stretches = stretches i; origin = 0; window = None })
 curves-are program (Some duration) is =
     let turns : turns_by program (Some duration) ≡ program_turns program = ap (turns_by program) (sym is) in
     let world : system_run program (timed_schedule program) ≡ world_after_turns (opening_world program) (program_turns program) =
     sym (timed-world program) ∙ world-timed (opening_moment program) (timed_turns program) ∙ ap (world_after_turns (opening_world program)) turns in
     let stretches : timed_stretches program ≡ stretches_in [] (program_turns program) = stretches-timed [] (opening_world program) (timed_turns program) ∙ ap (stretches_in []) turns in
     let curves : curves_of program ≡ timed_curves program = rw is refl in
-    curves ∙ (λ i. record { names = names_in (world i).state; stretches = stretches i; origin = 0 })
+    curves ∙ (λ i. record { names = names_in (world i).state; stretches = stretches i; origin = 0; window = None })

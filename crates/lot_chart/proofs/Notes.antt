@@ -108,9 +108,9 @@ module _ (program : Program) (turns : List MadeTurn) (made : MadeTurn) (turn : A
 -- ---- what was gathered
 
 pub gathered : {seen : Seen} (program : Program) (system : Seen) (names : List (List ℕ)) (stretches : List Stretch) → system ≡ seen → HasMade program (program_turns program) seen
-    → names ≡ names_in (world_of system).state → stretches ≡ stretches_in [] (program_turns program) → record { names = names; stretches = stretches; origin = 0 } ≡ curves_of program
+    → names ≡ names_in (world_of system).state → stretches ≡ stretches_in [] (program_turns program) → record { names = names; stretches = stretches; origin = 0; window = None } ≡ curves_of program
 gathered program system names stretches same has named noted =
     let world = ap world_of same ∙ has.world in
     let threads = named ∙ ap (λ (w : World). names_in w.state) world in
-    let both : record { names = names; stretches = stretches; origin = 0 } ≡ curves_after program (program_turns program) = λ i. record { names = threads i; stretches = noted i; origin = 0 } in
+    let both : record { names = names; stretches = stretches; origin = 0; window = None } ≡ curves_after program (program_turns program) = λ i. record { names = threads i; stretches = noted i; origin = 0; window = None } in
     both ∙ sym (curves-are program program.duration refl)

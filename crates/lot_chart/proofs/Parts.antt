@@ -1,5 +1,5 @@
 -- Texts that are put part by part.
-use Rattle.std.proofs.Common.{◌≡◌, ℕ, ◌+◌, List, [], ◌∷◌, ◌++◌, ◌<◌, length, map, get_or, take, sym, ap, ◌∙◌, arith, append_assoc}
+use Rattle.std.proofs.Common.{◌≡◌, ℕ, zero, suc, ◌+◌, List, [], ◌∷◌, ◌++◌, ◌<◌, length, map, get_or, take, sym, ap, ◌∙◌, arith, add-zero, zero-add, append_assoc}
 use Rattle.std.specs.List.{flat_map, range_with_len}
 use Rattle.std.proofs.lemmas.List.{flat_map_more, take_more}
 use Rattle.std.proofs.lemmas.List.FromFn.{map-range_with_len_more}
@@ -9,6 +9,19 @@ pub parts-more : {X : Type 0} (part : X → List ℕ) (at : ℕ → X) (n : ℕ)
     → next ≡ old ++ flat_map part (map at (range_with_len 0 (n + 1)))
 parts-more part at n old now next has is =
     is ∙ ap (λ xs. xs ++ part (at n)) has ∙ flat_map_more part old (map at (range_with_len 0 n)) (at n) ∙ ap (λ xs. old ++ flat_map part xs) (sym (map-range_with_len_more at 0 n n (omega arith)))
+
+range-more : (a n : ℕ) → range_with_len a (suc n) ≡ range_with_len a n ++ (a + n) ∷ []
+range-more a zero = ap (λ m. m ∷ []) (sym (add-zero a))
+range-more a (suc n) =
+    let same : a + 1 + n ≡ a + suc n = omega arith in
+    ap (λ (xs : List ℕ). a ∷ xs) (range-more (a + 1) n ∙ ap (λ m. range_with_len (a + 1) n ++ m ∷ []) same)
+
+-- the part of one number more, each as it is
+pub parts-sample : (part : ℕ → List ℕ) (n : ℕ) (old now next : List ℕ) → now ≡ old ++ flat_map part (range_with_len 0 n) → next ≡ now ++ part n → next ≡ old ++ flat_map part (range_with_len 0 (n + 1))
+parts-sample part n old now next has is =
+    let on : n + 1 ≡ suc n = omega arith in
+    let more : range_with_len 0 (n + 1) ≡ range_with_len 0 n ++ n ∷ [] = ap (range_with_len 0) on ∙ range-more 0 n ∙ ap (λ m. range_with_len 0 n ++ m ∷ []) (zero-add n) in
+    is ∙ ap (λ xs. xs ++ part n) has ∙ flat_map_more part old (range_with_len 0 n) n ∙ ap (λ xs. old ++ flat_map part xs) (sym more)
 
 -- the part of one element more
 pub parts-next : {X : Type 0} (part : X → List ℕ) (xs : List X) (i : ℕ) (d x : X) (old now next : List ℕ) → i < length xs → x ≡ get_or xs i d → now ≡ old ++ flat_map part (take i xs) → next ≡ now ++ part x

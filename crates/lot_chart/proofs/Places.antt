@@ -6,10 +6,11 @@ use Rattle.std.proofs.lemmas.List.{length-take}
 use Rattle.std.proofs.lemmas.List.Elements.{All-cons, All-nil}
 use Rattle.lot_curves.specs.declared.stretch.Measure.TheVariants.{Ticks}
 use Rattle.lot_curves.specs.Curves.{Curves, row_at}
-use Rattle.lot_curves.specs.Stretches.{had_at, last_end}
+use Rattle.lot_curves.specs.Stretches.{last_end}
+use Rattle.lot_curves.specs.Windows.{had_in}
 use Rattle.lot_chart.specs.declared.lines.Line.{Line}
 use Rattle.lot_chart.specs.declared.standings.Standing.{Standing}
-use Rattle.lot_chart.specs.Lines.{height_of, lines_after, lines_of, most_in, place_of}
+use Rattle.lot_chart.specs.Lines.{height_of, lines_after, lines_of, place_of}
 use Rattle.lot_chart.specs.Standings.{other_stretches, ranked, selected, selection, with_others, with_standing}
 
 -- ---- how many lines there are
@@ -23,7 +24,7 @@ length-with_standing (s ∷ standings) new = at (nat_lt s.ticks new.ticks) (leng
     at false more = omega (arith, more)
 
 others-more : (curves : Curves) (first : List Standing) → length (with_others curves first).shown ≡ length first + 1
-others-more curves first = length-with_standing first (record { thread = 0; ticks = had_at Ticks (last_end curves.stretches) (other_stretches first curves.stretches) })
+others-more curves first = length-with_standing first (record { thread = 0; ticks = had_in Ticks curves.window (last_end curves.stretches) (other_stretches first curves.stretches) })
 
 selected-few : (curves : Curves) (all : List Standing) → length (selected curves all).shown ≤ 12
 selected-few curves all = at (nat_le (length all) 12) refl
@@ -46,13 +47,13 @@ apart-after most style least (s ∷ t ∷ shown) (suc i) below =
     let more : suc i + 1 ≡ suc (i + 1) = omega arith in
     rw more (apart-after most (style + 1) (place_of least (height_of most s.ticks) (length (t ∷ shown)) + 160) (t ∷ shown) i (omega (arith, below)))
 
-pub names-apart : (shown : List Standing) (i : ℕ) → i + 1 < length shown
-    → get_or (map (λ (line : Line). line.place) (lines_of shown)) i 0 + 160 ≤ get_or (map (λ (line : Line). line.place) (lines_of shown)) (i + 1) 0
-names-apart shown i below = apart-after (most_in shown) 0 600 shown i below
+pub names-apart : (most : ℕ) (shown : List Standing) (i : ℕ) → i + 1 < length shown
+    → get_or (map (λ (line : Line). line.place) (lines_of most shown)) i 0 + 160 ≤ get_or (map (λ (line : Line). line.place) (lines_of most shown)) (i + 1) 0
+names-apart most shown i below = apart-after most 0 600 shown i below
 
 within-after : (most style least : ℕ) (shown : List Standing) → least + 160 * length shown ≤ 4760 → All (λ (line : Line). line.place ≤ 4600) (lines_after most style least shown)
 within-after most style least [] room = All-nil (λ (line : Line). line.place ≤ 4600)
 within-after most style least (s ∷ shown) room = All-cons (λ (line : Line). line.place ≤ 4600) _ _ (omega (arith, room)) (within-after most (style + 1) (place_of least (height_of most s.ticks) (length shown) + 160) shown (omega (arith, room)))
 
-pub names-within : (shown : List Standing) → length shown ≤ 12 → All (λ (line : Line). line.place ≤ 4600) (lines_of shown)
-names-within shown few = within-after (most_in shown) 0 600 shown (omega (arith, few))
+pub names-within : (most : ℕ) (shown : List Standing) → length shown ≤ 12 → All (λ (line : Line). line.place ≤ 4600) (lines_of most shown)
+names-within most shown few = within-after most 0 600 shown (omega (arith, few))

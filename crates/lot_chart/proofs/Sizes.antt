@@ -6,19 +6,20 @@ use Rattle.std.specs.Fmt.{decimal}
 use Rattle.std.proofs.Math.Nat.{mul-le-mul_left, mul-le-mul_right}
 use Rattle.std.proofs.lemmas.Bool.{leb-true, ltb-true}
 use Rattle.std.proofs.lemmas.Fmt.{length-decimal-le}
-use Rattle.std.proofs.lemmas.List.FromFn.{get_or-map-range_with_len, length-map-range_with_len}
+use Rattle.std.proofs.lemmas.List.FromFn.{get_or-map-range_with_len, length-map-range_with_len, length-range_with_len}
 use Rattle.std.proofs.lemmas.Nat.{mod_below}
 use Rattle.lot_machine.specs.Numbered.{at_number}
 use Rattle.lot_curves.specs.declared.stretch.Measure.TheVariants.{Ticks}
 use Rattle.lot_curves.specs.declared.stretch.Stretch.{Stretch}
-use Rattle.lot_curves.specs.Curves.{Curves, sample_ticks}
-use Rattle.lot_curves.specs.Stretches.{had_at, last_end}
-use Rattle.lot_curves.proofs.Ends.{samples-few}
+use Rattle.lot_curves.specs.Curves.{Curves, sample_count, sample_tick}
+use Rattle.lot_curves.specs.Stretches.{last_end}
+use Rattle.lot_curves.specs.Windows.{had_in}
 use Rattle.lot_chart.specs.declared.lines.Line.{Line}
 use Rattle.lot_chart.specs.Axes.{axis_step, lead, mark_count, marks, steps, time_mark_count, time_marks}
-use Rattle.lot_chart.specs.Charts.{across, axes, chart, colour, curve, drawn_of, head, height_mark, label, leader, name_of, name_text, picture, point, points, share_of, strokes, tenths, time_mark, total}
+use Rattle.lot_chart.specs.Charts.{across, axes, chart, colour, curve, drawn_of, frame, head, height_mark, heights_label, highest, label, leader, lines_in, longest_name, name_of, name_text, picture, point, points, sample_point, strokes, time_mark, top_at, tops, total, width_for}
 use Rattle.lot_chart.specs.Escapes.{escaped, escaped_byte}
-use Rattle.lot_chart.specs.Lines.{height_of, lines_after, lines_of, most_in, place_of}
+use Rattle.lot_chart.specs.Lines.{height_of, lines_after, most_in, place_of}
+use Rattle.lot_chart.specs.Shares.{share_of, tenths}
 use Rattle.lot_chart.specs.Standings.{selection}
 use Rattle.lot_chart.specs.declared.standings.Standing.{Standing}
 use Rattle.lot_machine.proofs.Tickets.{at_number-suc}
@@ -29,7 +30,7 @@ use Rattle.lot_chart.proofs.Places.{names-within, shown-few}
 
 -- ---- parts
 
-tenths-short : (n : ℕ) → n ≤ 9999 → length (tenths n) ≤ 5
+pub tenths-short : (n : ℕ) → n ≤ 9999 → length (tenths n) ≤ 5
 tenths-short n small =
     let whole = length-decimal-le 3 (n / 10) (omega arith) (omega (arith, small)) (omega (arith, small)) in
     let part = length-decimal-le 1 (n % 10) (omega arith) (omega arith) (omega arith) in
@@ -127,11 +128,22 @@ times-short curves early =
     let first = mod_below (step - origin % step) step (step-positive last) in
     marks-short (time_mark curves) 115 (λ n. lead step origin + n * step) (time_mark_count origin last) (omega arith) (time-mark-short curves early) (λ k few. omega (arith, first, mul-le-mul_left step few, step-small last))
 
-axes-short : (curves : Curves) (most : ℕ) → curves.origin < 2 ^ 56 → length (axes curves most) ≤ 1590
-axes-short curves most early =
-    let frame = codes "<path d='M100 60V460H770' fill='none' stroke='#222222'/>\n<text x='435' y='512' text-anchor='middle'>time, in ticks</text>\n<text transform='translate(14 260) rotate(-90)' text-anchor='middle'>what each thread has run, in ticks</text>\n" in
+heights_label-short : (window : Option ℕ) → unwrap_or window 0 < 2 ^ 32 → length (heights_label window) ≤ 65
+heights_label-short None narrow = omega arith
+heights_label-short (Some window) narrow =
+    let number = length-decimal-le 10 window (omega arith) (omega (arith, narrow)) (omega (arith, narrow)) in
+    both 37 28 (codes "what each thread has run in the last ") (decimal window ++ codes " ticks, in percent") (omega arith) (both 10 18 (decimal window) (codes " ticks, in percent") number (omega arith))
+
+frame-short : (window : Option ℕ) → unwrap_or window 0 < 2 ^ 32 → length (frame window) ≤ 265
+frame-short window narrow =
+    let lines = codes "<path d='M100 60V460H770' fill='none' stroke='#222222'/>\n<text x='435' y='512' text-anchor='middle'>time, in ticks</text>\n<text transform='translate(14 260) rotate(-90)' text-anchor='middle'>" in
+    both 192 73 lines (heights_label window ++ codes "</text>\n") (omega arith) (both 65 8 (heights_label window) (codes "</text>\n") (heights_label-short window narrow) (omega arith))
+
+axes-short : (curves : Curves) (most : ℕ) → curves.origin < 2 ^ 56 → unwrap_or curves.window 0 < 2 ^ 32 → length (axes curves most) ≤ 1621
+axes-short curves most early narrow =
     let times = flat_map (time_mark curves) (time_marks curves.origin (last_end curves.stretches)) in
-    both 666 924 (flat_map (height_mark most) (marks most)) (times ++ frame) (heights-short most) (both 690 234 times frame (times-short curves early) (omega arith))
+    let top = highest curves.window most in
+    both 666 955 (flat_map (height_mark top) (marks top)) (times ++ frame curves.window) (heights-short top) (both 690 265 times (frame curves.window) (times-short curves early) (frame-short curves.window narrow))
 
 -- ---- the lines
 
@@ -155,23 +167,26 @@ strokes-short style = at (nat_le 8 style)
     at true = omega arith
     at false = omega arith
 
-point-short : (last most : ℕ) (stretches : List Stretch) (tick : ℕ) → length (point last most stretches tick) ≤ 12
-point-short last most stretches tick =
-    let height = had_at Ticks tick stretches in
-    both 1 11 (codes " ") (tenths (across last tick) ++ (codes "," ++ tenths (height_of most height))) (omega arith)
-    (both 5 6 (tenths (across last tick)) (codes "," ++ tenths (height_of most height)) (tenths-short (across last tick) (omega arith))
-    (both 1 5 (codes ",") (tenths (height_of most height)) (omega arith) (tenths-short (height_of most height) (omega arith))))
-
-points-short : (curves : Curves) (most : ℕ) (stretches : List Stretch) → length (points curves most stretches) ≤ 2412
-points-short curves most stretches =
+point-short : (curves : Curves) (top : ℕ) (stretches : List Stretch) (tick : ℕ) → length (point curves top stretches tick) ≤ 12
+point-short curves top stretches tick =
     let last = last_end curves.stretches in
-    omega (arith, all-short (point last most stretches) 12 (sample_ticks last) (λ k d below. point-short last most stretches (get_or (sample_ticks last) k d)), samples-few last)
+    let height = height_of top (had_in Ticks curves.window tick stretches) in
+    both 1 11 (codes " ") (tenths (across last tick) ++ (codes "," ++ tenths height)) (omega arith)
+    (both 5 6 (tenths (across last tick)) (codes "," ++ tenths height) (tenths-short (across last tick) (omega arith))
+    (both 1 5 (codes ",") (tenths height) (omega arith) (tenths-short height (omega arith))))
 
-curve-short : (curves : Curves) (others : List Stretch) (most : ℕ) (line : Line) → length (curve curves others most line) ≤ 2474
-curve-short curves others most line =
-    let own = points curves most (drawn_of curves others line.thread) in
+points-short : (curves : Curves) (heads : List ℕ) (stretches : List Stretch) → length (points curves heads stretches) ≤ 2412
+points-short curves heads stretches =
+    let last = last_end curves.stretches in
+    let samples = range_with_len 0 (sample_count last + 1) in
+    let each = λ (k d : ℕ) (below : k < length samples). point-short curves (get_or heads (get_or samples k d) 0) stretches (sample_tick last (get_or samples k d)) in
+    omega (arith, all-short (sample_point curves heads stretches) 12 samples each, length-range_with_len 0 (sample_count last + 1))
+
+curve-short : (curves : Curves) (others : List Stretch) (heads : List ℕ) (line : Line) → length (curve curves others heads line) ≤ 2474
+curve-short curves others heads line =
+    let own = points curves heads (drawn_of curves others line.thread) in
     both 18 2456 (codes "<polyline points='") (own ++ (codes "' stroke='" ++ (colour line.style ++ (codes "'" ++ (strokes line.style ++ codes "/>\n"))))) (omega arith)
-    (both 2412 44 own (codes "' stroke='" ++ (colour line.style ++ (codes "'" ++ (strokes line.style ++ codes "/>\n")))) (points-short curves most (drawn_of curves others line.thread))
+    (both 2412 44 own (codes "' stroke='" ++ (colour line.style ++ (codes "'" ++ (strokes line.style ++ codes "/>\n")))) (points-short curves heads (drawn_of curves others line.thread))
     (both 10 34 (codes "' stroke='") (colour line.style ++ (codes "'" ++ (strokes line.style ++ codes "/>\n"))) (omega arith)
     (both 7 27 (colour line.style) (codes "'" ++ (strokes line.style ++ codes "/>\n")) (colour-short line.style)
     (both 1 26 (codes "'") (strokes line.style ++ codes "/>\n") (omega arith) (both 23 3 (strokes line.style) (codes "/>\n") (strokes-short line.style) (omega arith))))))
@@ -231,36 +246,51 @@ lines-high most style least (s ∷ shown) = All-cons (λ (line : Line). line.hei
 
 -- ---- the picture
 
-head-short : (title : List ℕ) → length (head title) ≤ 300 + 10 * length title
-head-short title =
+head-short : (width : ℕ) (title : List ℕ) → width ≤ 1040 → length (head width title) ≤ 300 + 10 * length title
+head-short width title narrow =
     let t = length title in
     let text : length (escaped title) ≤ 5 * t = omega (arith, escaped-short title) in
-    let first = codes "<svg xmlns='http://www.w3.org/2000/svg' width='1040' height='540' viewBox='0 0 1040 540' role='img' aria-labelledby='title' font-family='sans-serif' font-size='12' fill='#222222'>\n<title id='title'>" in
-    let second = codes "</title>\n<rect width='1040' height='540' fill='#ffffff'/>\n<text x='100' y='34' font-size='18'>" in
-    let third = codes "</text>\n" in
-    let end = both (5 * t) 8 (escaped title) third text (omega arith) in
-    let rest = both 94 (5 * t + 8) second (escaped title ++ third) (omega arith) end in
-    let middle = both (5 * t) (94 + (5 * t + 8)) (escaped title) (second ++ (escaped title ++ third)) text rest in
-    let whole = both 198 (5 * t + (94 + (5 * t + 8))) first (escaped title ++ (second ++ (escaped title ++ third))) (omega arith) middle in
-    omega (arith, whole)
+    let number : length (decimal width) ≤ 4 = length-decimal-le 4 width (omega arith) (omega (arith, narrow)) (omega (arith, narrow)) in
+    let first = codes "<svg xmlns='http://www.w3.org/2000/svg' width='" in
+    let second = codes "' height='540' viewBox='0 0 " in
+    let third = codes " 540' role='img' aria-labelledby='title' font-family='sans-serif' font-size='12' fill='#222222'>\n<title id='title'>" in
+    let fourth = codes "</title>\n<rect width='" in
+    let fifth = codes "' height='540' fill='#ffffff'/>\n<text x='100' y='34' font-size='18'>" in
+    let last = codes "</text>\n" in
+    let shown = escaped title ++ last in
+    let named = escaped title ++ (fourth ++ (decimal width ++ (fifth ++ shown))) in
+    let one = both (5 * t) 8 (escaped title) last text (omega arith) in
+    let two = both 68 (5 * t + 8) fifth shown (omega arith) one in
+    let three = both 4 (68 + (5 * t + 8)) (decimal width) (fifth ++ shown) number two in
+    let four = both 22 (4 + (68 + (5 * t + 8))) fourth (decimal width ++ (fifth ++ shown)) (omega arith) three in
+    let five = both (5 * t) (22 + (4 + (68 + (5 * t + 8)))) (escaped title) (fourth ++ (decimal width ++ (fifth ++ shown))) text four in
+    let six = both 115 (5 * t + (22 + (4 + (68 + (5 * t + 8))))) third named (omega arith) five in
+    let seven = both 4 (115 + (5 * t + (22 + (4 + (68 + (5 * t + 8)))))) (decimal width) (third ++ named) number six in
+    let eight = both 28 (4 + (115 + (5 * t + (22 + (4 + (68 + (5 * t + 8))))))) second (decimal width ++ (third ++ named)) (omega arith) seven in
+    let nine = both 4 (28 + (4 + (115 + (5 * t + (22 + (4 + (68 + (5 * t + 8)))))))) (decimal width) (second ++ (decimal width ++ (third ++ named))) number eight in
+    let ten = both 47 (4 + (28 + (4 + (115 + (5 * t + (22 + (4 + (68 + (5 * t + 8))))))))) first (decimal width ++ (second ++ (decimal width ++ (third ++ named)))) (omega arith) nine in
+    omega (arith, ten)
 
-pub chart-short : (title : List ℕ) (curves : Curves) → All (λ (name : List ℕ). length name ≤ 16) curves.names → curves.origin < 2 ^ 56 → length (chart title curves) ≤ 34000 + 10 * length title
+pub chart-short : (title : List ℕ) (curves : Curves) → All (λ (name : List ℕ). length name ≤ 16) curves.names → curves.origin < 2 ^ 56 → unwrap_or curves.window 0 < 2 ^ 32 → length (chart title curves) ≤ 34000 + 10 * length title
 unfolding picture
-chart-short title curves short early =
+chart-short title curves short early narrow =
     let shown = (selection curves).shown in
     let others = (selection curves).others in
     let most = most_in shown in
-    let lines = lines_of shown in
-    let many = lines-many most 0 600 shown in
+    let lines = lines_in curves (selection curves) in
+    let top = top_at curves most (last_end curves.stretches) in
+    let heads = tops curves most in
+    let many = lines-many top 0 600 shown in
     let few = shown-few curves in
     let drawn : All (λ (line : Line). length (label curves.names (total curves) line) ≤ 176) lines =
-    λ k d below. label-short curves.names short (total curves) (get_or lines k d) (record { height = lines-high most 0 600 shown k d below; place = names-within shown few k d below }) in
-    let curved : length (flat_map (curve curves others most) lines) ≤ 29688 = omega (arith, all-short (curve curves others most) 2474 lines (λ k d below. curve-short curves others most (get_or lines k d)), many, few) in
+    λ k d below. label-short curves.names short (total curves) (get_or lines k d) (record { height = lines-high top 0 600 shown k d below; place = names-within top shown few k d below }) in
+    let curved : length (flat_map (curve curves others heads) lines) ≤ 29688 = omega (arith, all-short (curve curves others heads) 2474 lines (λ k d below. curve-short curves others heads (get_or lines k d)), many, few) in
     let named : length (flat_map (label curves.names (total curves)) lines) ≤ 2112 = omega (arith, all-short (label curves.names (total curves)) 176 lines drawn, many, few) in
     let end = both 2112 7 (flat_map (label curves.names (total curves)) lines) (codes "</svg>\n") named (omega arith) in
     let four = both 5 2119 (codes "</g>\n") (flat_map (label curves.names (total curves)) lines ++ codes "</svg>\n") (omega arith) end in
-    let three = both 29688 2124 (flat_map (curve curves others most) lines) (codes "</g>\n" ++ (flat_map (label curves.names (total curves)) lines ++ codes "</svg>\n")) curved four in
-    let two = both 57 31812 (codes "<g fill='none' stroke-width='2' stroke-linejoin='round'>\n") (flat_map (curve curves others most) lines ++ (codes "</g>\n" ++ (flat_map (label curves.names (total curves)) lines ++ codes "</svg>\n"))) (omega arith) three in
-    let one = both 1590 31869 (axes curves most) (codes "<g fill='none' stroke-width='2' stroke-linejoin='round'>\n" ++ (flat_map (curve curves others most) lines ++ (codes "</g>\n" ++ (flat_map (label curves.names (total curves)) lines ++ codes "</svg>\n")))) (axes-short curves most early) two in
-    let whole = both (300 + 10 * length title) 33459 (head title) (axes curves most ++ (codes "<g fill='none' stroke-width='2' stroke-linejoin='round'>\n" ++ (flat_map (curve curves others most) lines ++ (codes "</g>\n" ++ (flat_map (label curves.names (total curves)) lines ++ codes "</svg>\n"))))) (head-short title) one in
+    let three = both 29688 2124 (flat_map (curve curves others heads) lines) (codes "</g>\n" ++ (flat_map (label curves.names (total curves)) lines ++ codes "</svg>\n")) curved four in
+    let two = both 57 31812 (codes "<g fill='none' stroke-width='2' stroke-linejoin='round'>\n") (flat_map (curve curves others heads) lines ++ (codes "</g>\n" ++ (flat_map (label curves.names (total curves)) lines ++ codes "</svg>\n"))) (omega arith) three in
+    let one = both 1621 31869 (axes curves most) (codes "<g fill='none' stroke-width='2' stroke-linejoin='round'>\n" ++ (flat_map (curve curves others heads) lines ++ (codes "</g>\n" ++ (flat_map (label curves.names (total curves)) lines ++ codes "</svg>\n")))) (axes-short curves most early narrow) two in
+    let width = width_for (longest_name curves.names lines) (length title) in
+    let whole = both (300 + 10 * length title) 33490 (head width title) (axes curves most ++ (codes "<g fill='none' stroke-width='2' stroke-linejoin='round'>\n" ++ (flat_map (curve curves others heads) lines ++ (codes "</g>\n" ++ (flat_map (label curves.names (total curves)) lines ++ codes "</svg>\n"))))) (head-short width title (omega arith)) one in
     omega (arith, whole)

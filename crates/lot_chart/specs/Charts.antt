@@ -1,22 +1,20 @@
 -- Curves as a picture, which is an SVG. Lengths are in tenths of its unit; the plot extends horizontally from 1000 to
 -- 7700, and vertically from 600 to 4600.
-use Rattle.std.specs.Prelude.{ℕ, ◌+◌, ◌*◌, ◌/◌, ◌%◌, min, max, ◌==◌, nat_le, List, [], ◌++◌, codes, unwrap_or, if◌then◌else◌}
-use Rattle.std.specs.List.{flat_map}
+use Rattle.std.specs.Prelude.{ℕ, ◌+◌, ◌*◌, ◌%◌, min, max, ◌==◌, nat_le, Option, Some, None, List, [], ◌++◌, codes, fold, length, map, slice_index, unwrap_or, if◌then◌else◌}
+use Rattle.std.specs.List.{flat_map, range_with_len}
 use Rattle.std.specs.Fmt.{decimal}
 use Rattle.lot_machine.specs.Numbered.{at_number}
 use Rattle.lot_curves.specs.declared.stretch.Measure.TheVariants.{Ticks}
 use Rattle.lot_curves.specs.declared.stretch.Stretch.{Stretch}
-use Rattle.lot_curves.specs.Curves.{Curves, sample_ticks}
-use Rattle.lot_curves.specs.Stretches.{had_at, last_end, stretches_of}
+use Rattle.lot_curves.specs.Curves.{Curves, sample_count, sample_tick, sample_ticks, total_at}
+use Rattle.lot_curves.specs.Stretches.{last_end, stretches_of}
+use Rattle.lot_curves.specs.Windows.{had_in}
 use Rattle.lot_chart.specs.declared.lines.Line.{Line}
 use Rattle.lot_chart.specs.Axes.{marks, time_marks}
 use Rattle.lot_chart.specs.Escapes.{escaped}
 use Rattle.lot_chart.specs.Lines.{scaled, height_of, lines_of, most_in}
+use Rattle.lot_chart.specs.Shares.{share_of, tenths, whole_at}
 use Rattle.lot_chart.specs.Standings.{Selected, selection}
-
--- a number of tenths, with a point
-abbrev pub tenths : ℕ → List ℕ
-tenths n = decimal (n / 10) ++ (codes "." ++ decimal (n % 10))
 
 -- the horizontal position of a tick
 abbrev pub across : ℕ → ℕ → ℕ
@@ -24,13 +22,16 @@ across last tick = 1000 + scaled tick last 6700
 
 -- ---- the frame
 
--- the part up to the axes: the title, for screen readers and above the plot, on white
-abbrev pub head : List ℕ → List ℕ
-head title =
-    codes "<svg xmlns='http://www.w3.org/2000/svg' width='1040' height='540' viewBox='0 0 1040 540' role='img' aria-labelledby='title' font-family='sans-serif' font-size='12' fill='#222222'>\n<title id='title'>"
-    ++ (escaped title ++ (codes "</title>\n<rect width='1040' height='540' fill='#ffffff'/>\n<text x='100' y='34' font-size='18'>" ++ (escaped title ++ codes "</text>\n")))
+-- the part up to the axes: the title, for screen readers and above the plot, on white; the picture is this many units
+-- wide
+abbrev pub head : ℕ → List ℕ → List ℕ
+head width title =
+    codes "<svg xmlns='http://www.w3.org/2000/svg' width='" ++ (decimal width ++ (codes "' height='540' viewBox='0 0 " ++ (decimal width
+    ++ (codes " 540' role='img' aria-labelledby='title' font-family='sans-serif' font-size='12' fill='#222222'>\n<title id='title'>"
+    ++ (escaped title ++ (codes "</title>\n<rect width='" ++ (decimal width
+    ++ (codes "' height='540' fill='#ffffff'/>\n<text x='100' y='34' font-size='18'>" ++ (escaped title ++ codes "</text>\n")))))))))
 
--- the mark of a number of ticks on the axis of heights, and a thin line from it across the plot
+-- the mark of a number of ticks, or of a percentage, on the axis of heights, and a thin line from it across the plot
 abbrev pub height_mark : ℕ → ℕ → List ℕ
 height_mark most ticks =
     codes "<path d='M100 " ++ (tenths (height_of most ticks) ++ (codes "H770' stroke='#dddddd'/>\n<text x='92' y='"
@@ -42,11 +43,28 @@ time_mark curves tick =
     codes "<path d='M" ++ (tenths (across (last_end curves.stretches) tick) ++ (codes " 460v5' stroke='#222222'/>\n<text x='"
     ++ (tenths (across (last_end curves.stretches) tick) ++ (codes "' y='480' text-anchor='middle'>" ++ (decimal (curves.origin + tick) ++ codes "</text>\n")))))
 
--- both axes and their labels, given the most ticks of a line
+-- the number at the top of the axis of heights: the most ticks of a line, or with a window 100 percent
+abbrev pub highest : Option ℕ → ℕ → ℕ
+highest None most = most
+highest (Some window) most = 100
+
+-- what heights mean
+abbrev pub heights_label : Option ℕ → List ℕ
+heights_label None = codes "what each thread has run, in ticks"
+heights_label (Some window) =
+    codes "what each thread has run in the last " ++ (decimal window ++ codes " ticks, in percent")
+
+-- the lines of both axes, and their labels
+abbrev pub frame : Option ℕ → List ℕ
+frame window =
+    codes "<path d='M100 60V460H770' fill='none' stroke='#222222'/>\n<text x='435' y='512' text-anchor='middle'>time, in ticks</text>\n<text transform='translate(14 260) rotate(-90)' text-anchor='middle'>"
+    ++ (heights_label window ++ codes "</text>\n")
+
+-- both axes with their marks, given the most ticks of a line
 abbrev pub axes : Curves → ℕ → List ℕ
 axes curves most =
-    flat_map (height_mark most) (marks most) ++ (flat_map (time_mark curves) (time_marks curves.origin (last_end curves.stretches))
-    ++ codes "<path d='M100 60V460H770' fill='none' stroke='#222222'/>\n<text x='435' y='512' text-anchor='middle'>time, in ticks</text>\n<text transform='translate(14 260) rotate(-90)' text-anchor='middle'>what each thread has run, in ticks</text>\n")
+    flat_map (height_mark (highest curves.window most)) (marks (highest curves.window most))
+    ++ (flat_map (time_mark curves) (time_marks curves.origin (last_end curves.stretches)) ++ frame curves.window)
 
 -- ---- the lines
 
@@ -60,29 +78,42 @@ colour style =
 abbrev pub strokes : ℕ → List ℕ
 strokes style = if nat_le 8 style then codes " stroke-dasharray='7 4'" else []
 
--- the point for these stretches' ticks up to this tick
-abbrev pub point : ℕ → ℕ → List Stretch → ℕ → List ℕ
-point last most stretches tick = codes " " ++ (tenths (across last tick) ++ (codes "," ++ tenths (height_of most (had_at Ticks tick stretches))))
+-- the ticks that the top of the plot stands for at a tick: with a window all in the one that ends there, and otherwise
+-- the most of a line
+abbrev pub top_at : Curves → ℕ → ℕ → ℕ
+top_at curves most tick = unwrap_or (whole_at Ticks curves tick) most
+
+-- the ticks at the top of the plot at each sample
+abbrev pub tops : Curves → ℕ → List ℕ
+tops curves most = map (top_at curves most) (sample_ticks (last_end curves.stretches))
+
+-- the point for the ticks of these stretches at this tick, given the ticks at the top of the plot
+abbrev pub point : Curves → ℕ → List Stretch → ℕ → List ℕ
+point curves top stretches tick =
+    codes " " ++ (tenths (across (last_end curves.stretches) tick)
+    ++ (codes "," ++ tenths (height_of top (had_in Ticks curves.window tick stretches))))
+
+-- the point of a sample, given the tops at all samples
+abbrev pub sample_point : Curves → List ℕ → List Stretch → ℕ → List ℕ
+sample_point curves tops stretches sample =
+    point curves (slice_index tops sample) stretches (sample_tick (last_end curves.stretches) sample)
 
 -- a point for each sample
-abbrev pub points : Curves → ℕ → List Stretch → List ℕ
-points curves most stretches = flat_map (point (last_end curves.stretches) most stretches) (sample_ticks (last_end curves.stretches))
+abbrev pub points : Curves → List ℕ → List Stretch → List ℕ
+points curves tops stretches =
+    flat_map (sample_point curves tops stretches) (range_with_len 0 (sample_count (last_end curves.stretches) + 1))
 
 -- the stretches that a line shows: those of its thread, or of all threads without a line
 abbrev pub drawn_of : Curves → List Stretch → ℕ → List Stretch
 drawn_of curves others thread = if thread == 0 then others else stretches_of thread curves.stretches
 
 -- a line, with a point for each sample
-abbrev pub curve : Curves → List Stretch → ℕ → Line → List ℕ
-curve curves others most line =
-    codes "<polyline points='" ++ (points curves most (drawn_of curves others line.thread)
+abbrev pub curve : Curves → List Stretch → List ℕ → Line → List ℕ
+curve curves others tops line =
+    codes "<polyline points='" ++ (points curves tops (drawn_of curves others line.thread)
     ++ (codes "' stroke='" ++ (colour line.style ++ (codes "'" ++ (strokes line.style ++ codes "/>\n")))))
 
 -- ---- their names
-
--- a part of the whole in tenths of a percent, rounded
-abbrev pub share_of : ℕ → ℕ → ℕ
-share_of total ticks = min ((1000 * ticks + total / 2) / max 1 total) 1000
 
 -- the name of the line's thread; thread 0 stands for the others
 abbrev pub name_of : List (List ℕ) → ℕ → List ℕ
@@ -104,17 +135,29 @@ label names total line = leader line ++ name_text names total line
 
 -- ---- the picture
 
--- all ticks that threads have run
+-- all ticks that threads have run, or with a window those in the last
 abbrev pub total : Curves → ℕ
-total curves = had_at Ticks (last_end curves.stretches) curves.stretches
+total curves = total_at Ticks curves (last_end curves.stretches)
+
+-- the lines of the selected threads
+abbrev pub lines_in : Curves → Selected → List Line
+lines_in curves selected = lines_of (top_at curves (most_in selected.shown) (last_end curves.stretches)) selected.shown
+
+-- the bytes of the longest name beside a line
+abbrev pub longest_name : List (List ℕ) → List Line → ℕ
+longest_name names lines = fold (λ most line. max (length (name_of names line.thread)) most) 0 lines
+
+-- the width of the picture, in its unit: room for the longest name and its share, and for the title, but at most 1040
+abbrev pub width_for : ℕ → ℕ → ℕ
+width_for name title = min 1040 (max (848 + 12 * name) (110 + 11 * title))
 
 -- the picture with these lines
 unfoldable pub picture : List ℕ → Curves → Selected → List Line → List ℕ
 picture title curves selected lines =
-    head title ++ (axes curves (most_in selected.shown)
-    ++ (codes "<g fill='none' stroke-width='2' stroke-linejoin='round'>\n" ++ (flat_map (curve curves selected.others (most_in selected.shown)) lines
+    head (width_for (longest_name curves.names lines) (length title)) title ++ (axes curves (most_in selected.shown)
+    ++ (codes "<g fill='none' stroke-width='2' stroke-linejoin='round'>\n" ++ (flat_map (curve curves selected.others (tops curves (most_in selected.shown))) lines
     ++ (codes "</g>\n" ++ (flat_map (label curves.names (total curves)) lines ++ codes "</svg>\n")))))
 
 -- the picture of the curves, with this title
 abbrev pub chart : List ℕ → Curves → List ℕ
-chart title curves = picture title curves (selection curves) (lines_of (selection curves).shown)
+chart title curves = picture title curves (selection curves) (lines_in curves (selection curves))

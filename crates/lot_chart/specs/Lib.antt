@@ -1,3 +1,5 @@
+-- Shares of a whole in percent, and their texts.
+pub mod Shares
 -- Curves as a table with comma-separated fields.
 pub mod Tables
 -- The threads with lines of their own.

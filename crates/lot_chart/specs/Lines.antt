@@ -28,6 +28,6 @@ lines_after most style least (s ∷ shown) =
     record { thread = s.thread; ticks = s.ticks; style = style; height = height_of most s.ticks; place = place_of least (height_of most s.ticks) (length shown) }
     ∷ lines_after most (style + 1) (place_of least (height_of most s.ticks) (length shown) + 160) shown
 
--- the lines of these standings, which are in descending order of ticks
-abbrev pub lines_of : List Standing → List Line
-lines_of shown = lines_after (most_in shown) 0 600 shown
+-- the lines of these standings, which are in descending order of ticks, if the plot's top stands for this many ticks
+abbrev pub lines_of : ℕ → List Standing → List Line
+lines_of most shown = lines_after most 0 600 shown

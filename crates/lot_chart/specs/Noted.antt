@@ -29,7 +29,12 @@ stretches_in before (made ∷ turns) = stretches_of_turn before made ++ stretche
 
 -- the curves of these turns of the program
 abbrev pub curves_after : Program → List MadeTurn → Curves
-curves_after program turns = record { names = names_in (world_after_turns (opening_world program) turns).state; stretches = stretches_in [] turns; origin = 0 }
+curves_after program turns = record {
+  names = names_in (world_after_turns (opening_world program) turns).state;
+  stretches = stretches_in [] turns;
+  origin = 0;
+  window = None;
+}
 
 -- the time at which this actor's last turn in a system ended: this time, or, without one, the actor's own time
 abbrev pub end_in : Seen → Option ℕ → ℕ → ℕ

@@ -1,5 +1,5 @@
 -- A small run, and its curves as a table and as a picture, worked out by hand.
-use Rattle.std.specs.Prelude.{ℕ, List, [], ◌∷◌, codes}
+use Rattle.std.specs.Prelude.{ℕ, None, List, [], ◌∷◌, codes}
 use Rattle.lot_curves.specs.Curves.{Curves, curves_of}
 use Rattle.lot_simulation.specs.Samples.{text}
 use Rattle.lot_simulation.specs.WorkedSystems.{first_run}
@@ -24,14 +24,15 @@ seven_tick_curves = record {
       record { thread = 1; end = 0; ticks = 0; draws = 1 } ∷ record { thread = 1; end = 4; ticks = 4; draws = 0 }
       ∷ record { thread = 2; end = 4; ticks = 0; draws = 1 } ∷ record { thread = 2; end = 7; ticks = 3; draws = 0 } ∷ [];
   origin = 0;
+  window = None;
 }
 
 -- the picture of `three_ticks` with the title `a < b`
 abbrev pub three_tick_picture : List ℕ
 three_tick_picture = text (
-    codes "<svg xmlns='http://www.w3.org/2000/svg' width='1040' height='540' viewBox='0 0 1040 540' role='img' aria-labelledby='title' font-family='sans-serif' font-size='12' fill='#222222'>"
+    codes "<svg xmlns='http://www.w3.org/2000/svg' width='860' height='540' viewBox='0 0 860 540' role='img' aria-labelledby='title' font-family='sans-serif' font-size='12' fill='#222222'>"
     ∷ codes "<title id='title'>a &lt; b</title>"
-    ∷ codes "<rect width='1040' height='540' fill='#ffffff'/>"
+    ∷ codes "<rect width='860' height='540' fill='#ffffff'/>"
     ∷ codes "<text x='100' y='34' font-size='18'>a &lt; b</text>"
     ∷ codes "<path d='M100 460.0H770' stroke='#dddddd'/>"
     ∷ codes "<text x='92' y='460.0' dy='4' text-anchor='end'>0</text>"
@@ -58,4 +59,44 @@ three_tick_picture = text (
     ∷ codes "<text x='788' y='60.0' dy='4'>a 66.7%</text>"
     ∷ codes "<path d='M770 260.0L784 260.0' stroke='#d55e00'/>"
     ∷ codes "<text x='788' y='260.0' dy='4'>b 33.3%</text>"
+    ∷ codes "</svg>" ∷ [])
+
+-- the same with a window of two ticks: at tick 3 each thread has run one of the last two
+abbrev pub three_tick_window_picture : List ℕ
+three_tick_window_picture = text (
+    codes "<svg xmlns='http://www.w3.org/2000/svg' width='860' height='540' viewBox='0 0 860 540' role='img' aria-labelledby='title' font-family='sans-serif' font-size='12' fill='#222222'>"
+    ∷ codes "<title id='title'>a &lt; b</title>"
+    ∷ codes "<rect width='860' height='540' fill='#ffffff'/>"
+    ∷ codes "<text x='100' y='34' font-size='18'>a &lt; b</text>"
+    ∷ codes "<path d='M100 460.0H770' stroke='#dddddd'/>"
+    ∷ codes "<text x='92' y='460.0' dy='4' text-anchor='end'>0</text>"
+    ∷ codes "<path d='M100 380.0H770' stroke='#dddddd'/>"
+    ∷ codes "<text x='92' y='380.0' dy='4' text-anchor='end'>20</text>"
+    ∷ codes "<path d='M100 300.0H770' stroke='#dddddd'/>"
+    ∷ codes "<text x='92' y='300.0' dy='4' text-anchor='end'>40</text>"
+    ∷ codes "<path d='M100 220.0H770' stroke='#dddddd'/>"
+    ∷ codes "<text x='92' y='220.0' dy='4' text-anchor='end'>60</text>"
+    ∷ codes "<path d='M100 140.0H770' stroke='#dddddd'/>"
+    ∷ codes "<text x='92' y='140.0' dy='4' text-anchor='end'>80</text>"
+    ∷ codes "<path d='M100 60.0H770' stroke='#dddddd'/>"
+    ∷ codes "<text x='92' y='60.0' dy='4' text-anchor='end'>100</text>"
+    ∷ codes "<path d='M100.0 460v5' stroke='#222222'/>"
+    ∷ codes "<text x='100.0' y='480' text-anchor='middle'>0</text>"
+    ∷ codes "<path d='M323.3 460v5' stroke='#222222'/>"
+    ∷ codes "<text x='323.3' y='480' text-anchor='middle'>1</text>"
+    ∷ codes "<path d='M546.6 460v5' stroke='#222222'/>"
+    ∷ codes "<text x='546.6' y='480' text-anchor='middle'>2</text>"
+    ∷ codes "<path d='M770.0 460v5' stroke='#222222'/>"
+    ∷ codes "<text x='770.0' y='480' text-anchor='middle'>3</text>"
+    ∷ codes "<path d='M100 60V460H770' fill='none' stroke='#222222'/>"
+    ∷ codes "<text x='435' y='512' text-anchor='middle'>time, in ticks</text>"
+    ∷ codes "<text transform='translate(14 260) rotate(-90)' text-anchor='middle'>what each thread has run in the last 2 ticks, in percent</text>"
+    ∷ codes "<g fill='none' stroke-width='2' stroke-linejoin='round'>"
+    ∷ codes "<polyline points=' 100.0,460.0 323.3,60.0 546.6,60.0 770.0,260.0' stroke='#0072b2'/>"
+    ∷ codes "<polyline points=' 100.0,460.0 323.3,460.0 546.6,460.0 770.0,260.0' stroke='#d55e00'/>"
+    ∷ codes "</g>"
+    ∷ codes "<path d='M770 260.0L784 260.0' stroke='#0072b2'/>"
+    ∷ codes "<text x='788' y='260.0' dy='4'>a 50.0%</text>"
+    ∷ codes "<path d='M770 260.0L784 276.0' stroke='#d55e00'/>"
+    ∷ codes "<text x='788' y='276.0' dy='4'>b 50.0%</text>"
     ∷ codes "</svg>" ∷ [])

@@ -1,21 +1,26 @@
 //! Curves as a picture.
-ghost use Rattle.std.specs.Prelude.{◌≡◌, ◌<◌, ◌≤◌, ◌^◌, ◌++◌, IfOk, OnOk, length};
+ghost use Rattle.std.specs.Prelude.{◌≡◌, ◌+◌, ◌<◌, ◌≤◌, ◌^◌, ◌++◌, IfOk, OnOk, Some, length};
 ghost use Rattle.std.specs.List.{flat_map};
 ghost use Rattle.lot_chart.specs.Charts as definitions;
-ghost use Rattle.lot_chart.specs.Charts.{axes, curve, drawn_of, head, height_mark, label, leader, name_text, picture};
-ghost use Rattle.lot_chart.specs.Charts.{point, points, time_mark};
+ghost use Rattle.lot_chart.specs.Charts.{axes, curve, drawn_of, frame, head, height_mark, heights_label, label};
+ghost use Rattle.lot_chart.specs.Charts.{leader, name_text, picture, point, points, time_mark};
 ghost use Rattle.lot_chart.specs.Axes.{marks, time_marks};
+ghost use Rattle.lot_curves.specs.Curves.{sample_count};
 ghost use Rattle.lot_curves.specs.Stretches.{last_end};
 
 use crate::axes::{axis_step, lead, mark_count, time_mark_count};
 use crate::escapes::push_escaped;
 use crate::lines::{height_of, lines_of, most_in, scaled};
+use crate::shares::{share_of, whole_at};
 use crate::standings::{select, stretches_of_thread};
 use crate::text::Text;
 use crate::{Line, Standing};
-use lot_curves::{Curves, Measure, Stretch, had_at};
+use lot_curves::{Curves, Measure, Stretch, had_in};
 use lot_machine::{Name, index_of};
 use std::alloc::{AllocError, Global};
+
+/// The width of the widest picture, in whole units.
+const WIDEST: usize = 1040;
 
 /// The left edge of the plot.
 const LEFT: u32 = 1000;
@@ -23,30 +28,33 @@ const LEFT: u32 = 1000;
 /// The width of the plot.
 const WIDTH: u32 = 6700;
 
-/// The part of the picture before the title.
-const BEGINNING: &str =
-    "<svg xmlns='http://www.w3.org/2000/svg' width='1040' height='540' viewBox='0 0 1040 540' role='img' \
-    aria-labelledby='title' font-family='sans-serif' font-size='12' fill='#222222'>\n<title id='title'>";
+/// The part of the picture from its size to the title.
+const FONT: &str =
+    " 540' role='img' aria-labelledby='title' font-family='sans-serif' font-size='12' \
+    fill='#222222'>\n<title id='title'>";
 
-/// The part of the picture after the axes' marks.
+/// The part of the picture after the axes' marks, up to the label of heights.
 const FRAME: &str = "<path d='M100 60V460H770' fill='none' stroke='#222222'/>\n\
     <text x='435' y='512' text-anchor='middle'>time, in ticks</text>\n\
-    <text transform='translate(14 260) rotate(-90)' text-anchor='middle'>what each thread has run, in ticks</text>\n";
+    <text transform='translate(14 260) rotate(-90)' text-anchor='middle'>";
 
 /// The picture of the curves, an SVG with this title: a line for each thread, or for the eleven that have run longest
-/// and one for the others together. At each line's end are the thread's name and its share of all ticks.
+/// and one for the others together. At each line's end are the thread's name and its share of all ticks. With a window,
+/// lines show shares of the last ticks, and the eleven are those that have run longest in the last window.
 pub fn chart_of(alloc: Global, curves: &Curves, title: &str) -> Result<Vec<u8>, AllocError>
     ensures { IfOk result (λ text. text.items ≡ definitions.chart title.now curves.now) }
 {
     let selection = select(alloc, curves)?;
-    let lines = lines_of(alloc, selection.shown.as_slice())?;
+    let shown = selection.shown.as_slice();
+    let top = top_at(curves, most_in(shown), curves.last());
+    let lines = lines_of(alloc, top, shown)?;
     let mut text = Text::new(alloc);
     push_picture(
         alloc,
         &mut text,
         title.as_bytes(),
         curves,
-        selection.shown.as_slice(),
+        shown,
         selection.others.as_slice(),
         lines.as_slice(),
     )?;
@@ -68,25 +76,54 @@ fn push_picture(
         ++ picture title.now curves.now (record { shown = shown.now; others = others.now }) lines.now) }
 {
     let most = most_in(shown);
-    push_head(text, title)?;
+    let names = curves.names();
+    let width = width_for(longest_name(names, lines), title.len());
+    push_head(text, width, title)?;
     push_axes(text, curves, most)?;
     text.push("<g fill='none' stroke-width='2' stroke-linejoin='round'>\n")?;
-    push_curves(alloc, text, curves, others, most, lines)?;
+    let tops = tops_of(alloc, curves, most)?;
+    push_curves(alloc, text, curves, others, tops.as_slice(), lines)?;
     text.push("</g>\n")?;
-    push_labels(text, curves.names(), total_of(curves), lines)?;
+    push_labels(text, names, total_of(curves), lines)?;
     text.push("</svg>\n")?;
     Ok(())
 }
 
-/// Adds the part before the axes.
-fn push_head(text: &mut Text, title: &[u8]) -> Result<(), AllocError>
-    ensures { OnOk result (text.new ≡ text.old ++ head title.now) }
+/// The bytes of the longest name beside a line.
+fn longest_name(names: &[Name], lines: &[Line]) -> usize
+    ensures exact { result ≡ definitions.longest_name names.now lines.now }
+    ensures short { result ≤ 16 }
 {
-    text.push(BEGINNING)?;
+    let mut longest = 0;
+    for line in lines {
+        longest = name_of(names, line.thread).len().max(longest);
+    }
+    longest
+}
+
+/// The width of the picture: room for a name of this many bytes and its share, and for a title, but at most 1040.
+fn width_for(name: usize, title: usize) -> u64
+    requires { name ≤ 16 }
+    ensures { result ≡ definitions.width_for name title }
+{
+    let named = 848 + 12 * name;
+    let titled = 110 + 11 * title.min(WIDEST);
+    named.max(titled).min(WIDEST) as u64
+}
+
+/// Adds the part before the axes.
+fn push_head(text: &mut Text, width: u64, title: &[u8]) -> Result<(), AllocError>
+    ensures { OnOk result (text.new ≡ text.old ++ head width title.now) }
+{
+    text.push("<svg xmlns='http://www.w3.org/2000/svg' width='")?;
+    text.push_number(width)?;
+    text.push("' height='540' viewBox='0 0 ")?;
+    text.push_number(width)?;
+    text.push(FONT)?;
     push_escaped(text, title)?;
-    text.push(
-        "</title>\n<rect width='1040' height='540' fill='#ffffff'/>\n<text x='100' y='34' font-size='18'>",
-    )?;
+    text.push("</title>\n<rect width='")?;
+    text.push_number(width)?;
+    text.push("' height='540' fill='#ffffff'/>\n<text x='100' y='34' font-size='18'>")?;
     push_escaped(text, title)?;
     text.push("</text>\n")?;
     Ok(())
@@ -96,9 +133,49 @@ fn push_head(text: &mut Text, title: &[u8]) -> Result<(), AllocError>
 fn push_axes(text: &mut Text, curves: &Curves, most: u64) -> Result<(), AllocError>
     ensures { OnOk result (text.new ≡ text.old ++ axes curves.now most) }
 {
-    push_height_marks(text, most)?;
+    push_height_marks(text, highest(curves, most))?;
     push_time_marks(text, curves)?;
+    push_frame(text, curves.window())?;
+    Ok(())
+}
+
+/// The number at the top of the axis of heights: the most ticks of a line, or with a window 100 percent.
+fn highest(curves: &Curves, most: u64) -> u64
+    ensures { result ≡ definitions.highest curves.now.window most }
+{
+    match curves.window() {
+        None => most,
+        Some(_) => 100,
+    }
+}
+
+/// Adds the lines of both axes, and their labels.
+fn push_frame(text: &mut Text, window: Option<u32>) -> Result<(), AllocError>
+    ensures { OnOk result (text.new ≡ text.old ++ frame window) }
+{
     text.push(FRAME)?;
+    push_heights_label(text, window)?;
+    text.push("</text>\n")?;
+    Ok(())
+}
+
+/// Adds what heights mean.
+fn push_heights_label(text: &mut Text, window: Option<u32>) -> Result<(), AllocError>
+    ensures { OnOk result (text.new ≡ text.old ++ heights_label window) }
+{
+    match window {
+        None => text.push("what each thread has run, in ticks"),
+        Some(window) => push_window_label(text, window),
+    }
+}
+
+/// Adds what heights mean with a window.
+fn push_window_label(text: &mut Text, window: u32) -> Result<(), AllocError>
+    ensures { OnOk result (text.new ≡ text.old ++ heights_label (Some window)) }
+{
+    text.push("what each thread has run in the last ")?;
+    text.push_number(u64::from(window))?;
+    text.push(" ticks, in percent")?;
     Ok(())
 }
 
@@ -113,15 +190,15 @@ fn push_height_marks(text: &mut Text, most: u64) -> Result<(), AllocError>
     Ok(())
 }
 
-/// Adds one mark of the axis of heights.
+/// Adds the mark of a number of ticks, or of a percentage, on the axis of heights.
 fn push_height_mark(text: &mut Text, most: u64, ticks: u64) -> Result<(), AllocError>
     ensures { OnOk result (text.new ≡ text.old ++ height_mark most ticks) }
 {
     let height = height_of(most, ticks);
     text.push("<path d='M100 ")?;
-    push_tenths(text, height)?;
+    text.push_tenths(height)?;
     text.push("H770' stroke='#dddddd'/>\n<text x='92' y='")?;
-    push_tenths(text, height)?;
+    text.push_tenths(height)?;
     text.push("' dy='4' text-anchor='end'>")?;
     text.push_number(ticks)?;
     text.push("</text>\n")?;
@@ -150,9 +227,9 @@ fn push_time_mark(text: &mut Text, curves: &Curves, tick: u64) -> Result<(), All
 {
     let across = across(curves.last(), tick);
     text.push("<path d='M")?;
-    push_tenths(text, across)?;
+    text.push_tenths(across)?;
     text.push(" 460v5' stroke='#222222'/>\n<text x='")?;
-    push_tenths(text, across)?;
+    text.push_tenths(across)?;
     text.push("' y='480' text-anchor='middle'>")?;
     text.push_number(curves.origin() + tick)?;
     text.push("</text>\n")?;
@@ -166,30 +243,21 @@ fn across(last: u64, tick: u64) -> u32
     LEFT + scaled(tick, last, WIDTH)
 }
 
-/// Adds a number of tenths, with a point.
-fn push_tenths(text: &mut Text, tenths: u32) -> Result<(), AllocError>
-    ensures { OnOk result (text.new ≡ text.old ++ definitions.tenths tenths) }
-{
-    text.push_number(u64::from(tenths / 10))?;
-    text.push(".")?;
-    text.push_number(u64::from(tenths % 10))?;
-    Ok(())
-}
-
 /// Adds the lines.
 fn push_curves(
     alloc: Global,
     text: &mut Text,
     curves: &Curves,
     others: &[Stretch],
-    most: u64,
+    tops: &[u64],
     lines: &[Line],
 ) -> Result<(), AllocError>
-    requires { length others.now < 2 ^ 32 }
-    ensures { OnOk result (text.new ≡ text.old ++ flat_map (curve curves.now others.now most) lines.now) }
+    requires few { length others.now < 2 ^ 32 }
+    requires tops { length tops.now ≡ sample_count (last_end curves.now.stretches) + 1 }
+    ensures { OnOk result (text.new ≡ text.old ++ flat_map (curve curves.now others.now tops.now) lines.now) }
 {
     for line in lines {
-        push_curve(alloc, text, curves, others, most, line)?;
+        push_curve(alloc, text, curves, others, tops, line)?;
     }
     Ok(())
 }
@@ -200,14 +268,15 @@ fn push_curve(
     text: &mut Text,
     curves: &Curves,
     others: &[Stretch],
-    most: u64,
+    tops: &[u64],
     line: &Line,
 ) -> Result<(), AllocError>
-    requires { length others.now < 2 ^ 32 }
-    ensures { OnOk result (text.new ≡ text.old ++ curve curves.now others.now most line.now) }
+    requires few { length others.now < 2 ^ 32 }
+    requires tops { length tops.now ≡ sample_count (last_end curves.now.stretches) + 1 }
+    ensures { OnOk result (text.new ≡ text.old ++ curve curves.now others.now tops.now line.now) }
 {
     text.push("<polyline points='")?;
-    push_points_of(alloc, text, curves, others, most, line.thread)?;
+    push_points_of(alloc, text, curves, others, tops, line.thread)?;
     text.push("' stroke='")?;
     text.push(colour(line.style))?;
     text.push("'")?;
@@ -222,55 +291,74 @@ fn push_points_of(
     text: &mut Text,
     curves: &Curves,
     others: &[Stretch],
-    most: u64,
+    tops: &[u64],
     thread: u32,
 ) -> Result<(), AllocError>
-    requires { length others.now < 2 ^ 32 }
-    ensures { OnOk result (text.new ≡ text.old ++ points curves.now most (drawn_of curves.now others.now thread)) }
+    requires few { length others.now < 2 ^ 32 }
+    requires tops { length tops.now ≡ sample_count (last_end curves.now.stretches) + 1 }
+    ensures { OnOk result (text.new ≡ text.old ++ points curves.now tops.now (drawn_of curves.now others.now thread)) }
 {
     if thread == 0 {
-        return push_points(text, curves, most, others);
+        return push_points(text, curves, tops, others);
     }
     let own = stretches_of_thread(alloc, curves.stretches(), thread)?;
-    push_points(text, curves, most, own.as_slice())
+    push_points(text, curves, tops, own.as_slice())
 }
 
-/// Adds a point for each sample: the ticks in these stretches up to the sample's tick.
+/// Adds a point for each sample: the ticks of these stretches at the sample's tick.
 fn push_points(
     text: &mut Text,
     curves: &Curves,
-    most: u64,
+    tops: &[u64],
     stretches: &[Stretch],
 ) -> Result<(), AllocError>
-    requires { length stretches.now < 2 ^ 32 }
-    ensures { OnOk result (text.new ≡ text.old ++ points curves.now most stretches.now) }
+    requires few { length stretches.now < 2 ^ 32 }
+    requires tops { length tops.now ≡ sample_count (last_end curves.now.stretches) + 1 }
+    ensures { OnOk result (text.new ≡ text.old ++ points curves.now tops.now stretches.now) }
 {
     for sample in 0..curves.sample_count() + 1 {
-        let tick = curves.sample_tick(sample);
-        push_point(text, curves.last(), most, stretches, tick)?;
+        let top = tops[sample as usize];
+        push_point(text, curves, top, stretches, curves.sample_tick(sample))?;
     }
     Ok(())
 }
 
-/// Adds one point.
+/// Adds one point, given the ticks that the top of the plot stands for.
 fn push_point(
     text: &mut Text,
-    last: u64,
-    most: u64,
+    curves: &Curves,
+    top: u64,
     stretches: &[Stretch],
     tick: u64,
 ) -> Result<(), AllocError>
     requires { length stretches.now < 2 ^ 32 }
-    ensures { OnOk result (text.new ≡ text.old ++ point last most stretches.now tick) }
+    ensures { OnOk result (text.new ≡ text.old ++ point curves.now top stretches.now tick) }
 {
     text.push(" ")?;
-    push_tenths(text, across(last, tick))?;
+    text.push_tenths(across(curves.last(), tick))?;
     text.push(",")?;
-    push_tenths(
-        text,
-        height_of(most, had_at(Measure::Ticks, tick, stretches)),
-    )?;
+    let ticks = had_in(Measure::Ticks, curves.window(), tick, stretches);
+    text.push_tenths(height_of(top, ticks))?;
     Ok(())
+}
+
+/// The ticks that the top of the plot stands for at each sample.
+fn tops_of(alloc: Global, curves: &Curves, most: u64) -> Result<Vec<u64>, AllocError>
+    ensures { IfOk result (λ tops. tops.items ≡ definitions.tops curves.now most) }
+{
+    let mut tops = Vec::new(alloc);
+    for sample in 0..curves.sample_count() + 1 {
+        tops.push(top_at(curves, most, curves.sample_tick(sample)))?;
+    }
+    Ok(tops)
+}
+
+/// The ticks that the top of the plot stands for at this tick: with a window all in the one that ends there, and
+/// otherwise the most of a line.
+fn top_at(curves: &Curves, most: u64, tick: u64) -> u64
+    ensures { result ≡ definitions.top_at curves.now most tick }
+{
+    whole_at(curves, Measure::Ticks, tick).unwrap_or(most)
 }
 
 /// The colour of a style.
@@ -299,11 +387,11 @@ fn strokes(style: u32) -> &'static str
     " stroke-dasharray='7 4'"
 }
 
-/// All ticks that threads have run.
+/// All ticks that threads have run, or with a window those in the last.
 fn total_of(curves: &Curves) -> u64
     ensures { result ≡ definitions.total curves.now }
 {
-    had_at(Measure::Ticks, curves.last(), curves.stretches())
+    curves.total_at(Measure::Ticks, curves.last())
 }
 
 /// Adds the lines' names.
@@ -335,9 +423,9 @@ fn push_leader(text: &mut Text, line: &Line) -> Result<(), AllocError>
     ensures { OnOk result (text.new ≡ text.old ++ leader line.now) }
 {
     text.push("<path d='M770 ")?;
-    push_tenths(text, line.height)?;
+    text.push_tenths(line.height)?;
     text.push("L784 ")?;
-    push_tenths(text, line.place)?;
+    text.push_tenths(line.place)?;
     text.push("' stroke='")?;
     text.push(colour(line.style))?;
     text.push("'/>\n")?;
@@ -349,29 +437,22 @@ fn push_name(text: &mut Text, names: &[Name], total: u64, line: &Line) -> Result
     ensures { OnOk result (text.new ≡ text.old ++ name_text names.now total line.now) }
 {
     text.push("<text x='788' y='")?;
-    push_tenths(text, line.place)?;
+    text.push_tenths(line.place)?;
     text.push("' dy='4'>")?;
     push_escaped(text, name_of(names, line.thread))?;
     text.push(" ")?;
-    push_tenths(text, share_of(total, line.ticks))?;
+    text.push_tenths(share_of(total, line.ticks))?;
     text.push("%</text>\n")?;
     Ok(())
 }
 
 /// The name of the thread; thread 0 stands for the others.
 fn name_of(names: &[Name], thread: u32) -> &[u8]
-    ensures { result.now ≡ definitions.name_of names.now thread }
+    ensures name { result.now ≡ definitions.name_of names.now thread }
+    ensures short { length result.now ≤ 16 }
 {
     if thread == 0 || thread as usize > names.len() {
         return b"others";
     }
     names[index_of(thread)].as_bytes()
-}
-
-/// A part of the whole, in tenths of a percent.
-fn share_of(total: u64, ticks: u64) -> u32
-    ensures { result ≡ definitions.share_of total ticks }
-{
-    let share = (1000 * u128::from(ticks) + u128::from(total / 2)) / u128::from(total.max(1));
-    share.min(1000) as u32
 }

@@ -1,7 +1,7 @@
 //! Bounds and order of pictures and tables, the curves of turns, and their ends: laws of the definitions, without
 //! executable code.
 ghost use Rattle.std.specs.Prelude.{◌≡◌, ◌==◌, ◌≤◌, ◌<◌, ◌+◌, ◌-◌, ◌*◌, ◌^◌, ℕ, [], ◌∷◌, false};
-ghost use Rattle.std.specs.Prelude.{All, AllPairs, List, filter, length, map, slice_index, Some};
+ghost use Rattle.std.specs.Prelude.{All, AllPairs, List, filter, length, map, slice_index, Some, unwrap_or};
 ghost use Rattle.lot_machine.specs.Bounds.{IsBetween, IsWithinBounds};
 ghost use Rattle.lot_curves.specs.declared.stretch.Measure.{Measure as Measured};
 ghost use Rattle.lot_curves.specs.Curves as curves;
@@ -33,18 +33,19 @@ pub fn rankings_are_in_order()
 /// A picture has at most twelve lines. Their names are at least 16 units apart, and none is below the plot.
 pub fn names_do_not_overlap()
     ensures few { (curves : curves.Curves) → length (selection curves).shown ≤ 12 }
-    ensures apart { (shown : List StandingRecord) (i : ℕ) → i + 1 < length shown
-        → slice_index (map (λ line. line.place) (lines_of shown)) i + 160
-        ≤ slice_index (map (λ line. line.place) (lines_of shown)) (i + 1) }
-    ensures within { (shown : List StandingRecord) → length shown ≤ 12
-        → All (λ line. line.place ≤ 4600) (lines_of shown) }
+    ensures apart { (most : ℕ) (shown : List StandingRecord) (i : ℕ) → i + 1 < length shown
+        → slice_index (map (λ line. line.place) (lines_of most shown)) i + 160
+        ≤ slice_index (map (λ line. line.place) (lines_of most shown)) (i + 1) }
+    ensures within { (most : ℕ) (shown : List StandingRecord) → length shown ≤ 12
+        → All (λ line. line.place ≤ 4600) (lines_of most shown) }
 {}
 
 /// A picture of threads whose names have at most 16 bytes, as all names do, has at most 34000 bytes plus ten for each
-/// byte of its title. Any `Curves` meets the other premise too: it begins before 2 ^ 56.
+/// byte of its title. Any `Curves` meets the other premises too: it begins before 2 ^ 56, and its window is a `u32`.
 pub fn pictures_are_short()
     ensures { (title : List ℕ) (curves : curves.Curves) → All (λ name. length name ≤ 16) curves.names
-        → curves.origin < 2 ^ 56 → length (chart title curves) ≤ 34000 + 10 * length title }
+        → curves.origin < 2 ^ 56 → unwrap_or curves.window 0 < 2 ^ 32
+        → length (chart title curves) ≤ 34000 + 10 * length title }
 {}
 
 /// A table of threads whose names have at most 16 bytes, as all names do, has at most 4226 bytes plus 4238 for each

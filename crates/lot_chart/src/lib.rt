@@ -1,5 +1,6 @@
 //! Shows an input: `shares` writes a table of each thread's ticks or draws over time, and `chart` a picture of the
-//! ticks. If numbers are given again, all threads that had one number share a column, and a line.
+//! ticks; with a window, both show shares of those in the last ticks. If numbers are given again, all threads that had
+//! one number share a column, and a line.
 #![tactic(auto)]
 
 mod axes;
@@ -9,6 +10,7 @@ mod gathering;
 pub mod laws;
 mod lines;
 pub mod rows;
+mod shares;
 mod showing;
 mod standings;
 mod tables;

@@ -32,12 +32,15 @@ pub struct Line {
     pub place: u32,
 }
 
-/// The lines of these standings, which are in descending order of ticks.
-pub(crate) fn lines_of(alloc: Global, shown: &[Standing]) -> Result<Vec<Line>, AllocError>
+/// The lines of these standings, which are in descending order of ticks, if the plot's top stands for the most.
+pub(crate) fn lines_of(
+    alloc: Global,
+    most: u64,
+    shown: &[Standing],
+) -> Result<Vec<Line>, AllocError>
     requires { length shown.now ≤ 12 }
-    ensures { IfOk result (λ v. v.items ≡ definitions.lines_of shown.now) }
+    ensures { IfOk result (λ v. v.items ≡ definitions.lines_of most shown.now) }
 {
-    let most = most_in(shown);
     let mut lines = Vec::with_capacity(alloc, shown.len())?;
     let mut least = TOP;
     for (style, standing) in shown.iter().enumerate() {

@@ -1,11 +1,13 @@
 //! Worked rows for small runs, and their curves as a table and as a picture.
 ghost use Rattle.std.specs.Prelude.{◌≡◌, None, Some, [], ◌∷◌, codes};
 ghost use Rattle.lot_curves.specs.declared.stretch.Measure.TheVariants.{Draws, Ticks};
+ghost use Rattle.lot_curves.specs.Curves.{windowed};
 ghost use Rattle.lot_curves.specs.Intervals.{curves_within};
 ghost use Rattle.lot_simulation.specs.Samples.{text};
 ghost use Rattle.lot_chart.specs.Axes.{time_marks};
 ghost use Rattle.lot_chart.specs.Charts.{chart};
 ghost use Rattle.lot_chart.specs.Samples.{seven_tick_curves, three_tick_curves, three_tick_picture};
+ghost use Rattle.lot_chart.specs.Samples.{three_tick_window_picture};
 ghost use Rattle.lot_chart.specs.Shown.{shares_output};
 ghost use Rattle.lot_chart.specs.Tables.{table};
 
@@ -31,10 +33,29 @@ pub fn intervals()
     ensures marks { time_marks 3 6 ≡ 1 ∷ 3 ∷ 5 ∷ [] }
 {}
 
-/// The run as a picture, with a title that needs escapes.
+/// Thread a runs to tick 4, and thread b from there to tick 7. In a window of 3 ticks each has a part at ticks 5 and 6.
+/// Nobody has run at tick 0. A draw counts in each window that includes its tick, also as its first. In an interval no
+/// window begins before it.
+#[tactic(auto, unfolding(lot_simulation::specs::OnLiterals::texts_on_literals))]
+pub fn windows()
+    ensures ticks { table Ticks (windowed (Some 3) seven_tick_curves)
+        ≡ text (codes "tick,a,b" ∷ codes "0,0.0,0.0" ∷ codes "1,100.0,0.0" ∷ codes "2,100.0,0.0" ∷ codes "3,100.0,0.0"
+        ∷ codes "4,100.0,0.0" ∷ codes "5,66.7,33.3" ∷ codes "6,33.3,66.7" ∷ codes "7,0.0,100.0" ∷ []) }
+    ensures draws { table Draws (windowed (Some 3) seven_tick_curves)
+        ≡ text (codes "tick,a,b" ∷ codes "0,100.0,0.0" ∷ codes "1,100.0,0.0" ∷ codes "2,100.0,0.0"
+        ∷ codes "3,100.0,0.0" ∷ codes "4,0.0,100.0" ∷ codes "5,0.0,100.0" ∷ codes "6,0.0,100.0" ∷ codes "7,0.0,100.0"
+        ∷ []) }
+    ensures interval { table Ticks
+        (windowed (Some 2) (curves_within (Some (record { from = 3; to = Some 6 })) seven_tick_curves))
+        ≡ text (codes "tick,a,b" ∷ codes "3,0.0,0.0" ∷ codes "4,100.0,0.0" ∷ codes "5,50.0,50.0" ∷ codes "6,0.0,100.0"
+        ∷ []) }
+{}
+
+/// The run as a picture, with a title that needs escapes; and its shares of the last two ticks.
 #[tactic(auto, unfolding(lot_simulation::specs::OnLiterals::texts_on_literals, crate::specs::Charts::picture))]
 pub fn pictures()
-    ensures { chart (codes "a < b") three_tick_curves ≡ three_tick_picture }
+    ensures whole { chart (codes "a < b") three_tick_curves ≡ three_tick_picture }
+    ensures window { chart (codes "a < b") (windowed (Some 2) three_tick_curves) ≡ three_tick_window_picture }
 {}
 
 /// Thread 1 ends at tick 2. At tick 3 it is removed, and thread 3 gets its name. The removed thread keeps its column,

@@ -3,7 +3,7 @@ ghost use Rattle.std.specs.Prelude.{◌≡◌, false, true, OnOk};
 ghost use Rattle.lot_simulation.specs.Grammar.{program_in};
 ghost use Rattle.lot_play.specs.Played.{Plays, came_of};
 ghost use Rattle.lot_io.specs.Writing.{Writes};
-ghost use Rattle.lot_curves.specs.Curves.{curves_of};
+ghost use Rattle.lot_curves.specs.Curves.{curves_of, windowed};
 ghost use Rattle.lot_curves.specs.Intervals.{curves_within};
 ghost use Rattle.lot_play.specs.declared.inputs.Played.TheVariants.{Done};
 ghost use Rattle.lot_chart.specs.Charts as charts;
@@ -33,7 +33,7 @@ pub fn shares_bytes<W: Write>(
         (shares_output measure bytes.now) }
 {
     match parse(alloc, bytes) {
-        Ok(program) => shares_program(alloc, measure, None, &program, warnings, writer),
+        Ok(program) => shares_program(alloc, measure, None, None, &program, warnings, writer),
         Err(ParseFault::Memory) => Err(IoFault::Memory),
         Err(ParseFault::Input(fault)) => refuse(fault, writer),
     }
@@ -54,18 +54,20 @@ pub fn chart_bytes<W: Write>(
         (chart_output title.now bytes.now) }
 {
     match parse(alloc, bytes) {
-        Ok(program) => chart_program(alloc, title, None, &program, warnings, writer),
+        Ok(program) => chart_program(alloc, title, None, None, &program, warnings, writer),
         Err(ParseFault::Memory) => Err(IoFault::Memory),
         Err(ParseFault::Input(fault)) => refuse(fault, writer),
     }
 }
 
-/// Makes the program's turns, and writes a table of each thread's ticks or draws over time, or in this interval of it.
-/// It stores the run's warnings in `warnings`. If out of memory, it writes nothing.
+/// Makes the program's turns, and writes a table of each thread's ticks or draws over time, or in this interval of it;
+/// with a window, the shares of those in the last ticks. It stores the run's warnings in `warnings`. If out of memory,
+/// it writes nothing.
 pub fn shares_program<W: Write>(
     alloc: Global,
     measure: Measure,
     interval: Option<Interval>,
+    window: Option<u32>,
     program: &Program,
     warnings: &mut Warnings,
     writer: &mut Watched<W>,
@@ -73,11 +75,11 @@ pub fn shares_program<W: Write>(
     requires { writer.old.failed ≡ false }
     ensures flushed { OnOk result (writer.new.flushed ≡ true) }
     ensures shown { Plays W.contents writer.old writer.new result Done
-        (tables.table measure (curves_within interval (curves_of program.now))) }
+        (tables.table measure (windowed window (curves_within interval (curves_of program.now)))) }
 {
     match gather(alloc, program, warnings) {
         Ok(curves) => {
-            let curves = curves.within(interval);
+            let curves = curves.within(interval).with_window(window);
             write_text(table(alloc, &curves, measure), writer)
         }
         Err(_) => Err(IoFault::Memory),
@@ -85,11 +87,13 @@ pub fn shares_program<W: Write>(
 }
 
 /// Makes the program's turns, and writes a picture with this title of each thread's ticks over time, or in this
-/// interval of it. It stores the run's warnings in `warnings`. If out of memory, it writes nothing.
+/// interval of it; with a window, of the shares of the last ticks. It stores the run's warnings in `warnings`. If out
+/// of memory, it writes nothing.
 pub fn chart_program<W: Write>(
     alloc: Global,
     title: &str,
     interval: Option<Interval>,
+    window: Option<u32>,
     program: &Program,
     warnings: &mut Warnings,
     writer: &mut Watched<W>,
@@ -97,11 +101,11 @@ pub fn chart_program<W: Write>(
     requires { writer.old.failed ≡ false }
     ensures flushed { OnOk result (writer.new.flushed ≡ true) }
     ensures shown { Plays W.contents writer.old writer.new result Done
-        (charts.chart title.now (curves_within interval (curves_of program.now))) }
+        (charts.chart title.now (windowed window (curves_within interval (curves_of program.now)))) }
 {
     match gather(alloc, program, warnings) {
         Ok(curves) => {
-            let curves = curves.within(interval);
+            let curves = curves.within(interval).with_window(window);
             write_text(chart_of(alloc, &curves, title), writer)
         }
         Err(_) => Err(IoFault::Memory),

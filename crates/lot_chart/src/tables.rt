@@ -3,16 +3,19 @@ ghost use Rattle.std.specs.Prelude.{◌≡◌, ◌++◌, IfOk, OnOk, length, map
 ghost use Rattle.std.specs.List.{flat_map};
 ghost use Rattle.lot_curves.specs.Curves.{sample_ticks};
 ghost use Rattle.lot_curves.specs.Stretches.{last_end};
+ghost use Rattle.lot_chart.specs.Shares.{figure_text};
 ghost use Rattle.lot_chart.specs.Tables as tables;
 ghost use Rattle.lot_chart.specs.Tables.{header_line, row_line, sampled_line};
 
+use crate::shares::{share_of, whole_at};
 use crate::text::Text;
 use lot_curves::{Curves, Measure};
 use lot_machine::Name;
 use std::alloc::{AllocError, Global};
 
 /// The table of the curves: a line with the columns' names, and one for each sample with each column's ticks or draws
-/// up to its tick. There is a column for each number of a thread.
+/// up to its tick, or with a window its share of those of all threads, in percent. There is a column for each number of
+/// a thread.
 pub fn table(alloc: Global, curves: &Curves, measure: Measure) -> Result<Vec<u8>, AllocError>
     ensures { IfOk result (λ text. text.items ≡ tables.table measure curves.now) }
 {
@@ -49,19 +52,30 @@ fn push_rows(
     for sample in 0..curves.sample_count() + 1 {
         let tick = curves.sample_tick(sample);
         curves.fill_row(measure, tick, row);
-        push_row(text, curves.origin() + tick, row)?;
+        let whole = whole_at(curves, measure, tick);
+        push_row(text, whole, curves.origin() + tick, row)?;
     }
     Ok(())
 }
 
-/// Adds the line of one sample.
-fn push_row(text: &mut Text, tick: u64, row: &[u64]) -> Result<(), AllocError>
-    ensures { OnOk result (text.new ≡ text.old ++ row_line tick row.now) }
+/// Adds the line of one sample, with each column's figure or its share of the whole.
+fn push_row(text: &mut Text, whole: Option<u64>, tick: u64, row: &[u64]) -> Result<(), AllocError>
+    ensures { OnOk result (text.new ≡ text.old ++ row_line whole tick row.now) }
 {
     text.push_number(tick)?;
     for figure in row {
         text.push(",")?;
-        text.push_number(*figure)?;
+        push_figure(text, whole, *figure)?;
     }
     text.push("\n")
+}
+
+/// Adds a figure, or its share of the whole.
+fn push_figure(text: &mut Text, whole: Option<u64>, figure: u64) -> Result<(), AllocError>
+    ensures { OnOk result (text.new ≡ text.old ++ figure_text whole figure) }
+{
+    match whole {
+        None => text.push_number(figure),
+        Some(whole) => text.push_tenths(share_of(whole, figure)),
+    }
 }

@@ -1,6 +1,7 @@
 //! Building a text.
 ghost use Rattle.std.specs.Prelude.{◌≡◌, ◌++◌, [], OnOk};
 ghost use Rattle.std.specs.Fmt.{decimal};
+ghost use Rattle.lot_chart.specs.Shares as shares;
 
 use itoa::Buffer;
 use std::alloc::{AllocError, Global};
@@ -58,5 +59,15 @@ impl Text {
     {
         let mut buffer = Buffer::new();
         self.push(buffer.format(number))
+    }
+
+    /// Appends a number of tenths, with a point.
+    pub(crate) fn push_tenths(&mut self, tenths: u32) -> Result<(), AllocError>
+        ensures { OnOk result (self.new ≡ self.old ++ shares.tenths tenths) }
+    {
+        self.push_number(u64::from(tenths / 10))?;
+        self.push(".")?;
+        self.push_number(u64::from(tenths % 10))?;
+        Ok(())
     }
 }

@@ -8,7 +8,7 @@ use Rattle.lot_simulation.specs.Texts.{fault_line}
 use Rattle.lot_simulation.specs.World.{Program}
 use Rattle.lot_play.specs.ReportTable.{report_text}
 use Rattle.lot_play.specs.Seeds.{seeds_report}
-use Rattle.lot_curves.specs.Curves.{curves_of}
+use Rattle.lot_curves.specs.Curves.{curves_of, windowed}
 use Rattle.lot_curves.specs.Intervals.{curves_within}
 use Rattle.lot_explain.specs.Explained.{explained_program}
 use Rattle.lot_chart.specs.Charts.{chart}
@@ -16,14 +16,17 @@ use Rattle.lot_chart.specs.Tables.{table}
 use Rattle.lot_command.specs.declared.view.View.{View}
 use Rattle.lot_command.specs.declared.view.View.TheVariants as views
 
--- the output for a program, where a picture has this title; a table and a picture may be those of an interval of the time
+-- the output for a program, where a picture has this title; a table and a picture may be those of an interval of the
+-- time, and of the shares in a window
 abbrev pub view_of : View → List ℕ → Program → List ℕ
 view_of views.Play title program = played_output program program.duration
 view_of (views.Report None form) title program = report_text form program
 view_of (views.Report (Some seeds) form) title program = seeds_report form seeds.first seeds.last program
 view_of views.Explain title program = explained_program program program.duration
-view_of (views.Shares measure interval) title program = table measure (curves_within interval (curves_of program))
-view_of (views.Chart interval) title program = chart title (curves_within interval (curves_of program))
+view_of (views.Shares measure interval window) title program =
+    table measure (windowed window (curves_within interval (curves_of program)))
+view_of (views.Chart interval window) title program =
+    chart title (windowed window (curves_within interval (curves_of program)))
 
 -- the same for an input, or the line for a refused one
 abbrev pub shown_of : View → List ℕ → Result Program InputFault → List ℕ

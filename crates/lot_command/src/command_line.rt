@@ -112,7 +112,16 @@ fn showing_interval<'a>(
     let to = tick_option(alloc, "to", "B").help(
         "The tick at which it ends; the end of the last turn if it is left out",
     );
-    showing(alloc, name, about)?.arg(from)?.arg(to)
+    let window = Arg::new(alloc, "window")
+        .long("window")
+        .value_name("T")
+        .action(ArgAction::Set)
+        .value_parser(ValueParser::unsigned(
+            u64::from(ranges::DURATION.first),
+            u64::from(ranges::DURATION.last),
+        ))
+        .help("At each tick the share of each thread in the last T ticks, in percent");
+    showing(alloc, name, about)?.arg(from)?.arg(to)?.arg(window)
 }
 
 /// An option whose value is a tick.
@@ -243,8 +252,12 @@ fn request_of(name: &str, given: &ArgMatches<'_>) -> Request {
         "shares" => View::Shares {
             measure: measure_of(given),
             interval,
+            window: given.get_one("window"),
         },
-        "chart" => View::Chart { interval },
+        "chart" => View::Chart {
+            interval,
+            window: given.get_one("window"),
+        },
         _ => View::Play,
     };
     let seed = seed_of(given);

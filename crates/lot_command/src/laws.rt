@@ -7,11 +7,12 @@ ghost use Rattle.lot_chart.specs.Shown.{chart_output, shares_output};
 ghost use Rattle.lot_command.specs.declared.view.View.TheVariants as views;
 ghost use Rattle.lot_command.specs.Views.{text_of};
 
-/// Without a given seed or interval, the text of each view is the library's output for the same bytes.
+/// Without a given seed, interval or window, the text of each view is the library's output for the same bytes.
 pub fn texts_without_a_seed()
     ensures play { (title bytes : List ℕ) → text_of views.Play title None bytes ≡ output bytes }
     ensures explain { (title bytes : List ℕ) → text_of views.Explain title None bytes ≡ explained_output bytes }
     ensures shares { (measure : Measure) (title bytes : List ℕ)
-        → text_of (views.Shares measure None) title None bytes ≡ shares_output measure bytes }
-    ensures chart { (title bytes : List ℕ) → text_of (views.Chart None) title None bytes ≡ chart_output title bytes }
+        → text_of (views.Shares measure None None) title None bytes ≡ shares_output measure bytes }
+    ensures chart { (title bytes : List ℕ)
+        → text_of (views.Chart None None) title None bytes ≡ chart_output title bytes }
 {}

@@ -28,14 +28,18 @@ pub(crate) enum View {
     },
     /// A line for each turn, after the lots of its lottery if a thread won it, and the report.
     Explain,
-    /// A table of this measure of each thread over time, or in an interval of it.
+    /// A table of this measure of each thread over time, or in an interval of it; with a window, of the shares in the
+    /// last ticks.
     Shares {
         measure: Measure,
         interval: Option<Interval>,
+        window: Option<u32>,
     },
-    /// A picture of the ticks of each thread over time, or in an interval of it.
+    /// A picture of the ticks of each thread over time, or in an interval of it; with a window, of the shares of the
+    /// last ticks.
     Chart {
         interval: Option<Interval>,
+        window: Option<u32>,
     },
 }
 
@@ -119,11 +123,15 @@ fn show_program<W: Write>(
             form,
         } => report_seeds(alloc, program, seeds, *form, warnings, writer),
         View::Explain => explain_program(alloc, program, warnings, writer),
-        View::Shares { measure, interval } => {
-            shares_program(alloc, *measure, *interval, program, warnings, writer)
-        }
-        View::Chart { interval } => {
-            chart_program(alloc, title, *interval, program, warnings, writer)
+        View::Shares {
+            measure,
+            interval,
+            window,
+        } => shares_program(
+            alloc, *measure, *interval, *window, program, warnings, writer,
+        ),
+        View::Chart { interval, window } => {
+            chart_program(alloc, title, *interval, *window, program, warnings, writer)
         }
     }
 }

@@ -6,8 +6,8 @@ use Rattle.std.proofs.lemmas.List.Sums.{sum_by-cons}
 use Rattle.lot_curves.specs.declared.stretch.Measure.TheVariants.{Ticks}
 use Rattle.lot_curves.specs.declared.stretch.Stretch.{Stretch}
 use Rattle.lot_curves.specs.Curves.{Curves, share_at}
-use Rattle.lot_curves.specs.Intervals.{curves_between, stretch_between}
-use Rattle.lot_curves.specs.Stretches.{had_at, last_end, part_at, stretches_of}
+use Rattle.lot_curves.specs.Intervals.{curves_between}
+use Rattle.lot_curves.specs.Stretches.{had_at, last_end, part_at, stretch_between, stretches_of}
 
 -- ---- one element after another
 

@@ -2,3 +2,4 @@ pub mod Ends
 pub mod Rows
 pub mod ColumnNames
 pub mod Cuts
+pub mod Windows

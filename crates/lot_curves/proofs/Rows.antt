@@ -1,5 +1,5 @@
 -- What threads have had, one stretch after another.
-use Rattle.std.proofs.Common.{◌≡◌, ℕ, ◌+◌, ◌<◌, ◌==◌, List, length, map, get_or, take, cond, sym, ap, ◌∙◌, arith}
+use Rattle.std.proofs.Common.{◌≡◌, ℕ, ◌+◌, ◌<◌, ◌==◌, Option, List, length, map, get_or, take, cond, sym, ap, ◌∙◌, arith}
 use Rattle.std.specs.List.{range_with_len}
 use Rattle.std.proofs.lemmas.List.{ext_get_or}
 use Rattle.std.proofs.lemmas.List.FromFn.{get_or-map-range_with_len, length-map-range_with_len}
@@ -7,22 +7,23 @@ use Rattle.std.proofs.lemmas.List.Sums.{sum_by_more}
 use Rattle.lot_machine.proofs.Sums.{sum-filter}
 use Rattle.lot_curves.specs.declared.stretch.Measure.{Measure}
 use Rattle.lot_curves.specs.declared.stretch.Stretch.{Stretch}
-use Rattle.lot_curves.specs.Curves.{Curves, row_at, share_at}
-use Rattle.lot_curves.specs.Stretches.{had_at, part_at, stretches_of}
+use Rattle.lot_curves.specs.Curves.{Curves, row_at, shown_at}
+use Rattle.lot_curves.specs.Stretches.{stretches_of}
+use Rattle.lot_curves.specs.Windows.{had_in, part_in}
 
 -- what a thread has had of one stretch more
-pub had-more : (measure : Measure) (tick t : ℕ) (xs : List Stretch) (i : ℕ) (d : Stretch) → i < length xs
-    → had_at measure tick (stretches_of t (take (i + 1) xs)) ≡ had_at measure tick (stretches_of t (take i xs)) + cond ((get_or xs i d).thread == t) (part_at measure tick (get_or xs i d)) 0
-had-more measure tick t xs i d below =
-    let one = λ (s : Stretch). cond (s.thread == t) (part_at measure tick s) 0 in
-    let whole = sum-filter (part_at measure tick) (λ s. s.thread == t) in
+pub had-more : (measure : Measure) (window : Option ℕ) (tick t : ℕ) (xs : List Stretch) (i : ℕ) (d : Stretch) → i < length xs
+    → had_in measure window tick (stretches_of t (take (i + 1) xs)) ≡ had_in measure window tick (stretches_of t (take i xs)) + cond ((get_or xs i d).thread == t) (part_in measure window tick (get_or xs i d)) 0
+had-more measure window tick t xs i d below =
+    let one = λ (s : Stretch). cond (s.thread == t) (part_in measure window tick s) 0 in
+    let whole = sum-filter (part_in measure window tick) (λ s. s.thread == t) in
     whole (take (i + 1) xs) ∙ sum_by_more one xs i d below ∙ ap (λ n. n + one (get_or xs i d)) (sym (whole (take i xs)))
 
 -- a row that has what each thread has had, place by place
 pub row-is : (measure : Measure) (curves : Curves) (tick : ℕ) (row : List ℕ) → length row ≡ length curves.names
-    → ((k : ℕ) → k < length row → get_or row k 0 ≡ had_at measure tick (stretches_of (k + 1) curves.stretches)) → row ≡ row_at measure curves tick
+    → ((k : ℕ) → k < length row → get_or row k 0 ≡ had_in measure curves.window tick (stretches_of (k + 1) curves.stretches)) → row ≡ row_at measure curves tick
 row-is measure curves tick row places had =
     let n = length curves.names in
-    let share = share_at measure curves tick in
-    ext_get_or 0 row (map share (range_with_len 1 n)) (places ∙ sym (length-map-range_with_len share 1 n))
-    (λ k below. had k below ∙ sym (get_or-map-range_with_len share 1 n k (k + 1) 0 (omega (arith, below, places)) (omega arith)))
+    let shown = shown_at measure curves tick in
+    ext_get_or 0 row (map shown (range_with_len 1 n)) (places ∙ sym (length-map-range_with_len shown 1 n))
+    (λ k below. had k below ∙ sym (get_or-map-range_with_len shown 1 n k (k + 1) 0 (omega (arith, below, places)) (omega arith)))

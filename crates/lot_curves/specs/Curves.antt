@@ -12,14 +12,17 @@ use Rattle.lot_curves.specs.declared.stretch.Measure.{Measure}
 use Rattle.lot_curves.specs.declared.stretch.Stretch.{Stretch}
 use Rattle.lot_curves.specs.OwnTimes.{own_turns}
 use Rattle.lot_curves.specs.Stretches.{had_at, stretch_of, stretches_of}
+use Rattle.lot_curves.specs.Windows.{had_in}
 
 -- The names of the columns, one for each number of a thread in ascending order, and the stretches of the turns. If
 -- numbers are given again, a column counts the turns of each thread that had its number. The stretches count their ticks
--- from the origin, the tick at which the curves begin.
+-- from the origin, the tick at which the curves begin. With a window, the curves show at each tick what is in the
+-- window that ends there, and otherwise all up to it.
 pub record Curves : Type 0 where
   pub names : List (List ℕ)
   pub stretches : List Stretch
   pub origin : ℕ
+  pub window : Option ℕ
 
 -- a thread's name, or its number if it has no name
 abbrev pub name_or_number : List ℕ → ℕ → List ℕ
@@ -44,7 +47,12 @@ timed_stretches program = map (λ done. stretch_of (record { time = done.time; a
 -- The curves in a world, with the stretches of the program's run with its history. A column has the name of the last
 -- thread with its number, and the stretches of all of them.
 abbrev pub curves_in : Program → World → Curves
-curves_in program w = record { names = names_in w.state; stretches = stretches_made program w.history; origin = 0 }
+curves_in program w = record {
+  names = names_in w.state;
+  stretches = stretches_made program w.history;
+  origin = 0;
+  window = None;
+}
 
 -- the curves of the program's schedule
 abbrev pub scheduled_curves : Program → Curves
@@ -52,7 +60,12 @@ scheduled_curves program = curves_in program (system_run program program.schedul
 
 -- the curves of the timed program's turns
 abbrev pub timed_curves : Program → Curves
-timed_curves program = record { names = names_in (system_run program (timed_schedule program)).state; stretches = timed_stretches program; origin = 0 }
+timed_curves program = record {
+  names = names_in (system_run program (timed_schedule program)).state;
+  stretches = timed_stretches program;
+  origin = 0;
+  window = None;
+}
 
 -- the curves of the program: those of its timed turns if it has a duration, and otherwise those of its schedule
 abbrev pub curves_of : Program → Curves
@@ -66,9 +79,22 @@ curves_of program = by program.duration
 abbrev pub share_at : Measure → Curves → ℕ → ℕ → ℕ
 share_at measure curves tick thread = had_at measure tick (stretches_of thread curves.stretches)
 
--- each column's ticks or draws up to this tick, in ascending order of number
+-- the curves with this window, or as they are
+abbrev pub windowed : Option ℕ → Curves → Curves
+windowed None curves = curves
+windowed (Some window) curves = record curves { window = Some window }
+
+-- the ticks or draws that the curves show at this tick, of the threads that had this number
+abbrev pub shown_at : Measure → Curves → ℕ → ℕ → ℕ
+shown_at measure curves tick thread = had_in measure curves.window tick (stretches_of thread curves.stretches)
+
+-- each column's ticks or draws at this tick, in ascending order of number
 abbrev pub row_at : Measure → Curves → ℕ → List ℕ
-row_at measure curves tick = map (share_at measure curves tick) (numbers curves.names)
+row_at measure curves tick = map (shown_at measure curves tick) (numbers curves.names)
+
+-- the ticks or draws of all threads at this tick
+abbrev pub total_at : Measure → Curves → ℕ → ℕ
+total_at measure curves tick = had_in measure curves.window tick curves.stretches
 
 -- ---- samples
 

@@ -2,6 +2,8 @@
 pub mod OwnTimes
 -- The ticks and draws of turns, for their threads.
 pub mod Stretches
+-- The ticks and draws of stretches in a window, which moves with the time.
+pub mod Windows
 -- Each thread's ticks or draws at each sample.
 pub mod Curves
 -- The curves of an interval of the time.

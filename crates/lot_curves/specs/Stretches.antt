@@ -1,5 +1,5 @@
 -- The ticks and draws of turns, for their threads.
-use Rattle.std.specs.Prelude.{ℕ, ◌-◌, max, ◌==◌, nat_le, List, filter, fold, sum_by, if◌then◌else◌}
+use Rattle.std.specs.Prelude.{ℕ, ◌-◌, min, max, ◌==◌, nat_le, List, filter, fold, sum_by, if◌then◌else◌}
 use Rattle.lot_machine.specs.declared.reply.Reply.{Reply}
 use Rattle.lot_machine.specs.declared.reply.Reply.TheVariants as reply
 use Rattle.lot_simulation.specs.Report.{count_in, quanta_in, ticks_in}
@@ -24,6 +24,16 @@ stretch_of turn = record { thread = count_in charged_thread turn.answer; end = t
 abbrev pub part_at : Measure → ℕ → Stretch → ℕ
 part_at Ticks tick s = s.ticks - (s.end - tick)
 part_at Draws tick s = if nat_le s.end tick then s.draws else 0
+
+-- A stretch between two ticks: its ticks after the first and up to the second, and its draw if it was won at the first
+-- or later, and up to the second. Its end counts from the first.
+abbrev pub stretch_between : ℕ → ℕ → Stretch → Stretch
+stretch_between from to s = record {
+  thread = s.thread;
+  end = min s.end to - from;
+  ticks = part_at Ticks to s - part_at Ticks from s;
+  draws = if nat_le from s.end then part_at Draws to s else 0;
+}
 
 -- the sum of these stretches' ticks or draws up to this tick
 abbrev pub had_at : Measure → ℕ → List Stretch → ℕ

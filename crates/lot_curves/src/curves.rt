@@ -1,13 +1,13 @@
 //! The ticks and the draws of each thread over time: a column for each number of a thread. If numbers are given again,
 //! a column counts the turns of each thread that had its number, and has the name of the last.
-ghost use Rattle.std.specs.Prelude.{◌≡◌, ℕ, ◌+◌, ◌<◌, ◌≤◌, ◌^◌, ◌==◌, All, if◌then◌else◌, length, map, slice_index};
-ghost use Rattle.std.specs.Prelude.{vec_len};
+ghost use Rattle.std.specs.Prelude.{◌≡◌, ℕ, ◌+◌, ◌<◌, ◌≤◌, ◌^◌, ◌==◌, All, None, if◌then◌else◌, length, map};
+ghost use Rattle.std.specs.Prelude.{slice_index, vec_len};
 ghost use Rattle.lot_curves.specs.Curves as curves;
-ghost use Rattle.lot_curves.specs.Curves.{row_at};
-ghost use Rattle.lot_curves.specs.Intervals.{curves_between, curves_within, stretch_between};
-ghost use Rattle.lot_curves.specs.Stretches.{last_end};
+ghost use Rattle.lot_curves.specs.Curves.{row_at, windowed};
+ghost use Rattle.lot_curves.specs.Intervals.{curves_between, curves_within};
+ghost use Rattle.lot_curves.specs.Stretches.{last_end, stretch_between};
 
-use crate::{Interval, Measure, Stretch};
+use crate::{Interval, Measure, Stretch, had_in};
 use lot_machine::{Name, index_of};
 use std::marker::Model;
 
@@ -23,6 +23,8 @@ pub struct Curves {
     origin: u64,
     /// The end of the last stretch.
     last: u64,
+    /// The number of last ticks that are shown at each tick, or none for all.
+    window: Option<u32>,
 }
 
 impl Model for Curves {
@@ -32,7 +34,12 @@ impl Model for Curves {
 
     ghost Value = { CurvesRecord };
 
-    ghost view = { λ c. record { names = c.names.items; stretches = c.stretches.items; origin = c.origin } };
+    ghost view = { λ c. record {
+      names = c.names.items;
+      stretches = c.stretches.items;
+      origin = c.origin;
+      window = c.window;
+    } };
 
     ghost invariant = { λ c. record {
       last : c.last ≡ last_end c.stretches.items;
@@ -43,12 +50,12 @@ impl Model for Curves {
 }
 
 impl Curves {
-    /// The curves of columns with these names, from the stretches of the turns. They begin at tick 0.
+    /// The curves of columns with these names, from the stretches of the turns. They begin at tick 0, without a window.
     pub fn new(names: Vec<Name>, stretches: Vec<Stretch>) -> Curves
         requires threads { vec_len names < 2 ^ 32 }
         requires turns { vec_len stretches < 2 ^ 32 }
         requires early { last_end stretches.items < 2 ^ 56 }
-        ensures { result ≡ record { names = names.items; stretches = stretches.items; origin = 0 } }
+        ensures { result ≡ record { names = names.items; stretches = stretches.items; origin = 0; window = None } }
     {
         let last = last_of(stretches.as_slice());
         Curves {
@@ -56,6 +63,7 @@ impl Curves {
             stretches,
             origin: 0,
             last,
+            window: None,
         }
     }
 
@@ -83,6 +91,7 @@ impl Curves {
             mut stretches,
             origin,
             last,
+            window,
         } = self;
         cut(stretches.as_mut_slice(), from, to);
         Curves {
@@ -90,6 +99,17 @@ impl Curves {
             stretches,
             origin: origin + from,
             last: last.min(to).saturating_sub(from),
+            window,
+        }
+    }
+
+    /// The curves with a window of this many ticks, or as they are.
+    pub fn with_window(self, window: Option<u32>) -> Curves
+        ensures { result ≡ windowed window self }
+    {
+        match window {
+            Some(_) => Curves { window, ..self },
+            None => self,
         }
     }
 
@@ -118,6 +138,13 @@ impl Curves {
         self.origin
     }
 
+    /// The number of last ticks that are shown at each tick, or none for all.
+    pub fn window(&self) -> Option<u32>
+        ensures { result ≡ self.now.window }
+    {
+        self.window
+    }
+
     /// The end of the last turn.
     pub fn last(&self) -> u64
         ensures last { result ≡ last_end self.now.stretches }
@@ -143,15 +170,24 @@ impl Curves {
         sample * self.last / self.sample_count().max(1)
     }
 
-    /// Fills the row with each column's ticks or draws up to this tick, in ascending order of number.
+    /// Fills the row with each column's ticks or draws at this tick, in ascending order of number: all up to the tick,
+    /// or those in the window that ends there.
     pub fn fill_row(&self, measure: Measure, tick: u64, row: &mut [u64])
         requires { length row.old ≡ length self.now.names }
         ensures { row.new ≡ row_at measure self.now tick }
     {
         row.fill(0);
+        let window = self.window();
         for stretch in self.stretches() {
-            add_part(row, stretch.thread, stretch.part_at(measure, tick));
+            add_part(row, stretch.thread, stretch.part_in(measure, window, tick));
         }
+    }
+
+    /// The ticks or draws of all threads at this tick: all up to it, or those in the window that ends there.
+    pub fn total_at(&self, measure: Measure, tick: u64) -> u64
+        ensures { result ≡ curves.total_at measure self.now tick }
+    {
+        had_in(measure, self.window(), tick, self.stretches())
     }
 }
 

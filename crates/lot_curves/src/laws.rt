@@ -1,5 +1,5 @@
 //! Laws of the definitions of curves, without executable code.
-ghost use Rattle.std.specs.Prelude.{◌≡◌, ◌+◌, ◌<◌, ◌≤◌, ◌^◌, ℕ, List, false, length, sum_by};
+ghost use Rattle.std.specs.Prelude.{◌≡◌, ◌+◌, ◌-◌, ◌<◌, ◌≤◌, ◌^◌, ℕ, List, Some, false, length, sum_by};
 ghost use Rattle.lot_simulation.specs.World.{Program, system_run};
 ghost use Rattle.lot_curves.specs.declared.stretch.Measure.{Measure as Measured};
 ghost use Rattle.lot_curves.specs.declared.stretch.Measure.TheVariants.{Draws, Ticks};
@@ -8,6 +8,7 @@ ghost use Rattle.lot_curves.specs.Curves as curves;
 ghost use Rattle.lot_curves.specs.Curves.{name_in, sample_count, sample_tick, sample_ticks, share_at};
 ghost use Rattle.lot_curves.specs.Intervals.{curves_between};
 ghost use Rattle.lot_curves.specs.Stretches.{had_at, last_end, stretches_of};
+ghost use Rattle.lot_curves.specs.Windows.{had_in};
 
 /// There are at most 201 samples, and the last is at the last tick.
 pub fn samples_reach_the_last()
@@ -37,6 +38,16 @@ pub fn intervals_are_differences()
     ensures { (curves : curves.Curves) (from to tick t : ℕ) → from + tick ≤ to
         → share_at Ticks curves from t + share_at Ticks (curves_between from to curves) tick t
         ≡ share_at Ticks curves (from + tick) t }
+{}
+
+/// In a window that ends at a tick a curve has the ticks by which it rises from the window's beginning to the tick. A
+/// window that begins at tick 0 has all draws up to the tick.
+pub fn windows_are_differences()
+    ensures ticks { (stretches : List StretchRecord) (window tick : ℕ)
+        → had_at Ticks (tick - window) stretches + had_in Ticks (Some window) tick stretches
+        ≡ had_at Ticks tick stretches }
+    ensures draws { (stretches : List StretchRecord) (window tick : ℕ) → tick ≤ window
+        → had_in Draws (Some window) tick stretches ≡ had_at Draws tick stretches }
 {}
 
 /// No two curves have one name, those of removed threads and of threads without a name included, unless the program has

@@ -8,4 +8,4 @@ mod stretch;
 
 pub use curves::Curves;
 pub use interval::Interval;
-pub use stretch::{Measure, Stretch, had_at};
+pub use stretch::{Measure, Stretch, had_in};

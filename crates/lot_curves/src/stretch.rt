@@ -2,9 +2,9 @@
 ghost use Rattle.std.specs.Prelude.{◌≡◌, ◌<◌, ◌≤◌, ◌^◌, length};
 ghost use Rattle.lot_machine.specs.declared.event.Event.{Event};
 ghost use Rattle.lot_simulation.specs.World.Answer.{Answered};
-ghost use Rattle.lot_curves.specs.Intervals.{stretch_between};
 ghost use Rattle.lot_curves.specs.Stretches as definitions;
-ghost use Rattle.lot_curves.specs.Stretches.{stretch_of};
+ghost use Rattle.lot_curves.specs.Stretches.{stretch_between, stretch_of};
+ghost use Rattle.lot_curves.specs.Windows as windows;
 
 use lot_machine::Reply;
 
@@ -67,6 +67,21 @@ impl Stretch {
         }
     }
 
+    /// The stretch's ticks or draws in a window of this many ticks that ends at this tick, or all up to it without one.
+    pub fn part_in(self, measure: Measure, window: Option<u32>, tick: u64) -> u64
+        ensures part { result ≡ windows.part_in measure window tick self }
+        ensures small { result < 2 ^ 32 }
+    {
+        let Some(window) = window else {
+            return self.part_at(measure, tick);
+        };
+        let recent = self.between(tick.saturating_sub(u64::from(window)), tick);
+        match measure {
+            Measure::Ticks => u64::from(recent.ticks),
+            Measure::Draws => u64::from(recent.draws),
+        }
+    }
+
     /// The stretch between two ticks: its ticks after the first and up to the second, and its draw if it was won at
     /// the first or later, and up to the second. Its end counts from the first.
     pub(crate) fn between(self, from: u64, to: u64) -> Stretch
@@ -88,14 +103,15 @@ impl Stretch {
     }
 }
 
-/// The sum of these stretches' ticks or draws up to this tick.
-pub fn had_at(measure: Measure, tick: u64, stretches: &[Stretch]) -> u64
+/// The sum of these stretches' ticks or draws in a window of this many ticks that ends at this tick, or of all up to it
+/// without one.
+pub fn had_in(measure: Measure, window: Option<u32>, tick: u64, stretches: &[Stretch]) -> u64
     requires { length stretches.now < 2 ^ 32 }
-    ensures { result ≡ definitions.had_at measure tick stretches.now }
+    ensures { result ≡ windows.had_in measure window tick stretches.now }
 {
     let mut had = 0;
     for stretch in stretches {
-        had += stretch.part_at(measure, tick);
+        had += stretch.part_in(measure, window, tick);
     }
     had
 }

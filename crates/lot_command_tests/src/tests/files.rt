@@ -65,8 +65,14 @@ const TICKS_BETWEEN: &str = "tick,a\n1,0\n2,1\n3,2\n";
 /// The draws between the same ticks: that of tick 2 alone.
 const DRAWS_BETWEEN: &str = "tick,a\n1,0\n2,1\n3,1\n";
 
+/// The shares of the only thread: nobody has run at tick 0.
+const SHARES: &str = "tick,a\n0,0.0\n1,100.0\n2,100.0\n3,100.0\n4,100.0\n";
+
+/// The shares of the draws of tick 0 and tick 2, each in its own tick and the next.
+const DRAW_SHARES: &str = "tick,a\n0,100.0\n1,100.0\n2,100.0\n3,100.0\n4,0.0\n";
+
 /// The words, and what the program writes.
-const ROWS: [(&[&str], &str); 18] = [
+const ROWS: [(&[&str], &str); 21] = [
     (&["lot_sim", "play", "x.lot"], PLAYED),
     (&["lot_sim", "play", "--", "x.lot"], PLAYED),
     (&["lot_sim", "explain", "x.lot"], EXPLAINED),
@@ -102,6 +108,15 @@ const ROWS: [(&[&str], &str); 18] = [
         "tick,a\n4,0\n",
     ),
     (&["lot_sim", "shares", "--from", "0", "x.lot"], TICKS),
+    (&["lot_sim", "shares", "--window", "2", "x.lot"], SHARES),
+    (
+        &["lot_sim", "shares", "x.lot", "--window=1", "--quanta"],
+        DRAW_SHARES,
+    ),
+    (
+        &["lot_sim", "shares", "--from=3", "--window=9", "x.lot"],
+        "tick,a\n3,0.0\n4,100.0\n",
+    ),
     (&["lot_sim", "play"], EMPTY_REPORT),
     (&["lot_sim", "play", "-"], EMPTY_REPORT),
     (&["lot_sim", "play", "--", "-"], EMPTY_REPORT),

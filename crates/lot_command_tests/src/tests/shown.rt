@@ -117,6 +117,11 @@ fn options(rt: HostRuntime) {
     check_words(&rt, alloc, &["lot_sim", "play", "--quanta"], 2, false);
     check_words(&rt, alloc, &["lot_sim", "play", "--csv"], 2, false);
     check_words(&rt, alloc, &["lot_sim", "play", "--from", "1"], 2, false);
+    check_words(&rt, alloc, &["lot_sim", "play", "--window", "1"], 2, false);
+    for window in ["0", "4294967296", "x"] {
+        let words = ["lot_sim", "shares", "--window", window];
+        check_words(&rt, alloc, &words, 2, false);
+    }
     for (from, to) in [("3", "3"), ("3", "2"), ("x", "9"), ("0", "0")] {
         let words = ["lot_sim", "chart", "--from", from, "--to", to];
         check_words(&rt, alloc, &words, 2, false);
@@ -134,7 +139,8 @@ fn draws(rt: HostRuntime) {
 }
 
 /// The words, and parts of the picture that the program draws. Between ticks 1 and 4 thread a runs for three ticks.
-const PICTURES: [(&[&str], &[&str]); 2] = [
+/// It is alone, and in each window that isn't empty it has all ticks.
+const PICTURES: [(&[&str], &[&str]); 3] = [
     (
         &["lot_sim", "chart", "--title", "One & none"],
         &["<title id='title'>One &amp; none</title>\n"],
@@ -145,6 +151,15 @@ const PICTURES: [(&[&str], &[&str]); 2] = [
             "<text x='100.0' y='480' text-anchor='middle'>1</text>\n",
             "<text x='770.0' y='480' text-anchor='middle'>4</text>\n",
             "<polyline points=' 100.0,460.0 323.3,326.7 546.6,193.4 770.0,60.0' stroke='#0072b2'/>\n",
+            "<text x='788' y='60.0' dy='4'>a 100.0%</text>\n",
+        ],
+    ),
+    (
+        &["lot_sim", "chart", "--window", "2"],
+        &[
+            "<text x='92' y='60.0' dy='4' text-anchor='end'>100</text>\n",
+            ">what each thread has run in the last 2 ticks, in percent</text>\n",
+            "<polyline points=' 100.0,460.0 267.5,60.0 435.0,60.0 602.5,60.0 770.0,60.0' stroke='#0072b2'/>\n",
             "<text x='788' y='60.0' dy='4'>a 100.0%</text>\n",
         ],
     ),

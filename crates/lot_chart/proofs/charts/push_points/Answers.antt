@@ -1,15 +1,13 @@
-use Rattle.std.proofs.Common.{◌≡◌, ◌++◌, ap, ◌∙◌}
-use Rattle.lot_curves.specs.Curves.{sample_tick}
-use Rattle.lot_curves.specs.Stretches.{last_end}
-use Rattle.lot_chart.specs.Charts.{point}
-use Rattle.lot_chart.proofs.Parts.{parts-more}
+use Rattle.std.proofs.Common.{◌++◌, get_or, ap, ◌∙◌}
+use Rattle.lot_chart.specs.Charts.{point, sample_point}
+use Rattle.lot_chart.proofs.Parts.{parts-sample}
 use Rattle.lot_chart.proofs.charts.push_points.Goals as goal
 
 pub loop-sample-preserved : goal.loop-sample-preserved
 loop-sample-preserved c =
-    let last = last_end c.args.curves.now.stretches in
+    let curves = c.args.curves.now in
+    let heads = c.args.tops.now in
     let stretches = c.args.stretches.now in
-    let line : point c.last.result c.args.most stretches c.sample_tick-tick.result ≡ point last c.args.most stretches (sample_tick last c.loop-sample.sample) =
-    ap (λ n. point n c.args.most stretches c.sample_tick-tick.result) c.last.ensures.last ∙ ap (point last c.args.most stretches) c.sample_tick-tick.ensures.tick in
-    parts-more (point last c.args.most stretches) (sample_tick last) c.loop-sample.sample c.args.text.now c.loop-sample.text c.push_point.new.text c.loop-sample.invariant
-    (c.in_ok-push_point.ensures ∙ ap (λ xs. c.loop-sample.text ++ xs) line)
+    let sample = c.loop-sample.sample in
+    parts-sample (sample_point curves heads stretches) sample c.args.text.now c.loop-sample.text c.push_point.new.text c.loop-sample.invariant
+    (c.in_ok-push_point.ensures ∙ ap (λ n. c.loop-sample.text ++ point curves (get_or heads sample 0) stretches n) c.sample_tick.ensures.tick)

@@ -21,11 +21,11 @@ explain-is : (title : List ℕ) (input : Result Program InputFault) → shown_of
 explain-is title (Ok program) = refl
 explain-is title (Err fault) = refl
 
-shares-is : (measure : Measure) (title : List ℕ) (input : Result Program InputFault) → shown_of (views.Shares measure None) title (seeded None input) ≡ charts.shown_of (table measure) input
+shares-is : (measure : Measure) (title : List ℕ) (input : Result Program InputFault) → shown_of (views.Shares measure None None) title (seeded None input) ≡ charts.shown_of (table measure) input
 shares-is measure title (Ok program) = refl
 shares-is measure title (Err fault) = refl
 
-chart-is : (title : List ℕ) (input : Result Program InputFault) → shown_of (views.Chart None) title (seeded None input) ≡ charts.shown_of (chart title) input
+chart-is : (title : List ℕ) (input : Result Program InputFault) → shown_of (views.Chart None None) title (seeded None input) ≡ charts.shown_of (chart title) input
 chart-is title (Ok program) = refl
 chart-is title (Err fault) = refl
 

@@ -1,5 +1,5 @@
 use Rattle.std.proofs.Common.{slice_set, ap, ◌∙◌}
-use Rattle.lot_curves.specs.Intervals.{stretch_between}
+use Rattle.lot_curves.specs.Stretches.{stretch_between}
 use Rattle.lot_curves.proofs.Cuts.{changed-more}
 use Rattle.lot_curves.proofs.curves.cut.Goals as goal
 

@@ -1,5 +1,5 @@
 use Rattle.std.proofs.Common.{◌≡◌, ◌++◌, drop, map, take}
-use Rattle.lot_curves.specs.Intervals.{stretch_between}
+use Rattle.lot_curves.specs.Stretches.{stretch_between}
 use Rattle.lot_curves.proofs.curves.cut.Given as goal
 
 -- the stretches passed so far are cut

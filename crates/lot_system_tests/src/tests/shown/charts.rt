@@ -71,6 +71,18 @@ fn tables(rt: HostRuntime) -> Result<(), Fail> {
     Ok(())
 }
 
+/// Nobody has run at tick 0, and of the last two ticks at tick 3 each thread has one.
+#[test]
+fn tables_with_a_window(rt: HostRuntime) -> Result<(), Fail> {
+    let curves = three_ticks(rt.alloc())?.with_window(Some(2));
+    let ticks = "tick,a,b-2\n0,0.0,0.0\n1,100.0,0.0\n2,100.0,0.0\n3,50.0,50.0\n";
+    check_table(&rt, rt.alloc(), &curves, Measure::Ticks, ticks);
+    let curves = curves.with_window(Some(1));
+    let draws = "tick,a,b-2\n0,100.0,0.0\n1,100.0,0.0\n2,0.0,100.0\n3,0.0,100.0\n";
+    check_table(&rt, rt.alloc(), &curves, Measure::Draws, draws);
+    Ok(())
+}
+
 #[test]
 fn tables_of_nothing(rt: HostRuntime) {
     let none = Curves::new(Vec::new(rt.alloc()), Vec::new(rt.alloc()));
@@ -110,6 +122,20 @@ fn picture_of_more_than_twelve(rt: HostRuntime) -> Result<(), Fail> {
         "<text x='788' y='367.7' dy='4'>c 3.3%</text>\n",
         "<path d='M770 367.7L784 383.7' stroke='#cc79a7'/>\n",
         "<text x='788' y='383.7' dy='4'>others 3.3%</text>\n",
+    ];
+    check_picture(&rt, rt.alloc(), &curves, &parts);
+    Ok(())
+}
+
+/// In the last three ticks thread m ran for three, thread l for two, and thread k for one.
+#[test]
+fn picture_with_a_window(rt: HostRuntime) -> Result<(), Fail> {
+    let curves = thirteen_threads(rt.alloc())?.with_window(Some(3));
+    let parts = [
+        "<text x='788' y='260.0' dy='4'>m 50.0%</text>\n",
+        "<path d='M770 326.7L784 300.0' stroke='#d55e00'/>\n<text x='788' y='300.0' dy='4'>l 33.3%</text>\n",
+        "<text x='788' y='316.0' dy='4'>k 16.7%</text>\n",
+        "<text x='788' y='460.0' dy='4'>others 0.0%</text>\n",
     ];
     check_picture(&rt, rt.alloc(), &curves, &parts);
     Ok(())

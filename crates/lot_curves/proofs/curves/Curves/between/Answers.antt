@@ -1,8 +1,7 @@
 use Rattle.std.proofs.Common.{rules, ◌≡◌, ◌-◌, ◌≤◌, ◌++◌, drop, length, map, min, take, ap, sym, ◌∙◌, arith}
 use Rattle.std.proofs.lemmas.List.{take_at}
 use Rattle.lot_curves.specs.Curves.{Curves}
-use Rattle.lot_curves.specs.Intervals.{stretch_between}
-use Rattle.lot_curves.specs.Stretches.{last_end}
+use Rattle.lot_curves.specs.Stretches.{last_end, stretch_between}
 use Rattle.lot_curves.proofs.Cuts.{last_end-between}
 use Rattle.lot_curves.proofs.curves.Curves.between.Goals as goal
 

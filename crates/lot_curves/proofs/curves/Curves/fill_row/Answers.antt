@@ -1,7 +1,8 @@
 use Rattle.std.proofs.Common.{◌≡◌, ◌+◌, List, length, take, ap, ◌∙◌, arith}
 use Rattle.std.proofs.lemmas.List.{take_all}
 use Rattle.lot_curves.specs.declared.stretch.Stretch.{Stretch}
-use Rattle.lot_curves.specs.Stretches.{had_at, stretches_of}
+use Rattle.lot_curves.specs.Stretches.{stretches_of}
+use Rattle.lot_curves.specs.Windows.{had_in}
 use Rattle.lot_curves.proofs.Rows.{row-is}
 use Rattle.lot_curves.proofs.curves.Curves.fill_row.Goals as goal
 
@@ -11,4 +12,6 @@ returns c =
     let items = c.args.self.now.stretches in
     let all : take c.loop-stretch.stretch-index items ≡ items = take_all c.loop-stretch.stretch-index items (omega (arith, c.loop-stretch-test.false, ap length c.stretches-stretch-items.ensures.stretches)) in
     row-is c.args.measure c.args.self.now c.args.tick c.loop-stretch.row i.places
-    (λ k below. i.had k below ∙ ap (λ (xs : List Stretch). had_at c.args.measure c.args.tick (stretches_of (k + 1) xs)) all)
+    (λ k below.
+    i.had k below ∙ ap (λ (xs : List Stretch). had_in c.args.measure c.window-window.result c.args.tick (stretches_of (k + 1) xs)) all
+    ∙ ap (λ w. had_in c.args.measure w c.args.tick (stretches_of (k + 1) items)) c.window-window.ensures)

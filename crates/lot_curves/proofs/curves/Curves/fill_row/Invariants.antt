@@ -1,11 +1,12 @@
 use Rattle.std.proofs.Common.{◌≡◌, ℕ, ◌+◌, ◌*◌, ◌<◌, ◌≤◌, ◌^◌, get_or, length, take}
-use Rattle.lot_curves.specs.Stretches.{had_at, stretches_of}
+use Rattle.lot_curves.specs.Stretches.{stretches_of}
+use Rattle.lot_curves.specs.Windows.{had_in}
 use Rattle.lot_curves.proofs.curves.Curves.fill_row.Given as goal
 
 -- each thread has what it has had of the stretches passed so far
 abbrev pub invariant-loop-stretch : goal.invariant-loop-stretch
 invariant-loop-stretch l = record {
   places : length l.row ≡ length l.initial.self.names;
-  had : (k : ℕ) → k < length l.row → get_or l.row k 0 ≡ had_at l.measure l.tick (stretches_of (k + 1) (take l.stretch-index l.self.stretches));
+  had : (k : ℕ) → k < length l.row → get_or l.row k 0 ≡ had_in l.measure l.window l.tick (stretches_of (k + 1) (take l.stretch-index l.self.stretches));
   small : (k : ℕ) → k < length l.row → get_or l.row k 0 ≤ l.stretch-index * 2 ^ 32;
 }

@@ -1,9 +1,9 @@
 use Rattle.std.proofs.Common.{◌≡◌, ◌≤◌, ◌*◌, ◌^◌, take}
-use Rattle.lot_curves.specs.Stretches.{had_at}
-use Rattle.lot_curves.proofs.stretch.had_at.Given as goal
+use Rattle.lot_curves.specs.Windows as windows
+use Rattle.lot_curves.proofs.stretch.had_in.Given as goal
 
 abbrev pub invariant-loop-stretch : goal.invariant-loop-stretch
 invariant-loop-stretch l = record {
-  had : l.had ≡ had_at l.measure l.tick (take l.stretch-index l.stretches);
+  had : l.had ≡ windows.had_in l.measure l.window l.tick (take l.stretch-index l.stretches);
   small : l.had ≤ l.stretch-index * 2 ^ 32;
 }
