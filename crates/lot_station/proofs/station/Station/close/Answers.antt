@@ -1,7 +1,12 @@
-use Rattle.std.proofs.Common.{List, ap, sym, ◌∙◌, subst, refl, inr}
+use Rattle.std.proofs.Common.{List, ap, sym, ◌∙◌, subst, refl, inl, inr}
 use Rattle.lot_engine.specs.Seen.{Setting}
 use Rattle.lot_station.specs.Holders.{Holder, CountsAgree, InOrder}
 use Rattle.lot_station.proofs.station.Station.close.Goals as goal
+
+pub returns-then-not-in_order-clause-err : goal.returns-then-not-in_order-clause-err
+returns-then-not-in_order-clause-err g c =
+    let processors = c.self.invariant ∙ ap (λ (s : Setting). s.program.limits.processors) c.self.view_is in
+    inl (refl, λ order. c.if-not-in_order.ensures (subst (InOrder c.self.inside.processors) (sym c.as_slice.ensures.value) (subst (λ n. InOrder n c.args.seats.items) (sym processors) order)))
 
 pub returns-then-not-counts_agree-clause-err : goal.returns-then-not-counts_agree-clause-err
 returns-then-not-counts_agree-clause-err g c =

@@ -15,6 +15,9 @@ try_push_as-requires-clause-rule c = opens _ _ _ _ c.in_ok-queue.ensures.3
 pub another-pass-requires-clause-rule : goal.another-pass-requires-clause-rule
 another-pass-requires-clause-rule c = deals _ _ _ _ _ c.loop-k.invariant.1 (search rules)
 
+pub loop-k-init : goal.loop-k-init
+loop-k-init c = (search rules, search rules, search rules, search rules, search rules)
+
 pub loop-k-preserved : goal.loop-k-preserved
 loop-k-preserved c =
     let i = c.loop-k.invariant in

@@ -8,6 +8,12 @@ use Rattle.lot_station.specs.BatonSeats.{seat, Looks, Turns, seen_in}
 use Rattle.lot_station.proofs.BatonTelling.{held_after, given_after, next_turn, turned, refused}
 use Rattle.lot_station.proofs.baton.station.BatonStation.turn.Goals as goal
 
+pub give-requires-clause-held : goal.give-requires-clause-held
+give-requires-clause-held g c =
+    let held = held_after _ _ _ _ _ c.seat.invariant.1 c.take-system.ensures.holds in
+    let goes = next_turn c.seat.inside.actor c.args.slice c.take-system.result c.take-system.result c.turn-answer.new.self c.turn-answer.result c.turn-answer.ensures.ok c.turn-answer.ensures.err in
+    (_, _, held, goes)
+
 pub returns-clause-ok : goal.returns-clause-ok
 returns-clause-ok g c =
     let i = c.seat.invariant in
