@@ -165,6 +165,13 @@ const PICTURES: [(&[&str], &[&str]); 3] = [
     ),
 ];
 
+/// Checks that the picture has each of these parts.
+fn check_parts(rt: &impl Abort, picture: &str, parts: &[&str]) {
+    for part in parts {
+        check_same_at(rt, part, &picture.contains(*part), &true);
+    }
+}
+
 #[test]
 fn pictures(rt: HostRuntime) {
     for (words, parts) in PICTURES {
@@ -172,9 +179,7 @@ fn pictures(rt: HostRuntime) {
         let picture = str::from_utf8(ended.output.as_slice()).unwrap_or("");
         let is_whole = picture.ends_with("</svg>\n");
         check_same_at(&rt, &words, &(ended.code, is_whole), &(0, true));
-        for part in parts {
-            check_same_at(&rt, part, &picture.contains(*part), &true);
-        }
+        check_parts(&rt, picture, parts);
     }
 }
 
