@@ -46,8 +46,8 @@ impl CommandList {
         self.packed.len()
     }
 
-    /// Adds a command. It fails if out of memory, or if the names before it have 4294967296 bytes or more, and then adds
-    /// none.
+    /// Adds a command. It fails, and adds none, if out of memory or if the names before it have 4294967296 bytes or
+    /// more.
     pub fn push(&mut self, command: Command) -> Result<(), AllocError>
         ensures added { OnOk result (self.new ≡ self.old ++ command ∷ []) }
         ensures kept { OnErr result (self.new ≡ self.old) }
