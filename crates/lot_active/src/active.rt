@@ -65,7 +65,7 @@ impl Active {
 
     /// The total of bytes that `new` requests from the allocator, for a graph with this layout.
     pub fn bytes(layout: Layout) -> u64
-        ensures { result ≡ 25 * node_count layout + 24 }
+        ensures { result ≡ 21 * node_count layout + 24 }
     {
         Marks::bytes(layout.node_count())
     }

@@ -62,7 +62,7 @@ impl Marks {
     /// The total of bytes that `new` requests from the allocator.
     pub(crate) fn bytes(nodes: usize) -> u64
         requires few { nodes < 2 ^ 40 }
-        ensures { result ≡ 25 * nodes + 24 }
+        ensures { result ≡ 21 * nodes + 24 }
     {
         MARK_BYTES * nodes as u64 + Lists::bytes(3, nodes)
     }

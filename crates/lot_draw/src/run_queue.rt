@@ -85,7 +85,7 @@ impl RunQueue {
 
     /// The total of bytes that `new` requests from the allocator.
     pub fn bytes(limits: &Limits) -> u64
-        ensures { result ≡ 60 * limits.now.threads + 8 }
+        ensures { result ≡ 56 * limits.now.threads + 8 }
     {
         let threads = limits.threads as usize;
         SumTree::bytes(threads) + Lists::bytes(1, threads) + COMPETITOR_BYTES * threads as u64

@@ -112,7 +112,7 @@ impl NameIndex {
 
     /// The total of bytes that `new` requests from the allocator.
     pub(crate) fn bytes(places: u32) -> u64
-        ensures { result ≡ 24 * places }
+        ensures { result ≡ 20 * places }
     {
         Lists::bytes(places as usize, places as usize)
     }

@@ -89,7 +89,7 @@ impl Queues {
 
     /// The total of bytes that `new` requests from the allocator.
     pub fn bytes(ports: u32, mutexes: u32, threads: u32) -> u64
-        ensures { result ≡ 16 * ports + 16 * mutexes + 28 * threads }
+        ensures { result ≡ 16 * ports + 16 * mutexes + 24 * threads }
     {
         let layout = Layout {
             room: threads,

@@ -95,8 +95,8 @@ impl ValuedGraph {
 
     /// The total of bytes that `new` requests from the allocator.
     pub fn bytes(limits: &Limits) -> u64
-        ensures { result ≡ 56 * limits.now.tickets + 82 * limits.now.currencies + 97 * limits.now.threads
-            + 97 * limits.now.mutexes + 122 }
+        ensures { result ≡ 48 * limits.now.tickets + 70 * limits.now.currencies + 81 * limits.now.threads
+            + 81 * limits.now.mutexes + 110 }
     {
         let layout = Layout::of(limits);
         Graph::bytes(limits) + Active::bytes(layout) + Values::bytes(layout)

@@ -114,7 +114,7 @@ impl Values {
 
     /// The total of bytes that `new` requests from the allocator, for a graph with this layout.
     pub fn bytes(layout: Layout) -> u64
-        ensures { result ≡ 24 * places.node_count layout + 8 }
+        ensures { result ≡ 20 * places.node_count layout + 8 }
     {
         let nodes = layout.node_count();
         VALUE_BYTES * nodes as u64 + Lists::bytes(1, nodes)
