@@ -124,6 +124,29 @@ fn showing_interval<'a>(
     showing(alloc, name, about)?.arg(from)?.arg(to)?.arg(window)
 }
 
+/// A subcommand that shows an input, or the figures of several plays of it, with a text on what it does.
+fn showing_seeds<'a>(
+    alloc: Global,
+    name: &'a str,
+    about: &'a str,
+) -> Result<Command<'a>, AllocError> {
+    showing(alloc, name, about)?.arg(seeds_option(alloc)?)
+}
+
+/// The option for the seeds of several plays.
+fn seeds_option<'a>(alloc: Global) -> Result<Arg<'a>, AllocError> {
+    let seeds = Arg::new(alloc, "seeds")
+        .long("seeds")
+        .value_name("A..B")
+        .action(ArgAction::Set)
+        .conflicts_with("seed")?
+        .help(
+            "Plays the input once with each seed from A to B, and writes the mean, the least and the most of each \
+             thread's draws, ticks and share",
+        );
+    Ok(seeds)
+}
+
 /// An option whose value is a tick.
 fn tick_option<'a>(alloc: Global, name: &'a str, value: &'a str) -> Arg<'a> {
     Arg::new(alloc, name)
@@ -144,7 +167,7 @@ fn reading<'a>(alloc: Global, name: &'a str, about: &'a str) -> Result<Command<'
 
 /// The command that writes the turns.
 fn play_command<'a>(alloc: Global) -> Result<Command<'a>, AllocError> {
-    showing(
+    showing_seeds(
         alloc,
         "play",
         "Reads an input from FILE or standard input, makes the turns of its schedule and writes a line for each, and a \
@@ -154,27 +177,17 @@ fn play_command<'a>(alloc: Global) -> Result<Command<'a>, AllocError> {
 
 /// The command that writes the report.
 fn report_command<'a>(alloc: Global) -> Result<Command<'a>, AllocError> {
-    let seeds = Arg::new(alloc, "seeds")
-        .long("seeds")
-        .value_name("A..B")
-        .action(ArgAction::Set)
-        .conflicts_with("seed")?
-        .help(
-            "Plays the input once with each seed from A to B, and writes the mean, the least and the most of each \
-             thread's draws, ticks and share",
-        );
     let csv = Arg::new(alloc, "csv")
         .long("csv")
         .action(ArgAction::SetTrue)
         .help(
             "Writes a table with commas between the fields: the columns' names, and a row for each thread",
         );
-    showing(
+    showing_seeds(
         alloc,
         "report",
         "Plays an input from FILE or standard input, and writes the report alone",
     )?
-    .arg(seeds)?
     .arg(csv)
 }
 
@@ -210,7 +223,14 @@ fn shares_command<'a>(alloc: Global) -> Result<Command<'a>, AllocError> {
         "Reads an input from FILE or standard input, makes the turns of its schedule and writes a table of the ticks \
          that each thread has run over time",
     )?
-    .arg(quanta)
+    .arg(quanta)?
+    .arg(
+        seeds_option(alloc)?
+            .conflicts_with("quanta")?
+            .conflicts_with("from")?
+            .conflicts_with("to")?
+            .conflicts_with("window")?,
+    )
 }
 
 /// The command that writes a picture.
@@ -232,22 +252,37 @@ fn chart_command<'a>(alloc: Global) -> Result<Command<'a>, AllocError> {
 fn fault_of(name: &str, given: &ArgMatches<'_>) -> Option<&'static str> {
     if is_empty(interval_of(name, given)) {
         Some(EMPTY_INTERVAL)
-    } else if name == "report" && given.get_str("seeds").is_some() && seeds_of(given).is_none() {
+    } else if takes_seeds(name) && given.get_str("seeds").is_some() && seeds_of(given).is_none() {
         Some(WRONG_SEEDS)
     } else {
         None
     }
 }
 
+/// Whether the subcommand with this name may be given the seeds of several plays.
+fn takes_seeds(name: &str) -> bool {
+    name == "play" || name == "report" || name == "shares"
+}
+
 /// The request of the subcommand with this name, with these options.
 fn request_of(name: &str, given: &ArgMatches<'_>) -> Request {
+    if name == "run" {
+        return Request::Run;
+    }
+    let view = view_of(name, given);
+    let seed = seed_of(given);
+    Request::Show(Showing { view, seed })
+}
+
+/// What the subcommand with this name shows. Several plays are shown by their figures, whatever shows them.
+fn view_of(name: &str, given: &ArgMatches<'_>) -> View {
+    let seeds = plays_of(name, given);
+    if seeds.is_some() || name == "report" {
+        let form = form_of(name, given);
+        return View::Report { seeds, form };
+    }
     let interval = interval_of(name, given);
-    let view = match name {
-        "run" => return Request::Run,
-        "report" => View::Report {
-            seeds: seeds_of(given),
-            form: form_of(given),
-        },
+    match name {
         "explain" => View::Explain,
         "shares" => View::Shares {
             measure: measure_of(given),
@@ -259,9 +294,7 @@ fn request_of(name: &str, given: &ArgMatches<'_>) -> Request {
             window: given.get_one("window"),
         },
         _ => View::Play,
-    };
-    let seed = seed_of(given);
-    Request::Show(Showing { view, seed })
+    }
 }
 
 /// The interval of the time, which `shares` and `chart` may give; none for the whole.
@@ -310,6 +343,15 @@ fn seed_of(given: &ArgMatches<'_>) -> Option<Seed> {
     Seed::new(given.get_one("seed")?)
 }
 
+/// The seeds of several plays, which some subcommands may give.
+fn plays_of(name: &str, given: &ArgMatches<'_>) -> Option<Seeds> {
+    if takes_seeds(name) {
+        seeds_of(given)
+    } else {
+        None
+    }
+}
+
 /// The seeds of several plays, if they were given and are right.
 fn seeds_of(given: &ArgMatches<'_>) -> Option<Seeds> {
     let (first, last) = given.get_str("seeds")?.split_once("..")?;
@@ -321,9 +363,9 @@ fn seeds_of(given: &ArgMatches<'_>) -> Option<Seeds> {
     Some(Seeds { first, last })
 }
 
-/// The form of a report.
-fn form_of(given: &ArgMatches<'_>) -> Form {
-    if given.get_flag("csv") {
+/// The form of a report, which `report` may give.
+fn form_of(name: &str, given: &ArgMatches<'_>) -> Form {
+    if name == "report" && given.get_flag("csv") {
         Form::Table
     } else {
         Form::Lines

@@ -88,15 +88,33 @@ fn report_tables(rt: HostRuntime) {
     }
 }
 
-/// The report alone, and that over several plays.
+/// `play`, `report` and `shares` write the same over several plays. `explain` and `chart` have no figures, and several
+/// plays have no time.
+#[test]
+fn several_plays(rt: HostRuntime) {
+    let alloc = rt.alloc();
+    for view in ["play", "report", "shares"] {
+        let words = ["lot_sim", view, "--seeds", "1..2"];
+        let ended = ended_on(&rt, alloc, &words, TIMED);
+        let is_report = ended.output.as_slice() == PLAYS.as_bytes();
+        check_same(&rt, &(ended.code, is_report), &(0, true));
+    }
+    for words in [
+        ["lot_sim", "explain", "--seeds", "1..2", "-"],
+        ["lot_sim", "chart", "--seeds", "1..2", "-"],
+        ["lot_sim", "play", "--seeds", "2..1", "-"],
+        ["lot_sim", "shares", "--seeds", "1..2", "--quanta"],
+        ["lot_sim", "shares", "--seeds", "1..2", "--from=1"],
+    ] {
+        check_words(&rt, alloc, &words, 2, false);
+    }
+}
+
+/// The report alone, and seeds that aren't from one to another.
 #[test]
 fn reports(rt: HostRuntime) {
     let alloc = rt.alloc();
     check_words_on(&rt, alloc, "report", INPUT, 0, REPORT);
-    let words = ["lot_sim", "report", "--seeds", "1..2"];
-    let ended = ended_on(&rt, alloc, &words, TIMED);
-    let is_report = ended.output.as_slice() == PLAYS.as_bytes();
-    check_same(&rt, &(ended.code, is_report), &(0, true));
     for seeds in ["1", "2..1", "0..2", "1..2147483647"] {
         check_words(
             &rt,
