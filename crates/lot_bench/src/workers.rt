@@ -113,9 +113,12 @@ fn turns_for_each_second<R: Clock + Threads + Wait + Sync>(
         Sharing::Baton => baton_run(rt, alloc, program)?,
     };
     let spent = u64::try_from(start.elapsed(rt)?.as_nanos()).unwrap_or(u64::MAX);
-    let made = system.history().len();
-    ensure!(made == turns_in_all(program) as usize, "turns are missing");
-    Ok((made as u64).saturating_mul(1_000_000_000) / spent.max(1))
+    let made = system.turn_count();
+    ensure!(
+        made == u64::from(turns_in_all(program)),
+        "turns are missing"
+    );
+    Ok(made.saturating_mul(1_000_000_000) / spent.max(1))
 }
 
 /// The number of turns in a free run of the program.

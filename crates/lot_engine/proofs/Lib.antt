@@ -1,3 +1,4 @@
+pub mod HistoryFacts
 pub mod StepFacts
 pub mod ReplyFacts
 pub mod Runs

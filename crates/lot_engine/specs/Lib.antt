@@ -1,3 +1,4 @@
+pub mod Histories
 pub mod Seen
 pub mod Steps
 pub mod Held

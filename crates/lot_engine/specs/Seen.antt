@@ -1,5 +1,5 @@
 -- A system as its contracts see it.
-use Rattle.std.specs.Prelude.{◌≡◌, ℕ, ◌+◌, ◌==◌, Bool, true, List, [], ◌∷◌, ◌++◌, count_by, is_some, length}
+use Rattle.std.specs.Prelude.{◌≡◌, ℕ, ◌+◌, ◌==◌, Bool, true, List, [], ◌∷◌, ◌++◌, count_by, is_some, length, map, min}
 use Rattle.lot_machine.specs.declared.command.Kind.{Kind}
 use Rattle.lot_machine.specs.declared.command.Kind.TheVariants.{Tickets, Currencies, Threads}
 use Rattle.lot_machine.specs.Rows.{thread_row}
@@ -20,6 +20,10 @@ pub record Seen : Type 0 where
 -- the world after the program's run with the system's history
 abbrev pub world_of : Seen → World
 world_of seen = system_run seen.setting.program seen.history
+
+-- a system's history as it is printed: the timer is the actor after the processors, whichever thread it wakes
+abbrev pub shown_history : Seen → List ℕ
+shown_history seen = map (λ actor. min actor (seen.setting.program.limits.processors + 1)) seen.history
 
 -- the number of commands that a system has made
 abbrev pub commands_made : Seen → ℕ

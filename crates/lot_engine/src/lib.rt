@@ -5,6 +5,7 @@
 mod counts;
 mod fault;
 mod generators;
+mod history;
 mod known;
 pub mod laws;
 mod places;

@@ -11,14 +11,16 @@ ghost use Rattle.lot_simulation.specs.World.Answer.{Answered};
 ghost use Rattle.lot_simulation.specs.World.{IsLegal, sleeper_on, system_turn};
 ghost use Rattle.lot_simulation.specs.Report.{ticks_in, total_of, turns_made, turns_of};
 ghost use Rattle.lot_engine.specs.Counted.{counted};
+ghost use Rattle.lot_engine.specs.Histories.{woken_in};
 ghost use Rattle.lot_engine.specs.Playing.{IsPlayed, turn_in};
-ghost use Rattle.lot_engine.specs.Seen.{HasRow, after_turn, commands_made, given_count, timer_for, world_of};
+ghost use Rattle.lot_engine.specs.Seen.{HasRow, after_turn, commands_made, given_count, shown_history, timer_for, world_of};
 ghost use Rattle.lot_script.specs.Places.{Place as PlaceRecord};
 ghost use Rattle.lot_engine.specs.Turns.{Answers, Faults, Goes, IfStale, IsEnded, IsFresh, IsWorkOf, Prevents, work_at};
 
 use crate::TurnFault;
 use crate::counts::{Counts, count_turn, no_counts};
 use crate::generators::{generators_of, next_event};
+use crate::history::History;
 use crate::known::known;
 use crate::places::{follow_command, follow_turn, pass_slice, places_for, receive};
 use crate::slices::script_numbered;
@@ -52,7 +54,7 @@ pub struct System {
     is_wide: bool,
     /// Each thread's place in its script.
     places: Vec<Place>,
-    history: Vec<u16>,
+    history: History,
     /// The counters of each actor, the console first.
     counts: Vec<Counts>,
     /// The counters over all actors.
@@ -82,7 +84,7 @@ impl Drop for System {
 }
 
 impl Model for System {
-    ghost use Rattle.std.specs.Prelude.{◌≡◌, ◌==◌, ◌+◌, ◌≤◌, false, All, count_by, is_some, length};
+    ghost use Rattle.std.specs.Prelude.{◌≡◌, ◌==◌, ◌+◌, ◌≤◌, false, true, All, count_by, is_some, length};
     ghost use Rattle.std.specs.Prelude.{vec_len, vec_capacity};
     ghost use Rattle.lot_simulation.specs.Report.{turns_made};
     ghost use Rattle.lot_simulation.specs.World.{IsLegal, IsLegalInTime, system_run};
@@ -112,7 +114,9 @@ impl Model for System {
       each_counted : AreCounts (turns_made s.program s.history.items) (length s.history.items) s.counts.items;
       total_counted : IsCount (turns_made s.program s.history.items) (length s.history.items) s.total;
       threads : s.program.limits.threads ≤ vec_capacity s.places;
-      room : s.room ≤ vec_capacity s.history;
+      wakes : s.has_timer ≡ true → s.room ≤ s.history.size.wakes;
+      processors : s.history.size.processors ≡ s.program.limits.processors;
+      room : s.room ≤ s.history.size.turns;
     } };
 }
 
@@ -152,7 +156,7 @@ impl System {
             generators: generators_of(alloc, program)?,
             is_wide: program.format().draws_wide_numbers(),
             places: places_for(alloc, limits.threads)?,
-            history: Vec::with_capacity(alloc, room as usize)?,
+            history: History::new(alloc, limits.processors, room, has_timer)?,
             counts: no_counts(alloc, limits.processors as usize + 1)?,
             total: Counts::NONE,
             room,
@@ -168,15 +172,23 @@ impl System {
         self.program.limits().processors
     }
 
-    /// The actors of the turns so far. The timer stands as P + t, with P processors, for a wake of thread t.
-    pub fn history(&self) -> &[u16]
-        ensures items { result.now ≡ self.now.history }
+    /// The actors of the turns so far. The timer is P + 1, with P processors.
+    pub fn history(&self) -> &[u8]
+        ensures shown { result.now ≡ shown_history self.now }
+        ensures items { self.now.setting.timer ≡ false → result.now ≡ self.now.history }
         ensures legal { self.now.setting.timer ≡ false
             → IsLegal self.now.setting.program self.now.setting.room self.now.history }
         ensures room { self.now.setting.room < 2 ^ 32 }
     {
         known(self.room);
-        &self.history
+        self.history.actors()
+    }
+
+    /// The threads that the timer's turns woke, in the order of these turns.
+    pub fn woken(&self) -> &[u16]
+        ensures { result.now ≡ woken_in self.now.setting.program.limits.processors self.now.history }
+    {
+        self.history.woken()
     }
 
     /// The next work of the thread on the processor, if one runs there. The console has none.
@@ -315,8 +327,7 @@ impl System {
         self.kernel.answer(event, reply);
         let told = *reply;
         self.total.add_turn(told);
-        let actor = self.program.limits().processors + thread;
-        remember(&mut self.history, actor);
+        self.history.push_wake(thread);
     }
 
     /// Whether the actor is the console and no command remains.
@@ -361,7 +372,7 @@ impl System {
         let told = *reply;
         follow_turn(&mut self.places, slice, told);
         count_turn(&mut self.counts, &mut self.total, actor, told);
-        remember(&mut self.history, actor);
+        self.history.push(actor);
     }
 
     /// Makes the console's next command. It stores the event and the kernel's reply in `event` and `reply`.
@@ -378,7 +389,7 @@ impl System {
         self.spent += 1;
         follow_command(&mut self.places, &self.program, &self.kernel, told);
         count_turn(&mut self.counts, &mut self.total, 0, told);
-        remember(&mut self.history, 0);
+        self.history.push(0);
     }
 
     /// Makes the slice of the thread that runs on the processor. It advances the thread's place in the system's
@@ -408,7 +419,7 @@ impl System {
         let told = *reply;
         receive(&mut self.places, told);
         count_turn(&mut self.counts, &mut self.total, actor, told);
-        remember(&mut self.history, actor);
+        self.history.push(actor);
     }
 
     /// The limits of the program.
@@ -510,7 +521,10 @@ impl System {
 
     /// The number of turns made.
     pub fn turn_count(&self) -> u64
-        ensures { result ≡ length (world_of self.now).history }
+        ensures turns { result ≡ length self.now.history }
+        ensures world { result ≡ length (world_of self.now).history }
+        ensures legal { self.now.setting.timer ≡ false
+            → IsLegal self.now.setting.program self.now.setting.room self.now.history }
     {
         self.history.len() as u64
     }
@@ -539,15 +553,4 @@ impl System {
     {
         self.total
     }
-}
-
-/// Appends the actor to the history, which has room for it.
-#[inline(always)]
-fn remember(history: &mut Vec<u16>, actor: u32)
-    requires small { actor < 65536 }
-    requires room { vec_len history.old < vec_capacity history.old }
-    ensures items { history.new.items ≡ history.old.items ++ actor ∷ [] }
-    ensures capacity { vec_capacity history.new ≡ vec_capacity history.old }
-{
-    history.push_reserved(actor as u16);
 }

@@ -12,3 +12,5 @@ pub mod Leaving
 pub mod Seeds
 -- The report of a program, in lines or as a table.
 pub mod ReportTable
+-- The end of a run's output.
+pub mod Endings

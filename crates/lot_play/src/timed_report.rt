@@ -64,7 +64,7 @@ pub(crate) fn early_end(
     Some(EarlyEnd {
         time: timekeeper.clocks.time,
         end: program.duration().unwrap_or(0),
-        turns: system.history().len() as u64,
+        turns: system.turn_count(),
     })
 }
 

@@ -16,7 +16,7 @@ use std::io::Write;
 pub fn write_history<W: Write>(
     writer: &mut Watched<W>,
     format: Format,
-    history: &[u16],
+    history: &[u8],
 ) -> Result<(), IoFault>
     requires { writer.old.failed ≡ false }
     ensures { Writes W.contents writer.old writer.new result (reports.history_lines (unit_of format) history.now) }
@@ -28,7 +28,7 @@ pub fn write_history<W: Write>(
 }
 
 /// Writes the history in `schedule` lines of 64 actors each; the last has the rest.
-fn write_schedule<W: Write>(writer: &mut Watched<W>, history: &[u16]) -> Result<(), IoFault>
+fn write_schedule<W: Write>(writer: &mut Watched<W>, history: &[u8]) -> Result<(), IoFault>
     requires { writer.old.failed ≡ false }
     ensures { Writes W.contents writer.old writer.new result (reports.schedule_lines history.now) }
 {
@@ -42,7 +42,7 @@ fn write_schedule<W: Write>(writer: &mut Watched<W>, history: &[u16]) -> Result<
 }
 
 /// Writes a line of these actors.
-fn write_schedule_line<W: Write>(writer: &mut Watched<W>, actors: &[u16]) -> Result<(), IoFault>
+fn write_schedule_line<W: Write>(writer: &mut Watched<W>, actors: &[u8]) -> Result<(), IoFault>
     requires working { writer.old.failed ≡ false }
     requires few { length actors.now ≤ 64 }
     ensures { Writes W.contents writer.old writer.new result (reports.schedule_line actors.now) }

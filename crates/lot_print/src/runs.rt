@@ -11,7 +11,7 @@ use std::io::Write;
 
 /// Writes the history in lines `runs A1 K1 A2 K2 ..` of 32 pairs each, the last with the 1 to 32 remaining ones: K1
 /// turns of A1, then K2 of A2, and so on. Neighbouring pairs have different actors, even across lines.
-pub(crate) fn write_runs<W: Write>(writer: &mut Watched<W>, history: &[u16]) -> Result<(), IoFault>
+pub(crate) fn write_runs<W: Write>(writer: &mut Watched<W>, history: &[u8]) -> Result<(), IoFault>
     requires { writer.old.failed ≡ false }
     ensures { Writes W.contents writer.old writer.new result (runs_lines history.now) }
 {
@@ -25,7 +25,7 @@ pub(crate) fn write_runs<W: Write>(writer: &mut Watched<W>, history: &[u16]) -> 
 }
 
 /// Writes a line of the first 32 runs of the history.
-fn write_runs_line<W: Write>(writer: &mut Watched<W>, history: &[u16]) -> Result<(), IoFault>
+fn write_runs_line<W: Write>(writer: &mut Watched<W>, history: &[u8]) -> Result<(), IoFault>
     requires { writer.old.failed ≡ false }
     ensures { Writes W.contents writer.old writer.new result (runs_line (take 32 (runs_in history.now))) }
 {
@@ -35,7 +35,7 @@ fn write_runs_line<W: Write>(writer: &mut Watched<W>, history: &[u16]) -> Result
 }
 
 /// Writes the first 32 runs of the history, each after a space.
-fn write_run_texts<W: Write>(writer: &mut Watched<W>, history: &[u16]) -> Result<(), IoFault>
+fn write_run_texts<W: Write>(writer: &mut Watched<W>, history: &[u8]) -> Result<(), IoFault>
     requires { writer.old.failed ≡ false }
     ensures { Writes W.contents writer.old writer.new result (flat_map run_text (take 32 (runs_in history.now))) }
 {
@@ -51,7 +51,7 @@ fn write_run_texts<W: Write>(writer: &mut Watched<W>, history: &[u16]) -> Result
 }
 
 /// Writes a run after a space.
-fn write_run<W: Write>(writer: &mut Watched<W>, actor: u16, count: usize) -> Result<(), IoFault>
+fn write_run<W: Write>(writer: &mut Watched<W>, actor: u8, count: usize) -> Result<(), IoFault>
     requires { writer.old.failed ≡ false }
     ensures { Writes W.contents writer.old writer.new result (run_text (record { actor = actor; count = count })) }
 {
@@ -62,7 +62,7 @@ fn write_run<W: Write>(writer: &mut Watched<W>, actor: u16, count: usize) -> Res
 }
 
 /// The history after its first 32 runs.
-pub(crate) fn after_line(history: &[u16]) -> &[u16]
+pub(crate) fn after_line(history: &[u8]) -> &[u8]
     ensures runs { runs_in result.now ≡ drop 32 (runs_in history.now) }
     ensures shorter { 0 < length history.now → length result.now < length history.now }
 {
@@ -74,7 +74,7 @@ pub(crate) fn after_line(history: &[u16]) -> &[u16]
 }
 
 /// The history after this many turns.
-fn after_turns(history: &[u16], count: usize) -> &[u16]
+fn after_turns(history: &[u8], count: usize) -> &[u8]
     requires { count ≤ length history.now }
     ensures { result.now ≡ drop count history.now }
 {
@@ -82,7 +82,7 @@ fn after_turns(history: &[u16], count: usize) -> &[u16]
 }
 
 /// The history after its first run, if it has one.
-fn after_run(history: &[u16]) -> &[u16]
+fn after_run(history: &[u8]) -> &[u8]
     ensures runs { runs_in result.now ≡ drop 1 (runs_in history.now) }
     ensures most { length result.now ≤ length history.now }
     ensures shorter { 0 < length history.now → length result.now < length history.now }
@@ -94,7 +94,7 @@ fn after_run(history: &[u16]) -> &[u16]
 }
 
 /// The actor of the first turn, and the number of its turns in a row from there; `None` if there is no turn.
-pub(crate) fn first_run(history: &[u16]) -> Option<(u16, usize)>
+pub(crate) fn first_run(history: &[u8]) -> Option<(u8, usize)>
     ensures run { MatchOption result (history.now ≡ []) (λ run. runs_in history.now
         ≡ record { actor = run.0; count = run.1 } ∷ runs_in (drop run.1 history.now)) }
     ensures within { IfSome result (λ run. (0 < run.1) × (run.1 ≤ length history.now)) }
@@ -104,7 +104,7 @@ pub(crate) fn first_run(history: &[u16]) -> Option<(u16, usize)>
 }
 
 /// The number of the actor's turns in a row at the front.
-fn len_of(actor: u16, history: &[u16]) -> usize
+fn len_of(actor: u8, history: &[u8]) -> usize
     ensures turns { result ≡ prefix_len (λ a. a == actor) history.now }
     ensures within { result ≤ length history.now }
 {

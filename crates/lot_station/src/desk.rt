@@ -60,7 +60,7 @@ impl<T: TurnLedger, Q: Ledger, K: Ledger> Desk<T, Q, K> {
         } = self;
         let answer = system.turn(seat.actor(), slice)?;
         let total = system.total();
-        seat.turns.add(turns, 1, system.history().len() as u64);
+        seat.turns.add(turns, 1, system.turn_count());
         seat.quanta
             .add(quanta, quanta_in(answer.reply), total.quanta);
         seat.ticks.add(ticks, ticks_in(answer.reply), total.ticks);

@@ -39,7 +39,7 @@ impl<T: TurnLedger, Q: Ledger, K: Ledger> Station<T, Q, K> {
         ensures seats { IfOk result (λ r. AreDealt system r.1.items) }
     {
         let total = system.total();
-        let (turns, all_turns) = opened::<T>(turns, system.history().len() as u64);
+        let (turns, all_turns) = opened::<T>(turns, system.turn_count());
         let (quanta, all_quanta) = opened::<Q>(quanta, total.quanta);
         let (ticks, all_ticks) = opened::<K>(ticks, total.ticks);
         let seats = deal(alloc, &system, all_turns, all_quanta, all_ticks)?;

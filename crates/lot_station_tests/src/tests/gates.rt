@@ -29,7 +29,7 @@ fundx 10 base a spin
 ";
 
 /// The first processor in the history.
-fn first_processor(history: &[u16]) -> Option<u16> {
+fn first_processor(history: &[u8]) -> Option<u8> {
     history.iter().copied().find(|actor| *actor != 0)
 }
 
@@ -38,7 +38,7 @@ fn first_processor(history: &[u16]) -> Option<u16> {
 type Seen = (bool, bool, usize);
 
 /// The outcome of this run with this gate.
-fn seen_of(gate: &Turnstile, history: &[u16]) -> Seen {
+fn seen_of(gate: &Turnstile, history: &[u8]) -> Seen {
     let is_held_first = first_processor(history).map(u32::from) == Some(gate.held);
     (gate.gave_up(), is_held_first, history.len())
 }

@@ -48,8 +48,8 @@ impl Gate for Meeting {
 }
 
 /// Whether each of 65 actors has had one turn.
-fn has_all(history: &[u16]) -> bool {
-    history.len() == 65 && (0..65u16).all(|actor| history.contains(&actor))
+fn has_all(history: &[u8]) -> bool {
+    history.len() == 65 && (0..65u8).all(|actor| history.contains(&actor))
 }
 
 // 64 workers wait for each other before their turns, so each has a thread of its own: none gives up, and the history

@@ -45,7 +45,7 @@ fn replay(
     rt: &impl Abort,
     program: &Program,
     system: &mut System,
-    history: &[u16],
+    history: &[u8],
     answers: &mut [Vec<Answer>],
 ) {
     for actor in history {

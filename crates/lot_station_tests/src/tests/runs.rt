@@ -7,12 +7,12 @@ use lot_text::parse;
 use std::test::*;
 
 /// The number of the actor's turns in the history.
-fn times(history: &[u16], actor: u16) -> usize {
+fn times(history: &[u8], actor: u8) -> usize {
     history.iter().filter(|other| **other == actor).count()
 }
 
 /// The number of each actor's turns in the history.
-fn turns_of(history: &[u16]) -> [usize; 3] {
+fn turns_of(history: &[u8]) -> [usize; 3] {
     [times(history, 0), times(history, 1), times(history, 2)]
 }
 

@@ -84,7 +84,8 @@ fn turns_in_time(rt: HostRuntime) -> Result<(), Fail> {
     Ok(())
 }
 
-// With two processors, 3 is the timer as it wakes thread 1, and 4 as it wakes thread 2.
+// With two processors, 3 is the timer as it wakes thread 1, and 4 as it wakes thread 2. The history has 3 for both, and
+// the threads beside it.
 #[test]
 fn sleepers_in_time(rt: HostRuntime) -> Result<(), Fail> {
     let program = program_of(rt.alloc(), SLEEPERS)?;
@@ -116,8 +117,9 @@ fn sleepers_in_time(rt: HostRuntime) -> Result<(), Fail> {
     check_turns(&rt, &program, &mut playback, &rows);
     let (system, _) = playback.into_parts();
     let made = [
-        0, 0, 1, 2, 1, 1, 2, 1, 2, 3, 4, 1, 2, 1, 1, 2, 1, 2, 3, 1, 2,
+        0, 0, 1, 2, 1, 1, 2, 1, 2, 3, 3, 1, 2, 1, 1, 2, 1, 2, 3, 1, 2,
     ];
     check_same(&rt, &system.history(), &made.as_slice());
+    check_same(&rt, &system.woken(), &[1, 2, 1].as_slice());
     Ok(())
 }

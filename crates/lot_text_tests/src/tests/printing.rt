@@ -675,7 +675,7 @@ fn prints_listing_lines(rt: HostRuntime) {
     }
 }
 
-fn check_history(rt: &impl Abort, alloc: Global, format: Format, history: &[u16], wanted: &str) {
+fn check_history(rt: &impl Abort, alloc: Global, format: Format, history: &[u8], wanted: &str) {
     let mut writer = Watched::new(Vec::new(alloc));
     let ended = write_history(&mut writer, format, history);
     check(rt, writer, ended, wanted);
@@ -696,7 +696,7 @@ fn prints_histories(rt: HostRuntime) {
 }
 
 /// 65 turns of processor 1, and one of the console.
-fn long_history() -> [u16; 66] {
+fn long_history() -> [u8; 66] {
     let mut history = [1; 66];
     history[65] = 0;
     history
@@ -714,7 +714,7 @@ fn prints_long_histories(rt: HostRuntime) {
 }
 
 /// Processor 64 and the console in turn.
-fn mixed_history() -> [u16; 34] {
+fn mixed_history() -> [u8; 34] {
     let mut history = [0; 34];
     for place in 0..17 {
         history[2 * place] = 64;
@@ -744,9 +744,9 @@ fn prints_runs(rt: HostRuntime) {
 }
 
 /// 33 runs of two turns.
-fn history_of_pairs(rt: &impl Abort, alloc: Global) -> Vec<u16> {
+fn history_of_pairs(rt: &impl Abort, alloc: Global) -> Vec<u8> {
     let mut history = Vec::new(alloc);
-    for run in 0..33u16 {
+    for run in 0..33u8 {
         history.push(run).expect(rt, "memory");
         history.push(run).expect(rt, "memory");
     }

@@ -6,4 +6,4 @@ pub returns : goal.returns
 returns g c =
     let quanta = ap (λ (t : Counts). t.quanta) c.total-counts.ensures in
     let ticks = ap (λ (t : Counts). t.ticks) c.total-counts.ensures in
-    rw (← quanta, ← ticks, ← c.turn_count.ensures) c.write_whole_total.ensures
+    rw (← quanta, ← ticks, ← c.turn_count.ensures.world) c.write_whole_total.ensures

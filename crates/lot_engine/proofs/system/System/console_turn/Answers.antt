@@ -57,10 +57,10 @@ invariant_of-self c =
     c.follow_command.new.places.items (c.follow_command.ensures.at s.kernel.state w.contexts made i.held.places_at) in
     let answer =
     command-answer s.program w s.kernel.state s.places.items s.generators.items s.spent i.held c.at.result _ next c.answer.new.self.state c.answer.new.reply c.answer.ensures.state c.answer.ensures.reply in
-    rw c.remember.ensures.items (console-more s.program s.room s.is_wide s.has_timer s.history.items s.kernel.state s.places.items s.generators.items _ s.spent s.counts.items _ s.total _ _ i requires.room (event.Command c.at.result) c.answer.new.reply answer
+    rw c.push.ensures.items (console-more s.program s.room s.is_wide s.has_timer s.history.items s.kernel.state s.places.items s.generators.items _ s.spent s.counts.items _ s.total _ _ i requires.room (event.Command c.at.result) c.answer.new.reply answer
     below c.answer.new.self.state c.follow_command.new.places.items held
     c.count_turn.new.counts.items (c.count_turn.ensures.exact (turns_made s.program s.history.items) (length s.history.items) (event.Command c.at.result) i.each_counted) _ c.count_turn.ensures.count
-    _ c.count_turn.ensures.total (c.count_turn.ensures.total_small (length s.history.items) i.total_counted.small) _ _ c.follow_command.ensures.room c.remember.ensures.capacity)
+    _ c.count_turn.ensures.total (c.count_turn.ensures.total_small (length s.history.items) i.total_counted.small) _ _ c.follow_command.ensures.room c.push.ensures.size)
 
 pub returns-clause-answer : goal.returns-clause-answer
 returns-clause-answer c =

@@ -44,10 +44,10 @@ invariant_of-self c =
     let answer =
     turn-answer s.program (system_run s.program s.history.items) s.kernel.state s.places.items s.generators.items s.spent i.held c.args.actor some requires.actor (number_from s.is_wide seed) fresh.0 c.args.slice.now fresh.1 fresh.2 c.done_in-done.ensures.exact number
     c.next_event.new.event (given-event c.args.actor _ c.next_event.new.event c.args.slice.now c.done_in-done.result c.done_in-done.ensures.done c.next_event.ensures.event) c.answer.new.self.state c.answer.new.reply c.answer.ensures.state c.answer.ensures.reply in
-    rw c.remember.ensures.items (processor-more s.program s.room s.is_wide s.has_timer s.history.items s.kernel.state s.places.items s.generators.items _ s.spent s.counts.items _ s.total _ _ i c.args.actor requires.goes.room c.next_event.new.event c.answer.new.reply answer
+    rw c.push.ensures.items (processor-more s.program s.room s.is_wide s.has_timer s.history.items s.kernel.state s.places.items s.generators.items _ s.spent s.counts.items _ s.total _ _ i c.args.actor requires.goes.room c.next_event.new.event c.answer.new.reply answer
     some requires.actor c.answer.new.self.state c.follow_turn.new.places.items c.next_event.new.generators.items held _ c.next_event.ensures.count
     c.count_turn.new.counts.items (c.count_turn.ensures.exact (turns_made s.program s.history.items) (length s.history.items) c.next_event.new.event i.each_counted) _ c.count_turn.ensures.count
-    _ c.count_turn.ensures.total (c.count_turn.ensures.total_small (length s.history.items) i.total_counted.small) _ _ c.follow_turn.ensures.room c.remember.ensures.capacity)
+    _ c.count_turn.ensures.total (c.count_turn.ensures.total_small (length s.history.items) i.total_counted.small) _ _ c.follow_turn.ensures.room c.push.ensures.size)
 
 pub returns-clause-answer : goal.returns-clause-answer
 returns-clause-answer c =

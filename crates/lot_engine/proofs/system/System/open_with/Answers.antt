@@ -9,10 +9,10 @@ pub invariant_of-result : goal.invariant_of-result
 invariant_of-result c =
     let program = c.in_ok-copied.field-0 in
     let state = c.in_ok-new.field-0.state in
-    let history = c.in_ok-with_capacity.field-0.items in
+    let history = c.in_ok-new-2.field-0.items in
     let places = c.in_ok-places_for.field-0.items in
     let generators = c.in_ok-generators_of.field-0.items in
-    let none : history ≡ [] = search (rules, c.in_ok-with_capacity) in
+    let none : history ≡ [] = c.in_ok-new-2.ensures.none in
     let copied : program ≡ c.args.program.now = c.in_ok-copied.ensures in
     let limits : sizes_of c.limits-limits.result ≡ program.limits = c.limits-limits.ensures.limits ∙ ap (λ p. p.limits) (sym copied) in
     let is : state ≡ opening program.limits = ap (λ k. k.state) c.in_ok-new.ensures.opening ∙ ap opening limits in
@@ -32,5 +32,7 @@ invariant_of-result c =
       each_counted = each;
       total_counted = counted;
       threads = search (rules, limits);
-      room = search (rules, none);
+      room = c.in_ok-new-2.ensures.turns;
+      wakes = c.in_ok-new-2.ensures.wakes;
+      processors = c.in_ok-new-2.ensures.processors ∙ ap (λ l. l.processors) limits;
     }

@@ -63,10 +63,10 @@ invariant_of-self c =
     run-answer s.program (system_run s.program s.history.items) s.kernel.state s.places.items s.generators.items s.spent i.held c.args.actor c.args.running runs.0 runs.1.1 requires.actor
     c.script_numbered-script.result.now c.script_numbered-script.ensures.lines c.pass_slice-done.result c.pass_slice-done.new.places.items passed.slice passed.places passed.accumulator _ number
     c.next_event.new.event c.next_event.ensures.event c.answer.new.self.state c.answer.new.reply c.answer.ensures.state c.answer.ensures.reply in
-    rw c.remember.ensures.items (processor-more s.program s.room s.is_wide s.has_timer s.history.items s.kernel.state s.places.items s.generators.items _ s.spent s.counts.items _ s.total _ _ i c.args.actor requires.room c.next_event.new.event c.answer.new.reply answer
+    rw c.push.ensures.items (processor-more s.program s.room s.is_wide s.has_timer s.history.items s.kernel.state s.places.items s.generators.items _ s.spent s.counts.items _ s.total _ _ i c.args.actor requires.room c.next_event.new.event c.answer.new.reply answer
     (omega (arith, requires.actor.0)) requires.actor.1 c.answer.new.self.state c.receive.new.places.items c.next_event.new.generators.items held _ c.next_event.ensures.count
     c.count_turn.new.counts.items (c.count_turn.ensures.exact (turns_made s.program s.history.items) (length s.history.items) c.next_event.new.event i.each_counted) _ c.count_turn.ensures.count
-    _ c.count_turn.ensures.total (c.count_turn.ensures.total_small (length s.history.items) i.total_counted.small) _ _ (c.receive.ensures.room ∙ c.pass_slice-done.ensures.room) c.remember.ensures.capacity)
+    _ c.count_turn.ensures.total (c.count_turn.ensures.total_small (length s.history.items) i.total_counted.small) _ _ (c.receive.ensures.room ∙ c.pass_slice-done.ensures.room) c.push.ensures.size)
 
 pub returns-clause-answer : goal.returns-clause-answer
 returns-clause-answer c =

@@ -18,10 +18,9 @@ invariant_of-self c =
     let s = c.self.inside in
     let i = c.self.invariant in
     let requires = rw (← c.self.view_is) at c.requires in
-    let actor : c.limits.result.processors + c.args.thread ≡ s.program.limits.processors + c.args.thread = ap (λ (l : Sizes). l.processors + c.args.thread) c.limits.ensures.limits in
-    rw (c.remember.ensures.items, actor) (timer-more s.program s.room s.is_wide s.has_timer s.history.items s.kernel.state s.places.items s.generators.items _ s.spent s.counts.items _ s.total _ _ i c.args.thread (omega (arith, requires.there.0)) requires.timer requires.room (omega (arith, s.counts.ok.0))
+    rw (c.push_wake.ensures.items, i.processors) (timer-more s.program s.room s.is_wide s.has_timer s.history.items s.kernel.state s.places.items s.generators.items _ s.spent s.counts.items _ s.total _ _ i c.args.thread (omega (arith, requires.there.0)) requires.timer requires.room (omega (arith, s.counts.ok.0))
     c.answer.new.self.state c.answer.new.reply c.answer.ensures.state c.answer.ensures.reply
-    _ c.add_turn.ensures.exact (c.add_turn.ensures.small (length s.history.items) i.total_counted.small) _ c.remember.ensures.capacity)
+    _ c.add_turn.ensures.exact (c.add_turn.ensures.small (length s.history.items) i.total_counted.small) _ c.push_wake.ensures.size)
 
 pub returns-clause-answer : goal.returns-clause-answer
 returns-clause-answer c =
@@ -35,9 +34,8 @@ returns-clause-answer c =
 pub returns-clause-seen : goal.returns-clause-seen
 returns-clause-seen c =
     let s = c.self.inside in
-    let actor : c.limits.result.processors + c.args.thread ≡ s.program.limits.processors + c.args.thread = ap (λ (l : Sizes). l.processors + c.args.thread) c.limits.ensures.limits in
-    let items : c.remember.new.history.items ≡ s.history.items ++ (s.program.limits.processors + c.args.thread) ∷ [] =
-    c.remember.ensures.items ∙ ap (λ n. s.history.items ++ n ∷ []) actor in
+    let items : c.push_wake.new.self.items ≡ s.history.items ++ (s.program.limits.processors + c.args.thread) ∷ [] =
+    c.push_wake.ensures.items ∙ ap (λ n. s.history.items ++ (n + c.args.thread) ∷ []) c.self.invariant.processors in
     let after : List ℕ → Seen = λ h. record { setting = record { program = s.program; room = s.room; timer = s.has_timer }; history = h } in
     ap after items ∙ ap (λ (x : Seen). after_turn x (timer_for x.setting c.args.thread)) c.self.view_is
 

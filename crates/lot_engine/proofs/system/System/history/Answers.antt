@@ -1,0 +1,19 @@
+-- Without a timer the actors are the console and processors, so they are printed as they are.
+use Rattle.std.proofs.Common.{◌≡◌, ◌+◌, false, ap, sym, ◌∙◌, subst, map}
+use Rattle.std.specs.Prelude.{min}
+use Rattle.lot_engine.specs.Seen.{Seen, shown_history}
+use Rattle.lot_engine.proofs.HistoryFacts.{shown-own}
+use Rattle.lot_engine.proofs.system.System.history.Goals as goal
+
+pub returns-clause-shown : goal.returns-clause-shown
+returns-clause-shown c =
+    let s = c.self.inside in
+    c.actors.ensures ∙ ap (λ p. map (λ actor. min actor (p + 1)) s.history.items) c.self.invariant.processors ∙ ap shown_history c.self.view_is
+
+pub returns-clause-items : goal.returns-clause-items
+returns-clause-items c untimed =
+    let s = c.self.inside in
+    let legal = c.self.invariant.legal (ap (λ (x : Seen). x.setting.timer) c.self.view_is ∙ untimed) in
+    c.actors.ensures ∙ ap (λ p. map (λ actor. min actor (p + 1)) s.history.items) c.self.invariant.processors
+    ∙ shown-own s.program.limits.processors s.history.items legal.actors
+    ∙ ap (λ (x : Seen). x.history) c.self.view_is

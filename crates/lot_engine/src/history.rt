@@ -1,0 +1,96 @@
+//! The actors of a system's turns.
+ghost use Rattle.std.specs.Prelude.{◌≡◌, ◌+◌, ◌<◌, ◌≤◌, [], ◌∷◌, ◌++◌, IfOk, IsTrue, length, map, min};
+ghost use Rattle.lot_engine.specs.Histories.{HasOpened, woken_in};
+
+use std::alloc::{AllocError, Global};
+use std::marker::Model;
+
+/// The actors of the turns so far, in a byte each.
+#[derive(Drop)]
+pub(crate) struct History {
+    processors: u32,
+    // The actor of each turn; the number after those of the processors for the timer.
+    actors: Vec<u8>,
+    // The threads that the timer's turns woke, in the order of these turns.
+    woken: Vec<u16>,
+}
+
+impl Model for History {
+    ghost use Rattle.std.specs.Prelude.{vec_capacity};
+    ghost use Rattle.lot_engine.specs.Histories.{Turns, actors_from, IsKept};
+
+    ghost Value = { Turns };
+
+    ghost view = { λ h. record {
+      items = actors_from h.processors h.actors.items h.woken.items;
+      size = record { processors = h.processors; turns = vec_capacity h.actors; wakes = vec_capacity h.woken };
+    } };
+
+    ghost invariant = { λ h. IsKept h.processors h.actors.items h.woken.items };
+}
+
+impl History {
+    /// No turns, and room for this many. With a timer each of them may be one of the timer's.
+    pub(crate) fn new(
+        alloc: Global,
+        processors: u32,
+        room: u32,
+        has_timer: bool,
+    ) -> Result<History, AllocError>
+        requires { processors < 255 }
+        ensures { IfOk result (HasOpened processors room has_timer) }
+    {
+        let wakes = if has_timer { room } else { 0 };
+        Ok(History {
+            processors,
+            actors: Vec::with_capacity(alloc, room as usize)?,
+            woken: Vec::with_capacity(alloc, wakes as usize)?,
+        })
+    }
+
+    /// Adds a turn of the console or of a processor.
+    #[inline(always)]
+    pub(crate) fn push(&mut self, actor: u32)
+        requires actor { actor ≤ self.old.size.processors }
+        requires room { length self.old.items < self.old.size.turns }
+        ensures items { self.new.items ≡ self.old.items ++ actor ∷ [] }
+        ensures size { self.new.size ≡ self.old.size }
+    {
+        self.actors.push_reserved(actor as u8);
+    }
+
+    /// Adds a turn of the timer in which it woke this thread.
+    pub(crate) fn push_wake(&mut self, thread: u32)
+        requires some { 0 < thread }
+        requires small { thread < 65536 }
+        requires room { length self.old.items < self.old.size.turns }
+        requires wakes { length self.old.items < self.old.size.wakes }
+        ensures items { self.new.items ≡ self.old.items ++ (self.old.size.processors + thread) ∷ [] }
+        ensures size { self.new.size ≡ self.old.size }
+    {
+        self.actors.push_reserved((self.processors + 1) as u8);
+        self.woken.push_reserved(thread as u16);
+    }
+
+    /// The number of turns.
+    #[inline(always)]
+    pub(crate) fn len(&self) -> usize
+        ensures { result ≡ length self.now.items }
+    {
+        self.actors.len()
+    }
+
+    /// The actors of the turns, the timer as the number after those of the processors.
+    pub(crate) fn actors(&self) -> &[u8]
+        ensures { result.now ≡ map (λ actor. min actor (self.now.size.processors + 1)) self.now.items }
+    {
+        &self.actors
+    }
+
+    /// The threads that the timer's turns woke, in the order of these turns.
+    pub(crate) fn woken(&self) -> &[u16]
+        ensures { result.now ≡ woken_in self.now.size.processors self.now.items }
+    {
+        &self.woken
+    }
+}
