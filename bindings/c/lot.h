@@ -49,7 +49,7 @@
 // that both may read it: block the signal around the calls on that kernel, or set a flag in the handler and pass the
 // event later.
 //
-// MEMORY. lot_kernel_new allocates all the memory that a kernel will ever use: 13 kilobytes for 16 threads, 5.6
+// MEMORY. lot_kernel_new allocates all the memory that a kernel will ever use: 11 kilobytes for 16 threads, 4.9
 // megabytes at the largest sizes, and with `reuse` 4 bytes more for each ticket, currency and thread. lot_kernel_bytes
 // gives the number of bytes for any sizes. Events, rows and counts allocate nothing. lot_kernel_free frees the memory.
 // No other call allocates.
