@@ -9,7 +9,7 @@ pub record HistorySize : Type 0 where
   pub wakes : ℕ
 
 -- the actors of the turns so far
-pub record Turns : Type 0 where
+pub record KeptHistory : Type 0 where
   pub items : List ℕ
   pub size : HistorySize
 
@@ -31,7 +31,7 @@ pub record IsKept (p : ℕ) (actors woken : List ℕ) : Type 0 where
   pub wakes : count_by (nat_lt p) actors ≡ length woken
 
 -- there are no turns, and room for this many; with a timer each may be a wake
-pub record HasOpened (p room : ℕ) (timer : Bool) (history : Turns) : Type 0 where
+pub record HasOpened (p room : ℕ) (timer : Bool) (history : KeptHistory) : Type 0 where
   pub none : history.items ≡ []
   pub processors : history.size.processors ≡ p
   pub turns : room ≤ history.size.turns

@@ -17,9 +17,9 @@ pub(crate) struct History {
 
 impl Model for History {
     ghost use Rattle.std.specs.Prelude.{vec_capacity};
-    ghost use Rattle.lot_engine.specs.Histories.{Turns, actors_from, IsKept};
+    ghost use Rattle.lot_engine.specs.Histories.{KeptHistory, actors_from, IsKept};
 
-    ghost Value = { Turns };
+    ghost Value = { KeptHistory };
 
     ghost view = { λ h. record {
       items = actors_from h.processors h.actors.items h.woken.items;

@@ -1,9 +1,11 @@
 //! The system.
 ghost use Rattle.std.specs.Prelude.{◌≡◌, ◌↔◌, ◌<◌, ◌≤◌, ◌*◌, ◌^◌, [], ◌∷◌, ◌++◌, All, IfOk, IfErr};
-ghost use Rattle.std.specs.Prelude.{IsFalse, IsTrue, Some, None, false, true, length, vec_len, vec_capacity};
+ghost use Rattle.std.specs.Prelude.{IsFalse, IsTrue, Some, None, false, true, length, option_and_then};
+ghost use Rattle.std.specs.Prelude.{vec_len, vec_capacity};
 ghost use Rattle.lot_machine.specs.Bounds.{IsBetween};
 ghost use Rattle.lot_machine.specs.Lends.{is_live};
 ghost use Rattle.lot_machine.specs.Mutexes.{mutex_at};
+ghost use Rattle.lot_machine.specs.Numbered.{at_number};
 ghost use Rattle.lot_machine.specs.Rows as rows;
 ghost use Rattle.lot_machine.specs.State.{live_of, sizes_of};
 ghost use Rattle.lot_simulation.specs.Formats.{unit_of};
@@ -13,7 +15,8 @@ ghost use Rattle.lot_simulation.specs.Report.{ticks_in, total_of, turns_made, tu
 ghost use Rattle.lot_engine.specs.Counted.{counted};
 ghost use Rattle.lot_engine.specs.Histories.{woken_in};
 ghost use Rattle.lot_engine.specs.Playing.{IsPlayed, turn_in};
-ghost use Rattle.lot_engine.specs.Seen.{HasRow, after_turn, commands_made, given_count, shown_history, timer_for, world_of};
+ghost use Rattle.lot_engine.specs.Seen.{HasRow, after_turn, commands_made, given_count, shown_history};
+ghost use Rattle.lot_engine.specs.Seen.{timer_for, world_of};
 ghost use Rattle.lot_script.specs.Places.{Place as PlaceRecord};
 ghost use Rattle.lot_engine.specs.Turns.{Answers, Faults, Goes, IfStale, IsEnded, IsFresh, IsWorkOf, Prevents, work_at};
 
@@ -467,6 +470,20 @@ impl System {
         ensures room { vec_capacity out.new ≡ vec_capacity out.old }
     {
         self.kernel.list_waiters(MutexNumber { number: mutex }, out);
+    }
+
+    /// The thread that owns the mutex, or `None` if it is free or doesn't exist.
+    pub fn owner(&self, mutex: u32) -> Option<u32>
+        ensures { result ≡ (mutex_at (world_of self.now).state.mutexes mutex).owner }
+    {
+        self.kernel.owner(MutexNumber { number: mutex })
+    }
+
+    /// The ticks for which the thread is compensated until it next wins a draw, or `None` without compensation.
+    pub fn compensation(&self, thread: u32) -> Option<u32>
+        ensures { result ≡ option_and_then (λ r. r.compensation) (at_number (world_of self.now).state.records thread) }
+    {
+        self.kernel.compensation(ThreadNumber { number: thread })
     }
 
     /// The format of the program.

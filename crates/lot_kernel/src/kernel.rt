@@ -1,6 +1,6 @@
 //! The kernel and its events.
 ghost use Rattle.std.specs.Prelude.{◌≡◌, ◌↔◌, ◌<◌, ◌≤◌, ◌^◌, [], All, None, Some, IfNone, IfOk, IfSome, IsTrue};
-ghost use Rattle.std.specs.Prelude.{MatchOption, length, option_map, vec_len, vec_capacity};
+ghost use Rattle.std.specs.Prelude.{MatchOption, length, option_and_then, option_map, vec_len, vec_capacity};
 ghost use Rattle.lot_machine.specs.Bounds.{IsBetween};
 ghost use Rattle.lot_machine.specs.Mutexes.{mutex_at};
 ghost use Rattle.lot_machine.specs.State.{sizes_of, thread_at, thread_on, used_by};
@@ -9,6 +9,7 @@ ghost use Rattle.lot_machine.specs.Facts.{IsSound};
 ghost use Rattle.lot_machine.specs.Rows as rows;
 ghost use Rattle.lot_machine.specs.declared.ticket.Ticket.{Ticket as ATicket};
 ghost use Rattle.lot_machine.specs.Funding.{ticket_in};
+ghost use Rattle.lot_machine.specs.Numbered.{at_number};
 ghost use Rattle.lot_value.specs.Caches.{HasNoneTwice};
 ghost use Rattle.lot_kernel.specs.Counted.{AreDone, Counts, settled, with_ticket_read};
 ghost use Rattle.lot_kernel.specs.Memory.{bytes_of};
@@ -259,5 +260,19 @@ impl Kernel {
         ensures room { vec_capacity out.new ≡ vec_capacity out.old }
     {
         self.tables.list_waiters(mutex, out);
+    }
+
+    /// The number of the thread that owns the mutex, or `None` if it is free or doesn't exist.
+    pub fn owner(&self, mutex: MutexNumber) -> Option<u32>
+        ensures { result ≡ (mutex_at self.now.state.mutexes mutex.number).owner }
+    {
+        self.tables.owner(mutex)
+    }
+
+    /// The ticks for which the thread is compensated until it next wins a draw (3.4), or `None` without compensation.
+    pub fn compensation(&self, thread: ThreadNumber) -> Option<u32>
+        ensures { result ≡ option_and_then (λ r. r.compensation) (at_number self.now.state.records thread.number) }
+    {
+        self.tables.compensation(thread)
     }
 }

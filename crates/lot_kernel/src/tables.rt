@@ -155,6 +155,17 @@ impl Tables {
         }
     }
 
+    /// The thread that owns the mutex, or `None` if it is free or doesn't exist.
+    pub(crate) fn owner(&self, mutex: MutexNumber) -> Option<u32>
+        ensures { result ≡ (mutex_at self.now.state.mutexes mutex.number).owner }
+    {
+        if 0 < mutex.number && mutex.number <= self.queues.mutexes() {
+            self.queues.owner(mutex.number)
+        } else {
+            None
+        }
+    }
+
     /// Makes one event and stores its reply in `reply`.
     #[inline(always)]
     pub(crate) fn event(&mut self, event: &Event, reply: &mut Reply)

@@ -144,7 +144,7 @@ impl Threads {
 
     /// The total of bytes that `new` requests from the allocator.
     pub fn bytes(limits: &Limits) -> u64
-        ensures { result ≡ 48 * limits.now.tickets + 70 * limits.now.currencies + 225 * limits.now.threads
+        ensures { result ≡ 40 * limits.now.tickets + 70 * limits.now.currencies + 225 * limits.now.threads
             + 81 * limits.now.mutexes + 8 * limits.now.processors + 118 }
     {
         ValuedGraph::bytes(limits)

@@ -95,7 +95,7 @@ impl ValuedGraph {
 
     /// The total of bytes that `new` requests from the allocator.
     pub fn bytes(limits: &Limits) -> u64
-        ensures { result ≡ 48 * limits.now.tickets + 70 * limits.now.currencies + 81 * limits.now.threads
+        ensures { result ≡ 40 * limits.now.tickets + 70 * limits.now.currencies + 81 * limits.now.threads
             + 81 * limits.now.mutexes + 110 }
     {
         let layout = Layout::of(limits);

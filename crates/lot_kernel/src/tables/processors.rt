@@ -1,9 +1,10 @@
 //! Events of a processor: draws and traps.
-ghost use Rattle.std.specs.Prelude.{◌≡◌, ◌<◌, ◌≤◌, ℕ, Some, None, IfSome, MatchOption, length, option_map};
+ghost use Rattle.std.specs.Prelude.{◌≡◌, ◌<◌, ◌≤◌, ℕ, Some, None, IfSome, MatchOption, length, option_and_then, option_map};
 ghost use Rattle.lot_machine.specs.declared.event.Event.TheVariants as event;
 ghost use Rattle.lot_machine.specs.declared.after.After.TheVariants.{Leaves};
 ghost use Rattle.lot_machine.specs.declared.record.Status.{Status as AStatus};
 ghost use Rattle.lot_machine.specs.Bounds.{IsBetween};
+ghost use Rattle.lot_machine.specs.Numbered.{at_number};
 ghost use Rattle.lot_machine.specs.Order.{IsInOrder};
 ghost use Rattle.lot_machine.specs.State.{change_record, funding_of, lend_of, thread_at, thread_on, used_by};
 ghost use Rattle.lot_machine.specs.Step as steps;
@@ -45,6 +46,13 @@ impl Tables {
             Some(found) => Some(found.script),
             None => None,
         }
+    }
+
+    /// The ticks for which the thread is compensated, or `None` without compensation.
+    pub(crate) fn compensation(&self, thread: ThreadNumber) -> Option<u32>
+        ensures { result ≡ option_and_then (λ r. r.compensation) (at_number self.now.state.records thread.number) }
+    {
+        self.threads.record(thread)?.compensation
     }
 
     /// Makes a draw by a processor.

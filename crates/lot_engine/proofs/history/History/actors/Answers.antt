@@ -1,6 +1,6 @@
 use Rattle.std.proofs.Common.{◌≡◌, ◌+◌, ◌∙◌, map, sym, subst}
 use Rattle.std.specs.Prelude.{min}
-use Rattle.lot_engine.specs.Histories.{Turns}
+use Rattle.lot_engine.specs.Histories.{KeptHistory}
 use Rattle.lot_engine.proofs.HistoryFacts.{bytes_are}
 use Rattle.lot_engine.proofs.history.History.actors.Goals as goal
 
@@ -8,4 +8,4 @@ pub returns : goal.returns
 returns c =
     let s = c.self.inside in
     let i = c.self.invariant in
-    subst (λ (h : Turns). c.deref.result.now ≡ map (λ actor. min actor (h.size.processors + 1)) h.items) c.self.view_is (c.deref.ensures.value ∙ sym (bytes_are s.processors s.actors.items s.woken.items i.each i.threads i.wakes))
+    subst (λ (h : KeptHistory). c.deref.result.now ≡ map (λ actor. min actor (h.size.processors + 1)) h.items) c.self.view_is (c.deref.ensures.value ∙ sym (bytes_are s.processors s.actors.items s.woken.items i.each i.threads i.wakes))

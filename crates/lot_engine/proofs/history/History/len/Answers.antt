@@ -1,9 +1,9 @@
 use Rattle.std.proofs.Common.{length, ap, arith}
-use Rattle.lot_engine.specs.Histories.{Turns}
+use Rattle.lot_engine.specs.Histories.{KeptHistory}
 use Rattle.lot_engine.proofs.HistoryFacts.{as_many}
 use Rattle.lot_engine.proofs.history.History.len.Goals as goal
 
 pub returns : goal.returns
 returns c =
     let s = c.self.inside in
-    omega (arith, c.len.ensures, as_many s.processors s.actors.items s.woken.items, ap (λ (h : Turns). length h.items) c.self.view_is)
+    omega (arith, c.len.ensures, as_many s.processors s.actors.items s.woken.items, ap (λ (h : KeptHistory). length h.items) c.self.view_is)

@@ -1,5 +1,5 @@
 use Rattle.std.proofs.Common.{◌∷◌, ◌++◌, [], ap, ◌∙◌, arith}
-use Rattle.lot_engine.specs.Histories.{Turns, actors_from}
+use Rattle.lot_engine.specs.Histories.{KeptHistory, actors_from}
 use Rattle.lot_engine.proofs.HistoryFacts.{as_many, own-more}
 use Rattle.lot_engine.proofs.history.History.push.Goals as goal
 
@@ -15,4 +15,4 @@ returns-clause-items c =
     let requires = rw (← c.self.view_is) at c.requires in
     ap (λ bytes. actors_from s.processors bytes s.woken.items) c.push_reserved.ensures.items
     ∙ own-more s.processors c.args.actor s.actors.items s.woken.items requires.actor
-    ∙ ap (λ (h : Turns). h.items ++ c.args.actor ∷ []) c.self.view_is
+    ∙ ap (λ (h : KeptHistory). h.items ++ c.args.actor ∷ []) c.self.view_is

@@ -1,7 +1,7 @@
 use Rattle.std.proofs.Common.{◌∷◌, ◌++◌, ◌+◌, [], ap, ap₂, ◌∙◌, arith}
 use Rattle.std.specs.Prelude.{nat_lt}
 use Rattle.std.proofs.lemmas.List.Sums.{count_by-le-length}
-use Rattle.lot_engine.specs.Histories.{Turns, actors_from}
+use Rattle.lot_engine.specs.Histories.{KeptHistory, actors_from}
 use Rattle.lot_engine.proofs.HistoryFacts.{as_many, wake-more}
 use Rattle.lot_engine.proofs.history.History.push_wake.Goals as goal
 
@@ -22,4 +22,4 @@ returns-clause-items c =
     let s = c.self.inside in
     ap₂ (actors_from s.processors) c.push_reserved.ensures.items c.push_reserved-2.ensures.items
     ∙ wake-more s.processors (s.processors + 1) c.args.thread s.actors.items s.woken.items (omega arith) c.self.invariant.wakes
-    ∙ ap (λ (h : Turns). h.items ++ (h.size.processors + c.args.thread) ∷ []) c.self.view_is
+    ∙ ap (λ (h : KeptHistory). h.items ++ (h.size.processors + c.args.thread) ∷ []) c.self.view_is

@@ -1,5 +1,5 @@
 use Rattle.std.proofs.Common.{◌≡◌, ◌∙◌, sym, subst}
-use Rattle.lot_engine.specs.Histories.{Turns, woken_in}
+use Rattle.lot_engine.specs.Histories.{KeptHistory, woken_in}
 use Rattle.lot_engine.proofs.HistoryFacts.{threads_are}
 use Rattle.lot_engine.proofs.history.History.woken.Goals as goal
 
@@ -7,4 +7,4 @@ pub returns : goal.returns
 returns c =
     let s = c.self.inside in
     let i = c.self.invariant in
-    subst (λ (h : Turns). c.deref.result.now ≡ woken_in h.size.processors h.items) c.self.view_is (c.deref.ensures.value ∙ sym (threads_are s.processors s.actors.items s.woken.items i.threads i.wakes))
+    subst (λ (h : KeptHistory). c.deref.result.now ≡ woken_in h.size.processors h.items) c.self.view_is (c.deref.ensures.value ∙ sym (threads_are s.processors s.actors.items s.woken.items i.threads i.wakes))

@@ -10,11 +10,11 @@ pub returns : goal.returns
 returns c =
     let s = c.self.inside in
     let n = c.args.number in
-    let was : Ticket = c.in-Some.ticket in
     let there = there-made s.records s.made s.room c.self.invariant n (subst (λ (v : TicketTable). IsSome (ticket_in v.tickets n)) (sym c.self.view_is) c.requires.there) in
-    let is : ticket_in (map option_flatten (take s.made s.records.slots)) n ≡ Some was = ticket-seen s.records s.made s.room c.self.invariant n there.0 ∙ ap option_flatten (rw c.index_of.ensures at c.index_mut.ensures.value) ∙ c.in-Some.is in
+    let was = rw c.index_of.ensures at c.index_mut.ensures.value in
+    let is = ticket-seen s.records s.made s.room c.self.invariant n there.0 ∙ ap option_flatten was in
     rw c.index_of.ensures
     (ap (λ tickets. let v : TicketTable = record { tickets = tickets; room = s.room } in v)
-    (slots-set s.records.slots s.made (n - 1) (Some (reissued c.args.amount was))
+    (rw c.set_amount.ensures (slots-set s.records.slots s.made (n - 1) (option_map (reissued c.args.amount) c.index_mut.result.now))
     ∙ ap (λ (o : Option Ticket). slice_set (map option_flatten (take s.made s.records.slots)) (n - 1) (option_map (reissued c.args.amount) o)) (sym is))
     ∙ ap (λ (v : TicketTable). record v { tickets = with_amount v.tickets n c.args.amount }) c.self.view_is)
