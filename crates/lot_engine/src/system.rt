@@ -3,6 +3,7 @@ ghost use Rattle.std.specs.Prelude.{◌≡◌, ◌↔◌, ◌<◌, ◌≤◌, �
 ghost use Rattle.std.specs.Prelude.{IsFalse, IsTrue, Some, None, false, true, length, option_and_then};
 ghost use Rattle.std.specs.Prelude.{vec_len, vec_capacity};
 ghost use Rattle.lot_machine.specs.Bounds.{IsBetween};
+ghost use Rattle.lot_machine.specs.Commands as commands;
 ghost use Rattle.lot_machine.specs.Lends.{is_live};
 ghost use Rattle.lot_machine.specs.Mutexes.{mutex_at};
 ghost use Rattle.lot_machine.specs.Numbered.{at_number};
@@ -34,7 +35,7 @@ use lot_draw::ParkMiller;
 use lot_kernel::Kernel;
 use lot_machine::{
     CurrencyNumber, CurrencyRow, Event, Kind, Limits, MutexNumber, Processor, Reply, ThreadNumber,
-    ThreadRow, TicketNumber, TicketRow, index_of,
+    ThreadRef, ThreadRow, TicketNumber, TicketRow, index_of,
 };
 use lot_script::{Place, Slice};
 use lot_simulation::{Format, Sleeper};
@@ -470,6 +471,13 @@ impl System {
         ensures room { vec_capacity out.new ≡ vec_capacity out.old }
     {
         self.kernel.list_waiters(MutexNumber { number: mutex }, out);
+    }
+
+    /// The number of the thread that a reference means, even of a dead one, if there is one.
+    pub fn thread_meant(&self, thread: &ThreadRef) -> Option<u32>
+        ensures { result ≡ commands.thread_meant (world_of self.now).state thread.now }
+    {
+        self.kernel.thread_meant(thread)
     }
 
     /// The thread that owns the mutex, or `None` if it is free or doesn't exist.

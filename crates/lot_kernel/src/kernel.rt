@@ -2,6 +2,7 @@
 ghost use Rattle.std.specs.Prelude.{◌≡◌, ◌↔◌, ◌<◌, ◌≤◌, ◌^◌, [], All, None, Some, IfNone, IfOk, IfSome, IsTrue};
 ghost use Rattle.std.specs.Prelude.{MatchOption, length, option_and_then, option_map, vec_len, vec_capacity};
 ghost use Rattle.lot_machine.specs.Bounds.{IsBetween};
+ghost use Rattle.lot_machine.specs.Commands as commands;
 ghost use Rattle.lot_machine.specs.Mutexes.{mutex_at};
 ghost use Rattle.lot_machine.specs.State.{sizes_of, thread_at, thread_on, used_by};
 ghost use Rattle.lot_machine.specs.Step.{replies, state_after, step};
@@ -18,7 +19,7 @@ ghost use Rattle.lot_kernel.specs.Snapshots.{MakesStale, starting};
 use crate::tables::Tables;
 use lot_machine::{
     CurrencyNumber, CurrencyRow, Event, Limits, MutexNumber, Processor, Reply, ThreadNumber,
-    ThreadRow, TicketNumber, TicketRow,
+    ThreadRef, ThreadRow, TicketNumber, TicketRow,
 };
 use lot_threads::Runner;
 use lot_value::Meter;
@@ -260,6 +261,13 @@ impl Kernel {
         ensures room { vec_capacity out.new ≡ vec_capacity out.old }
     {
         self.tables.list_waiters(mutex, out);
+    }
+
+    /// The number of the thread that a reference means, even of a dead one, or `None` if and only if there is none.
+    pub fn thread_meant(&self, thread: &ThreadRef) -> Option<u32>
+        ensures { result ≡ commands.thread_meant self.now.state thread.now }
+    {
+        self.tables.thread_meant(thread)
     }
 
     /// The number of the thread that owns the mutex, or `None` if it is free or doesn't exist.

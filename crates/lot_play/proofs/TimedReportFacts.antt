@@ -1,10 +1,10 @@
 -- What the report of turns in time shows is what the definitions say of all of the program's turns.
 use Rattle.std.proofs.Common.{◌≡◌, ℕ, zero, suc, ◌+◌, ◌^◌, ◌<◌, cond, Bool, true, false, Option, Some, None, List, [], ◌∷◌, ◌++◌, length, filter, refl, sym, ◌∙◌, ap, subst, arith}
 use Rattle.std.specs.Prelude.{map, sum_by, option_and_then, if◌then◌else◌}
-use Rattle.std.specs.List.{range_with_len}
+use Rattle.std.specs.List.{fold, range_with_len}
 use Rattle.std.specs.Option.{option_map, option_map_or}
 use Rattle.std.proofs.lemmas.List.{length-map}
-use Rattle.std.proofs.lemmas.List.Sums.{sum_by-cons}
+use Rattle.std.proofs.lemmas.List.Sums.{fold_push, sum_by-cons}
 use Rattle.lot_machine.specs.declared.record.Record.{Record}
 use Rattle.lot_machine.specs.declared.row.ThreadRow.{ThreadRow}
 use Rattle.lot_machine.specs.Facts.{live_value}
@@ -17,19 +17,21 @@ use Rattle.lot_print.specs.TableRows.{timed_thread_record}
 use Rattle.lot_print.specs.Totals.{timed_processor_line, timed_thread_line, timed_total_line}
 use Rattle.lot_simulation.specs.declared.timed.Due.{Due}
 use Rattle.lot_simulation.specs.declared.timed.EarlyEnd.{EarlyEnd}
-use Rattle.lot_simulation.specs.declared.timed.Waits.{Waits}
+use Rattle.lot_simulation.specs.declared.timed.PastLives.{PastLives}
+use Rattle.lot_simulation.specs.declared.timed.Spans.{Spans}
 use Rattle.lot_simulation.specs.Report.{ActorTurn, ticks_in, total_of, turns_made, turns_of}
 use Rattle.lot_simulation.specs.Timed.{Moment, TimedTurn, clock_of, end_of, ended_at, last_moment, moment_after_all, next_due, opening_moment, timed_turns}
-use Rattle.lot_simulation.specs.TimedReport.{actor_turns, early_end, early_text, idle_until, live_part, mutex_change, refusals_in, refused_traps_in, reply_change, report_at, timed_processor_total, timed_report, timed_report_of, timed_whole_total, waits_in}
+use Rattle.lot_simulation.specs.TimedReport.{actor_turns, early_end, early_text, idle_until, life_change, live_part, mutex_change, no_lives, past_lives, refusals_in, refused_traps_in, reply_change, report_at, timed_processor_total, timed_report, timed_report_of, timed_whole_total, spans_in, with_lives}
 use Rattle.lot_simulation.specs.World.{Program}
 use Rattle.lot_engine.specs.declared.counts.Counts.{Counts}
 use Rattle.lot_playback.specs.declared.timekeeper.Timekeeper.{Timekeeper}
 use Rattle.lot_engine.specs.Counted.{counted}
-use Rattle.lot_playback.specs.InTime.{AreRefusedTraps, AreWaits, IsAtEnd, moment_in}
+use Rattle.lot_playback.specs.InTime.{AreRefusedTraps, AreSpans, IsAtEnd, moment_in}
 use Rattle.lot_engine.specs.Seen.{Seen, world_of}
 use Rattle.lot_play.specs.declared.form.Form.TheVariants.{Lines, Table}
 use Rattle.lot_play.specs.ReportTable.{shares_in, timed_thread_text}
 use Rattle.lot_simulation.proofs.TimedRuns.{room-small, timed-made}
+use Rattle.lot_text.proofs.SeedLemmas.{range_with_len-push}
 use Rattle.lot_playback.proofs.FollowFacts.{within-room}
 
 -- ---- all of the program's turns
@@ -53,11 +55,15 @@ module _ (seen : Seen) (timekeeper : Timekeeper) (end : IsAtEnd seen timekeeper)
   refused-are = end.followed.followed.refused ∙ ap (λ ts. total_of refusals_in (actor_turns ts)) end.all
 
   -- how the threads have waited
-  pub mutexes-are : AreWaits mutex_change all (length seen.history) timekeeper.mutexes.threads.items
-  mutexes-are = subst (λ ts. AreWaits mutex_change ts (length seen.history) timekeeper.mutexes.threads.items) end.all end.followed.followed.mutexes
+  pub mutexes-are : AreSpans mutex_change all (length seen.history) timekeeper.mutexes.threads.items
+  mutexes-are = subst (λ ts. AreSpans mutex_change ts (length seen.history) timekeeper.mutexes.threads.items) end.all end.followed.followed.mutexes
 
-  pub replies-are : AreWaits reply_change all (length seen.history) timekeeper.replies.threads.items
-  replies-are = subst (λ ts. AreWaits reply_change ts (length seen.history) timekeeper.replies.threads.items) end.all end.followed.followed.replies
+  pub replies-are : AreSpans reply_change all (length seen.history) timekeeper.replies.threads.items
+  replies-are = subst (λ ts. AreSpans reply_change ts (length seen.history) timekeeper.replies.threads.items) end.all end.followed.followed.replies
+
+  -- how long they have lived
+  pub lives-are : AreSpans life_change all (length seen.history) timekeeper.lives.threads.items
+  lives-are = subst (λ ts. AreSpans life_change ts (length seen.history) timekeeper.lives.threads.items) end.all end.followed.followed.lives
 
   -- how many of their traps were refused
   pub traps-are : AreRefusedTraps all (length seen.history) timekeeper.refused_traps.threads.items
@@ -97,9 +103,11 @@ lines-are seen timekeeper program ended is = ap (λ n. timed_report_of (moment_i
 
 -- ---- lines by the numbers that they show
 
-pub total-line : (c : Counts) (turns : List ActorTurn) (refused left : ℕ) (m : Moment) → c ≡ counted turns → refused ≡ total_of refusals_in turns → left ≡ length m.world.commands
-    → timed_total_line c.turns c.quanta c.ticks refused left ≡ timed_whole_total m turns
-total-line c turns refused left m is refusals rest = rw (is, refusals, rest) refl
+pub total-line : (c : Counts) (turns : List TimedTurn) (refused left : ℕ) (lives : PastLives) (m : Moment) → c ≡ counted (actor_turns turns) → refused ≡ total_of refusals_in (actor_turns turns)
+    → left ≡ length m.world.commands → lives ≡ past_lives m.world.state turns
+    → timed_total_line (record { turns = c.turns; quanta = c.quanta; ticks = c.ticks; refused = refused; left = left; lives = lives }) ≡ timed_whole_total m turns
+total-line c turns refused left lives m is refusals rest past =
+    rw (is, refusals, rest, past, length-map turns (λ (done : TimedTurn). let answer : ActorTurn = record { actor = done.actor; answer = done.turn.answer } in answer)) refl
 
 pub processor-line : (c : Counts) (turns : List ActorTurn) (p end idle : ℕ) (m : Moment) → c ≡ counted (turns_of p turns) → idle ≡ idle_until end (clock_of m.clocks p)
     → timed_processor_line p c.quanta c.idles c.ticks idle ≡ timed_processor_total m end turns p
@@ -112,10 +120,10 @@ row-value s t row (Some name) None is = absurd (cc)
 row-value s t row (Some name) (Some r) is = let e : row_of_thread s t r ≡ row = cc in sym (ap (λ (x : ThreadRow). x.value) e)
 
 -- what the report tells of a thread, by what was asked of the system
-pub shares-are : (s : State) (turns : List TimedTurn) (t all live values : ℕ) (mutexes replies : Waits) (refused : ℕ) → all ≡ total_of ticks_in (actor_turns turns) → live ≡ live_part s t (value_of s t)
-    → values ≡ live_value s → mutexes ≡ waits_in mutex_change turns t → replies ≡ waits_in reply_change turns t → refused ≡ refused_traps_in turns t
-    → record { all_ticks = all; live_value = live; all_values = values; mutexes = mutexes; replies = replies; refused_traps = refused } ≡ shares_in s turns t
-shares-are s turns t all live values mutexes replies refused ticks own whole for_mutex for_reply traps = rw (ticks, own, whole, for_mutex, for_reply, traps) (refl {a = shares_in s turns t})
+pub shares-are : (s : State) (turns : List TimedTurn) (t all live values : ℕ) (mutexes replies lives : Spans) (refused : ℕ) → all ≡ total_of ticks_in (actor_turns turns) → live ≡ live_part s t (value_of s t)
+    → values ≡ live_value s → mutexes ≡ spans_in mutex_change turns t → replies ≡ spans_in reply_change turns t → refused ≡ refused_traps_in turns t → lives ≡ spans_in life_change turns t
+    → record { all_ticks = all; live_value = live; all_values = values; mutexes = mutexes; replies = replies; refused_traps = refused; lives = lives } ≡ shares_in s turns t
+shares-are s turns t all live values mutexes replies lives refused ticks own whole for_mutex for_reply traps lived = rw (ticks, own, whole, for_mutex, for_reply, traps, lived) (refl {a = shares_in s turns t})
 
 -- the ticks of all turns
 pub ticks-are : (seen last : Seen) (timekeeper : Timekeeper) (c : Counts) → IsAtEnd seen timekeeper → last ≡ seen → c ≡ counted (turns_made last.setting.program last.history)
@@ -129,14 +137,12 @@ module _ (seen mid : Seen) (t : ℕ) (row : ThreadRow) (shares : ThreadShares) (
   there = ap (λ (x : Seen). thread_row (world_of x).state t) (sym same) ∙ sym is
 
   -- a thread's line by its row, which the system shows while it stays as it is
-  pub thread-line : timed_thread_line t row shares.all_ticks shares.live_value shares.all_values shares.mutexes shares.replies shares.refused_traps
-      ≡ option_map_or (timed_thread_text Lines (world_of seen).state (timed_turns seen.setting.program) t) (thread_row (world_of seen).state t) []
+  pub thread-line : timed_thread_line t row shares ≡ option_map_or (timed_thread_text Lines (world_of seen).state (timed_turns seen.setting.program) t) (thread_row (world_of seen).state t) []
   thread-line =
       let s = (world_of seen).state in
       let turns = timed_turns seen.setting.program in
       let part : live_part s t (value_of s t) ≡ live_part s t row.value = ap (live_part s t) (sym (row-value s t row (thread_name s t) (at_number s.records t) there)) in
-      ap (λ (x : ThreadShares). timed_thread_line t row x.all_ticks x.live_value x.all_values x.mutexes x.replies x.refused_traps) own
-      ∙ ap (λ live. timed_thread_line t row (total_of ticks_in (actor_turns turns)) live (live_value s) (waits_in mutex_change turns t) (waits_in reply_change turns t) (refused_traps_in turns t)) part
+      ap (timed_thread_line t row) own ∙ ap (λ live. timed_thread_line t row (record (shares_in s turns t) { live_value = live })) part
       ∙ sym (ap (λ o. option_map_or (timed_thread_text Lines s turns t) o []) there)
 
   -- the same for its row in the table
@@ -171,3 +177,13 @@ value-more s k j value is own =
     let n : j ≡ 1 + k = omega arith in
     ap (λ v. sum_by (value_of s) (filter (is_live (live_of s)) (range_with_len 1 k)) + v) (own ∙ ap (λ i. live_part s i (value_of s i)) n)
     ∙ sym (passed-push (value_of s) (is_live (live_of s)) 1 k) ∙ ap (λ i. sum_by (value_of s) (filter (is_live (live_of s)) (range_with_len 1 i))) (sym e)
+
+-- ---- past lives
+
+-- those of one number more
+pub lives-more : (s : State) (turns : List TimedTurn) (k : ℕ) (lives : PastLives) (spans : Spans) → lives ≡ fold (λ l t. with_lives l (spans_in life_change turns t)) no_lives (range_with_len 1 k) → spans ≡ spans_in life_change turns (k + 1)
+    → with_lives lives spans ≡ fold (λ l t. with_lives l (spans_in life_change turns t)) no_lives (range_with_len 1 (k + 1))
+lives-more s turns k lives spans is own =
+    let step : PastLives → ℕ → PastLives = λ l t. with_lives l (spans_in life_change turns t) in
+    ap (λ l. with_lives l spans) is ∙ ap (with_lives (fold step no_lives (range_with_len 1 k))) own
+    ∙ sym (fold_push step no_lives (range_with_len 1 k) (k + 1)) ∙ ap (fold step no_lives) (sym (range_with_len-push k))

@@ -8,8 +8,8 @@ use Rattle.lot_machine.specs.State.{State, value_of}
 use Rattle.lot_simulation.specs.Report.{thread_total, ticks_in, total_of}
 use Rattle.lot_simulation.specs.Texts.{lines_for}
 use Rattle.lot_simulation.specs.Timed.{TimedTurn, timed_turns}
-use Rattle.lot_simulation.specs.TimedReport.{actor_turns, live_part, mutex_change, refused_traps_in, reply_change}
-use Rattle.lot_simulation.specs.TimedReport.{timed_thread_total, waits_in}
+use Rattle.lot_simulation.specs.TimedReport.{actor_turns, life_change, live_part, mutex_change, refused_traps_in, reply_change}
+use Rattle.lot_simulation.specs.TimedReport.{timed_thread_total, spans_in}
 use Rattle.lot_simulation.specs.World.{Program}
 use Rattle.lot_print.specs.declared.table_rows.Columns.TheVariants.{TimedTotals, Totals}
 use Rattle.lot_print.specs.declared.timed_totals.ThreadShares.{ThreadShares}
@@ -32,9 +32,10 @@ shares_in s turns t = record {
   all_ticks = total_of ticks_in (actor_turns turns);
   live_value = live_part s t (value_of s t);
   all_values = facts.live_value s;
-  mutexes = waits_in mutex_change turns t;
-  replies = waits_in reply_change turns t;
+  mutexes = spans_in mutex_change turns t;
+  replies = spans_in reply_change turns t;
   refused_traps = refused_traps_in turns t;
+  lives = spans_in life_change turns t;
 }
 
 -- the line or the row of a timed program's thread after these turns

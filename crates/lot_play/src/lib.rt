@@ -32,4 +32,4 @@ pub use report::write_report;
 pub use reports::{end_play, note_last};
 pub use seeds::{Seeds, report_seeds};
 pub use summary::report_program;
-pub use warnings::{RefusedCommand, StuckThread, Warnings};
+pub use warnings::{Owner, RefusedCommand, StuckThread, Warnings};

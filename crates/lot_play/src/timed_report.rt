@@ -1,5 +1,5 @@
 //! The report of a timed program.
-ghost use Rattle.std.specs.Prelude.{◌≡◌, ◌<◌, ◌^◌, [], false, length};
+ghost use Rattle.std.specs.Prelude.{◌≡◌, ◌+◌, ◌<◌, ◌^◌, [], false, length};
 ghost use Rattle.std.specs.List.{flat_map, range_with_len};
 ghost use Rattle.std.specs.Option.{option_map_or};
 ghost use Rattle.lot_machine.specs.Bounds.{IsBetween};
@@ -27,7 +27,7 @@ use lot_print::{
     write_timed_processor_total, write_timed_thread_record, write_timed_thread_total,
     write_timed_whole_total,
 };
-use lot_simulation::EarlyEnd;
+use lot_simulation::{EarlyEnd, PastLives, Spans};
 use lot_text::Program;
 use std::io::Write;
 
@@ -221,6 +221,7 @@ fn shares_of(
         mutexes: timekeeper.mutexes.of(thread),
         replies: timekeeper.replies.of(thread),
         refused_traps: timekeeper.refused_traps.of(thread),
+        lives: timekeeper.lives.of(thread),
     }
 }
 
@@ -280,7 +281,7 @@ fn write_total<W: Write>(
     requires working { writer.old.failed ≡ false }
     ensures { Writes W.contents writer.old writer.new result
         (reports.timed_whole_total (moment_in system.now timekeeper.now)
-        (actor_turns (timed_turns system.now.setting.program))) }
+        (timed_turns system.now.setting.program)) }
 {
     let counts = system.total();
     let total = TimedWholeTotal {
@@ -289,6 +290,37 @@ fn write_total<W: Write>(
         ticks: counts.ticks,
         refused: timekeeper.refused,
         left: system.commands_left() as u64,
+        lives: past_lives(system, timekeeper),
     };
     write_timed_whole_total(writer, total)
+}
+
+/// The past lives of all threads, whatever numbers they had.
+fn past_lives(system: &System, timekeeper: &Timekeeper) -> PastLives
+    requires end { IsAtEnd system.now timekeeper.now }
+    ensures { result ≡ reports.past_lives (world_of system.now).state (timed_turns system.now.setting.program) }
+{
+    let mut lives = PastLives {
+        count: 0,
+        total: 0,
+        longest: 0,
+    };
+    for place in 0..system.thread_count() {
+        lives = with_lives(lives, timekeeper.lives.of(place + 1));
+    }
+    lives
+}
+
+/// Past lives with those of one number as well.
+fn with_lives(lives: PastLives, spans: Spans) -> PastLives
+    requires { (lives.count < 2 ^ 63) × (lives.total < 2 ^ 127) }
+    ensures added { result ≡ reports.with_lives lives spans }
+    ensures count { result.count < lives.count + 2 ^ 32 }
+    ensures total { result.total < lives.total + 2 ^ 64 }
+{
+    PastLives {
+        count: lives.count + u64::from(spans.count),
+        total: lives.total + u128::from(spans.total),
+        longest: lives.longest.max(spans.longest),
+    }
 }

@@ -31,6 +31,17 @@ pub struct StuckThread {
     pub status: Status,
     /// The name of the thread whose reply it waits for, if it does: without bytes if that thread has no name.
     pub server: Option<Name>,
+    /// The owner of the mutex that it waits for, if it does.
+    pub owner: Option<Owner>,
+}
+
+/// A thread that owns a mutex.
+#[derive(Debug, Drop)]
+pub struct Owner {
+    pub number: u32,
+    /// Without bytes if it has no name.
+    pub name: Name,
+    pub has_ended: bool,
 }
 
 /// The warnings of a run, which aren't part of its output.
@@ -144,11 +155,13 @@ impl Warnings {
             ..
         } = row;
         let server = server_name(system, status);
+        let owner = owner_of(system, status);
         let thread = StuckThread {
             number,
             name,
             status,
             server,
+            owner,
         };
         if status == Status::Ready && weight == 0 {
             self.weightless.add(thread);
@@ -211,4 +224,20 @@ fn server_name(system: &mut System, status: Status) -> Option<Name>
         Status::Served(server) => Some(system.thread_row(server)?.name),
         _ => None,
     }
+}
+
+/// The owner of the mutex that a thread with this status waits for, if it waits for one.
+fn owner_of(system: &mut System, status: Status) -> Option<Owner>
+    ensures { system.new ≡ system.old }
+{
+    let Status::Waiting(mutex) = status else {
+        return None;
+    };
+    let number = system.owner(mutex)?;
+    let row = system.thread_row(number)?;
+    Some(Owner {
+        number,
+        name: row.name,
+        has_ended: row.status == Status::Dead,
+    })
 }

@@ -139,7 +139,7 @@ module _ (program : Program) (seen : Seen) (timekeeper : Timekeeper) (is : IsFol
         let n : length after.history ≡ length (done ++ turn ∷ []) = omega (arith, longer, length-append done (turn ∷ []), done-length) in
         ap (λ k. take k (timed_turns program)) n ∙ ap (take (length (done ++ turn ∷ []))) rest-more ∙ take-append_seam (done ++ turn ∷ []) others
 
-    world-more : world_of after ≡ turn.turn.world
+    pub world-more : world_of after ≡ turn.turn.world
     world-more = system_run-one_more seen.setting.program seen.history due.actor ∙ ap (λ (p : Program). (system_turn p (world_of seen) due.actor).world) is.program_is
 
     times-more : drop (commands_made after) seen.setting.program.times ≡ (if due.actor == 0 then drop 1 now.times else now.times)

@@ -1,6 +1,6 @@
 pub mod TimeFacts
 pub mod AlarmFacts
-pub mod WaitFacts
+pub mod SpanFacts
 pub mod RefusedTrapFacts
 pub mod FollowFacts
 pub mod TurnFacts

@@ -14,13 +14,13 @@ use Rattle.lot_machine.specs.Numbered.{at_number, numbers}
 use Rattle.lot_simulation.specs.declared.timed.Due.{Due}
 use Rattle.lot_simulation.specs.declared.timed.Sleeper.{Sleeper}
 use Rattle.lot_simulation.specs.declared.script.ScriptTrap.{ScriptTrap}
-use Rattle.lot_simulation.specs.declared.timed.WaitChange.{WaitChange}
-use Rattle.lot_simulation.specs.declared.timed.WaitChange.TheVariants.{Nobody, Anew, Begins, Ends}
-use Rattle.lot_simulation.specs.declared.timed.Waits.{Waits}
+use Rattle.lot_simulation.specs.declared.timed.SpanChange.{SpanChange}
+use Rattle.lot_simulation.specs.declared.timed.SpanChange.TheVariants.{Nobody, Anew, Begins, Ends}
+use Rattle.lot_simulation.specs.declared.timed.Spans.{Spans}
 use Rattle.lot_simulation.specs.Report.{total_of}
 use Rattle.lot_simulation.specs.Timed.{Moment, TimedTurn, alarm_due, earliest, moment_after_all, next_due, opening_moment, timed_room, timed_turns, turns_from}
-use Rattle.lot_simulation.specs.TimedReport.{actor_turns, mutex_change, refusals_after, refusals_in, refused_traps_in, reply_change, waits_after, waits_in}
-use Rattle.lot_simulation.specs.World.{Program, Answer}
+use Rattle.lot_simulation.specs.TimedReport.{actor_turns, life_change, mutex_change, refusals_after, refusals_in, refused_traps_in, reply_change, spans_after, spans_in}
+use Rattle.lot_simulation.specs.World.{Program, Answer, Turn}
 use Rattle.lot_playback.specs.declared.alarms.Alarms.{Alarms}
 use Rattle.lot_playback.specs.declared.timekeeper.Timekeeper.{Timekeeper}
 use Rattle.lot_script.specs.Slices.{Parts}
@@ -87,31 +87,31 @@ is_locking (event.Trap p ran (action.Lock mutex)) = true
 is_locking other = false
 
 -- the change that a reply makes to the threads that wait for a mutex, given whether its event is a lock
-abbrev pub change_by : Bool → Reply → WaitChange
+abbrev pub change_by : Bool → Reply → SpanChange
 change_by locks (reply.Thread thread) = Anew thread
 change_by locks (reply.Funded ticket thread) = Anew thread
 change_by true (reply.Trapped thread ticks outcome.Waits ends) = Begins thread
 change_by locks (reply.Trapped thread ticks (outcome.Passed to drawn) ends) = Ends to
 change_by locks other = Nobody
 
--- a thread's waits in these turns, which are within the range of n turns
-pub record IsWaits (change : Answer → WaitChange) (done : List TimedTurn) (n t : ℕ) (waits : Waits) : Type 0 where
-  pub exact : waits ≡ waits_in change done t
+-- a thread's spans in these turns, which are within the range of n turns
+pub record IsSpans (change : Turn → SpanChange) (done : List TimedTurn) (n t : ℕ) (waits : Spans) : Type 0 where
+  pub exact : waits ≡ spans_in change done t
   pub count : waits.count ≤ n
   pub total : waits.total ≤ n * 2 ^ 32
 
--- each thread's waits in these turns, starting with thread 1
-abbrev pub AreWaits : (Answer → WaitChange) → List TimedTurn → ℕ → List Waits → Type 0
-AreWaits change done n waits = (place : ℕ) (d : Waits) → place < length waits → IsWaits change done n (place + 1) (slice_index_or waits place d)
+-- each thread's spans in these turns, starting with thread 1
+abbrev pub AreSpans : (Turn → SpanChange) → List TimedTurn → ℕ → List Spans → Type 0
+AreSpans change done n waits = (place : ℕ) (d : Spans) → place < length waits → IsSpans change done n (place + 1) (slice_index_or waits place d)
 
--- each thread's waits are unchanged, except for this change at this time
-pub record HaveFollowed (time : ℕ) (change : WaitChange) (old new : List Waits) : Type 0 where
+-- each thread's spans are unchanged, except for this change at this time
+pub record HaveFollowed (time : ℕ) (change : SpanChange) (old new : List Spans) : Type 0 where
   pub count : length new ≡ length old
-  pub each : (place : ℕ) (d : Waits) → place < length old → slice_index_or new place d ≡ waits_after (place + 1) time (slice_index_or old place d) change
+  pub each : (place : ℕ) (d : Spans) → place < length old → slice_index_or new place d ≡ spans_after (place + 1) time (slice_index_or old place d) change
 
--- each thread's waits leave room for one more
-abbrev pub AreFew : List Waits → Type 0
-AreFew waits = (place : ℕ) (d : Waits) → place < length waits → ((slice_index_or waits place d).count < 2 ^ 31) × ((slice_index_or waits place d).total < 2 ^ 63)
+-- each thread's spans leave room for one more
+abbrev pub AreFew : List Spans → Type 0
+AreFew waits = (place : ℕ) (d : Spans) → place < length waits → ((slice_index_or waits place d).count < 2 ^ 31) × ((slice_index_or waits place d).total < 2 ^ 63)
 
 -- a thread's count of refused traps in these turns, which is within the range of n turns
 pub record IsRefusedTraps (done : List TimedTurn) (n t count : ℕ) : Type 0 where
@@ -132,12 +132,13 @@ pub record HaveChanged (change : ℕ → ℕ) (thread : ℕ) (old new : List ℕ
   pub count : length new ≡ length old
   pub each : (place : ℕ) → place < length old → slice_index new place ≡ (if thread == place + 1 then change (slice_index old place) else slice_index old place)
 
--- the waits, refused traps and refusals are those of these turns; they and the idle times are within the range of n
--- turns
+-- the waits, lives, refused traps and refusals are those of these turns; they and the idle times are within the range
+-- of n turns
 pub record HasFollowed (done : List TimedTurn) (n : ℕ) (timekeeper : Timekeeper) : Type 0 where
   pub idled : HaveIdled n timekeeper.clocks.processors.items
-  pub mutexes : AreWaits mutex_change done n timekeeper.mutexes.threads.items
-  pub replies : AreWaits reply_change done n timekeeper.replies.threads.items
+  pub mutexes : AreSpans mutex_change done n timekeeper.mutexes.threads.items
+  pub replies : AreSpans reply_change done n timekeeper.replies.threads.items
+  pub lives : AreSpans life_change done n timekeeper.lives.threads.items
   pub refused_traps : AreRefusedTraps done n timekeeper.refused_traps.threads.items
   pub refused : timekeeper.refused ≡ total_of refusals_in (actor_turns done)
   pub few : timekeeper.refused ≤ n
@@ -147,6 +148,7 @@ pub record HasRoomFor (program : Program) (timekeeper : Timekeeper) : Type 0 whe
   pub clocks : length timekeeper.clocks.processors.items ≡ program.limits.processors
   pub mutexes : length timekeeper.mutexes.threads.items ≡ program.limits.threads
   pub replies : length timekeeper.replies.threads.items ≡ program.limits.threads
+  pub lives : length timekeeper.lives.threads.items ≡ program.limits.threads
   pub refused_traps : length timekeeper.refused_traps.threads.items ≡ program.limits.threads
   pub alarms : length timekeeper.alarms.threads.items ≡ program.limits.threads
 

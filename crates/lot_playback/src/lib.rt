@@ -7,15 +7,15 @@ mod making;
 mod observer;
 mod playback;
 mod refused_traps;
+mod spans;
 mod timekeeper;
 mod turn;
-mod waits;
 
 pub use alarms::Alarms;
 pub use clocks::Clocks;
 pub use observer::Observer;
 pub use playback::{Order, Playback};
 pub use refused_traps::RefusedTraps;
+pub use spans::SpanTable;
 pub use timekeeper::Timekeeper;
 pub use turn::{NextTurn, Turn};
-pub use waits::WaitTable;

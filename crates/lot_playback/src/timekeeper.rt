@@ -14,7 +14,7 @@ ghost use Rattle.lot_text.specs.Programs.{IsProgram};
 use crate::alarms::Alarms;
 use crate::clocks::Clocks;
 use crate::refused_traps::RefusedTraps;
-use crate::waits::{WaitTable, mutex_change, reply_change};
+use crate::spans::{SpanTable, life, mutex_wait, reply_wait};
 use lot_engine::System;
 use lot_machine::{Event, Reply};
 use lot_simulation::{Due, Sleeper};
@@ -32,9 +32,11 @@ pub struct Timekeeper {
     /// When each sleeping thread wakes.
     pub alarms: Alarms,
     /// Each thread's waits for mutexes.
-    pub mutexes: WaitTable,
+    pub mutexes: SpanTable,
     /// Each thread's waits for replies.
-    pub replies: WaitTable,
+    pub replies: SpanTable,
+    /// The lives of the threads that have had each number.
+    pub lives: SpanTable,
     /// Each thread's refused traps.
     pub refused_traps: RefusedTraps,
     /// The number of refused commands and wakes.
@@ -59,8 +61,9 @@ impl Timekeeper {
         Ok(Timekeeper {
             clocks: Clocks::open(alloc, limits.processors)?,
             alarms: Alarms::open(alloc, limits.threads)?,
-            mutexes: WaitTable::open(alloc, limits.threads)?,
-            replies: WaitTable::open(alloc, limits.threads)?,
+            mutexes: SpanTable::open(alloc, limits.threads)?,
+            replies: SpanTable::open(alloc, limits.threads)?,
+            lives: SpanTable::open(alloc, limits.threads)?,
             refused_traps: RefusedTraps::open(alloc, limits.threads)?,
             refused: 0,
         })
@@ -102,15 +105,16 @@ impl Timekeeper {
             → alarms_in self.new.alarms.threads.items ≡ alarms_after m time actor }
         ensures sleeping { AreAlarms (vec_len self.old.clocks.processors) self.new.alarms }
         ensures followed { (done : List TimedTurn) (n : ℕ) (turn : TimedTurn) → turn.time ≡ time
-            → turn.turn.answer ≡ Answered event.now reply → HasFollowed done n self.old
-            → HasFollowed (done ++ turn ∷ []) (n + 1) self.new }
+            → turn.turn.answer ≡ Answered event.now reply → turn.turn.world ≡ world_of system.now
+            → HasFollowed done n self.old → HasFollowed (done ++ turn ∷ []) (n + 1) self.new }
         ensures room { (program : ProgramRecord) → HasRoomFor program self.old → HasRoomFor program self.new }
     {
         let processors = self.clocks.processors.len() as u32;
         self.clocks.follow(system, time, actor, reply);
         self.alarms.follow(time, actor, processors, sleeper);
-        self.mutexes.follow(time, mutex_change(event, reply));
-        self.replies.follow(time, reply_change(reply));
+        self.mutexes.follow(time, mutex_wait(event, reply));
+        self.replies.follow(time, reply_wait(reply));
+        self.lives.follow(time, life(system, event, reply));
         self.refused_traps.follow(reply);
         self.refused += refusals_in(reply);
     }

@@ -1,8 +1,9 @@
 -- The rows of a report as a table: fields with commas between them.
-use Rattle.std.specs.Prelude.{ℕ, ◌*◌, ◌==◌, List, [], ◌++◌, codes, if◌then◌else◌}
+use Rattle.std.specs.Prelude.{ℕ, ◌*◌, ◌==◌, Option, Some, None, List, [], ◌++◌, codes, if◌then◌else◌}
 use Rattle.std.specs.Fmt.{decimal}
 use Rattle.lot_machine.specs.declared.row.ThreadRow.{ThreadRow}
-use Rattle.lot_simulation.specs.declared.timed.Waits.{Waits}
+use Rattle.lot_simulation.specs.declared.timed.Span.{Span}
+use Rattle.lot_simulation.specs.declared.timed.Spans.{Spans}
 use Rattle.lot_simulation.specs.Texts.{newline, quotient_text}
 use Rattle.lot_print.specs.declared.figures.Figures.{Figures}
 use Rattle.lot_print.specs.declared.figures.Spread.{Spread}
@@ -17,7 +18,7 @@ abbrev pub header_row : Columns → List ℕ
 header_row columns.Totals = codes "thread,name,quanta,ticks\n"
 header_row columns.TimedTotals =
     codes "thread,name,quanta,ticks,share_percent,value_percent"
-    ++ codes ",mutex_waits,mutex_mean,mutex_longest,reply_waits,reply_mean,reply_longest,refused\n"
+    ++ codes ",mutex_waits,mutex_mean,mutex_longest,reply_waits,reply_mean,reply_longest,refused,made,ended\n"
 header_row columns.Figures =
     codes "thread,name,plays,quanta_mean,quanta_least,quanta_most,ticks_mean,ticks_least,ticks_most"
     ++ codes ",share_percent_mean,share_percent_least,share_percent_most\n"
@@ -44,26 +45,35 @@ abbrev pub percent_field : ℕ → ℕ → List ℕ
 percent_field part whole = if whole == 0 then codes "0" else quotient_text (part * 100) whole
 
 -- the mean of a thread's waits, or an empty field if it has never waited
-abbrev pub mean_field : Waits → List ℕ
+abbrev pub mean_field : Spans → List ℕ
 mean_field waits = if waits.count == 0 then [] else quotient_text waits.total waits.count
 
 -- the longest of a thread's waits, or an empty field if it has never waited
-abbrev pub longest_field : Waits → List ℕ
+abbrev pub longest_field : Spans → List ℕ
 longest_field waits = if waits.count == 0 then [] else decimal waits.longest
 
 -- the number of a thread's waits of one kind, their mean, and the longest
-abbrev pub waits_fields : Waits → List ℕ
+abbrev pub waits_fields : Spans → List ℕ
 waits_fields waits =
     next_field (decimal waits.count) ++ (next_field (mean_field waits) ++ next_field (longest_field waits))
 
+-- when a thread was made, and when it ended, or an empty field if it hasn't
+abbrev pub life_fields : Spans → List ℕ
+life_fields lives = fields lives.since lives.last
+  where
+    fields : Option ℕ → Option Span → List ℕ
+    fields (Some since) last = next_field (decimal since) ++ next_field []
+    fields None (Some life) = next_field (decimal life.from) ++ next_field (decimal life.to)
+    fields None None = next_field [] ++ next_field []
+
 -- A thread's row in the table of a timed program: also its share of all ticks, its share of the live value, its waits
--- for mutexes and for replies, and the number of its refused traps.
+-- for mutexes and for replies, the number of its refused traps, and when it was made and ended.
 abbrev pub timed_thread_record : ℕ → ThreadRow → ThreadShares → List ℕ
 timed_thread_record t row shares =
     thread_fields t row ++ (next_field (percent_field row.ticks shares.all_ticks)
     ++ (next_field (percent_field shares.live_value shares.all_values)
     ++ (waits_fields shares.mutexes ++ (waits_fields shares.replies
-    ++ (next_field (decimal shares.refused_traps) ++ newline)))))
+    ++ (next_field (decimal shares.refused_traps) ++ (life_fields shares.lives ++ newline))))))
 
 -- ---- a report over several plays
 

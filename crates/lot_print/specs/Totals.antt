@@ -2,9 +2,10 @@
 use Rattle.std.specs.Prelude.{ℕ, List, ◌++◌, codes}
 use Rattle.std.specs.Fmt.{decimal}
 use Rattle.lot_machine.specs.declared.row.ThreadRow.{ThreadRow}
-use Rattle.lot_simulation.specs.declared.timed.Waits.{Waits}
 use Rattle.lot_simulation.specs.Texts.{newline}
-use Rattle.lot_simulation.specs.TimedReport.{percent_text, refused_traps_text, waits_text}
+use Rattle.lot_simulation.specs.TimedReport.{ended_text, life_text, percent_text, refused_traps_text, waits_text}
+use Rattle.lot_print.specs.declared.timed_totals.ThreadShares.{ThreadShares}
+use Rattle.lot_print.specs.declared.timed_totals.TimedWholeTotal.{TimedWholeTotal}
 
 -- a processor's line: its won draws, its idle draws, and the ticks used there
 abbrev pub processor_line : ℕ → ℕ → ℕ → ℕ → List ℕ
@@ -18,14 +19,14 @@ total_line turns quanta ticks =
 
 -- ---- timed reports
 
--- a thread's line: its row, the ticks of all threads, its live value and that of all, its waits, and its refused traps
-abbrev pub timed_thread_line : ℕ → ThreadRow → ℕ → ℕ → ℕ → Waits → Waits → ℕ → List ℕ
-timed_thread_line n row all live values mutexes replies refused =
+-- a thread's line: its row, its shares, its waits, its refused traps, and when it was made and ended
+abbrev pub timed_thread_line : ℕ → ThreadRow → ThreadShares → List ℕ
+timed_thread_line n row shares =
     codes "thread " ++ (decimal n ++ (codes " " ++ (row.name ++ (codes " quanta " ++ (decimal row.quanta
-    ++ (codes " ticks " ++ (decimal row.ticks ++ (codes " share " ++ (percent_text row.ticks all
-    ++ (codes " value " ++ (percent_text live values
-    ++ (waits_text (codes " mutex") mutexes ++ (waits_text (codes " reply") replies
-    ++ (refused_traps_text refused ++ newline))))))))))))))
+    ++ (codes " ticks " ++ (decimal row.ticks ++ (codes " share " ++ (percent_text row.ticks shares.all_ticks
+    ++ (codes " value " ++ (percent_text shares.live_value shares.all_values
+    ++ (waits_text (codes " mutex") shares.mutexes ++ (waits_text (codes " reply") shares.replies
+    ++ (refused_traps_text shares.refused_traps ++ (life_text shares.lives ++ newline)))))))))))))))
 
 -- a processor's line: its won draws, its idle draws, the ticks used there, and the ticks in which it was idle
 abbrev pub timed_processor_line : ℕ → ℕ → ℕ → ℕ → ℕ → List ℕ
@@ -33,8 +34,8 @@ timed_processor_line p quanta idles ticks unused =
     codes "processor " ++ (decimal p ++ (codes " quanta " ++ (decimal quanta ++ (codes " idle " ++ (decimal idles ++ (codes " ticks " ++ (decimal ticks
     ++ (codes " unused " ++ (decimal unused ++ newline)))))))))
 
--- the last line: the counts over all turns, and the numbers of commands refused and never made
-abbrev pub timed_total_line : ℕ → ℕ → ℕ → ℕ → ℕ → List ℕ
-timed_total_line turns quanta ticks refused left =
-    codes "total turns " ++ (decimal turns ++ (codes " quanta " ++ (decimal quanta ++ (codes " ticks " ++ (decimal ticks
-    ++ (codes " refused " ++ (decimal refused ++ (codes " left " ++ (decimal left ++ newline)))))))))
+-- the last line: the counts over all turns, the numbers of commands refused and never made, and the past lives
+abbrev pub timed_total_line : TimedWholeTotal → List ℕ
+timed_total_line total =
+    codes "total turns " ++ (decimal total.turns ++ (codes " quanta " ++ (decimal total.quanta ++ (codes " ticks " ++ (decimal total.ticks
+    ++ (codes " refused " ++ (decimal total.refused ++ (codes " left " ++ (decimal total.left ++ (ended_text total.lives ++ newline))))))))))

@@ -129,8 +129,19 @@ const PERCENT: usize = b" share ".len() + QUOTIENT + 1;
 /// The number of a thread's refused traps.
 const REFUSED_TRAPS: usize = b" refused ".len() + NUMBER;
 
+/// When a thread was made and when it ended.
+const LIFE: usize = b" made ".len() + NUMBER + b" ended ".len() + NUMBER;
+
 /// A thread's line in a timed report.
-const TIMED_THREAD: usize = NAMED + COUNTS + PERCENT + PERCENT + WAITS + WAITS + REFUSED_TRAPS + 1;
+const TIMED_THREAD: usize = NAMED
+    + COUNTS
+    + PERCENT
+    + PERCENT
+    + WAITS
+    + WAITS
+    + REFUSED_TRAPS
+    + LIFE
+    + 1;
 
 /// The longest line of a timed report.
 pub(crate) const TIMED_ROW: usize = 512;
@@ -153,8 +164,7 @@ const TIMED_FIELDS: usize = NAMED_FIELDS
     + 2 * (1 + LONG_NUMBER)
     + 2 * (1 + QUOTIENT)
     + 2 * (1 + NUMBER + 1 + QUOTIENT + 1 + NUMBER)
-    + 1
-    + NUMBER
+    + 3 * (1 + NUMBER)
     + 1;
 
 /// A thread's row in the table of a report over several plays.

@@ -4,7 +4,7 @@ ghost use Rattle.std.specs.Fmt.{decimal};
 ghost use Rattle.lot_print.specs.TableRows as rows;
 ghost use Rattle.lot_print.specs.TableRows.{figures_record, header_row, next_field, part_field, percent_field};
 ghost use Rattle.lot_print.specs.TableRows.{spread_fields, thread_fields, thread_record, timed_thread_record};
-ghost use Rattle.lot_print.specs.TableRows.{waits_fields};
+ghost use Rattle.lot_print.specs.TableRows.{life_fields, waits_fields};
 ghost use Rattle.lot_io.specs.Writing.{Writes};
 
 use crate::figures::{Figures, Spread, Unit};
@@ -13,7 +13,7 @@ use crate::line::Line;
 use crate::timed_totals::ThreadShares;
 use lot_io::{IoFault, Watched};
 use lot_machine::{Name, ThreadRow};
-use lot_simulation::Waits;
+use lot_simulation::Spans;
 use std::io::Write;
 
 /// A row of a table.
@@ -48,7 +48,7 @@ fn header_of(columns: Columns) -> TableRow
         Columns::TimedTotals => {
             row.push_text("thread,name,quanta,ticks,share_percent,value_percent");
             row.push_text(
-                ",mutex_waits,mutex_mean,mutex_longest,reply_waits,reply_mean,reply_longest,refused\n",
+                ",mutex_waits,mutex_mean,mutex_longest,reply_waits,reply_mean,reply_longest,refused,made,ended\n",
             );
         }
         Columns::Figures => {
@@ -102,6 +102,7 @@ fn timed_row(number: u32, row: &ThreadRow, shares: ThreadShares) -> TableRow
     push_waits(&mut fields, shares.mutexes);
     push_waits(&mut fields, shares.replies);
     fields.push_field(",", shares.refused_traps);
+    push_life(&mut fields, shares.lives);
     fields.push_text("\n");
     fields
 }
@@ -173,7 +174,7 @@ fn push_percent(fields: &mut TableRow, part: u64, whole: u128)
 }
 
 /// Appends the number of a thread's waits of one kind, their mean, and the longest.
-fn push_waits(fields: &mut TableRow, waits: Waits)
+fn push_waits(fields: &mut TableRow, waits: Spans)
     requires { length fields.old ≤ 300 }
     ensures text { fields.new ≡ fields.old ++ waits_fields waits }
     ensures len { length fields.new ≤ length fields.old + 66 }
@@ -186,6 +187,25 @@ fn push_waits(fields: &mut TableRow, waits: Waits)
     }
     fields.push_quotient(",", u128::from(waits.total), u128::from(waits.count));
     fields.push_field(",", waits.longest);
+}
+
+/// Appends when a thread was made, and when it ended, or an empty field if it hasn't.
+fn push_life(fields: &mut TableRow, lives: Spans)
+    requires { length fields.old ≤ 400 }
+    ensures text { fields.new ≡ fields.old ++ life_fields lives }
+    ensures len { length fields.new ≤ length fields.old + 22 }
+{
+    match (lives.since, lives.last) {
+        (Some(since), _) => {
+            fields.push_field(",", since);
+            fields.push_text(",");
+        }
+        (None, Some(life)) => {
+            fields.push_field(",", life.from);
+            fields.push_field(",", life.to);
+        }
+        (None, None) => fields.push_text(",,"),
+    }
 }
 
 /// Appends the mean, the least and the most of a figure over so many plays.

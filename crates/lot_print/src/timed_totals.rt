@@ -1,7 +1,10 @@
 //! The text of a timed report.
-ghost use Rattle.std.specs.Prelude.{◌≡◌, ◌<◌, ◌≤◌, ◌+◌, ◌^◌, ◌++◌, codes, false, length};
+ghost use Rattle.std.specs.Prelude.{◌≡◌, ◌==◌, ◌<◌, ◌≤◌, ◌+◌, ◌^◌, ◌++◌, [], codes, false, length};
+ghost use Rattle.std.specs.Prelude.{if◌then◌else◌};
+ghost use Rattle.std.specs.Fmt.{decimal};
 ghost use Rattle.lot_simulation.specs.TimedReport as reports;
-ghost use Rattle.lot_simulation.specs.TimedReport.{percent_text, refused_traps_text, waits_text};
+ghost use Rattle.lot_simulation.specs.TimedReport.{ended_text, life_text, percent_text, refused_traps_text};
+ghost use Rattle.lot_simulation.specs.TimedReport.{waits_text};
 ghost use Rattle.lot_print.specs.Totals.{timed_processor_line, timed_thread_line, timed_total_line};
 ghost use Rattle.lot_io.specs.Writing.{Writes};
 
@@ -10,7 +13,7 @@ use crate::line::Line;
 use crate::rows::{push_counts, push_named};
 use lot_io::{IoFault, Watched};
 use lot_machine::ThreadRow;
-use lot_simulation::{EarlyEnd, Waits};
+use lot_simulation::{EarlyEnd, PastLives, Spans};
 use std::io::Write;
 
 /// A line of a timed report.
@@ -26,10 +29,12 @@ pub struct ThreadShares {
     /// The value of all live threads, below 2^96.
     pub all_values: u128,
     /// Its waits for mutexes, followed by those for replies.
-    pub mutexes: Waits,
-    pub replies: Waits,
+    pub mutexes: Spans,
+    pub replies: Spans,
     /// How many of its traps were refused.
     pub refused_traps: u32,
+    /// The lives of the threads that have had its number, its own the last.
+    pub lives: Spans,
 }
 
 /// The numbers that a timed report gives for a processor: its won draws, its idle draws, the ticks used there, and
@@ -43,8 +48,8 @@ pub struct TimedProcessorTotal {
     pub unused: u64,
 }
 
-/// The last line's numbers in a timed report: the number of turns, the counts over all of them, and the numbers of
-/// commands refused and never made.
+/// The last line's numbers in a timed report: the number of turns, the counts over all of them, the numbers of
+/// commands refused and never made, and the past lives.
 #[derive(Clone, Copy, Debug)]
 pub struct TimedWholeTotal {
     pub turns: u64,
@@ -52,6 +57,7 @@ pub struct TimedWholeTotal {
     pub ticks: u64,
     pub refused: u64,
     pub left: u64,
+    pub lives: PastLives,
 }
 
 /// Writes a thread's line of a timed report.
@@ -64,8 +70,7 @@ pub fn write_timed_thread_total<W: Write>(
     requires working { writer.old.failed ≡ false }
     requires values { shares.all_values < 2 ^ 96 }
     ensures { Writes W.contents writer.old writer.new result
-        (timed_thread_line number row.now shares.all_ticks shares.live_value shares.all_values shares.mutexes
-        shares.replies shares.refused_traps) }
+        (timed_thread_line number row.now shares) }
 {
     thread_line(number, row, shares).write_to(writer)
 }
@@ -73,9 +78,7 @@ pub fn write_timed_thread_total<W: Write>(
 /// A thread's line of a timed report.
 fn thread_line(number: u32, row: &ThreadRow, shares: ThreadShares) -> TimedLine
     requires { shares.all_values < 2 ^ 96 }
-    ensures { result
-        ≡ timed_thread_line number row.now shares.all_ticks shares.live_value shares.all_values shares.mutexes
-        shares.replies shares.refused_traps }
+    ensures { result ≡ timed_thread_line number row.now shares }
 {
     let mut line = TimedLine::new();
     push_named(&mut line, "thread ", number, &row.name);
@@ -88,6 +91,7 @@ fn thread_line(number: u32, row: &ThreadRow, shares: ThreadShares) -> TimedLine
     );
     push_percent(&mut line, " value ", shares.live_value, shares.all_values);
     push_waits_and_traps(&mut line, shares);
+    push_life(&mut line, shares.lives);
     line.push_text("\n");
     line
 }
@@ -121,7 +125,7 @@ fn push_percent(line: &mut TimedLine, text: &str, part: u64, whole: u128)
 }
 
 /// Appends the number of a thread's waits of this kind, their mean and the longest, if it has waited.
-fn push_waits(line: &mut TimedLine, what: &str, waits: Waits)
+fn push_waits(line: &mut TimedLine, what: &str, waits: Spans)
     requires { (length line.old ≤ 400) × (length what.now ≤ 6) }
     ensures text { line.new ≡ line.old ++ waits_text what.now waits }
     ensures len { length line.new ≤ length line.old + 91 }
@@ -145,6 +149,33 @@ fn push_refused_traps(line: &mut TimedLine, refused: u32)
         return;
     }
     line.push_field(" refused ", refused);
+}
+
+/// Appends when the thread was made, unless that was at 0 and it hasn't ended, and when it ended, if it has.
+fn push_life(line: &mut TimedLine, lives: Spans)
+    requires { length line.old ≤ 420 }
+    ensures text { line.new ≡ line.old ++ life_text lives }
+    ensures len { length line.new ≤ length line.old + 33 }
+{
+    match (lives.since, lives.last) {
+        (Some(since), _) => push_made(line, since),
+        (None, Some(life)) => {
+            line.push_field(" made ", life.from);
+            line.push_field(" ended ", life.to);
+        }
+        (None, None) => (),
+    }
+}
+
+/// Appends when a thread that hasn't ended was made, unless that was at 0.
+fn push_made(line: &mut TimedLine, made: u32)
+    requires { length line.old ≤ 420 }
+    ensures text { line.new ≡ line.old ++ (if made == 0 then [] else codes " made " ++ decimal made) }
+    ensures len { length line.new ≤ length line.old + 16 }
+{
+    if made != 0 {
+        line.push_field(" made ", made);
+    }
 }
 
 /// Writes a processor's line of a timed report.
@@ -180,22 +211,37 @@ pub fn write_timed_whole_total<W: Write>(
 ) -> Result<(), IoFault>
     requires { writer.old.failed ≡ false }
     ensures { Writes W.contents writer.old writer.new result
-        (timed_total_line total.turns total.quanta total.ticks total.refused total.left) }
+        (timed_total_line total) }
 {
     total_line(total).write_to(writer)
 }
 
 /// The last line of a timed report.
 fn total_line(total: TimedWholeTotal) -> TimedLine
-    ensures { result ≡ timed_total_line total.turns total.quanta total.ticks total.refused total.left }
+    ensures { result ≡ timed_total_line total }
 {
     let mut line = TimedLine::new();
     line.push_field("total turns ", total.turns);
     push_counts(&mut line, total.quanta, total.ticks);
     line.push_field(" refused ", total.refused);
     line.push_field(" left ", total.left);
+    push_ended(&mut line, total.lives);
     line.push_text("\n");
     line
+}
+
+/// Appends how many threads have ended, how long they lived on average, and the longest of their lives, if any has.
+fn push_ended(line: &mut TimedLine, lives: PastLives)
+    requires { length line.old ≤ 300 }
+    ensures text { line.new ≡ line.old ++ ended_text lives }
+    ensures len { length line.new ≤ length line.old + 95 }
+{
+    if lives.count == 0 {
+        return;
+    }
+    line.push_field(" ended ", lives.count);
+    line.push_quotient(" mean ", lives.total, u128::from(lives.count));
+    line.push_field(" longest ", lives.longest);
 }
 
 /// Writes the line that says how a play ended before its time.

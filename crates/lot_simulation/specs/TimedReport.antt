@@ -4,11 +4,14 @@ use Rattle.std.specs.List.{flat_map, range_with_len}
 use Rattle.std.specs.Option.{option_map, option_map_or}
 use Rattle.std.specs.Fmt.{decimal}
 use Rattle.lot_machine.specs.declared.action.Action.TheVariants as action
+use Rattle.lot_machine.specs.declared.command.Command.TheVariants as command
+use Rattle.lot_machine.specs.declared.event.Event.{Event}
 use Rattle.lot_machine.specs.declared.event.Event.TheVariants as event
 use Rattle.lot_machine.specs.declared.reply.Reply.{Reply}
 use Rattle.lot_machine.specs.declared.reply.Reply.TheVariants as reply
 use Rattle.lot_machine.specs.declared.reply.Outcome.TheVariants as outcome
 use Rattle.lot_machine.specs.declared.row.ThreadRow.{ThreadRow}
+use Rattle.lot_machine.specs.Commands.{thread_meant}
 use Rattle.lot_machine.specs.Facts.{live_value}
 use Rattle.lot_machine.specs.Lends.{is_live}
 use Rattle.lot_machine.specs.Numbered.{numbers}
@@ -18,61 +21,94 @@ use Rattle.lot_simulation.specs.Texts.{newline, quotient_text}
 use Rattle.lot_simulation.specs.Report.{ActorTurn, quanta_in, idles_in, ticks_in, total_of, turns_of}
 use Rattle.lot_simulation.specs.declared.timed.Clock.{Clock}
 use Rattle.lot_simulation.specs.declared.timed.EarlyEnd.{EarlyEnd}
-use Rattle.lot_simulation.specs.declared.timed.WaitChange.{WaitChange}
-use Rattle.lot_simulation.specs.declared.timed.WaitChange.TheVariants.{Nobody, Anew, Begins, Ends}
-use Rattle.lot_simulation.specs.declared.timed.Waits.{Waits}
+use Rattle.lot_simulation.specs.declared.timed.PastLives.{PastLives}
+use Rattle.lot_simulation.specs.declared.timed.Span.{Span}
+use Rattle.lot_simulation.specs.declared.timed.SpanChange.{SpanChange}
+use Rattle.lot_simulation.specs.declared.timed.SpanChange.TheVariants.{Nobody, Anew, Begins, Ends}
+use Rattle.lot_simulation.specs.declared.timed.Spans.{Spans}
 use Rattle.lot_simulation.specs.Timed.{Moment, TimedTurn, clock_of, end_of, ended_at, moment_after_all, next_due, opening_moment, timed_turns}
-use Rattle.lot_simulation.specs.World.{Program, Answer}
+use Rattle.lot_simulation.specs.World.{Program, Answer, Turn}
 use Rattle.lot_simulation.specs.World.Answer.{Answered}
 
--- ---- waits
+-- ---- spans of time
 
--- the waits of a thread that has never waited
-abbrev pub no_waits : Waits
-no_waits = record { count = 0; total = 0; longest = 0; since = None }
+-- no past span and no current one
+abbrev pub no_spans : Spans
+no_spans = record { count = 0; total = 0; longest = 0; last = None; since = None }
 
--- the waits after a wait begins at this time
-abbrev pub wait_begun : ℕ → Waits → Waits
-wait_begun time waits = record waits { since = Some time }
+-- the spans after one begins at this time
+abbrev pub span_begun : ℕ → Spans → Spans
+span_begun time spans = record spans { since = Some time }
 
--- the waits after the current wait, if any, ends at this time
-abbrev pub wait_ended : ℕ → Waits → Waits
-wait_ended time waits = made waits.since
+-- the spans after the current one, if any, ends at this time
+abbrev pub span_ended : ℕ → Spans → Spans
+span_ended time spans = made spans.since
   where
-    made : Option ℕ → Waits
-    made None = waits
-    made (Some since) = record { count = waits.count + 1; total = waits.total + (time - since); longest = max waits.longest (time - since); since = None }
+    made : Option ℕ → Spans
+    made None = spans
+    made (Some since) = record {
+      count = spans.count + 1;
+      total = spans.total + (time - since);
+      longest = max spans.longest (time - since);
+      last = Some (record { from = since; to = time });
+      since = None;
+    }
 
 -- A new thread has never waited, whoever had its number before. A thread waits for a mutex from the lock that finds it
 -- taken until the unlock that passes it on (6.1). A wait that a kill ends isn't counted.
-abbrev pub mutex_change : Answer → WaitChange
-mutex_change (Answered e (reply.Thread thread)) = Anew thread
-mutex_change (Answered e (reply.Funded ticket thread)) = Anew thread
-mutex_change (Answered (event.Trap p ran (action.Lock mutex)) (reply.Trapped thread ticks outcome.Waits ends)) = Begins thread
-mutex_change (Answered e (reply.Trapped thread ticks (outcome.Passed to drawn) ends)) = Ends to
-mutex_change other = Nobody
+abbrev pub mutex_wait : Answer → SpanChange
+mutex_wait (Answered e (reply.Thread thread)) = Anew thread
+mutex_wait (Answered e (reply.Funded ticket thread)) = Anew thread
+mutex_wait (Answered (event.Trap p ran (action.Lock mutex)) (reply.Trapped thread ticks outcome.Waits ends)) = Begins thread
+mutex_wait (Answered e (reply.Trapped thread ticks (outcome.Passed to drawn) ends)) = Ends to
+mutex_wait other = Nobody
 
 -- A thread waits for a reply from its call until the reply to it (4.6); nor is such a wait that a kill ends.
-abbrev pub reply_change : Answer → WaitChange
-reply_change (Answered e (reply.Thread thread)) = Anew thread
-reply_change (Answered e (reply.Funded ticket thread)) = Anew thread
-reply_change (Answered e (reply.Trapped thread ticks (outcome.ServedBy server) ends)) = Begins thread
-reply_change (Answered e (reply.Trapped thread ticks outcome.Queued ends)) = Begins thread
-reply_change (Answered e (reply.Trapped thread ticks (outcome.Replied client) ends)) = Ends client
-reply_change (Answered e (reply.Trapped thread ticks (outcome.RepliedThenReceived to client number) ends)) = Ends to
-reply_change (Answered e (reply.Trapped thread ticks (outcome.RepliedThenWaits to) ends)) = Ends to
-reply_change other = Nobody
+abbrev pub reply_wait : Answer → SpanChange
+reply_wait (Answered e (reply.Thread thread)) = Anew thread
+reply_wait (Answered e (reply.Funded ticket thread)) = Anew thread
+reply_wait (Answered e (reply.Trapped thread ticks (outcome.ServedBy server) ends)) = Begins thread
+reply_wait (Answered e (reply.Trapped thread ticks outcome.Queued ends)) = Begins thread
+reply_wait (Answered e (reply.Trapped thread ticks (outcome.Replied client) ends)) = Ends client
+reply_wait (Answered e (reply.Trapped thread ticks (outcome.RepliedThenReceived to client number) ends)) = Ends to
+reply_wait (Answered e (reply.Trapped thread ticks (outcome.RepliedThenWaits to) ends)) = Ends to
+reply_wait other = Nobody
 
--- the thread's waits after this change at this time
-abbrev pub waits_after : ℕ → ℕ → Waits → WaitChange → Waits
-waits_after t time waits Nobody = waits
-waits_after t time waits (Anew u) = if u == t then no_waits else waits
-waits_after t time waits (Begins u) = if u == t then wait_begun time waits else waits
-waits_after t time waits (Ends u) = if u == t then wait_ended time waits else waits
+-- the end of the life of a thread that the event killed, given the state after it, in which the thread has its name
+abbrev pub killed_by : State → Event → SpanChange
+killed_by s (event.Command (command.Kill thread)) = option_map_or Ends (thread_meant s thread) Nobody
+killed_by s other = Nobody
 
--- the thread's waits after these turns
-abbrev pub waits_in : (Answer → WaitChange) → List TimedTurn → ℕ → Waits
-waits_in change turns t = fold (λ waits done. waits_after t done.time waits (change done.turn.answer)) no_waits turns
+-- a thread lives from the turn that makes it until it exits or is killed
+abbrev pub life : State → Answer → SpanChange
+life s (Answered e (reply.Thread thread)) = Begins thread
+life s (Answered e (reply.Funded ticket thread)) = Begins thread
+life s (Answered e (reply.Trapped thread ticks outcome.Exited ends)) = Ends thread
+life s (Answered e reply.Done) = killed_by s e
+life s other = Nobody
+
+-- the change that a turn makes to waits for mutexes
+abbrev pub mutex_change : Turn → SpanChange
+mutex_change turn = mutex_wait turn.answer
+
+-- the change that a turn makes to waits for replies
+abbrev pub reply_change : Turn → SpanChange
+reply_change turn = reply_wait turn.answer
+
+-- the change that a turn makes to lives
+abbrev pub life_change : Turn → SpanChange
+life_change turn = life turn.world.state turn.answer
+
+-- the thread's spans after this change at this time
+abbrev pub spans_after : ℕ → ℕ → Spans → SpanChange → Spans
+spans_after t time spans Nobody = spans
+spans_after t time spans (Anew u) = if u == t then no_spans else spans
+spans_after t time spans (Begins u) = if u == t then span_begun time spans else spans
+spans_after t time spans (Ends u) = if u == t then span_ended time spans else spans
+
+-- the thread's spans after these turns
+abbrev pub spans_in : (Turn → SpanChange) → List TimedTurn → ℕ → Spans
+spans_in change turns t = fold (λ spans done. spans_after t done.time spans (change done.turn)) no_spans turns
 
 -- ---- refused traps
 
@@ -95,7 +131,7 @@ abbrev pub percent_text : ℕ → ℕ → List ℕ
 percent_text part whole = (if whole == 0 then codes "0" else quotient_text (part * 100) whole) ++ codes "%"
 
 -- the number of a thread's waits of this kind, their mean and the longest; nothing if it has never waited
-abbrev pub waits_text : List ℕ → Waits → List ℕ
+abbrev pub waits_text : List ℕ → Spans → List ℕ
 waits_text what waits =
     if waits.count == 0 then []
     else what ++ (codes " waits " ++ (decimal waits.count ++ (codes " mean " ++ (quotient_text waits.total waits.count ++ (codes " longest " ++ decimal waits.longest)))))
@@ -108,16 +144,26 @@ refused_traps_text n = if n == 0 then [] else codes " refused " ++ decimal n
 abbrev pub live_part : State → ℕ → ℕ → ℕ
 live_part s t value = if is_live (live_of s) t then value else 0
 
+-- When a thread was made, unless that was at 0 and it hasn't ended, and when it ended, if it has.
+abbrev pub life_text : Spans → List ℕ
+life_text lives = text lives.since lives.last
+  where
+    text : Option ℕ → Option Span → List ℕ
+    text (Some since) last = if since == 0 then [] else codes " made " ++ decimal since
+    text None (Some life) = codes " made " ++ (decimal life.from ++ (codes " ended " ++ decimal life.to))
+    text None None = []
+
 -- A thread's line: its name, the draws it has won, the ticks it has used and their share of all ticks, its share of
--- the live value, its waits for mutexes and for replies, and its refused traps.
+-- the live value, its waits for mutexes and for replies, its refused traps, and when it was made and ended.
 abbrev pub timed_thread_total : State → List TimedTurn → ℕ → ℕ → ThreadRow → List ℕ
 timed_thread_total s turns all t row =
     codes "thread " ++ (decimal t ++ (codes " " ++ (row.name ++ (codes " quanta " ++ (decimal row.quanta
     ++ (codes " ticks " ++ (decimal row.ticks ++ (codes " share " ++ (percent_text row.ticks all
     ++ (codes " value " ++ (percent_text (live_part s t row.value) (live_value s)
-    ++ (waits_text (codes " mutex") (waits_in mutex_change turns t)
-    ++ (waits_text (codes " reply") (waits_in reply_change turns t)
-    ++ (refused_traps_text (refused_traps_in turns t) ++ newline))))))))))))))
+    ++ (waits_text (codes " mutex") (spans_in mutex_change turns t)
+    ++ (waits_text (codes " reply") (spans_in reply_change turns t)
+    ++ (refused_traps_text (refused_traps_in turns t)
+    ++ (life_text (spans_in life_change turns t) ++ newline)))))))))))))))
 
 -- each timed turn's actor with its answer
 abbrev pub actor_turns : List TimedTurn → List ActorTurn
@@ -144,13 +190,33 @@ abbrev pub refusals_in : Reply → ℕ
 refusals_in (reply.Refused why) = 1
 refusals_in other = 0
 
--- the counts over all turns, and the numbers of refused commands and wakes, and of commands never made
-abbrev pub timed_whole_total : Moment → List ActorTurn → List ℕ
+-- no past life
+abbrev pub no_lives : PastLives
+no_lives = record { count = 0; total = 0; longest = 0 }
+
+-- past lives with those of one number as well
+abbrev pub with_lives : PastLives → Spans → PastLives
+with_lives lives spans = record { count = lives.count + spans.count; total = lives.total + spans.total; longest = max lives.longest spans.longest }
+
+-- the past lives of all threads, whatever numbers they had
+abbrev pub past_lives : State → List TimedTurn → PastLives
+past_lives s turns = fold (λ lives t. with_lives lives (spans_in life_change turns t)) no_lives (numbers s.records)
+
+-- how many threads have ended, how long they lived on average, and the longest of their lives; nothing if none has
+abbrev pub ended_text : PastLives → List ℕ
+ended_text lives =
+    if lives.count == 0 then []
+    else codes " ended " ++ (decimal lives.count ++ (codes " mean " ++ (quotient_text lives.total lives.count ++ (codes " longest " ++ decimal lives.longest))))
+
+-- the counts over all turns, the numbers of refused commands and wakes, and of commands never made, and the lives of
+-- the threads that have ended
+abbrev pub timed_whole_total : Moment → List TimedTurn → List ℕ
 timed_whole_total m turns =
-    codes "total turns " ++ (decimal (length turns) ++ (codes " quanta " ++ (decimal (total_of quanta_in turns)
-    ++ (codes " ticks " ++ (decimal (total_of ticks_in turns)
-    ++ (codes " refused " ++ (decimal (total_of refusals_in turns)
-    ++ (codes " left " ++ (decimal (length m.world.commands) ++ newline)))))))))
+    codes "total turns " ++ (decimal (length turns) ++ (codes " quanta " ++ (decimal (total_of quanta_in (actor_turns turns))
+    ++ (codes " ticks " ++ (decimal (total_of ticks_in (actor_turns turns))
+    ++ (codes " refused " ++ (decimal (total_of refusals_in (actor_turns turns))
+    ++ (codes " left " ++ (decimal (length m.world.commands)
+    ++ (ended_text (past_lives m.world.state turns) ++ newline))))))))))
 
 -- the lines of all threads
 abbrev pub timed_thread_lines : State → List TimedTurn → ℕ → List ℕ
@@ -161,7 +227,7 @@ abbrev pub timed_report_of : Moment → ℕ → List TimedTurn → List ℕ
 timed_report_of m end turns =
     codes "report" ++ (newline ++ (timed_thread_lines m.world.state turns (total_of ticks_in (actor_turns turns))
     ++ (flat_map (timed_processor_total m end (actor_turns turns)) (range_with_len 1 m.world.state.limits.processors)
-    ++ timed_whole_total m (actor_turns turns))))
+    ++ timed_whole_total m turns)))
 
 -- How a play that has come to this moment by so many turns ended before its time. It did only if a turn is still due.
 abbrev pub early_end : Program → Moment → ℕ → Option EarlyEnd

@@ -1,4 +1,4 @@
-//! Clocks, due turns, waits and early ends of a timed input.
+//! Clocks, due turns, spans of time and early ends of a timed input.
 
 /// A processor's clock. Times are in ticks.
 #[derive(Clone, Copy, Debug, PartialEq, Eq)]
@@ -39,27 +39,48 @@ pub struct EarlyEnd {
     pub turns: u64,
 }
 
-/// A thread's waits for mutexes, or its waits for replies. Times are in ticks.
+/// A span of time. Times are in ticks.
 #[derive(Clone, Copy, Debug, PartialEq, Eq)]
-pub struct Waits {
-    /// The number of its past waits.
+pub struct Span {
+    pub from: u32,
+    pub to: u32,
+}
+
+/// Spans of time of one kind: a thread's waits for mutexes, its waits for replies, or the lives of the threads that
+/// have had its number. Times are in ticks.
+#[derive(Clone, Copy, Debug, PartialEq, Eq)]
+pub struct Spans {
+    /// The number of past spans.
     pub count: u32,
     /// Their total.
     pub total: u64,
     /// The longest of them.
     pub longest: u32,
-    /// The start of the current wait, if it waits.
+    /// The last of them, if there is one.
+    pub last: Option<Span>,
+    /// The start of the current span, if there is one.
     pub since: Option<u32>,
 }
 
-/// The change that a turn makes to the waiting threads.
+/// The past lives of threads. Times are in ticks.
 #[derive(Clone, Copy, Debug, PartialEq, Eq)]
-pub enum WaitChange {
+pub struct PastLives {
+    /// The number of threads that have ended.
+    pub count: u64,
+    /// The total of their lives.
+    pub total: u128,
+    /// The longest of them.
+    pub longest: u32,
+}
+
+/// The change that a turn makes to the spans of one kind.
+#[derive(Clone, Copy, Debug, PartialEq, Eq)]
+pub enum SpanChange {
     Nobody,
-    /// A thread with this number was made: it has never waited.
+    /// A thread with this number was made: it has had no span.
     Anew(u32),
-    /// This thread begins to wait.
+    /// A span of this thread begins.
     Begins(u32),
-    /// This thread's wait ends.
+    /// This thread's span ends.
     Ends(u32),
 }

@@ -5,6 +5,6 @@
 pub use lot_engine::{Answer, Counts, System, TurnFault, Work, laws, slice_for, slice_in};
 pub use lot_io::{IoFault as PlayFault, read_input};
 pub use lot_play::{
-    FirstFew, Played, RefusedCommand, RefusedTrap, StuckThread, Warnings, play, play_bytes,
+    FirstFew, Owner, Played, RefusedCommand, RefusedTrap, StuckThread, Warnings, play, play_bytes,
     put_answer, refuse, write_end, write_report,
 };

@@ -2,7 +2,7 @@
 
 use crate::names::name_numbered;
 use lot_machine::{Name, Status};
-use lot_play::StuckThread;
+use lot_play::{Owner, StuckThread};
 use lot_simulation::BodyWord;
 use std::{fmt, str};
 
@@ -80,8 +80,29 @@ impl fmt::Display for Waiting<'_> {
                 write!(f, " for a reply of {server}")
             }
             Status::Queued(port) => write!(f, " for a server at {}", Called::port(input, port)),
-            Status::Waiting(mutex) => write!(f, " for {}", Called::mutex(input, mutex)),
+            Status::Waiting(mutex) => {
+                write!(f, " for {}", Called::mutex(input, mutex))?;
+                match &thread.owner {
+                    Some(owner) => write!(f, ", {}", Owning(owner)),
+                    None => Ok(()),
+                }
+            }
             _ => Ok(()),
+        }
+    }
+}
+
+/// The owner of a mutex that a thread waits for.
+#[derive(Clone, Copy)]
+struct Owning<'a>(&'a Owner);
+
+impl fmt::Display for Owning<'_> {
+    fn fmt<W: fmt::Write>(&self, f: &mut fmt::Formatter<W>) -> fmt::Result {
+        let thread = Called::thread(Some(&self.0.name), self.0.number);
+        if self.0.has_ended {
+            write!(f, "whose owner, {thread}, has ended")
+        } else {
+            write!(f, "which {thread} owns")
         }
     }
 }

@@ -59,9 +59,9 @@ share mean 0% least 0% most 0%
 
 /// The report of `TIMED` as a table. Nobody waits: there are no waits, no mean of them, and no longest one.
 const TABLE: &str = "thread,name,quanta,ticks,share_percent,value_percent,\
-mutex_waits,mutex_mean,mutex_longest,reply_waits,reply_mean,reply_longest,refused
-1,a,3,4,100,100,0,,,0,,,0
-2,b,0,0,0,0,0,,,0,,,0
+mutex_waits,mutex_mean,mutex_longest,reply_waits,reply_mean,reply_longest,refused,made,ended
+1,a,3,4,100,100,0,,,0,,,0,0,
+2,b,0,0,0,0,0,,,0,,,0,0,
 ";
 
 /// The report over two plays of `TIMED` as a table.

@@ -63,7 +63,7 @@ unfund 1
 200 1 draw 23.921 of 40 thread 2
 report
 thread 1 a quanta 2 ticks 200 share 100% value 25%
-thread 2 b quanta 1 ticks 0 share 0% value 75%
+thread 2 b quanta 1 ticks 0 share 0% value 75% made 150
 processor 1 quanta 3 idle 0 ticks 200 unused 0
 total turns 7 quanta 3 ticks 200 refused 0 left 1
 ",
@@ -115,10 +115,10 @@ fundx 10 base a spin
 13 1 idle
 13 2 idle
 report
-thread 1 a quanta 2 ticks 13 share 100% value 0%
+thread 1 a quanta 2 ticks 13 share 100% value 0% made 0 ended 13
 processor 1 quanta 2 idle 1 ticks 13 unused 12
 processor 2 quanta 0 idle 3 ticks 0 unused 25
-total turns 9 quanta 2 ticks 13 refused 0 left 0
+total turns 9 quanta 2 ticks 13 refused 0 left 0 ended 1 mean 13 longest 13
 ",
 );
 
@@ -152,10 +152,10 @@ fundx 3 base c cli
 9 1 thread 2 ticks 1 exit
 9 1 idle
 report
-thread 1 s quanta 1 ticks 6 share 66.666% value 0%
-thread 2 c quanta 2 ticks 3 share 33.333% value 0% reply waits 1 mean 5 longest 5
+thread 1 s quanta 1 ticks 6 share 66.666% value 0% made 0 ended 8
+thread 2 c quanta 2 ticks 3 share 33.333% value 0% reply waits 1 mean 5 longest 5 made 0 ended 9
 processor 1 quanta 3 idle 1 ticks 9 unused 31
-total turns 11 quanta 3 ticks 9 refused 0 left 0
+total turns 11 quanta 3 ticks 9 refused 0 left 0 ended 2 mean 8.5 longest 9
 ",
 );
 
@@ -202,10 +202,10 @@ fundx 2 base b cli
 10 1 idle
 report
 thread 1 s quanta 3 ticks 5 share 55.555% value 0%
-thread 2 a quanta 2 ticks 2 share 22.222% value 0% reply waits 1 mean 2 longest 2
-thread 3 b quanta 2 ticks 2 share 22.222% value 0% reply waits 1 mean 2 longest 2
+thread 2 a quanta 2 ticks 2 share 22.222% value 0% reply waits 1 mean 2 longest 2 made 2 ended 10
+thread 3 b quanta 2 ticks 2 share 22.222% value 0% reply waits 1 mean 2 longest 2 made 2 ended 6
 processor 1 quanta 7 idle 2 ticks 9 unused 51
-total turns 20 quanta 7 ticks 9 refused 0 left 0
+total turns 20 quanta 7 ticks 9 refused 0 left 0 ended 2 mean 6 longest 8
 ",
 );
 
@@ -250,11 +250,11 @@ fundx 1 base c one
 18 1 thread 3 ticks 1 exit
 18 1 idle
 report
-thread 1 a quanta 3 ticks 6 share 33.333% value 0% mutex waits 1 mean 1 longest 1
-thread 2 b quanta 3 ticks 6 share 33.333% value 0%
-thread 3 c quanta 2 ticks 6 share 33.333% value 0%
+thread 1 a quanta 3 ticks 6 share 33.333% value 0% mutex waits 1 mean 1 longest 1 made 0 ended 12
+thread 2 b quanta 3 ticks 6 share 33.333% value 0% made 0 ended 7
+thread 3 c quanta 2 ticks 6 share 33.333% value 0% made 0 ended 18
 processor 1 quanta 8 idle 1 ticks 18 unused 42
-total turns 24 quanta 8 ticks 18 refused 0 left 0
+total turns 24 quanta 8 ticks 18 refused 0 left 0 ended 3 mean 12.333 longest 18
 ",
 );
 
@@ -504,11 +504,11 @@ lsthr
 36 1 thread 1 ticks 1 exit
 36 1 idle
 report
-thread 1 a quanta 3 ticks 4 share 12.121% value 0%
-thread 2 b quanta 2 ticks 3 share 9.09% value 0% mutex waits 1 mean 30 longest 30
-thread 3 c quanta 3 ticks 26 share 78.787% value 0%
+thread 1 a quanta 3 ticks 4 share 12.121% value 0% made 0 ended 36
+thread 2 b quanta 2 ticks 3 share 9.09% value 0% mutex waits 1 mean 30 longest 30 made 2 ended 35
+thread 3 c quanta 3 ticks 26 share 78.787% value 0% made 6 ended 32
 processor 1 quanta 8 idle 2 ticks 33 unused 27
-total turns 26 quanta 8 ticks 33 refused 0 left 0
+total turns 26 quanta 8 ticks 33 refused 0 left 0 ended 3 mean 31.666 longest 36
 ",
 );
 
@@ -587,10 +587,10 @@ lsthr
 56 1 thread 2 ticks 10 expire
 56 1 draw 0.929 of 1 thread 2
 report
-thread 1 d quanta 2 ticks 2 share 3.703% value 0%
-thread 2 c quanta 6 ticks 50 share 92.592% value 100%
+thread 1 d quanta 2 ticks 2 share 3.703% value 0% made 21 ended 46
+thread 2 c quanta 6 ticks 50 share 92.592% value 100% made 3
 processor 1 quanta 10 idle 1 ticks 54 unused 2
-total turns 37 quanta 10 ticks 54 refused 2 left 0
+total turns 37 quanta 10 ticks 54 refused 2 left 0 ended 3 mean 15.333 longest 25
 ",
 );
 

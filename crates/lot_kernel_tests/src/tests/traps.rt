@@ -4,7 +4,8 @@ use super::{
     Line, Step, check_run, check_thread, fund, largest, play, take, take_all, thread_row, won,
 };
 use lot_kernel::{
-    Action, Event, Kernel, MutexNumber, Outcome, Refusal, Reply, Status, TrapRefusal,
+    Action, Event, Kernel, MutexNumber, Name, Outcome, Refusal, Reply, Status, ThreadNumber,
+    ThreadRef, TrapRefusal,
 };
 use std::alloc::Global;
 use std::process::Abort;
@@ -590,13 +591,51 @@ fn check_waiters(rt: &impl Abort, alloc: Global, kernel: &Kernel, mutex: u32, wa
 
 #[test]
 fn waiters_stand_in_order_of_waiting(rt: HostRuntime) {
-    let mut kernel = largest(&rt, rt.alloc(), 1);
-    fund(&rt, &mut kernel, &[(50, "a"), (300, "b"), (100, "c")]);
-    check_waiters(&rt, rt.alloc(), &kernel, 1, &[]);
-    for event in &TWO_WAITERS {
-        kernel.event(event);
-    }
+    let kernel = kernel_with_waiters(&rt, rt.alloc());
     check_waiters(&rt, rt.alloc(), &kernel, 1, &[3, 2]);
     check_waiters(&rt, rt.alloc(), &kernel, 2, &[]);
     check_waiters(&rt, rt.alloc(), &kernel, 300, &[]);
+}
+
+/// The kernel after these events, and three funded threads.
+fn kernel_with_waiters(rt: &impl Abort, alloc: Global) -> Kernel {
+    let mut kernel = largest(rt, alloc, 1);
+    fund(rt, &mut kernel, &[(50, "a"), (300, "b"), (100, "c")]);
+    for event in &TWO_WAITERS {
+        kernel.event(event);
+    }
+    kernel
+}
+
+#[test]
+fn owners_of_mutexes(rt: HostRuntime) {
+    let kernel = kernel_with_waiters(&rt, rt.alloc());
+    for (mutex, owner) in [(0, None), (1, Some(1)), (2, None), (300, None)] {
+        check_same(&rt, &kernel.owner(MutexNumber { number: mutex }), &owner);
+    }
+}
+
+// Thread 1 locked and yielded, and so used two ticks; the others blocked after one.
+#[test]
+fn compensations_of_threads(rt: HostRuntime) {
+    let kernel = kernel_with_waiters(&rt, rt.alloc());
+    for (number, used) in [(0, None), (1, Some(2)), (2, Some(1)), (4, None)] {
+        check_same(&rt, &kernel.compensation(ThreadNumber { number }), &used);
+    }
+}
+
+#[test]
+fn threads_meant(rt: HostRuntime) {
+    let kernel = kernel_with_waiters(&rt, rt.alloc());
+    for (name, number) in [("b", Some(2)), ("base", None)] {
+        let name = Name::new(name).expect(&rt, "a name");
+        check_same(&rt, &kernel.thread_meant(&ThreadRef::Named(name)), &number);
+    }
+    for (meant, number) in [(3, Some(3)), (4, None)] {
+        check_same(
+            &rt,
+            &kernel.thread_meant(&ThreadRef::Numbered(meant)),
+            &number,
+        );
+    }
 }

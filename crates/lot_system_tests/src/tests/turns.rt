@@ -2,7 +2,7 @@
 
 use super::same::{check_same, check_same_at};
 use super::{SPINNER, make_turns, program_of};
-use lot_machine::{Outcome, Reply};
+use lot_machine::{Outcome, Reply, ThreadRef};
 use lot_script::Slice;
 use lot_system::{Answer, System, TurnFault};
 use lot_text::Program;
@@ -317,5 +317,18 @@ fn waiters_stand_in_order_of_waiting(rt: HostRuntime) -> Result<(), Fail> {
     check_same(&rt, &waiters.as_slice(), &[2, 3].as_slice());
     system.list_waiters(2, &mut waiters);
     assert!(rt; waiters.is_empty());
+    Ok(())
+}
+
+// Thread 1 owns the mutex. It locked, computed for two ticks and yielded, which took four.
+#[test]
+fn owners_and_compensations(rt: HostRuntime) -> Result<(), Fail> {
+    let program = program_of(rt.alloc(), WAITING)?;
+    let mut system = System::open(rt.alloc(), &program, 10)?;
+    make_turns(&mut system, &program, program.schedule())?;
+    check_same(&rt, &system.owner(1), &Some(1));
+    check_same(&rt, &system.owner(2), &None);
+    check_same(&rt, &system.compensation(1), &Some(4));
+    check_same(&rt, &system.thread_meant(&ThreadRef::Numbered(3)), &Some(3));
     Ok(())
 }

@@ -15,7 +15,9 @@ use lot_print::{
     write_ticket, write_timed_processor_total, write_timed_thread_record, write_timed_thread_total,
     write_timed_whole_total, write_whole_total,
 };
-use lot_simulation::{EarlyEnd, Format, InputFault, InputRefusal, LineStyle, Waits};
+use lot_simulation::{
+    EarlyEnd, Format, InputFault, InputRefusal, LineStyle, PastLives, Span, Spans,
+};
 use std::alloc::Global;
 use std::process::Abort;
 
@@ -884,20 +886,38 @@ fn prints_wakes(rt: HostRuntime) {
 }
 
 /// The largest possible waits.
-const LONG: Waits = Waits {
+const LONG: Spans = Spans {
     count: u32::MAX,
     total: u64::MAX,
     longest: u32::MAX,
+    last: None,
     since: None,
 };
 
 /// None.
-const NO_WAITS: Waits = Waits {
+const NO_SPANS: Spans = Spans {
     count: 0,
     total: 0,
     longest: 0,
+    last: None,
     since: None,
 };
+
+/// The life of a thread that was made at this time and hasn't ended.
+fn begun(since: u32) -> Spans {
+    Spans {
+        since: Some(since),
+        ..NO_SPANS
+    }
+}
+
+/// The life of a thread that was made and has ended at these times.
+fn lived(from: u32, to: u32) -> Spans {
+    Spans {
+        last: Some(Span { from, to }),
+        ..NO_SPANS
+    }
+}
 
 /// Checks the line and the row of thread 1 with 4 quanta and 2 ticks, among totals of which it has these shares.
 fn check_shares(rt: &impl Abort, alloc: Global, shares: ThreadShares, wanted: &str, fields: &str)
@@ -924,31 +944,71 @@ fn prints_timed_totals(rt: HostRuntime) {
         all_ticks: 3,
         live_value: 1,
         all_values: 8,
-        mutexes: Waits {
+        mutexes: Spans {
             count: 5,
             total: 12,
             longest: 4,
+            last: None,
             since: None,
         },
-        replies: NO_WAITS,
+        replies: NO_SPANS,
         refused_traps: 0,
+        lives: begun(0),
     };
     let wanted =
         "thread 1 thread2 quanta 4 ticks 2 share 66.666% value 12.5% mutex waits 5 mean 2.4 longest 4\n";
-    let fields = "1,thread2,4,2,66.666,12.5,5,2.4,4,0,,,0\n";
+    let fields = "1,thread2,4,2,66.666,12.5,5,2.4,4,0,,,0,0,\n";
     check_shares(&rt, rt.alloc(), shares, wanted, fields);
     let shares = ThreadShares {
         all_ticks: 0,
         live_value: 0,
         all_values: 0,
-        mutexes: NO_WAITS,
+        mutexes: NO_SPANS,
         replies: LONG,
         refused_traps: 12,
+        lives: lived(7, u32::MAX),
     };
     let wanted = "thread 1 thread2 quanta 4 ticks 2 share 0% value 0% \
-        reply waits 4294967295 mean 4294967297 longest 4294967295 refused 12\n";
-    let fields = "1,thread2,4,2,0,0,0,,,4294967295,4294967297,4294967295,12\n";
+        reply waits 4294967295 mean 4294967297 longest 4294967295 refused 12 made 7 ended 4294967295\n";
+    let fields = "1,thread2,4,2,0,0,0,,,4294967295,4294967297,4294967295,12,7,4294967295\n";
     check_shares(&rt, rt.alloc(), shares, wanted, fields);
+}
+
+// The thread that had the number before has ended; this one hasn't.
+#[test]
+fn prints_lives(rt: HostRuntime) {
+    let shares = ThreadShares {
+        all_ticks: 2,
+        live_value: 0,
+        all_values: 0,
+        mutexes: NO_SPANS,
+        replies: NO_SPANS,
+        refused_traps: 0,
+        lives: Spans {
+            since: Some(31),
+            ..lived(0, 30)
+        },
+    };
+    let wanted = "thread 1 thread2 quanta 4 ticks 2 share 100% value 0% made 31\n";
+    check_shares(
+        &rt,
+        rt.alloc(),
+        shares,
+        wanted,
+        "1,thread2,4,2,100,0,0,,,0,,,0,31,\n",
+    );
+    let shares = ThreadShares {
+        lives: NO_SPANS,
+        ..shares
+    };
+    let wanted = "thread 1 thread2 quanta 4 ticks 2 share 100% value 0%\n";
+    check_shares(
+        &rt,
+        rt.alloc(),
+        shares,
+        wanted,
+        "1,thread2,4,2,100,0,0,,,0,,,0,,\n",
+    );
 }
 
 #[test]
@@ -958,7 +1018,7 @@ fn prints_headers(rt: HostRuntime) {
         (
             Columns::TimedTotals,
             "thread,name,quanta,ticks,share_percent,value_percent,mutex_waits,mutex_mean,mutex_longest,\
-             reply_waits,reply_mean,reply_longest,refused\n",
+             reply_waits,reply_mean,reply_longest,refused,made,ended\n",
         ),
         (
             Columns::Figures,
@@ -1020,19 +1080,34 @@ fn prints_timed_processors(rt: HostRuntime) {
     check(&rt, writer, ended, wanted);
 }
 
+// Two threads that lived 5 ticks in all.
 #[test]
 fn prints_timed_ends(rt: HostRuntime) {
-    let total = TimedWholeTotal {
-        turns: 1,
-        quanta: 2,
-        ticks: 3,
-        refused: 4,
-        left: 5,
-    };
-    let mut writer = Watched::new(Vec::new(rt.alloc()));
-    let ended = write_timed_whole_total(&mut writer, total);
-    let wanted = "total turns 1 quanta 2 ticks 3 refused 4 left 5\n";
-    check(&rt, writer, ended, wanted);
+    for (count, total, longest, wanted) in [
+        (0, 0, 0, "total turns 1 quanta 2 ticks 3 refused 4 left 5\n"),
+        (
+            2,
+            5,
+            4,
+            "total turns 1 quanta 2 ticks 3 refused 4 left 5 ended 2 mean 2.5 longest 4\n",
+        ),
+    ] {
+        let total = TimedWholeTotal {
+            turns: 1,
+            quanta: 2,
+            ticks: 3,
+            refused: 4,
+            left: 5,
+            lives: PastLives {
+                count,
+                total,
+                longest,
+            },
+        };
+        let mut writer = Watched::new(Vec::new(rt.alloc()));
+        let ended = write_timed_whole_total(&mut writer, total);
+        check(&rt, writer, ended, wanted);
+    }
 }
 
 #[test]

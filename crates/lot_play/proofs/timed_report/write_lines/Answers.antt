@@ -20,7 +20,7 @@ abbrev processors : Seen → Timekeeper → ℕ → List ℕ
 processors s w end = flat_map (timed_processor_total (moment_in s w) end (actor_turns (timed_turns s.setting.program))) (range_with_len 1 (world_of s).state.limits.processors)
 
 abbrev totals : Seen → Timekeeper → List ℕ
-totals s w = timed_whole_total (moment_in s w) (actor_turns (timed_turns s.setting.program))
+totals s w = timed_whole_total (moment_in s w) (timed_turns s.setting.program)
 
 -- all lines but the first
 abbrev lines : Seen → Timekeeper → ℕ → List ℕ

@@ -16,7 +16,7 @@ use Rattle.lot_playback.specs.declared.turn.Turn.{Turn}
 use Rattle.lot_playback.specs.Orders.{IsAtTime}
 use Rattle.lot_playback.specs.Stages.{IsNext, answer_in}
 use Rattle.lot_playback.proofs.ClockFacts.{time-due, time-made, time-more, time-there}
-use Rattle.lot_playback.proofs.FollowFacts.{answer-is, followed-more, one-next, within-room}
+use Rattle.lot_playback.proofs.FollowFacts.{answer-is, followed-more, one-next, within-room, world-more}
 use Rattle.lot_playback.proofs.making.make_in_time.Goals as goal
 
 module _ (seen : Seen) (timekeeper : Timekeeper) (there : IsAtTime seen timekeeper) (next : NextTurn) (is : IsNext (record { seen = seen; made = length seen.history }) next) (time : ℕ) (some : next.time ≡ Some time) (early : time < 2 ^ 32) where
@@ -38,14 +38,15 @@ module _ (seen : Seen) (timekeeper : Timekeeper) (there : IsAtTime seen timekeep
   followed-then : (e : Event) (r : Reply) (now : Seen) → now ≡ after_turn seen next.actor → (turn_in seen next.actor).answer ≡ Answered e r → (then_following : Timekeeper) → then_following.clocks.time ≡ time
       → then_following.clocks.processors.items ≡ clocks_after (world_of now).state timekeeper.clocks.processors.items (record { time = time; actor = next.actor }) (is_idle_draw (Answered e r))
       → alarms_in then_following.alarms.threads.items ≡ alarms_after (moment_in seen timekeeper) time next.actor → AreAlarms seen.setting.program.limits.processors then_following.alarms
-      → ((done : List TimedTurn) (n : ℕ) (turn : TimedTurn) → turn.time ≡ time → turn.turn.answer ≡ Answered e r → HasFollowed done n timekeeper → HasFollowed (done ++ turn ∷ []) (n + 1) then_following)
+      → ((done : List TimedTurn) (n : ℕ) (turn : TimedTurn) → turn.time ≡ time → turn.turn.answer ≡ Answered e r → turn.turn.world ≡ world_of now → HasFollowed done n timekeeper → HasFollowed (done ++ turn ∷ []) (n + 1) then_following)
       → ((p : Program) → HasRoomFor p timekeeper → HasRoomFor p then_following) → IsFollowed program now then_following
   followed-then e r now after answer then_following at clocks alarms sleeping follows fits =
       let is_followed = there.followed in
       let turn = turn_due program (moment_in seen timekeeper) due in
       let clocks_there : then_following.clocks.processors.items ≡ clocks_after (world_of (after_turn seen next.actor)).state timekeeper.clocks.processors.items (record { time = time; actor = next.actor }) (is_idle_draw (Answered e r)) =
       clocks ∙ ap (λ (s : Seen). clocks_after (world_of s).state timekeeper.clocks.processors.items (record { time = time; actor = next.actor }) (is_idle_draw (Answered e r))) after in
-      let more = follows (turns_done program seen) (length seen.history) turn refl (answer-is program seen timekeeper is_followed due its.first room e r answer then_following at clocks_there alarms) is_followed.followed in
+      let more = follows (turns_done program seen) (length seen.history) turn refl (answer-is program seen timekeeper is_followed due its.first room e r answer then_following at clocks_there alarms)
+      (sym (ap world_of after ∙ world-more program seen timekeeper is_followed due its.first room)) is_followed.followed in
       subst (λ s. IsFollowed program s then_following) (sym after) (followed-more program seen timekeeper is_followed due its.first room e r answer then_following at clocks_there alarms more (fits program is_followed.room) sleeping)
 
 pub unreachable-requires : goal.unreachable-requires

@@ -199,9 +199,9 @@ const EXPLAINED_REMOVAL: &str = "0 0 funded 1 1
 15 1 draw 3.921 of 4 thread 3
 report
 thread 2 b quanta 1 ticks 10 share 66.666% value 25%
-thread 3 a quanta 1 ticks 0 share 0% value 75%
+thread 3 a quanta 1 ticks 0 share 0% value 75% made 8
 processor 1 quanta 3 idle 0 ticks 15 unused 0
-total turns 13 quanta 3 ticks 15 refused 3 left 0
+total turns 13 quanta 3 ticks 15 refused 3 left 0 ended 1 mean 5 longest 5
 ";
 
 /// A thread that sleeps twice beside one that computes. Its second sleep would end after the end.

@@ -161,7 +161,7 @@ script owner
 lock gate receive mail
 endscript
 script asks
-call mail
+lock door call mail
 endscript
 script prints
 call print
@@ -169,10 +169,14 @@ endscript
 script enters
 yield sleep 20 lock gate
 endscript
+script knocks
+yield sleep 20 lock door
+endscript
 fundx 9 base own owner
 fundx 1 base ask asks
 fundx 1 base sheet prints
 fundx 1 base guest enters
+fundx 1 base late knocks
 ";
 
 /// While `a` sleeps with mutex `m`, `b` takes `n` and waits for `m`. So `a` would wait for a thread that waits for it.
@@ -259,7 +263,8 @@ fn waits_and_refused_traps(rt: HostRuntime) {
             WAITING,
             "thread 'ask' waits for good for a reply of thread 'own'
 thread 'sheet' waits for good for a server at port 'print'
-thread 'guest' waits for good for mutex 'gate'
+thread 'guest' waits for good for mutex 'gate', whose owner, thread 'own', has ended
+thread 'late' waits for good for mutex 'door', which thread 'ask' owns
 ",
         ),
         (

@@ -1,4 +1,4 @@
-use Rattle.std.proofs.Common.{◌≡◌, ◌-◌, Option, Some, ap, sym, ◌∙◌, map, take, subst, option_map, slice_set}
+use Rattle.std.proofs.Common.{◌-◌, Option, ap, sym, ◌∙◌, map, take, subst, option_map, slice_set}
 use Rattle.std.specs.Option.{IsSome, option_flatten}
 use Rattle.lot_machine.specs.declared.ticket.Ticket.{Ticket}
 use Rattle.lot_machine.specs.Funding.{ticket_in, with_amount, reissued}

@@ -1,16 +1,19 @@
 use Rattle.std.proofs.Common.{◌∙◌, ap, sym, arith}
-use Rattle.lot_simulation.specs.TimedReport.{mutex_change, reply_change}
+use Rattle.lot_simulation.specs.TimedReport.{life, life_change, mutex_change, mutex_wait, reply_change, reply_wait}
+use Rattle.lot_engine.specs.Seen.{world_of}
+use Rattle.lot_simulation.specs.World.{World}
 use Rattle.lot_simulation.specs.World.Answer.{Answered}
 use Rattle.lot_playback.proofs.FollowFacts.{refusals-more}
 use Rattle.lot_playback.proofs.RefusedTrapFacts.{traps-more}
 use Rattle.lot_playback.proofs.timekeeper.Timekeeper.follow.Goals as goal
 
 pub returns-clause-followed : goal.returns-clause-followed
-returns-clause-followed c done n turn at answered was = record {
+returns-clause-followed c done n turn at answered world was = record {
   idled = c.follow.ensures.idled n was.idled;
-  mutexes = c.follow-3.ensures.exact mutex_change done n turn at (ap mutex_change answered ∙ sym c.mutex_change.ensures) was.mutexes;
-  replies = c.follow-4.ensures.exact reply_change done n turn at (ap reply_change answered ∙ sym (c.reply_change.ensures c.args.event.now)) was.replies;
-  refused_traps = traps-more done n turn (Answered c.args.event.now c.args.reply) c.args.self.now.refused_traps.threads.items c.follow-5.new.self.threads.items answered (c.follow-5.ensures.counted c.args.event.now) was.refused_traps;
+  mutexes = c.follow-3.ensures.exact mutex_change done n turn at (ap mutex_wait answered ∙ sym c.mutex_wait.ensures) was.mutexes;
+  replies = c.follow-4.ensures.exact reply_change done n turn at (ap reply_wait answered ∙ sym (c.reply_wait.ensures c.args.event.now)) was.replies;
+  lives = c.follow-5.ensures.exact life_change done n turn at (ap (λ (w : World). life w.state turn.turn.answer) world ∙ ap (life (world_of c.args.system.now).state) answered ∙ sym c.life.ensures) was.lives;
+  refused_traps = traps-more done n turn (Answered c.args.event.now c.args.reply) c.args.self.now.refused_traps.threads.items c.follow-6.new.self.threads.items answered (c.follow-6.ensures.counted c.args.event.now) was.refused_traps;
   refused = omega (arith, refusals-more done turn c.args.event.now c.args.reply answered, c.refusals_in.ensures.refusals, was.refused);
   few = omega (arith, was.few, c.refusals_in.ensures.few);
 }
@@ -20,6 +23,7 @@ returns-clause-room c program fits = record {
   clocks = omega (arith, fits.clocks, c.follow.ensures.count, c.args.self.now.clocks.processors.ok.0, c.follow.new.self.processors.ok.0);
   mutexes = omega (arith, fits.mutexes, c.follow-3.ensures.count, c.args.self.now.mutexes.threads.ok.0, c.follow-3.new.self.threads.ok.0);
   replies = omega (arith, fits.replies, c.follow-4.ensures.count, c.args.self.now.replies.threads.ok.0, c.follow-4.new.self.threads.ok.0);
-  refused_traps = (c.follow-5.ensures.counted c.args.event.now).count ∙ fits.refused_traps;
+  lives = omega (arith, fits.lives, c.follow-5.ensures.count, c.args.self.now.lives.threads.ok.0, c.follow-5.new.self.threads.ok.0);
+  refused_traps = (c.follow-6.ensures.counted c.args.event.now).count ∙ fits.refused_traps;
   alarms = omega (arith, fits.alarms, c.follow-2.ensures.count, c.args.self.now.alarms.threads.ok.0, c.follow-2.new.self.threads.ok.0);
 }

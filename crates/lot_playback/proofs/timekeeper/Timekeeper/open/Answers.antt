@@ -2,7 +2,7 @@ use Rattle.std.proofs.Common.{◌≡◌, None, refl, sym, subst, ap, ◌∙◌, 
 use Rattle.std.specs.Prelude.{replicate}
 use Rattle.lot_machine.specs.declared.sizes.Sizes.{Sizes}
 use Rattle.lot_simulation.specs.declared.timed.Clock.{Clock}
-use Rattle.lot_simulation.specs.TimedReport.{mutex_change, reply_change}
+use Rattle.lot_simulation.specs.TimedReport.{life_change, mutex_change, reply_change}
 use Rattle.lot_playback.specs.InTime.{HaveIdled}
 use Rattle.lot_playback.proofs.AlarmFacts.{none-sleeping}
 use Rattle.lot_playback.proofs.FollowFacts.{if-ok-none}
@@ -14,7 +14,8 @@ returns-clause-followed c = record {
   idled = subst (HaveIdled 0) (sym (c.in_ok-open.ensures.clocks)) (none-idled c.limits-limits.result.processors);
   mutexes = c.in_ok-open-3.ensures.none mutex_change;
   replies = c.in_ok-open-4.ensures.none reply_change;
-  refused_traps = c.in_ok-open-5.ensures.none;
+  lives = c.in_ok-open-5.ensures.none life_change;
+  refused_traps = c.in_ok-open-6.ensures.none;
   refused = refl;
   few = omega arith;
 }
@@ -33,6 +34,9 @@ open-requires-4 c = tt
 
 pub open-requires-5 : goal.open-requires-5
 open-requires-5 c = tt
+
+pub open-requires-6 : goal.open-requires-6
+open-requires-6 c = tt
 
 pub returns-in_err-open : goal.returns-in_err-open
 returns-in_err-open c =
@@ -96,6 +100,19 @@ returns-in_err-open-5 c =
       sleeping = if-ok-none c.from_residual-in_err-open-5.result _ failed;
       room = if-ok-none c.from_residual-in_err-open-5.result _ failed;
       followed = if-ok-none c.from_residual-in_err-open-5.result _ failed;
+      legal = c.limits-limits.ensures.legal;
+    }
+
+pub returns-in_err-open-6 : goal.returns-in_err-open-6
+returns-in_err-open-6 c =
+    let failed = c.from_residual-in_err-open-6.ensures.0 in
+    record {
+      time = if-ok-none c.from_residual-in_err-open-6.result _ failed;
+      clocks = if-ok-none c.from_residual-in_err-open-6.result _ failed;
+      alarms = if-ok-none c.from_residual-in_err-open-6.result _ failed;
+      sleeping = if-ok-none c.from_residual-in_err-open-6.result _ failed;
+      room = if-ok-none c.from_residual-in_err-open-6.result _ failed;
+      followed = if-ok-none c.from_residual-in_err-open-6.result _ failed;
       legal = c.limits-limits.ensures.legal;
     }
 

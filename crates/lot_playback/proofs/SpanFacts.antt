@@ -4,11 +4,11 @@ use Rattle.lot_machine.specs.declared.action.Action.TheVariants as action
 use Rattle.lot_machine.specs.declared.event.Event.{Event}
 use Rattle.lot_machine.specs.declared.event.Event.TheVariants as event
 use Rattle.lot_machine.specs.declared.reply.Reply.{Reply}
-use Rattle.lot_simulation.specs.TimedReport.{mutex_change}
+use Rattle.lot_simulation.specs.TimedReport.{mutex_wait}
 use Rattle.lot_simulation.specs.World.Answer.{Answered}
 use Rattle.lot_playback.specs.InTime.{change_by, is_locking}
 
 -- it depends on the event in nothing but whether that is a lock
-pub change_by_locking : (e : Event) (r : Reply) → mutex_change (Answered e r) ≡ change_by (is_locking e) r
+pub change_by_locking : (e : Event) (r : Reply) → mutex_wait (Answered e r) ≡ change_by (is_locking e) r
 change_by_locking (event.Trap p ran (action.Lock mutex)) r = refl
 change_by_locking other r = refl
