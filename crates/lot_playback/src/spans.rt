@@ -1,6 +1,7 @@
 //! Threads' waits for mutexes and for replies, and their lives.
 ghost use Rattle.std.specs.Prelude.{◌≡◌, ◌<◌, ◌+◌, ◌^◌, ◌++◌, [], ◌∷◌, ℕ, List, IfOk, vec_len};
 ghost use Rattle.lot_machine.specs.Bounds.{IsBetween};
+ghost use Rattle.lot_machine.specs.Named as named;
 ghost use Rattle.lot_simulation.specs.Timed.{TimedTurn};
 ghost use Rattle.lot_simulation.specs.TimedReport as timed;
 ghost use Rattle.lot_engine.specs.Seen.{world_of};
@@ -215,20 +216,20 @@ pub(crate) fn life(system: &System, event: &Event, reply: Reply) -> SpanChange
             outcome: Outcome::Exited,
             ..
         } => SpanChange::Ends(thread),
-        Reply::Done => killed_by(system, event),
+        Reply::Done => match killed_by(system, event) {
+            Some(thread) => SpanChange::Ends(thread),
+            None => SpanChange::Nobody,
+        },
         _ => SpanChange::Nobody,
     }
 }
 
-/// The end of the life of a thread that the event killed, if it led to this system.
-fn killed_by(system: &System, event: &Event) -> SpanChange
-    ensures { result ≡ timed.killed_by (world_of system.now).state event.now }
+/// The thread that the event killed, if it led to this system.
+fn killed_by(system: &System, event: &Event) -> Option<u32>
+    ensures { result ≡ named.killed_by (world_of system.now).state event.now }
 {
-    let Event::Command(Command::Kill { thread }) = event else {
-        return SpanChange::Nobody;
-    };
-    match system.thread_meant(thread) {
-        Some(killed) => SpanChange::Ends(killed),
-        None => SpanChange::Nobody,
+    match event {
+        Event::Command(Command::Kill { thread }) => system.thread_meant(thread),
+        _ => None,
     }
 }

@@ -4,16 +4,14 @@ use Rattle.std.specs.List.{flat_map, range_with_len}
 use Rattle.std.specs.Option.{option_map, option_map_or}
 use Rattle.std.specs.Fmt.{decimal}
 use Rattle.lot_machine.specs.declared.action.Action.TheVariants as action
-use Rattle.lot_machine.specs.declared.command.Command.TheVariants as command
-use Rattle.lot_machine.specs.declared.event.Event.{Event}
 use Rattle.lot_machine.specs.declared.event.Event.TheVariants as event
 use Rattle.lot_machine.specs.declared.reply.Reply.{Reply}
 use Rattle.lot_machine.specs.declared.reply.Reply.TheVariants as reply
 use Rattle.lot_machine.specs.declared.reply.Outcome.TheVariants as outcome
 use Rattle.lot_machine.specs.declared.row.ThreadRow.{ThreadRow}
-use Rattle.lot_machine.specs.Commands.{thread_meant}
 use Rattle.lot_machine.specs.Facts.{live_value}
 use Rattle.lot_machine.specs.Lends.{is_live}
+use Rattle.lot_machine.specs.Named.{killed_by}
 use Rattle.lot_machine.specs.Numbered.{numbers}
 use Rattle.lot_machine.specs.Rows.{thread_row}
 use Rattle.lot_machine.specs.State.{State, live_of}
@@ -74,17 +72,13 @@ reply_wait (Answered e (reply.Trapped thread ticks (outcome.RepliedThenReceived 
 reply_wait (Answered e (reply.Trapped thread ticks (outcome.RepliedThenWaits to) ends)) = Ends to
 reply_wait other = Nobody
 
--- the end of the life of a thread that the event killed, given the state after it, in which the thread has its name
-abbrev pub killed_by : State → Event → SpanChange
-killed_by s (event.Command (command.Kill thread)) = option_map_or Ends (thread_meant s thread) Nobody
-killed_by s other = Nobody
-
--- a thread lives from the turn that makes it until it exits or is killed
+-- A thread lives from the turn that makes it until it exits or is killed. The state is the one after the turn, in which
+-- a killed thread still has its name.
 abbrev pub life : State → Answer → SpanChange
 life s (Answered e (reply.Thread thread)) = Begins thread
 life s (Answered e (reply.Funded ticket thread)) = Begins thread
 life s (Answered e (reply.Trapped thread ticks outcome.Exited ends)) = Ends thread
-life s (Answered e reply.Done) = killed_by s e
+life s (Answered e reply.Done) = option_map_or Ends (killed_by s e) Nobody
 life s other = Nobody
 
 -- the change that a turn makes to waits for mutexes
