@@ -246,7 +246,7 @@ schedule 0 0 1 1 1 1 1 1 1
         ["lot_sim", "play"],
         input,
         0,
-        "thread 'b' waits for good for mutex 'm'\n",
+        "thread 'b' waits for good for mutex 'm', whose owner, thread 'a', has ended\n",
     );
 }
 
