@@ -29,7 +29,7 @@ const FAILED: u8 = 3;
 const NOT_UTF8: &str = "error: invalid UTF-8 was detected in one or more arguments\n";
 
 /// The number of output bytes written at a time.
-const BUFFER: usize = 8192;
+const BUFFER: usize = 65536;
 
 /// Runs the program with these words, the first of which is its own name, and returns its exit status:
 ///

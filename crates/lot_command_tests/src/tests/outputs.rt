@@ -126,17 +126,17 @@ fn failing_outputs(rt: HostRuntime) {
 #[test]
 fn failing_long_output(rt: HostRuntime) {
     let mut text = String::new(rt.alloc());
-    for _ in 0..1500 {
+    for _ in 0..10000 {
         text.push_str("1 idle\n").expect(&rt, "memory");
     }
     let report = "report
-processor 1 quanta 0 idle 1500 ticks 0
-total turns 1500 quanta 0 ticks 0
+processor 1 quanta 0 idle 10000 ticks 0
+total turns 10000 quanta 0 ticks 0
 ";
     text.push_str(report).expect(&rt, "memory");
     let asked = Asked {
         word: "play",
-        input: "lottery 2\nlimits 1 1 1\nruns 1 1500\n",
+        input: "lottery 2\nlimits 1 1 1\nruns 1 10000\n",
         code: 0,
         text: text.as_str(),
         writes: 2,
