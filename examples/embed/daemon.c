@@ -1,9 +1,9 @@
 // A daemon for jobs without end: they come, work, sleep while their device does, wake, and end. Three users share one
 // processor by the tickets of their currencies, however many jobs each has.
 //
-// A million jobs come, and at most 24 are there at once. The sizes have room for no more, and `reuse` lets the next job
-// have the numbers of one that was buried: of its ticket and its thread, which are removed. A job has no name: its
-// number refers to it.
+// A million jobs come, and at most 24 are there at once, in one kernel of 4096 threads, the most that a kernel has.
+// `reuse` lets the next job have the numbers of one that was buried: of its ticket and its thread, which are removed. A
+// job has no name: its number refers to it.
 //
 // One burst in a hundred is stuck: it would go on for ever. The daemon kills its job once it has worked for 450 ticks
 // without sleep. At that time the job runs, in the middle of a quantum. So the daemon preempts it first, which charges
@@ -14,7 +14,7 @@
 #include <stdio.h>
 #include <stdlib.h>
 
-enum { USERS = 3, PLACES = 24, JOBS = 1000000, QUANTUM = 100, PATIENCE = 450 };
+enum { USERS = 3, PLACES = 24, JOBS = 1000000, THREADS = 4096, QUANTUM = 100, PATIENCE = 450 };
 
 // Users have 3, 2 and 1 tickets of base, and 12, 8 and 4 of the places.
 static struct user {
@@ -34,7 +34,7 @@ static struct job {
 
 static lot_kernel kernel = LOT_KERNEL_NONE;
 static lot_generator generator;
-static struct job *job_of[PLACES + 1]; // by the thread's number
+static struct job *job_of[THREADS + 1]; // by the thread's number
 static uint64_t now;
 static uint32_t made;
 
@@ -142,8 +142,8 @@ static void step(void) {
 }
 
 int main(void) {
-    lot_sizes sizes = {.tickets = PLACES + USERS, .currencies = USERS, .threads = PLACES, .processors = 1, .scripts = 1,
-                       .quantum = QUANTUM, .unit = 256, .reuse = 1};
+    lot_sizes sizes = {.tickets = THREADS + USERS, .currencies = USERS, .threads = THREADS, .processors = 1,
+                       .scripts = 1, .quantum = QUANTUM, .unit = 256, .reuse = 1};
     must(lot_generator_new(1, &generator));
     must(lot_kernel_new(&sizes, &kernel));
     for (int i = 0; i < USERS; i++) {
