@@ -487,7 +487,8 @@ impl System {
         self.kernel.owner(MutexNumber { number: mutex })
     }
 
-    /// The ticks for which the thread is compensated until it next wins a draw, or `None` without compensation.
+    /// The ticks that the thread used before it gave up its quantum, for which it is compensated until it next wins a
+    /// draw. `None` if it is not compensated.
     pub fn compensation(&self, thread: u32) -> Option<u32>
         ensures { result ≡ option_and_then (λ r. r.compensation) (at_number (world_of self.now).state.records thread) }
     {

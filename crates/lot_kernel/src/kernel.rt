@@ -277,7 +277,8 @@ impl Kernel {
         self.tables.owner(mutex)
     }
 
-    /// The ticks for which the thread is compensated until it next wins a draw (3.4), or `None` without compensation.
+    /// The ticks that the thread used before it gave up its quantum, for which it is compensated until it next wins a
+    /// draw (3.4). `None` if it is not compensated.
     pub fn compensation(&self, thread: ThreadNumber) -> Option<u32>
         ensures { result ≡ option_and_then (λ r. r.compensation) (at_number self.now.state.records thread.number) }
     {
