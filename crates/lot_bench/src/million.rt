@@ -57,6 +57,7 @@ fn opened(alloc: Global) -> Option<Kernel> {
         unit: 1,
         reuse: false,
         plain_names: false,
+        without_compensation: false,
     })?;
     let mut kernel = Kernel::new(alloc, limits).ok()?;
     make_user(&mut kernel, 1, "alice", 2000)?;

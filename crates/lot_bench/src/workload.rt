@@ -102,5 +102,6 @@ pub(crate) fn smallest_limits(workload: Workload) -> Option<Limits> {
         unit: 1,
         reuse: false,
         plain_names: false,
+        without_compensation: false,
     })
 }

@@ -2,6 +2,7 @@
 use Rattle.std.proofs.Common.{◌≡◌, ℕ, zero, suc, ◌+◌, ◌-◌, ◌^◌, ◌<◌, ◌≤◌, ◌↔◌, Bool, true, false, ◌&&◌, not, ◌⊎◌, inl, inr, Option, Some, None, is_none, List, [], ◌∷◌, length, map, refl, sym, ◌∙◌, ap, arith, nat_lt, nat_le, slice_get, slice_index, get_or}
 use Rattle.std.proofs.lemmas.List.{length-map}
 use Rattle.std.proofs.lemmas.Option.{slice_get_cases, get_or_from_slice_get}
+use Rattle.lot_machine.specs.declared.sizes.Sizes.{Sizes}
 use Rattle.lot_machine.specs.declared.action.Action.{Action}
 use Rattle.lot_machine.specs.declared.action.Action.TheVariants.{Yield, Call, Receive, Reply as ReplyTo, Serve, Lock, Unlock, Sleep, Exit}
 use Rattle.lot_machine.specs.declared.after.After.{After}
@@ -25,7 +26,7 @@ use Rattle.lot_machine.specs.Order.{IsInOrder}
 use Rattle.lot_machine.specs.Ports.{port_at}
 use Rattle.lot_machine.specs.State.{State, QueuedCall, change_record, is_ready, ready_threads, status_of, thread_on, weight_of}
 use Rattle.lot_machine.specs.Step.{Effect, checked_effect, draw, ends_quantum, event_effect, event_refusal, stopped, finish_trap, is_bad_processor, started, step, thread_there, trap_effect, trap_refusal, used_there}
-use Rattle.lot_machine.specs.Traps.{after_trap, with_ticks}
+use Rattle.lot_machine.specs.Traps.{after_trap, compensation_for, with_ticks}
 use Rattle.lot_machine.proofs.CommandsKept.{all-pass}
 use Rattle.lot_machine.proofs.Idle.{filter-passes, is-ready, there-runs}
 use Rattle.lot_machine.proofs.NamedThreads.{winner-within}
@@ -102,15 +103,15 @@ checked-agrees s t action None = effect-agrees s t action
 checked-agrees s t action (Some refusal) = refl
 
 -- what the flag of a trap's reply says of the thread's status then
-after-says : (after : After) (p used quantum ticks : ℕ) (r : Record) → StopsIfLeaves after
-    → Says (stays after && not (ends_quantum after used quantum)) p (with_ticks ticks (after_trap after p used quantum r)).status
-after-says GoesOn p used quantum ticks r stops = at (nat_lt used quantum) refl
+after-says : (after : After) (p used : ℕ) (limits : Sizes) (ticks : ℕ) (r : Record) → StopsIfLeaves after
+    → Says (stays after && not (ends_quantum after used limits.quantum)) p (with_ticks ticks (after_trap after p used limits r)).status
+after-says GoesOn p used limits ticks r stops = at (nat_lt used limits.quantum) refl
   where
-    at : (b : Bool) → nat_lt used quantum ≡ b → Says (true && not (nat_le quantum used)) p (with_ticks ticks (after_trap GoesOn p used quantum r)).status
-    at true is = let more : nat_le quantum used ≡ false = search (arith, is) in rw is (rw more (used, refl))
-    at false is = let most : nat_le quantum used ≡ true = search (arith, is) in rw is (rw most (λ other e. cc))
-after-says (Leaves now) p used quantum ticks r stops = λ other. stops p other
-after-says Ends p used quantum ticks r stops = λ other e. cc
+    at : (b : Bool) → nat_lt used limits.quantum ≡ b → Says (true && not (nat_le limits.quantum used)) p (with_ticks ticks (after_trap GoesOn p used limits r)).status
+    at true is = let more : nat_le limits.quantum used ≡ false = search (arith, is) in rw is (rw more (used, refl))
+    at false is = let most : nat_le limits.quantum used ≡ true = search (arith, is) in rw is (rw most (λ other e. cc))
+after-says (Leaves now) p used limits ticks r stops = λ other. stops p other
+after-says Ends p used limits ticks r stops = λ other e. cc
 
 -- a numbered thread has a record
 record-there : (records : List Record) (t : ℕ) → 1 ≤ t → t < 1 + length records → (r : Record) × (at_number records t ≡ Some r)
@@ -133,9 +134,9 @@ trap-says : (s : State) (p t before ticks used : ℕ) (e : Effect) → status_of
 trap-says s p t before ticks used e runs same agrees stops apart =
     let bounds = numbered s.records t (status.Running p before) runs in
     let there = record-there e.state.records t bounds.0 (omega (arith, bounds.1, same)) in
-    let finish : Record → Record = λ r. with_ticks ticks (after_trap e.after p used s.limits.quantum r) in
+    let finish : Record → Record = λ r. with_ticks ticks (after_trap e.after p used s.limits r) in
     let says = found-if (change_record finish e.state.records t) p t (finish there.0).status (stays e.after && not (ends_quantum e.after used s.limits.quantum)) apart
-    (status-set finish e.state.records t there.0 there.1) (after-says e.after p used s.limits.quantum ticks there.0 stops) in
+    (status-set finish e.state.records t there.0 there.1) (after-says e.after p used s.limits ticks there.0 stops) in
     rw agrees says
 
 draw-says : (s : State) (p d t : ℕ) → thread_in (draw s p d).reply ≡ Some t → RunsApart (draw s p d).state.records → FlagSays p t (draw s p d)
@@ -216,7 +217,7 @@ flag-says s e p t order on named = by e on named (step-order s e order).runs_apa
         ∷ (nat_le (2 ^ 32) (s.limits.quantum + late), BadTicks) ∷ []) allowed in
         let there = there-runs s q passed.1.0 in
         let thread : thread_there s q ≡ t = some-injective (thread_there s q) t named in
-        rw (sym same) (rw (sym thread) (stopped-says s q (thread_there s q) there.0 (s.limits.quantum - used_there s q + late) (Some (s.limits.quantum + late)) there.1 apart)))
+        rw (sym same) (rw (sym thread) (stopped-says s q (thread_there s q) there.0 (s.limits.quantum - used_there s q + late) (compensation_for s.limits (s.limits.quantum + late)) there.1 apart)))
     by (event.Wake u) on named apart = cc
     by (event.Trap q ran action) on named apart =
         let same : q ≡ p = some-injective q p on in

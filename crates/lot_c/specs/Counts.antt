@@ -1,5 +1,5 @@
 -- Sizes, counts and running threads, in plain fields.
-use Rattle.std.specs.Prelude.{◌==◌, not, if◌then◌else◌}
+use Rattle.std.specs.Prelude.{◌==◌, not, false, if◌then◌else◌}
 use Rattle.lot_machine.specs.declared.sizes.Sizes.{Sizes}
 use Rattle.lot_threads.specs.declared.runners.Runner.{Runner}
 use Rattle.lot_value.specs.declared.meter.Meter.{Meter}
@@ -37,6 +37,7 @@ sizes_meant s = record {
   unit = s.unit;
   reuse = not (s.reuse == 0);
   plain_names = not (s.plain_names == 0);
+  without_compensation = false;
 }
 
 -- the counts of a kernel in plain fields

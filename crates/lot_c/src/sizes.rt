@@ -44,6 +44,7 @@ impl PlainSizes {
             unit: self.unit,
             reuse: self.reuse != 0,
             plain_names: self.plain_names != 0,
+            without_compensation: false,
         })
     }
 

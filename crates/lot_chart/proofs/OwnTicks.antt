@@ -182,9 +182,9 @@ trap-adds s i p t used ran action named enough space =
     let ticks_stay : (r : Record) (st : Status) (compensation delivered : Option ℕ) → (record r { status = st; compensation = compensation; delivered = delivered }).ticks ≡ r.ticks = λ r st compensation delivered. refl in
     let same : own_ticks effect.state.records i ≡ own_ticks s.records i = ap (λ xs. get_or xs i 0) (checked-even (λ r. r.ticks) ticks_stay s t action (trap_refusal s t action)) in
     let sizes = checked-sizes s t action (trap_refusal s t action) in
-    let change : Record → Record = after_trap effect.after p (used + ran + 1) s.limits.quantum in
+    let change : Record → Record = after_trap effect.after p (used + ran + 1) s.limits in
     record {
-      own = as-much s _ _ (ticks-added effect.state.records t (ran + 1) change i (named.0, omega (arith, named.1, sizes.1)) (after-even (λ r. r.ticks) ticks_stay effect.after p (used + ran + 1) s.limits.quantum) (omega (arith, space, enough, same)) ∙ ap (λ n. n + cond (t == suc i) (ran + 1) 0) same);
+      own = as-much s _ _ (ticks-added effect.state.records t (ran + 1) change i (named.0, omega (arith, named.1, sizes.1)) (after-even (λ r. r.ticks) ticks_stay effect.after p (used + ran + 1) s.limits) (omega (arith, space, enough, same)) ∙ ap (λ n. n + cond (t == suc i) (ran + 1) 0) same);
       short = omega (arith, enough);
     }
 

@@ -17,7 +17,7 @@ use Rattle.lot_machine.specs.Numbered.{at_number, set_number}
 use Rattle.lot_machine.specs.Order.{IsInOrder}
 use Rattle.lot_machine.specs.State.{State, change_record, funding_of, lend_of, status_of}
 use Rattle.lot_machine.specs.Step.{finish_trap, trap}
-use Rattle.lot_machine.specs.Traps.{after_trap, with_ticks}
+use Rattle.lot_machine.specs.Traps.{after_trap, compensation_for, with_ticks}
 use Rattle.lot_machine.proofs.OrderKept.{trap-order}
 use Rattle.lot_machine.proofs.Queues.{record-of}
 use Rattle.lot_machine.proofs.RecordsKept.{RunsAlone, StopsIfLeaves, runs-alone}
@@ -56,7 +56,7 @@ stops-run s stale meter t Dead stops = tt
 
 -- the record of the thread that made a trap, after it
 abbrev pub finished : State → Trap → After → Record → Record
-finished s trap after r = with_ticks trap.ticks (after_trap after trap.processor.number trap.used s.limits.quantum r)
+finished s trap after r = with_ticks trap.ticks (after_trap after trap.processor.number trap.used s.limits r)
 
 module _ (s : State) (stale : List Node) (meter : Meter) (trap : Trap) (before : Record) (there : IsThere s.records trap.thread.number) (timely : IsTimely s.limits.quantum before) (some : 0 < trap.used)
     (processor : IsBetween 1 s.limits.processors trap.processor.number) (alone : RunsAlone s.records trap.processor.number trap.thread.number) where
@@ -70,8 +70,12 @@ module _ (s : State) (stale : List Node) (meter : Meter) (trap : Trap) (before :
   can-leave : (status : Status) → ((p used : ℕ) → ¬ (status ≡ Running p used)) → CanLend (funding_of s) trap.thread.number (lend_of status) → CanChange (threads_of s stale meter) trap.thread.number (finished s trap (Leaves status) before)
   can-leave status stops lend = record { there = there; timely = (by (nat_lt trap.used s.limits.quantum), stops-below s.limits.quantum status stops); lend = lend; run = stops-run s stale meter trap.thread.number status stops }
     where
-      by : (b : Bool) → IfSome (if b then Some trap.used else None) (λ n. 0 < n)
-      by true = some
+      compensated : (b : Bool) → IfSome (if b then None else Some trap.used) (λ n. 0 < n)
+      compensated true = tt
+      compensated false = some
+
+      by : (b : Bool) → IfSome (if b then compensation_for s.limits trap.used else None) (λ n. 0 < n)
+      by true = compensated s.limits.without_compensation
       by false = tt
 
   -- the thread may have the record that the trap leaves it with
@@ -99,7 +103,7 @@ module _ (s mid : State) (t p before ticks used : ℕ) (action : Action) (order 
       may-lend (funding_of mid) t (lend_of status) alone (subst HasNoCycle same ends.no_cycle) (subst FundsThere same ends.funds_there) there
     where
       change : After → Record → Record
-      change after r = with_ticks ticks (after_trap after p used s.limits.quantum r)
+      change after r = with_ticks ticks (after_trap after p used s.limits r)
 
       lends : (r : Record) → at_number mid.records t ≡ Some r → map (λ (x : Record). lend_of x.status) (change_record (change (Leaves status)) mid.records t) ≡ set_number (funding_of mid).lends t (lend_of status)
       lends r is = rw is (map-set (λ (x : Record). lend_of x.status) mid.records (t - 1) (change (Leaves status) r))

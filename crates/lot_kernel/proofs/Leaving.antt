@@ -22,6 +22,7 @@ use Rattle.lot_machine.proofs.Queues.{queue-clients, queue-empty}
 use Rattle.lot_machine.proofs.Tickets.{some-injective}
 use Rattle.lot_machine.proofs.TrapQueues.{replied-queues}
 use Rattle.lot_machine.specs.Traps.{after_trap}
+use Rattle.lot_machine.specs.declared.sizes.Sizes.{Sizes}
 use Rattle.lot_ports.proofs.Serving.{record-other}
 use Rattle.lot_kernel.specs.Trapped.{effect_of}
 
@@ -121,11 +122,11 @@ module _ (records : List Record) (t p used : ℕ) (runs : status_of records t �
             rw is (record-other (λ r. record r { status = Ready }) records (slice_index (w ∷ ws) place) t (queue-differ (Waiting m) (w ∷ ws) place (not-waiting m) queue))
 
 -- a reply, and then a receipt
-serve-leaves : (records : List Record) (t p used : ℕ) (runs : status_of records t ≡ Some (Running p used)) (clients : List (List ℕ)) (ports : List Port) (mutexes : List Mutex) → HasQueues records clients ports mutexes
+serve-leaves : (limits : Sizes) (records : List Record) (t p used : ℕ) (runs : status_of records t ≡ Some (Running p used)) (clients : List (List ℕ)) (ports : List Port) (mutexes : List Mutex) → HasQueues records clients ports mutexes
     → (port number : ℕ) → is_none (first_client clients t) ≡ false → at_number (serve records clients ports t port number).records t ≡ at_number records t
-serve-leaves records t p used runs clients ports mutexes queues port number some =
+serve-leaves limits records t p used runs clients ports mutexes queues port number some =
     let replied = reply records clients ports t number in
-    let left = replied-queues (λ after r. after_trap after 0 0 0 r) (λ st r. refl) records clients ports mutexes queues t p used runs number some in
+    let left = replied-queues (λ after r. after_trap after 0 0 limits r) (λ st r. refl) records clients ports mutexes queues t p used runs number some in
     receive-leaves replied.records t p used left.1 replied.clients replied.ports mutexes left.0 port
     ∙ reply-leaves records t p used runs clients ports mutexes queues number some
 
@@ -139,7 +140,7 @@ effect-leaves s t p used action runs queues = checked (trap_refusal s t action) 
     passed (Receive port) allowed = receive-leaves s.records t p used runs s.clients s.ports s.mutexes queues port
     passed (ReplyTo number) allowed = reply-leaves s.records t p used runs s.clients s.ports s.mutexes queues number (all-pass ((is_none (first_client s.clients t), NothingToReply) ∷ []) allowed).0
     passed (Serve port number) allowed =
-        serve-leaves s.records t p used runs s.clients s.ports s.mutexes queues port number (all-pass ((is_none (at_number s.ports port), NoPort) ∷ (is_none (first_client s.clients t), NothingToReply) ∷ []) allowed).1.0
+        serve-leaves s.limits s.records t p used runs s.clients s.ports s.mutexes queues port number (all-pass ((is_none (at_number s.ports port), NoPort) ∷ (is_none (first_client s.clients t), NothingToReply) ∷ []) allowed).1.0
     passed (Lock m) allowed = lock-leaves s.records t p used runs s.clients s.ports s.mutexes queues m
     passed (Unlock m d) allowed = unlock-leaves s.records t p used runs s.clients s.ports s.mutexes queues (value_of s) m d
     passed Sleep allowed = refl

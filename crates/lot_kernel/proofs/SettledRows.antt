@@ -1,5 +1,5 @@
 -- Rows of a settled kernel, put together from what was read.
-use Rattle.std.proofs.Common.{◌≡◌, ℕ, ◌+◌, ◌*◌, ◌/◌, ◌<◌, ◌≤◌, ◌^◌, ◌↔◌, Bool, true, false, Option, Some, List, length, ap, arith, option_and_then, option_map, refl, subst, sym, ◌∙◌}
+use Rattle.std.proofs.Common.{◌≡◌, ℕ, ◌*◌, ◌/◌, ◌<◌, ◌≤◌, ◌^◌, ◌↔◌, Bool, true, Option, Some, List, length, ap, arith, option_and_then, option_map, refl, subst, ◌∙◌}
 use Rattle.std.specs.Prelude.{IsTrue}
 use Rattle.std.proofs.Math.Nat.{div-le_of_le-mul, mul-le-mul_left, mul_comm}
 use Rattle.lot_machine.specs.declared.funding.Node.TheVariants as node
@@ -9,7 +9,7 @@ use Rattle.lot_machine.specs.declared.funding.Edge.TheVariants.{OfTicket}
 use Rattle.lot_machine.specs.declared.ticket.Target.{Target}
 use Rattle.lot_machine.specs.declared.ticket.Target.TheVariants as target
 use Rattle.lot_machine.specs.Activity.{IsActive, activates_within, active_amount, is_active}
-use Rattle.lot_machine.specs.Funding.{Funding, backing_currency, ends_of, issued_in, target_node, ticket_at, ticket_in}
+use Rattle.lot_machine.specs.Funding.{backing_currency, ends_of, issued_in, target_node, ticket_at, ticket_in}
 use Rattle.lot_machine.specs.Order.{IsInOrder}
 use Rattle.lot_machine.specs.Rows.{currency_name, currency_row}
 use Rattle.lot_machine.specs.State.{State, funding_of, live_in, live_of}

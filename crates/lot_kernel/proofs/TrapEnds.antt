@@ -158,7 +158,7 @@ module _ (s : State) (t p used : ℕ) (order : IsInOrder s) (runs : status_of s.
 -- ---- the end of a trap
 
 module _ (s now : State) (p t ticks used : ℕ) (e : Effect) (after : After) (state : now ≡ e.state) (limits : now.limits ≡ s.limits) (same : after ≡ e.after) where
-  pub finished-state : record now { records = change_record (λ r. with_ticks ticks (after_trap after p used now.limits.quantum r)) now.records t } ≡ (finish_trap s p t ticks used e).state
+  pub finished-state : record now { records = change_record (λ r. with_ticks ticks (after_trap after p used now.limits r)) now.records t } ≡ (finish_trap s p t ticks used e).state
   finished-state = rw (← limits, ← state, ← same) refl
 
 -- what the whole trap answers

@@ -340,6 +340,7 @@ fn largest_limits(quantum: u32, unit: u32) -> Option<Limits> {
         unit,
         reuse: false,
         plain_names: false,
+        without_compensation: false,
     })
 }
 

@@ -54,7 +54,7 @@ twice-kept v change again records t r there same =
 -- the state after a call was queued
 abbrev queued : State → ℕ → ℕ → ℕ → ℕ → ℕ → ℕ → State
 queued s p ran used port number caller = record s {
-  records = change_record (λ r. with_ticks (ran + 1) (after_trap (Leaves (QueuedAt port)) p used s.limits.quantum r)) s.records caller;
+  records = change_record (λ r. with_ticks (ran + 1) (after_trap (Leaves (QueuedAt port)) p used s.limits r)) s.records caller;
   clients = s.clients;
   ports = (call s.records s.clients s.ports caller port number).ports;
 }
@@ -77,20 +77,20 @@ module _ (s : State) (p ran used before port number caller : ℕ) (runs : status
   unfolding records_ready
   lends-kept =
       let (r, there, status) = record-of s.records caller (Running p before) runs in
-      twice-kept (λ (x : Record). lend_of x.status) (λ r. with_ticks (ran + 1) (after_trap (Leaves (QueuedAt port)) p used s.limits.quantum r)) (λ r. record r { status = Ready }) s.records caller r there (sym (ap lend_of status))
+      twice-kept (λ (x : Record). lend_of x.status) (λ r. with_ticks (ran + 1) (after_trap (Leaves (QueuedAt port)) p used s.limits r)) (λ r. record r { status = Ready }) s.records caller r there (sym (ap lend_of status))
 
   live-kept : live_in records_ready ≡ live_in s.records
   unfolding records_ready
   live-kept =
       let (r, there, status) = record-of s.records caller (Running p before) runs in
-      twice-kept (λ (x : Record). is_live_status x.status) (λ r. with_ticks (ran + 1) (after_trap (Leaves (QueuedAt port)) p used s.limits.quantum r)) (λ r. record r { status = Ready }) s.records caller r there
+      twice-kept (λ (x : Record). is_live_status x.status) (λ r. with_ticks (ran + 1) (after_trap (Leaves (QueuedAt port)) p used s.limits r)) (λ r. record r { status = Ready }) s.records caller r there
       (sym (ap is_live_status status))
 
   many-kept : length records_ready ≡ length s.records
   unfolding records_ready
   many-kept =
       change-length (λ r. record r { status = Ready }) (queued s p ran used port number caller).records caller
-      ∙ change-length (λ r. with_ticks (ran + 1) (after_trap (Leaves (QueuedAt port)) p used s.limits.quantum r)) s.records caller
+      ∙ change-length (λ r. with_ticks (ran + 1) (after_trap (Leaves (QueuedAt port)) p used s.limits r)) s.records caller
 
   pub queued-worth : (v : ℕ) → value_of (with_ready (queued s p ran used port number caller) caller) v ≡ value_of s v
   unfolding records_ready

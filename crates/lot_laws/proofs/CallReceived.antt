@@ -50,7 +50,7 @@ abbrev taken : State → ℕ → ℕ → List Record
 taken s caller server = change_record (λ r. record r { status = Served server }) s.records caller
 
 abbrev gone_on : State → ℕ → ℕ → ℕ → ℕ → ℕ → List Record
-gone_on s p ran used caller server = change_record (λ r. with_ticks (ran + 1) (after_trap GoesOn p used s.limits.quantum r)) (taken s caller server) server
+gone_on s p ran used caller server = change_record (λ r. with_ticks (ran + 1) (after_trap GoesOn p used s.limits r)) (taken s caller server) server
 
 -- the state after a receipt
 abbrev received : State → ℕ → ℕ → ℕ → ℕ → List QueuedCall → ℕ → ℕ → State
@@ -177,28 +177,28 @@ module _ (s : State) (order : IsInOrder s) (p ran used before port caller server
   caller-now : status_of records_now caller ≡ Some (Served server)
   unfolding records_now
   caller-now =
-      status-other (λ r. with_ticks (ran + 1) (after_trap GoesOn p used s.limits.quantum r)) (taken s caller server) server caller apart
+      status-other (λ r. with_ticks (ran + 1) (after_trap GoesOn p used s.limits r)) (taken s caller server) server caller apart
       ∙ status-now (λ r. record r { status = Served server }) s.records caller (QueuedAt port) (Served server) queued (λ r. refl)
 
   other-now : (u : ℕ) → u ≢ caller → u ≢ server → status_of records_now u ≡ status_of records_ready u
   unfolding records_now records_ready
   other-now u one two =
-      status-other (λ r. with_ticks (ran + 1) (after_trap GoesOn p used s.limits.quantum r)) (taken s caller server) server u two
+      status-other (λ r. with_ticks (ran + 1) (after_trap GoesOn p used s.limits r)) (taken s caller server) server u two
       ∙ status-other (λ r. record r { status = Served server }) s.records caller u one
       ∙ sym (status-other (λ r. record r { status = Ready }) s.records caller u one)
 
   server-lend : option_map lend_of (status_of records_now server) ≡ Some Nobody
   unfolding records_now
-  server-lend = lends-on (taken s caller server) server p used (ran + 1) s.limits.quantum before server-then
+  server-lend = lends-on (taken s caller server) server p used (ran + 1) s.limits before server-then
 
   server-live : option_map is_live_status (status_of records_now server) ≡ Some true
   unfolding records_now
-  server-live = lives-on (taken s caller server) server p used (ran + 1) s.limits.quantum before server-then
+  server-live = lives-on (taken s caller server) server p used (ran + 1) s.limits before server-then
 
   many : length records_now ≡ length records_ready
   unfolding records_now records_ready
   many =
-      change-length (λ r. with_ticks (ran + 1) (after_trap GoesOn p used s.limits.quantum r)) (taken s caller server) server
+      change-length (λ r. with_ticks (ran + 1) (after_trap GoesOn p used s.limits r)) (taken s caller server) server
       ∙ change-length (λ r. record r { status = Served server }) s.records caller
       ∙ sym (change-length (λ r. record r { status = Ready }) s.records caller)
 

@@ -40,7 +40,7 @@ abbrev woken : State → ℕ → ℕ → List Record
 woken s number server = change_record (λ r. record r { status = Ready; delivered = Some number }) s.records server
 
 abbrev left : State → ℕ → ℕ → ℕ → ℕ → ℕ → ℕ → List Record
-left s p ran used number server caller = change_record (λ r. with_ticks (ran + 1) (after_trap (Leaves (Served server)) p used s.limits.quantum r)) (woken s number server) caller
+left s p ran used number server caller = change_record (λ r. with_ticks (ran + 1) (after_trap (Leaves (Served server)) p used s.limits r)) (woken s number server) caller
 
 -- the state after a call was taken
 abbrev called : State → ℕ → ℕ → ℕ → ℕ → ℕ → List ℕ → ℕ → ℕ → State
@@ -84,25 +84,25 @@ module _ (s : State) (order : IsInOrder s) (p ran used before port number server
   caller-now : status_of records_now caller ≡ Some (Served server)
   unfolding records_now
   caller-now =
-      status-now (λ r. with_ticks (ran + 1) (after_trap (Leaves (Served server)) p used s.limits.quantum r)) (woken s number server) caller (Running p before) (Served server)
+      status-now (λ r. with_ticks (ran + 1) (after_trap (Leaves (Served server)) p used s.limits r)) (woken s number server) caller (Running p before) (Served server)
       (status-other (λ r. record r { status = Ready; delivered = Some number }) s.records server caller apart ∙ runs) (λ r. refl)
 
   server-now : status_of records_now server ≡ Some Ready
   unfolding records_now
   server-now =
-      status-other (λ r. with_ticks (ran + 1) (after_trap (Leaves (Served server)) p used s.limits.quantum r)) (woken s number server) caller server (λ same. apart (sym same))
+      status-other (λ r. with_ticks (ran + 1) (after_trap (Leaves (Served server)) p used s.limits r)) (woken s number server) caller server (λ same. apart (sym same))
       ∙ status-now (λ r. record r { status = Ready; delivered = Some number }) s.records server (Receiving port) Ready receives (λ r. refl)
 
   other-now : (u : ℕ) → u ≢ caller → u ≢ server → status_of records_now u ≡ status_of s.records u
   unfolding records_now
   other-now u first second =
-      status-other (λ r. with_ticks (ran + 1) (after_trap (Leaves (Served server)) p used s.limits.quantum r)) (woken s number server) caller u first
+      status-other (λ r. with_ticks (ran + 1) (after_trap (Leaves (Served server)) p used s.limits r)) (woken s number server) caller u first
       ∙ status-other (λ r. record r { status = Ready; delivered = Some number }) s.records server u second
 
   many : length records_now ≡ length s.records
   unfolding records_now
   many =
-      change-length (λ r. with_ticks (ran + 1) (after_trap (Leaves (Served server)) p used s.limits.quantum r)) (woken s number server) caller
+      change-length (λ r. with_ticks (ran + 1) (after_trap (Leaves (Served server)) p used s.limits r)) (woken s number server) caller
       ∙ change-length (λ r. record r { status = Ready; delivered = Some number }) s.records server
 
   lends-same : (u : ℕ) → u ≢ caller → option_map lend_of (status_of records_now u) ≡ option_map lend_of (status_of s.records u)

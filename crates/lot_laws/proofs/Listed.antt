@@ -25,7 +25,7 @@ use Rattle.lot_machine.specs.Lottery.{winner}
 use Rattle.lot_machine.specs.Places.{next_place, placed}
 use Rattle.lot_machine.specs.State.{State, Port, QueuedCall, opening, free_threads, status_of, thread_on, ready_threads, change_record, change_each, value_of, weight_of}
 use Rattle.lot_machine.specs.Commands.{thread_meant, is_dead_in, command_refusal, command_effect, command_step, newborn}
-use Rattle.lot_machine.specs.Traps.{after_trap, with_ticks}
+use Rattle.lot_machine.specs.Traps.{after_trap, compensation_for, with_ticks}
 use Rattle.lot_machine.specs.Ports.{clients_of, port_at, first_client, call, receive, reply}
 use Rattle.lot_machine.specs.Mutexes.{mutex_at, lock, unlock}
 use Rattle.lot_machine.specs.Kill.{without, released_by, released, ended, killed}
@@ -365,9 +365,9 @@ command-listed s other order listed = unrefused ListedIn s (command_refusal s ot
 
 trap-listed : (s : State) (p t before used ran : ℕ) (action : Action) → status_of s.records t ≡ Some (status.Running p before) → IsInOrder s → HasLists s → ListedIn s → ListedIn (trap s p t used ran action).state
 trap-listed s p t before used ran action runs order lists listed =
-    checked-listed (λ after r. with_ticks (ran + 1) (after_trap after p (used + ran + 1) s.limits.quantum r)) (λ now r. refl) stays (λ r v e. cc) s order lists listed t p before runs action (trap_refusal s t action) refl
+    checked-listed (λ after r. with_ticks (ran + 1) (after_trap after p (used + ran + 1) s.limits r)) (λ now r. refl) stays (λ r v e. cc) s order lists listed t p before runs action (trap_refusal s t action) refl
   where
-    stays : (r : Record) (v : ℕ) → ¬ ((with_ticks (ran + 1) (after_trap GoesOn p (used + ran + 1) s.limits.quantum r)).status ≡ status.Served v)
+    stays : (r : Record) (v : ℕ) → ¬ ((with_ticks (ran + 1) (after_trap GoesOn p (used + ran + 1) s.limits r)).status ≡ status.Served v)
     stays r v e = at (nat_lt (used + ran + 1) s.limits.quantum) refl
       where
         at : (b : Bool) → nat_lt (used + ran + 1) s.limits.quantum ≡ b → ⊥
@@ -390,7 +390,7 @@ event-listed s (event.Draw p d) order lists listed = unrefused ListedIn s _ (dra
 event-listed s (event.Expire p) order lists listed = unrefused ListedIn s _ (event_effect s (event.Expire p)) listed (λ _. stopped-listed s (thread_there s p) (s.limits.quantum - used_there s p) None listed)
 event-listed s (event.Preempt p ticks) order lists listed = unrefused ListedIn s _ (event_effect s (event.Preempt p ticks)) listed (λ _. stopped-listed s (thread_there s p) ticks None listed)
 event-listed s (event.Overrun p late) order lists listed =
-    unrefused ListedIn s _ (event_effect s (event.Overrun p late)) listed (λ _. stopped-listed s (thread_there s p) (s.limits.quantum - used_there s p + late) (Some (s.limits.quantum + late)) listed)
+    unrefused ListedIn s _ (event_effect s (event.Overrun p late)) listed (λ _. stopped-listed s (thread_there s p) (s.limits.quantum - used_there s p + late) (compensation_for s.limits (s.limits.quantum + late)) listed)
 event-listed s (event.Wake t) order lists listed =
     unrefused ListedIn s _ (event_effect s (event.Wake t)) listed (λ _. keep-change (λ r. record r { status = status.Ready }) s.records s.clients t (λ r v e. cc) listed)
 event-listed s (event.Trap p ran action) order lists listed =

@@ -36,7 +36,7 @@ use Rattle.lot_laws.proofs.CallQueued.{map-kept}
 -- ---- the state
 
 abbrev left : State → ℕ → ℕ → ℕ → ℕ → ℕ → List Record
-left s p ran used m t = change_record (λ r. with_ticks (ran + 1) (after_trap (Leaves (Waiting m)) p used s.limits.quantum r)) s.records t
+left s p ran used m t = change_record (λ r. with_ticks (ran + 1) (after_trap (Leaves (Waiting m)) p used s.limits r)) s.records t
 
 -- the state after the thread began to wait
 abbrev waiting : State → ℕ → ℕ → ℕ → ℕ → ℕ → ℕ → State
@@ -66,15 +66,15 @@ module _ (s : State) (order : IsInOrder s) (p ran used before m owner t : ℕ) (
 
   t-now : status_of records_now t ≡ Some (Waiting m)
   unfolding records_now
-  t-now = status-now (λ r. with_ticks (ran + 1) (after_trap (Leaves (Waiting m)) p used s.limits.quantum r)) s.records t (Running p before) (Waiting m) runs (λ r. refl)
+  t-now = status-now (λ r. with_ticks (ran + 1) (after_trap (Leaves (Waiting m)) p used s.limits r)) s.records t (Running p before) (Waiting m) runs (λ r. refl)
 
   other-now : (u : ℕ) → u ≢ t → status_of records_now u ≡ status_of s.records u
   unfolding records_now
-  other-now u differs = status-other (λ r. with_ticks (ran + 1) (after_trap (Leaves (Waiting m)) p used s.limits.quantum r)) s.records t u differs
+  other-now u differs = status-other (λ r. with_ticks (ran + 1) (after_trap (Leaves (Waiting m)) p used s.limits r)) s.records t u differs
 
   many : length records_now ≡ length s.records
   unfolding records_now
-  many = change-length (λ r. with_ticks (ran + 1) (after_trap (Leaves (Waiting m)) p used s.limits.quantum r)) s.records t
+  many = change-length (λ r. with_ticks (ran + 1) (after_trap (Leaves (Waiting m)) p used s.limits r)) s.records t
 
   -- the same owners
   owners-kept : map (λ (x : Mutex). x.owner) (waiting s p ran used m owner t).mutexes ≡ map (λ (x : Mutex). x.owner) s.mutexes

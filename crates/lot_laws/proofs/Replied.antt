@@ -1,6 +1,7 @@
 -- A reply: what threads are worth then.
 use Rattle.std.proofs.Common.{◌≡◌, ◌≢◌, ℕ, ◌+◌, true, false, cond, is_none, ◌⊎◌, inl, inr, Option, Some, None, List, [], ◌∷◌, length, drop, option_map, option_and_then, unwrap_or, refl, sym, ◌∙◌, ap, subst, arith}
 use Rattle.std.proofs.lemmas.Bool.{cases_eq}
+use Rattle.lot_machine.specs.declared.sizes.Sizes.{Sizes}
 use Rattle.lot_machine.specs.declared.record.Record.{Record}
 use Rattle.lot_machine.specs.declared.record.Status.TheVariants.{Ready, Running, Served}
 use Rattle.lot_machine.specs.declared.funding.Lend.TheVariants.{Nobody}
@@ -29,17 +30,17 @@ use Rattle.lot_laws.proofs.Trapped.{IsDone, trap-done, lend-is, live-is, goes-on
 use Rattle.lot_laws.proofs.Blocked.{lead-itself, lead-other, blocked-worth, blocked-own}
 
 -- a thread that goes on after its trap: what it lends to, and that it is live
-pub lends-on : (records : List Record) (t p used ticks quantum before : ℕ) → status_of records t ≡ Some (Running p before)
-    → option_map lend_of (status_of (change_record (λ r. with_ticks ticks (after_trap GoesOn p used quantum r)) records t) t) ≡ Some Nobody
-lends-on records t p used ticks quantum before is =
+pub lends-on : (records : List Record) (t p used ticks : ℕ) (limits : Sizes) (before : ℕ) → status_of records t ≡ Some (Running p before)
+    → option_map lend_of (status_of (change_record (λ r. with_ticks ticks (after_trap GoesOn p used limits r)) records t) t) ≡ Some Nobody
+lends-on records t p used ticks limits before is =
     let (r, there, status) = record-of records t (Running p before) is in
-    ap (option_map lend_of) (status-set (λ r. with_ticks ticks (after_trap GoesOn p used quantum r)) records t r there) ∙ ap Some (goes-on ticks p used quantum r).0
+    ap (option_map lend_of) (status-set (λ r. with_ticks ticks (after_trap GoesOn p used limits r)) records t r there) ∙ ap Some (goes-on ticks p used limits r).0
 
-pub lives-on : (records : List Record) (t p used ticks quantum before : ℕ) → status_of records t ≡ Some (Running p before)
-    → option_map is_live_status (status_of (change_record (λ r. with_ticks ticks (after_trap GoesOn p used quantum r)) records t) t) ≡ Some true
-lives-on records t p used ticks quantum before is =
+pub lives-on : (records : List Record) (t p used ticks : ℕ) (limits : Sizes) (before : ℕ) → status_of records t ≡ Some (Running p before)
+    → option_map is_live_status (status_of (change_record (λ r. with_ticks ticks (after_trap GoesOn p used limits r)) records t) t) ≡ Some true
+lives-on records t p used ticks limits before is =
     let (r, there, status) = record-of records t (Running p before) is in
-    ap (option_map is_live_status) (status-set (λ r. with_ticks ticks (after_trap GoesOn p used quantum r)) records t r there) ∙ ap Some (goes-on ticks p used quantum r).1
+    ap (option_map is_live_status) (status-set (λ r. with_ticks ticks (after_trap GoesOn p used limits r)) records t r there) ∙ ap Some (goes-on ticks p used limits r).1
 
 -- ---- the state
 
@@ -48,7 +49,7 @@ abbrev pub woken : State → ℕ → ℕ → List Record
 woken s number caller = change_record (λ r. record r { status = Ready; delivered = Some number }) s.records caller
 
 abbrev gone_on : State → ℕ → ℕ → ℕ → ℕ → ℕ → ℕ → List Record
-gone_on s p ran used number caller server = change_record (λ r. with_ticks (ran + 1) (after_trap GoesOn p used s.limits.quantum r)) (woken s number caller) server
+gone_on s p ran used number caller server = change_record (λ r. with_ticks (ran + 1) (after_trap GoesOn p used s.limits r)) (woken s number caller) server
 
 -- the state after a reply
 abbrev replied : State → ℕ → ℕ → ℕ → ℕ → ℕ → ℕ → State
@@ -87,27 +88,27 @@ module _ (s : State) (order : IsInOrder s) (p ran used before number caller serv
   caller-now : status_of records_now caller ≡ Some Ready
   unfolding records_now
   caller-now =
-      status-other (λ r. with_ticks (ran + 1) (after_trap GoesOn p used s.limits.quantum r)) (woken s number caller) server caller apart
+      status-other (λ r. with_ticks (ran + 1) (after_trap GoesOn p used s.limits r)) (woken s number caller) server caller apart
       ∙ status-now (λ r. record r { status = Ready; delivered = Some number }) s.records caller (Served server) Ready served (λ r. refl)
 
   other-now : (u : ℕ) → u ≢ caller → u ≢ server → status_of s.records u ≡ status_of records_now u
   unfolding records_now
   other-now u first_apart second_apart =
-      sym (status-other (λ r. with_ticks (ran + 1) (after_trap GoesOn p used s.limits.quantum r)) (woken s number caller) server u second_apart
+      sym (status-other (λ r. with_ticks (ran + 1) (after_trap GoesOn p used s.limits r)) (woken s number caller) server u second_apart
       ∙ status-other (λ r. record r { status = Ready; delivered = Some number }) s.records caller u first_apart)
 
   server-lend : option_map lend_of (status_of records_now server) ≡ Some Nobody
   unfolding records_now
-  server-lend = lends-on (woken s number caller) server p used (ran + 1) s.limits.quantum before server-then
+  server-lend = lends-on (woken s number caller) server p used (ran + 1) s.limits before server-then
 
   server-live : option_map is_live_status (status_of records_now server) ≡ Some true
   unfolding records_now
-  server-live = lives-on (woken s number caller) server p used (ran + 1) s.limits.quantum before server-then
+  server-live = lives-on (woken s number caller) server p used (ran + 1) s.limits before server-then
 
   many : length s.records ≡ length records_now
   unfolding records_now
   many =
-      sym (change-length (λ r. with_ticks (ran + 1) (after_trap GoesOn p used s.limits.quantum r)) (woken s number caller) server
+      sym (change-length (λ r. with_ticks (ran + 1) (after_trap GoesOn p used s.limits r)) (woken s number caller) server
       ∙ change-length (λ r. record r { status = Ready; delivered = Some number }) s.records caller)
 
   lends-same : (u : ℕ) → u ≢ caller → option_map lend_of (status_of s.records u) ≡ option_map lend_of (status_of records_now u)

@@ -36,7 +36,7 @@ use Rattle.lot_laws.proofs.Replied.{woken, lends-on, lives-on, caller-first}
 
 -- the records and the state after the server waits
 abbrev left : State → ℕ → ℕ → ℕ → ℕ → ℕ → ℕ → ℕ → List Record
-left s p ran used port number caller server = change_record (λ r. with_ticks (ran + 1) (after_trap (Leaves (Receiving port)) p used s.limits.quantum r)) (woken s number caller) server
+left s p ran used port number caller server = change_record (λ r. with_ticks (ran + 1) (after_trap (Leaves (Receiving port)) p used s.limits r)) (woken s number caller) server
 
 abbrev waiting : State → ℕ → ℕ → ℕ → ℕ → ℕ → ℕ → ℕ → State
 waiting s p ran used port number caller server = record s {
@@ -50,7 +50,7 @@ abbrev taken : State → ℕ → ℕ → ℕ → ℕ → List Record
 taken s number caller next server = change_record (λ r. record r { status = Served server }) (woken s number caller) next
 
 abbrev gone_on : State → ℕ → ℕ → ℕ → ℕ → ℕ → ℕ → ℕ → List Record
-gone_on s p ran used number caller next server = change_record (λ r. with_ticks (ran + 1) (after_trap GoesOn p used s.limits.quantum r)) (taken s number caller next server) server
+gone_on s p ran used number caller next server = change_record (λ r. with_ticks (ran + 1) (after_trap GoesOn p used s.limits r)) (taken s number caller next server) server
 
 abbrev serving : State → ℕ → ℕ → ℕ → ℕ → ℕ → List QueuedCall → ℕ → ℕ → ℕ → State
 serving s p ran used port number others caller next server = record s {
@@ -105,25 +105,25 @@ module _ (s : State) (order : IsInOrder s) (p before caller server : ℕ) (runs 
     caller-left : status_of records_left caller ≡ Some Ready
     unfolding records_left
     caller-left =
-        status-other (λ r. with_ticks (ran + 1) (after_trap (Leaves (Receiving port)) p used s.limits.quantum r)) (woken s number caller) server caller apart
+        status-other (λ r. with_ticks (ran + 1) (after_trap (Leaves (Receiving port)) p used s.limits r)) (woken s number caller) server caller apart
         ∙ status-now (λ r. record r { status = Ready; delivered = Some number }) s.records caller (Served server) Ready served (λ r. refl)
 
     server-left : status_of records_left server ≡ Some (Receiving port)
     unfolding records_left
     server-left =
-        status-now (λ r. with_ticks (ran + 1) (after_trap (Leaves (Receiving port)) p used s.limits.quantum r)) (woken s number caller) server (Running p before) (Receiving port)
+        status-now (λ r. with_ticks (ran + 1) (after_trap (Leaves (Receiving port)) p used s.limits r)) (woken s number caller) server (Running p before) (Receiving port)
         (status-other (λ r. record r { status = Ready; delivered = Some number }) s.records caller server (λ same. apart (sym same)) ∙ runs) (λ r. refl)
 
     other-left : (u : ℕ) → u ≢ caller → u ≢ server → status_of s.records u ≡ status_of records_left u
     unfolding records_left
     other-left u one two =
-        sym (status-other (λ r. with_ticks (ran + 1) (after_trap (Leaves (Receiving port)) p used s.limits.quantum r)) (woken s number caller) server u two
+        sym (status-other (λ r. with_ticks (ran + 1) (after_trap (Leaves (Receiving port)) p used s.limits r)) (woken s number caller) server u two
         ∙ status-other (λ r. record r { status = Ready; delivered = Some number }) s.records caller u one)
 
     many-left : length s.records ≡ length records_left
     unfolding records_left
     many-left =
-        sym (change-length (λ r. with_ticks (ran + 1) (after_trap (Leaves (Receiving port)) p used s.limits.quantum r)) (woken s number caller) server
+        sym (change-length (λ r. with_ticks (ran + 1) (after_trap (Leaves (Receiving port)) p used s.limits r)) (woken s number caller) server
         ∙ change-length (λ r. record r { status = Ready; delivered = Some number }) s.records caller)
 
     lends-left : (u : ℕ) → u ≢ caller → option_map lend_of (status_of s.records u) ≡ option_map lend_of (status_of records_left u)
@@ -223,36 +223,36 @@ module _ (s : State) (order : IsInOrder s) (p before caller server : ℕ) (runs 
     next-now : status_of records_now next ≡ Some (Served server)
     unfolding records_now
     next-now =
-        status-other (λ r. with_ticks (ran + 1) (after_trap GoesOn p used s.limits.quantum r)) (taken s number caller next server) server next next-server
+        status-other (λ r. with_ticks (ran + 1) (after_trap GoesOn p used s.limits r)) (taken s number caller next server) server next next-server
         ∙ status-now (λ r. record r { status = Served server }) (woken s number caller) next (QueuedAt port) (Served server)
         (status-other (λ r. record r { status = Ready; delivered = Some number }) s.records caller next next-caller ∙ in-queue) (λ r. refl)
 
     caller-now : status_of records_now caller ≡ Some Ready
     unfolding records_now
     caller-now =
-        status-other (λ r. with_ticks (ran + 1) (after_trap GoesOn p used s.limits.quantum r)) (taken s number caller next server) server caller apart
+        status-other (λ r. with_ticks (ran + 1) (after_trap GoesOn p used s.limits r)) (taken s number caller next server) server caller apart
         ∙ status-other (λ r. record r { status = Served server }) (woken s number caller) next caller (λ same. next-caller (sym same))
         ∙ status-now (λ r. record r { status = Ready; delivered = Some number }) s.records caller (Served server) Ready served (λ r. refl)
 
     other-now : (u : ℕ) → u ≢ caller → u ≢ next → u ≢ server → status_of records_now u ≡ status_of s.records u
     unfolding records_now
     other-now u one two three =
-        status-other (λ r. with_ticks (ran + 1) (after_trap GoesOn p used s.limits.quantum r)) (taken s number caller next server) server u three
+        status-other (λ r. with_ticks (ran + 1) (after_trap GoesOn p used s.limits r)) (taken s number caller next server) server u three
         ∙ status-other (λ r. record r { status = Served server }) (woken s number caller) next u two
         ∙ status-other (λ r. record r { status = Ready; delivered = Some number }) s.records caller u one
 
     server-lend : option_map lend_of (status_of records_now server) ≡ Some Nobody
     unfolding records_now
-    server-lend = lends-on (taken s number caller next server) server p used (ran + 1) s.limits.quantum before server-then
+    server-lend = lends-on (taken s number caller next server) server p used (ran + 1) s.limits before server-then
 
     server-live : option_map is_live_status (status_of records_now server) ≡ Some true
     unfolding records_now
-    server-live = lives-on (taken s number caller next server) server p used (ran + 1) s.limits.quantum before server-then
+    server-live = lives-on (taken s number caller next server) server p used (ran + 1) s.limits before server-then
 
     many-now : length records_now ≡ length records_ready
     unfolding records_now records_ready
     many-now =
-        change-length (λ r. with_ticks (ran + 1) (after_trap GoesOn p used s.limits.quantum r)) (taken s number caller next server) server
+        change-length (λ r. with_ticks (ran + 1) (after_trap GoesOn p used s.limits r)) (taken s number caller next server) server
         ∙ change-length (λ r. record r { status = Served server }) (woken s number caller) next
         ∙ change-length (λ r. record r { status = Ready; delivered = Some number }) s.records caller
         ∙ sym (change-length (λ r. record r { status = Ready }) (change_record (λ r. record r { status = Ready }) s.records caller) next ∙ change-length (λ r. record r { status = Ready }) s.records caller)

@@ -56,7 +56,7 @@ module _ (s : State) (t : ℕ) (thread : Thread) (there : thread_at s.threads t 
 
 module _ (s : State) (p t ran : ℕ) (thread : Thread) (on : thread_on s.records p ≡ Some t) (there : thread_at s.threads t ≡ Some thread) where
   abbrev leaves : Status → Record → Record
-  leaves now r = with_ticks (ran + 1) (after_trap (Leaves now) p (used_there s p + ran + 1) s.limits.quantum r)
+  leaves now r = with_ticks (ran + 1) (after_trap (Leaves now) p (used_there s p + ran + 1) s.limits r)
 
   runs : (used : ℕ) × (status_of s.records t ≡ Some (Running p used))
   runs = found-runs s.records p t on

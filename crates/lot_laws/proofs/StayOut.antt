@@ -41,7 +41,7 @@ use Rattle.lot_machine.specs.Equations.{edges_into}
 use Rattle.lot_machine.specs.Lottery.{winner}
 use Rattle.lot_machine.specs.State.{State, free_tickets, free_threads, next_thread, Mutex, QueuedCall, opening, funding_of, lend_of, status_of, thread_at, thread_on, ready_threads, change_record, value_of, weight_of}
 use Rattle.lot_machine.specs.Commands.{is_meant_by, currency_meant, currency_named, thread_meant, thread_named, target_meant, target_named, currency_or_base, is_dead_in, is_thread_in_use, newborn, with_thread, drop_thread, command_refusal, command_effect, unless_refused, command_step}
-use Rattle.lot_machine.specs.Traps.{after_trap, with_ticks}
+use Rattle.lot_machine.specs.Traps.{after_trap, compensation_for, with_ticks}
 use Rattle.lot_machine.specs.Ports.{port_at, first_client, call, receive, reply}
 use Rattle.lot_machine.specs.Mutexes.{mutex_at, lock, unlock}
 use Rattle.lot_machine.specs.Kill.{without, is_owned_by, mutex_without, killed}
@@ -297,9 +297,9 @@ module _ (s : State) (order : IsInOrder s) where
     trap-good p t used ran action here =
         let effect = checked_effect s (trap_refusal s t action) (trap_effect s t action) in
         let good = checked-good t action (trap_refusal s t action) here in
-        (lent-changed (IsIn s.threads) (λ r. with_ticks (ran + 1) (after_trap effect.after p (used + ran + 1) s.limits.quantum r)) effect.state.records t (λ r u e. new effect.after good.2 r u e) good.0, good.1)
+        (lent-changed (IsIn s.threads) (λ r. with_ticks (ran + 1) (after_trap effect.after p (used + ran + 1) s.limits r)) effect.state.records t (λ r u e. new effect.after good.2 r u e) good.0, good.1)
       where
-        new : (after : After) → ((u : ℕ) → after ≡ Leaves (status.Served u) → IsIn s.threads u) → (r : Record) (u : ℕ) → (after_trap after p (used + ran + 1) s.limits.quantum r).status ≡ status.Served u → IsIn s.threads u
+        new : (after : After) → ((u : ℕ) → after ≡ Leaves (status.Served u) → IsIn s.threads u) → (r : Record) (u : ℕ) → (after_trap after p (used + ran + 1) s.limits r).status ≡ status.Served u → IsIn s.threads u
         new GoesOn leaves r u e = at (nat_lt (used + ran + 1) s.limits.quantum) refl
           where
             at : (b : Bool) → nat_lt (used + ran + 1) s.limits.quantum ≡ b → IsIn s.threads u
@@ -366,7 +366,7 @@ module _ (s : State) (order : IsInOrder s) where
     other-good (event.Expire q) other = unrefused LendsWell s _ (event_effect s (event.Expire q)) (lent, owned) (λ _. stopped-good (thread_there s q) (s.limits.quantum - used_there s q) None)
     other-good (event.Preempt q ticks) other = unrefused LendsWell s _ (event_effect s (event.Preempt q ticks)) (lent, owned) (λ _. stopped-good (thread_there s q) ticks None)
     other-good (event.Overrun q late) other =
-        unrefused LendsWell s _ (event_effect s (event.Overrun q late)) (lent, owned) (λ _. stopped-good (thread_there s q) (s.limits.quantum - used_there s q + late) (Some (s.limits.quantum + late)))
+        unrefused LendsWell s _ (event_effect s (event.Overrun q late)) (lent, owned) (λ _. stopped-good (thread_there s q) (s.limits.quantum - used_there s q + late) (compensation_for s.limits (s.limits.quantum + late)))
     other-good (event.Wake t) other = unrefused LendsWell s _ (event_effect s (event.Wake t)) (lent, owned) (λ _. wake-good t)
     other-good (event.Trap q ran action) other =
         unrefused LendsWell s _ (event_effect s (event.Trap q ran action)) (lent, owned) (λ e.

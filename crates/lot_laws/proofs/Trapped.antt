@@ -1,5 +1,6 @@
 -- What a trap that isn't refused makes of the state, by its reply.
 use Rattle.std.proofs.Common.{◌≡◌, ℕ, ◌+◌, Bool, true, false, is_none, nat_lt, Option, Some, None, List, [], ◌∷◌, map, option_map, refl, sym, ◌∙◌, ap}
+use Rattle.lot_machine.specs.declared.sizes.Sizes.{Sizes}
 use Rattle.lot_machine.specs.declared.record.Record.{Record}
 use Rattle.lot_machine.specs.declared.record.Status.TheVariants.{Running}
 use Rattle.lot_machine.specs.declared.funding.Lend.TheVariants.{Nobody}
@@ -79,9 +80,9 @@ live-is records u = at_number-map (λ (r : Record). is_live_status r.status) rec
     by (Some r) = refl
 
 -- a thread that goes on after its trap lends to nobody, and is live
-pub goes-on : (ticks p used quantum : ℕ) (r : Record) → (lend_of (with_ticks ticks (after_trap GoesOn p used quantum r)).status ≡ Nobody) × (is_live_status (with_ticks ticks (after_trap GoesOn p used quantum r)).status ≡ true)
-goes-on ticks p used quantum r = by (nat_lt used quantum) refl
+pub goes-on : (ticks p used : ℕ) (limits : Sizes) (r : Record) → (lend_of (with_ticks ticks (after_trap GoesOn p used limits r)).status ≡ Nobody) × (is_live_status (with_ticks ticks (after_trap GoesOn p used limits r)).status ≡ true)
+goes-on ticks p used limits r = by (nat_lt used limits.quantum) refl
   where
-    by : (b : Bool) → nat_lt used quantum ≡ b → (lend_of (with_ticks ticks (after_trap GoesOn p used quantum r)).status ≡ Nobody) × (is_live_status (with_ticks ticks (after_trap GoesOn p used quantum r)).status ≡ true)
+    by : (b : Bool) → nat_lt used limits.quantum ≡ b → (lend_of (with_ticks ticks (after_trap GoesOn p used limits r)).status ≡ Nobody) × (is_live_status (with_ticks ticks (after_trap GoesOn p used limits r)).status ≡ true)
     by true is = rw is (refl, refl)
     by false is = rw is (refl, refl)

@@ -36,7 +36,7 @@ use Rattle.lot_machine.specs.State.{State, Port, Mutex, QueuedCall, opening, fun
 use Rattle.lot_machine.specs.Commands.{is_meant_by, thread_meant, is_dead_in, command_effect, command_step}
 use Rattle.lot_machine.specs.Kill.{killed}
 use Rattle.lot_machine.specs.declared.after.After.{After}
-use Rattle.lot_machine.specs.Traps.{after_trap, with_ticks}
+use Rattle.lot_machine.specs.Traps.{after_trap, compensation_for, with_ticks}
 use Rattle.lot_machine.specs.declared.after.After.TheVariants.{GoesOn, Leaves, Ends}
 use Rattle.lot_machine.specs.Ports.{clients_of, first_client, reply}
 use Rattle.lot_machine.specs.Mutexes.{mutex_at}
@@ -195,7 +195,7 @@ default-of (Some x) d e = refl
 module _ (s : State) (order : IsInOrder s) (t p before ticks used : ℕ) (runs : status_of s.records t ≡ Some (status.Running p before)) where
   -- what becomes of the thread that made the trap
   abbrev finish : After → Record → Record
-  finish after r = with_ticks ticks (after_trap after p used s.limits.quantum r)
+  finish after r = with_ticks ticks (after_trap after p used s.limits r)
 
   -- one that goes on lends to nobody
   goes-on : (r : Record) → lend_of (finish GoesOn r).status ≡ Nobody
@@ -278,7 +278,7 @@ step-order s (event.Preempt p ticks) order =
 step-order s (event.Overrun p ticks) order =
     unrefused IsInOrder s _ (event_effect s (event.Overrun p ticks)) order (λ e.
     let passed = all-pass ((is_bad_processor s p, BadProcessor) ∷ (is_none (thread_on s.records p), NotRunning) ∷ (nat_le (2 ^ 32) (s.limits.quantum + ticks), BadTicks) ∷ []) e in
-    stopped-order s p (s.limits.quantum - used_there s p + ticks) (Some (s.limits.quantum + ticks)) passed.1.0 order)
+    stopped-order s p (s.limits.quantum - used_there s p + ticks) (compensation_for s.limits (s.limits.quantum + ticks)) passed.1.0 order)
 step-order s (event.Wake t) order =
     unrefused IsInOrder s _ (event_effect s (event.Wake t)) order (λ e.
     let passed = all-pass ((is_none (thread_at s.threads t), NoThread) ∷ (not (option_any is_asleep (status_of s.records t)), NotAsleep) ∷ []) e in

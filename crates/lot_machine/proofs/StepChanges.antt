@@ -32,7 +32,7 @@ use Rattle.lot_machine.specs.Lottery.{winner}
 use Rattle.lot_machine.specs.State.{State, Port, Mutex, funding_of, is_dead, is_asleep, lend_of, QueuedCall, status_of, thread_at, used_on, used_by, thread_on, ready_threads, change_record, change_each, value_of, weight_of, given_again, free_tickets, free_currencies, free_threads, next_thread}
 use Rattle.lot_machine.specs.Commands.{currency_meant, thread_meant, target_meant, currency_or_base, is_thread_name, is_taken, is_no_script, is_bad_amount, are_tickets_full, are_threads_full, is_in_use, is_dead_in, is_thread_in_use, is_dead_thread, is_funding, is_cycle, command_effect, command_step, newborn}
 use Rattle.lot_machine.specs.Places.{is_none_free, placed}
-use Rattle.lot_machine.specs.Traps.{after_trap, with_ticks}
+use Rattle.lot_machine.specs.Traps.{after_trap, compensation_for, with_ticks}
 use Rattle.lot_machine.specs.Ports.{clients_of, port_at, first_client, call, receive, reply}
 use Rattle.lot_machine.specs.Mutexes.{mutex_at, lock, unlock}
 use Rattle.lot_machine.specs.Kill.{without, port_without, mutex_without, released_by, released, ended, killed}
@@ -761,13 +761,13 @@ wake-leads s t sleeps =
 
 -- how the thread that made a trap goes on, or leaves
 pub finish-leads : (s : State) (p t ticks used : ℕ) (e : Effect) → Works s e → IsAlive s.records t → (Queues s → (q : ℕ) → ¬ (q ≡ p) → used_by s.records q t ≡ None) → (Apart s → RunsAlone s.records p t)
-    → Leads (On p) s (record e.state { records = change_record (λ r. with_ticks ticks (after_trap e.after p used s.limits.quantum r)) e.state.records t })
+    → Leads (On p) s (record e.state { records = change_record (λ r. with_ticks ticks (after_trap e.after p used s.limits r)) e.state.records t })
 finish-leads s p t ticks used e (works, stops) alive idle alone =
-    put e.state (λ r. with_ticks ticks (after_trap e.after p used s.limits.quantum r)) t (λ e. cc) (λ e. absurd e) (working p s e.state works) (λ _. alive)
+    put e.state (λ r. with_ticks ticks (after_trap e.after p used s.limits r)) t (λ e. cc) (λ e. absurd e) (working p s e.state works) (λ _. alive)
     (λ queues q other spared. kept (λ a. used_by a.records q t ≡ used_by s.records q t) (change-used Work s q t queues (λ e. cc) (λ e. cc) (λ e. cc)) works refl ∙ idle queues q (λ same. other (ap On (sym same))))
     (λ r q more is. let here = runs e.after stops r q more is in (ap On here, λ apart. subst (λ x. RunsAlone e.state.records x t) here (kept (λ a. RunsAlone a.records p t) (change-alone s p t) works (alone apart))))
   where
-    runs : (after : After) → StopsIfLeaves after → (r : Record) (q more : ℕ) → (after_trap after p used s.limits.quantum r).status ≡ status.Running q more → p ≡ q
+    runs : (after : After) → StopsIfLeaves after → (r : Record) (q more : ℕ) → (after_trap after p used s.limits r).status ≡ status.Running q more → p ≡ q
     runs GoesOn stops r q more is = at (nat_lt used s.limits.quantum) refl
       where
         at : (b : Bool) → nat_lt used s.limits.quantum ≡ b → p ≡ q
@@ -810,7 +810,7 @@ step-leads s (event.Preempt p ticks) =
 step-leads s (event.Overrun p ticks) =
     unrefused (Leads (On p) s) s _ (event_effect s (event.Overrun p ticks)) Stays (λ e.
     let passed = all-pass ((is_bad_processor s p, BadProcessor) ∷ (is_none (thread_on s.records p), NotRunning) ∷ (nat_le (2 ^ 32) (s.limits.quantum + ticks), BadTicks) ∷ []) e in
-    stopped-leads s p (s.limits.quantum - used_there s p + ticks) (Some (s.limits.quantum + ticks)) passed.1.0)
+    stopped-leads s p (s.limits.quantum - used_there s p + ticks) (compensation_for s.limits (s.limits.quantum + ticks)) passed.1.0)
 step-leads s (event.Wake t) =
     unrefused (Leads Timer s) s _ (event_effect s (event.Wake t)) Stays (λ e.
     let passed = all-pass ((is_none (thread_at s.threads t), NoThread) ∷ (not (option_any is_asleep (status_of s.records t)), NotAsleep) ∷ []) e in

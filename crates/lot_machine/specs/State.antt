@@ -66,6 +66,7 @@ sizes_of l = record {
   unit = l.unit;
   reuse = l.reuse;
   plain_names = l.plain_names;
+  without_compensation = l.without_compensation;
 }
 
 -- the opening state: base alone, empty ports and free mutexes

@@ -21,7 +21,7 @@ use Rattle.lot_machine.specs.Lottery.{winner}
 use Rattle.lot_machine.specs.State.{State, funding_of, is_asleep, ready_threads, status_of, thread_at, thread_on, used_by, value_of, weight_of, change_record, saturated}
 use Rattle.lot_machine.specs.Commands.{Step, first_failing, unless_refused, command_step}
 use Rattle.lot_machine.specs.declared.after.After.{After}
-use Rattle.lot_machine.specs.Traps.{after_trap, with_ticks}
+use Rattle.lot_machine.specs.Traps.{after_trap, compensation_for, with_ticks}
 use Rattle.lot_machine.specs.declared.after.After.TheVariants.{GoesOn, Leaves, Ends}
 use Rattle.lot_machine.specs.Ports.{PortTrap, first_client, call, receive, reply, serve}
 use Rattle.lot_machine.specs.Mutexes.{MutexTrap, mutex_at, lock, unlock}
@@ -65,7 +65,7 @@ expire s t used = stopped s t (s.limits.quantum - used) None
 
 -- the quantum ended this many ticks late: they count as used, so the thread weighs less in its next draw (3.4, 4.5)
 abbrev pub overrun : State → ℕ → ℕ → ℕ → Step
-overrun s t used late = stopped s t (s.limits.quantum - used + late) (Some (s.limits.quantum + late))
+overrun s t used late = stopped s t (s.limits.quantum - used + late) (compensation_for s.limits (s.limits.quantum + late))
 
 -- the sleeping thread becomes Ready, with the compensation from when it began to sleep (4.4, 4.5)
 abbrev pub wake : State → ℕ → Step
@@ -130,7 +130,7 @@ ends_quantum other used quantum = false
 -- the step of a trap with this effect, whose thread has run this many ticks and has used this much of its quantum
 abbrev pub finish_trap : State → ℕ → ℕ → ℕ → ℕ → Effect → Step
 finish_trap s p t ticks used effect = record {
-  state = record effect.state { records = change_record (λ r. with_ticks ticks (after_trap effect.after p used s.limits.quantum r)) effect.state.records t };
+  state = record effect.state { records = change_record (λ r. with_ticks ticks (after_trap effect.after p used s.limits r)) effect.state.records t };
   reply = answer.Trapped t ticks effect.outcome (ends_quantum effect.after used s.limits.quantum);
 }
 

@@ -15,6 +15,7 @@ pub struct Limits {
     pub unit: u32,
     pub reuse: bool,
     pub plain_names: bool,
+    pub without_compensation: bool,
     ghost within_bounds: { IsWithinBounds (record {
       tickets = tickets;
       currencies = currencies;
@@ -27,5 +28,6 @@ pub struct Limits {
       unit = unit;
       reuse = reuse;
       plain_names = plain_names;
+      without_compensation = without_compensation;
     }) },
 }

@@ -6,8 +6,8 @@ ghost use Rattle.lot_machine.specs.State.{sizes_of};
 use crate::Limits;
 
 /// The sizes of a kernel: the largest numbers of tickets, user currencies and threads, the numbers of ports, mutexes,
-/// processors and scripts, the ticks of a quantum, the value of one of base, whether numbers are given again, and
-/// which names are allowed.
+/// processors and scripts, the ticks of a quantum, the value of one of base, whether numbers are given again, which
+/// names are allowed, and whether threads are compensated.
 #[derive(Clone, Copy, Debug, PartialEq, Eq)]
 pub struct Sizes {
     /// 1 to 65535.
@@ -34,10 +34,13 @@ pub struct Sizes {
     /// Whether a name may have any printable ASCII but the space. Otherwise it is a letter a to z, followed by letters
     /// a to z, digits, `_` or `-`.
     pub plain_names: bool,
+    /// Whether no thread is compensated: one that gave up its quantum early, or ran past its end, weighs its value.
+    pub without_compensation: bool,
 }
 
 impl Sizes {
-    /// The smallest sizes within their bounds. No number is given again, and names are good names.
+    /// The smallest sizes within their bounds. No number is given again, names are good names,
+    /// and threads are compensated.
     pub const SMALLEST: Sizes = Sizes {
         tickets: 1,
         currencies: 1,
@@ -50,8 +53,10 @@ impl Sizes {
         unit: 1,
         reuse: false,
         plain_names: false,
+        without_compensation: false,
     };
-    /// The largest sizes within their bounds. No number is given again, and names are good names.
+    /// The largest sizes within their bounds. No number is given again, names are good names,
+    /// and threads are compensated.
     pub const LARGEST: Sizes = Sizes {
         tickets: 65535,
         currencies: 4096,
@@ -64,6 +69,7 @@ impl Sizes {
         unit: 256,
         reuse: false,
         plain_names: false,
+        without_compensation: false,
     };
 }
 
@@ -88,6 +94,7 @@ impl Limits {
             unit: sizes.unit,
             reuse: sizes.reuse,
             plain_names: sizes.plain_names,
+            without_compensation: sizes.without_compensation,
         })
     }
 }

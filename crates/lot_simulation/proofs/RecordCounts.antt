@@ -226,29 +226,29 @@ module _ (g : Record → ℕ) (even : (r : Record) (st : Status) (compensation d
   pub checked-even : (s : State) (t : ℕ) (action : Action) (o : Option TrapRefusal) → map g (checked_effect s o (trap_effect s t action)).state.records ≡ map g s.records
   checked-even s t action o = kept (λ a. map g a.records ≡ map g s.records) (change-even g even Work s tt) (checked-leads s t action o).0 refl
 
-  pub after-even : (after : After) (p used quantum : ℕ) (r : Record) → g (after_trap after p used quantum r) ≡ g r
-  after-even GoesOn p used quantum r = at (nat_lt used quantum) refl
+  pub after-even : (after : After) (p used : ℕ) (limits : Sizes) (r : Record) → g (after_trap after p used limits r) ≡ g r
+  after-even GoesOn p used limits r = at (nat_lt used limits.quantum) refl
     where
-      at : (b : Bool) → nat_lt used quantum ≡ b → g (after_trap GoesOn p used quantum r) ≡ g r
+      at : (b : Bool) → nat_lt used limits.quantum ≡ b → g (after_trap GoesOn p used limits r) ≡ g r
       at true is = rw is (even r (status.Running p used) r.compensation r.delivered)
       at false is = rw is (even r status.Ready None r.delivered)
-  after-even (Leaves st) p used quantum r = even r st _ r.delivered
-  after-even Ends p used quantum r = even r status.Dead None r.delivered
+  after-even (Leaves st) p used limits r = even r st _ r.delivered
+  after-even Ends p used limits r = even r status.Dead None r.delivered
 
 trap-adds : (s : State) (p t used ran : ℕ) (action : Action) → IsBetween 1 (length s.records) t → used + ran + 1 ≤ s.limits.quantum → HasSpace s → Adds s (trap s p t used ran action)
 trap-adds s p t used ran action named enough space =
     let effect = checked_effect s (trap_refusal s t action) (trap_effect s t action) in
-    let change : Record → Record = after_trap effect.after p (used + ran + 1) s.limits.quantum in
+    let change : Record → Record = after_trap effect.after p (used + ran + 1) s.limits in
     let trapped : Record → Record = λ r. with_ticks (ran + 1) (change r) in
     let sizes = checked-sizes s t action (trap_refusal s t action) in
     let there = number-some effect.state.records t newborn (named.0, omega (arith, named.1, sizes.1)) in
     let quanta = checked-even (λ r. r.quanta) (λ r st compensation delivered. refl) s t action (trap_refusal s t action) in
     let ticks = checked-even (λ r. r.ticks) (λ r st compensation delivered. refl) s t action (trap_refusal s t action) in
-    let won = change-leaves (λ r. r.quanta) effect.state.records t trapped (after-even (λ r. r.quanta) (λ r st compensation delivered. refl) effect.after p (used + ran + 1) s.limits.quantum) in
+    let won = change-leaves (λ r. r.quanta) effect.state.records t trapped (after-even (λ r. r.quanta) (λ r st compensation delivered. refl) effect.after p (used + ran + 1) s.limits) in
     let used_up = sum-same (λ r. r.ticks) effect.state.records s.records ticks in
     record {
       quanta = as-much s _ _ (omega (arith, sum-same (λ r. r.quanta) (change_record trapped effect.state.records t) s.records (won ∙ quanta)));
-      ticks = as-much s _ _ (ticks-added effect.state.records t (ran + 1) change _ there (after-even (λ r. r.ticks) (λ r st compensation delivered. refl) effect.after p (used + ran + 1) s.limits.quantum) (omega (arith, space.ticks, enough, used_up)) ∙ omega (arith, used_up));
+      ticks = as-much s _ _ (ticks-added effect.state.records t (ran + 1) change _ there (after-even (λ r. r.ticks) (λ r st compensation delivered. refl) effect.after p (used + ran + 1) s.limits) (omega (arith, space.ticks, enough, used_up)) ∙ omega (arith, used_up));
       bounded = omega arith;
       short = omega (arith, enough);
     }

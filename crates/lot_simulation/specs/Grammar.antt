@@ -381,6 +381,7 @@ limits_of r = record {
   unit = r.unit;
   reuse = r.reuse;
   plain_names = false;
+  without_compensation = false;
 }
 
 -- The seeds unless the input gives them: seed p for processor p, or its mixed seed in a timed input.

@@ -251,6 +251,7 @@ impl Reading {
             unit: self.format.unit(),
             reuse: self.reuse,
             plain_names: false,
+            without_compensation: false,
         };
         Limits::new(sizes).unwrap()
     }

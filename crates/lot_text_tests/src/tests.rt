@@ -98,6 +98,7 @@ fn sizes_of(limits: Limits) -> Sizes {
         unit: limits.unit,
         reuse: limits.reuse,
         plain_names: limits.plain_names,
+        without_compensation: limits.without_compensation,
     }
 }
 
@@ -172,6 +173,7 @@ const FIRST_RUN_SAYS: Said<'_> = Said {
         unit: 1,
         reuse: false,
         plain_names: false,
+        without_compensation: false,
     },
     seeds: &[1],
     turns: 0,
@@ -224,6 +226,7 @@ const HEADERS_SAY: Said<'_> = Said {
         unit: 256,
         reuse: false,
         plain_names: false,
+        without_compensation: false,
     },
     seeds: &[2147483646],
     turns: 0,
@@ -260,6 +263,7 @@ const WHOLE_GRAMMAR_SAYS: Said<'_> = Said {
         unit: 256,
         reuse: false,
         plain_names: false,
+        without_compensation: false,
     },
     seeds: &[5, 6],
     turns: 10000,
@@ -323,6 +327,7 @@ const TIMED_SAYS: Said<'_> = Said {
         unit: 256,
         reuse: true,
         plain_names: false,
+        without_compensation: false,
     },
     seeds: &[48271, 182605794],
     turns: 5,
@@ -376,6 +381,7 @@ const HEADER_ORDERS_SAY: Said<'_> = Said {
         unit: 256,
         reuse: true,
         plain_names: false,
+        without_compensation: false,
     },
     seeds: &[7, 8],
     turns: 5,

@@ -229,6 +229,7 @@ fn play(
         unit: 1,
         reuse: false,
         plain_names: false,
+        without_compensation: false,
     });
     let mut kept = Kept::new(rt, alloc, limits)?;
     for _ in 0..threads {

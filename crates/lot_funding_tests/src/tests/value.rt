@@ -28,6 +28,7 @@ fn small_graph(rt: &impl Abort, alloc: Global) -> Result<Graph, Fail>
         unit: 1,
         reuse: false,
         plain_names: false,
+        without_compensation: false,
     });
     let limits = limits.expect(rt, "limits are not in bounds");
     Ok(Graph::new(alloc, &limits)?)
@@ -217,6 +218,7 @@ fn opening(
         unit: 1,
         reuse: false,
         plain_names: false,
+        without_compensation: false,
     });
     let limits = limits.expect(rt, "limits are not in bounds");
     let mut graph = ValuedGraph::new(alloc, &limits)?;

@@ -160,7 +160,7 @@ impl Tables {
             ≡ record self.old.state {
               records = change_record
                   (λ r. with_ticks trap.ticks
-                  (after_trap after trap.processor.number trap.used self.old.state.limits.quantum r))
+                  (after_trap after trap.processor.number trap.used self.old.state.limits r))
                   self.old.state.records trap.thread.number;
             } }
         ensures stale { MakesStale self.old self.new }
@@ -170,7 +170,7 @@ impl Tables {
         let Some(before) = self.threads.record(trap.thread) else {
             unreachable!()
         };
-        let next = record_after(before, trap, after, self.limits.quantum);
+        let next = record_after(before, trap, after, &self.limits);
         self.threads.change(trap.thread, next);
     }
 

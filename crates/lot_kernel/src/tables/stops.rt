@@ -9,6 +9,7 @@ ghost use Rattle.lot_machine.specs.Step.{step, stopped};
 ghost use Rattle.lot_kernel.specs.Counted.{KeepsStale};
 ghost use Rattle.lot_kernel.specs.Snapshots.{MakesStale};
 
+use crate::ending::compensation_for;
 use crate::tables::Tables;
 use lot_machine::{Processor, Refusal, Reply, Status, ThreadNumber};
 
@@ -56,7 +57,7 @@ impl Tables {
         self.stop(runner.thread, ticks, None, reply);
     }
 
-    /// Ends the quantum on a processor this many ticks late: the ticks used become the thread's compensation.
+    /// Ends the quantum on a processor this many ticks late: the thread is compensated for the ticks used.
     pub(super) fn overrun(&mut self, processor: Processor, late: u32, reply: &mut Reply)
         ensures reply { reply.new ≡ (step self.old.state (event.Overrun processor.number late)).reply }
         ensures state { self.new.state ≡ (step self.old.state (event.Overrun processor.number late)).state }
@@ -76,7 +77,8 @@ impl Tables {
             *reply = Reply::Refused(Refusal::BadTicks);
             return;
         };
-        self.stop(runner.thread, used - runner.used, Some(used), reply);
+        let compensation = compensation_for(&self.limits, used);
+        self.stop(runner.thread, used - runner.used, compensation, reply);
     }
 
     /// Makes a running thread Ready with this compensation, after these further ticks.

@@ -14,6 +14,7 @@ const LEAST: Sizes = Sizes {
     unit: 1,
     reuse: false,
     plain_names: false,
+    without_compensation: false,
 };
 
 /// The largest sizes.
@@ -29,6 +30,7 @@ const MOST: Sizes = Sizes {
     unit: 256,
     reuse: false,
     plain_names: false,
+    without_compensation: false,
 };
 
 /// Sizes with one of them one past its bound. A unit is 1 or 256.

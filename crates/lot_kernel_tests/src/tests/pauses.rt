@@ -120,3 +120,38 @@ fn quanta_that_end_early_or_late(rt: HostRuntime) {
     play(&rt, rt.alloc(), &PREEMPTED);
     play(&rt, rt.alloc(), &LATE)
 }
+
+/// In a kernel without compensation thread `a` yields after a fifth of its quantum, sleeps and is woken, and is stopped
+/// late: it always weighs its value.
+const UNCOMPENSATED: [Step<'_>; 10] = [
+    Step::Gives(Line::Fundx(400, "base", "a", 1), FIRST_FUNDED),
+    Step::Wins(1, 0, (1, 0, 400), None),
+    Step::Works(1, 19, Action::Yield, 1, Outcome::Yielded),
+    Step::Thread((1, "a", Status::Ready, 400, 400, 1, 20)),
+    Step::Wins(1, 399, (1, 399, 400), None),
+    Step::Works(1, 19, Action::Sleep, 1, Outcome::Slept),
+    Step::Pauses(Pause::Wake(1), Reply::Done),
+    Step::Wins(1, 399, (1, 399, 400), None),
+    Step::Pauses(
+        Pause::Overrun(1, 300),
+        Reply::Expired {
+            thread: 1,
+            ticks: 400,
+        },
+    ),
+    Step::Thread((1, "a", Status::Ready, 400, 400, 3, 440)),
+];
+
+#[test]
+fn without_compensation(rt: HostRuntime) {
+    let sizes = Sizes {
+        tickets: 1,
+        threads: 1,
+        scripts: 1,
+        quantum: 100,
+        without_compensation: true,
+        ..Sizes::SMALLEST
+    };
+    let mut kernel = kernel_of(&rt, rt.alloc(), sizes);
+    take_all(&rt, &mut kernel, &UNCOMPENSATED)
+}

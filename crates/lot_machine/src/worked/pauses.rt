@@ -2,8 +2,8 @@
 ghost use Rattle.std.specs.Prelude.{◌≡◌, [], ◌∷◌, ◌++◌, codes, false, None};
 ghost use Rattle.lot_machine.specs.declared.action.Action.TheVariants.{Lock, Sleep, Exit};
 ghost use Rattle.lot_machine.specs.declared.event.Event.TheVariants.{Draw, Expire, Trap, Preempt, Overrun, Wake};
-ghost use Rattle.lot_machine.specs.Worked.{after, answers, values, weights, fundx, base};
-ghost use Rattle.lot_machine.specs.WorkedRuns.{two_to_one};
+ghost use Rattle.lot_machine.specs.Worked.{after, answers, after_in, answers_in, uncompensated, values, weights, fundx, base};
+ghost use Rattle.lot_machine.specs.WorkedRuns.{two_to_one, early_yield};
 ghost use Rattle.lot_machine.specs.declared.reply.Reply.TheVariants as reply;
 ghost use Rattle.lot_machine.specs.declared.reply.Outcome.TheVariants as outcome;
 ghost use Rattle.lot_machine.specs.declared.refusal.Refusal.TheVariants as refusal;
@@ -44,4 +44,15 @@ pub fn overruns()
     ensures most { answers (fundx 400 base (codes "a") ∷ Draw 1 0 ∷ [])
         (Overrun 1 4294967196 ∷ Overrun 1 4294967195 ∷ [])
         ≡ reply.Refused refusal.BadTicks ∷ reply.Expired 1 4294967295 ∷ [] }
+{}
+
+/// Two threads have 400 each, and one gives up its quantum after a fifth of it: it weighs five times its value until it
+/// next wins, and in a kernel without compensation just its value, as after a late end of a quantum (3.4, 4.5).
+pub fn without_compensation()
+    ensures compensated { weights (after early_yield) ≡ 2000 ∷ 400 ∷ [] }
+    ensures yields { weights (after_in uncompensated early_yield) ≡ 400 ∷ 400 ∷ [] }
+    ensures sleeps { weights (after_in uncompensated (fundx 400 base (codes "a") ∷ Draw 1 0 ∷ Trap 1 19 Sleep
+        ∷ Wake 1 ∷ [])) ≡ 400 ∷ [] }
+    ensures late { answers_in uncompensated (fundx 400 base (codes "a") ∷ Draw 1 0 ∷ []) (Overrun 1 100 ∷ Draw 1 399 ∷ [])
+        ≡ reply.Expired 1 200 ∷ reply.Winner 1 399 400 None ∷ [] }
 {}

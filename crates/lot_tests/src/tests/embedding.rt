@@ -17,6 +17,7 @@ fn first_winner(rt: &impl Abort, alloc: Global) -> Reply {
         unit: 1,
         reuse: false,
         plain_names: false,
+        without_compensation: false,
     });
     let limits = limits.expect(rt, "limits");
     let mut kernel = Kernel::new(alloc, limits).expect(rt, "memory");

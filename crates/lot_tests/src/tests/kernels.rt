@@ -24,6 +24,7 @@ fn largest(rt: &impl Abort) -> Limits {
         unit: 1,
         reuse: false,
         plain_names: false,
+        without_compensation: false,
     });
     limits.expect(rt, "limits")
 }

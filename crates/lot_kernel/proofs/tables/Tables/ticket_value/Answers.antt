@@ -1,18 +1,17 @@
-use Rattle.std.proofs.Common.{◌≡◌, ℕ, ◌^◌, ◌<◌, ◌≤◌, ◌==◌, Bool, true, false, Some, List, [], Contains, ap, arith, refl, rules, subst, sym, ◌∙◌, if◌then◌else◌}
+use Rattle.std.proofs.Common.{◌≡◌, ◌^◌, ◌<◌, ◌≤◌, true, false, Some, List, [], Contains, ap, arith, refl, rules, subst, sym, ◌∙◌}
 use Rattle.std.proofs.lemmas.Bool.{ne_eqb}
 use Rattle.lot_machine.specs.declared.funding.Node.{Node}
 use Rattle.lot_machine.specs.declared.funding.Node.TheVariants as node
 use Rattle.lot_machine.specs.declared.ticket.Ticket.{Ticket}
 use Rattle.lot_machine.specs.Activity.{active_amount, is_active}
-use Rattle.lot_machine.specs.Funding.{ticket_at, ticket_in}
-use Rattle.lot_machine.specs.Order.{IsInOrder}
-use Rattle.lot_machine.specs.State.{State, funding_of, live_in, live_of}
+use Rattle.lot_machine.specs.Funding.{ticket_in}
+use Rattle.lot_machine.specs.State.{funding_of, live_in, live_of}
 use Rattle.lot_machine.specs.Value.{currency_value, node_value}
 use Rattle.lot_machine.proofs.EachOnce.{contains-nothing}
 use Rattle.lot_machine.proofs.NodeBounds.{base_ticket, other_ticket, user_ticket}
 use Rattle.lot_machine.proofs.Tickets.{some-injective}
 use Rattle.lot_graph.specs.Places.{FitsLimits}
-use Rattle.lot_threads.specs.Threaded.{Threaded, funding_in, limited_in}
+use Rattle.lot_threads.specs.Threaded.{Threaded, funding_in}
 use Rattle.lot_kernel.specs.contracts.tables.Tables.{the_view}
 use Rattle.lot_kernel.proofs.SettledRows.{active-is, issuer-within, part-fits, part-of-active}
 use Rattle.lot_kernel.proofs.tables.Tables.ticket_value.Goals as goal
