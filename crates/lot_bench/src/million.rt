@@ -58,6 +58,7 @@ fn opened(alloc: Global) -> Option<Kernel> {
         reuse: false,
         plain_names: false,
         without_compensation: false,
+        without_lending: false,
     })?;
     let mut kernel = Kernel::new(alloc, limits).ok()?;
     make_user(&mut kernel, 1, "alice", 2000)?;

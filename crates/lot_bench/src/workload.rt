@@ -103,5 +103,6 @@ pub(crate) fn smallest_limits(workload: Workload) -> Option<Limits> {
         reuse: false,
         plain_names: false,
         without_compensation: false,
+        without_lending: false,
     })
 }

@@ -38,6 +38,7 @@ sizes_meant s = record {
   reuse = not (s.reuse == 0);
   plain_names = not (s.plain_names == 0);
   without_compensation = false;
+  without_lending = false;
 }
 
 -- the counts of a kernel in plain fields

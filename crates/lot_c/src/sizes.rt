@@ -45,6 +45,7 @@ impl PlainSizes {
             reuse: self.reuse != 0,
             plain_names: self.plain_names != 0,
             without_compensation: false,
+            without_lending: false,
         })
     }
 

@@ -170,6 +170,17 @@ module _ (r : Reading) (kept : IsRead r) where
       let old = kept.0 in
       resized r.processors r.quantum tickets currencies threads r.duration
       (record { of_processors = old.of_processors; of_quantum = old.of_quantum; of_tickets = of_tickets; of_currencies = of_currencies; of_threads = of_threads; of_unit = old.of_unit; time = old.time }))))
+  header-kept header.Without (mechanism ∷ []) = compensates (bytes_eq mechanism (codes "compensation"))
+    where
+      lends : (named : Bool) → Reads (if named then checked ((not r.is_timed, BadLine) ∷ (r.without_lending, BadHeader) ∷ []) (record r { without_lending = true }) else Err BadLine) IsRead
+      lends true = if-passes IsRead ((not r.is_timed, BadLine) ∷ (r.without_lending, BadHeader) ∷ []) (record r { without_lending = true }) (λ _. kept)
+      lends false = refuses IsRead BadLine
+
+      compensates : (named : Bool) → Reads (if named then checked ((not r.is_timed, BadLine) ∷ (r.without_compensation, BadHeader) ∷ []) (record r { without_compensation = true })
+          else if bytes_eq mechanism (codes "lending") then checked ((not r.is_timed, BadLine) ∷ (r.without_lending, BadHeader) ∷ []) (record r { without_lending = true })
+          else Err BadLine) IsRead
+      compensates true = if-passes IsRead ((not r.is_timed, BadLine) ∷ (r.without_compensation, BadHeader) ∷ []) (record r { without_compensation = true }) (λ _. kept)
+      compensates false = lends (bytes_eq mechanism (codes "lending"))
   header-kept header.Reuse [] = if-passes IsRead ((not r.is_timed, BadLine) ∷ []) (record r { reuse = true }) (λ _. kept)
   header-kept word tokens = refuses IsRead BadLine
 

@@ -4,7 +4,6 @@ use Rattle.std.specs.List.{Contains, cons_option}
 use Rattle.std.proofs.lemmas.Bool.{cases_eq}
 use Rattle.std.proofs.lemmas.List.{length-map}
 use Rattle.lot_machine.specs.declared.record.Record.{Record}
-use Rattle.lot_machine.specs.declared.record.Status.TheVariants as status
 use Rattle.lot_machine.specs.declared.sizes.Sizes.{Sizes}
 use Rattle.lot_machine.specs.Kill.{without, port_without, is_owned_by, passed_on, mutex_without, heir, released, ended, killed}
 use Rattle.lot_machine.specs.Numbered.{at_number, set_number}
@@ -14,8 +13,7 @@ use Rattle.lot_machine.specs.State.{State, Freed, Mutex, change_record, change_e
 use Rattle.lot_machine.proofs.Changes.{number-set}
 use Rattle.lot_machine.proofs.EachOnce.{contains-nothing}
 use Rattle.lot_machine.proofs.Killed.{mapped-from, without-other, without-absent, record-other, each-record_other, each-append, each-between, heir-of}
-use Rattle.lot_machine.proofs.KillKept.{lends-of}
-use Rattle.lot_machine.proofs.Queues.{IsAbsent, queue-clients}
+use Rattle.lot_machine.proofs.Queues.{IsAbsent, own-absent}
 use Rattle.lot_machine.proofs.StepSizes.{change-length, each-length}
 use Rattle.lot_machine.proofs.TrapCycles.{at_number-map}
 use Rattle.lot_queues.specs.QueueLists.{QueueLists, IsThere, IsNowhere, waiters_without, queues_without}
@@ -59,7 +57,7 @@ owners-kept t (m ∷ ms) = ap (λ (xs : List (Option ℕ)). m.owner ∷ xs) (own
 -- nobody is its own client
 own-client : (s : State) (t : ℕ) → IsInOrder s → IsAbsent (clients_of s.clients t) t
 own-client s t order place e =
-    order.no_cycle.lends t (t, lends-of s t t (status.Served t) ((queue-clients s.records s.clients s.ports s.mutexes order.queues t).each place t e) refl, ([], refl))
+    own-absent s.records s.clients s.ports s.mutexes order.queues t place e
 
 clients-killed : (s : State) (t : ℕ) → IsInOrder s → clients_of (map (without t) s.clients) t ≡ clients_of s.clients t
 clients-killed s t order = ap (λ (o : Option (List ℕ)). unwrap_or o []) (at_number-map (without t) s.clients t) ∙ from (at_number s.clients t) refl
@@ -198,8 +196,8 @@ module _ (v : Threaded) (q : QueueLists) (t : ℕ) (out : QueueLists) (taken : o
 
         pub all-stale : MakesStaleIn v v1 → MakesStaleIn v1 v2 → MakesStaleIn v2 v3 → MakesStaleIn v v3
         all-stale one two three =
-            makes-each v v2 v3 (ap (λ (x : Threaded). x.tickets) v2-is) (λ m. inr (inl (ap (λ (x : Threaded). at_number x.owners m) (sym ended_threads)))) ends
-            (makes-each v v1 v2 (ap (λ (x : Threaded). x.tickets) v1-is) (λ m. inl (ap (λ (x : Threaded). at_number x.owners m) v1-is)) between one two) three
+            makes-each v v2 v3 (ap (λ (x : Threaded). x.without_lending) v2-is, sym (ap (λ (x : Threaded). x.without_lending) ended_threads)) (ap (λ (x : Threaded). x.tickets) v2-is) (λ m. inr (inl (ap (λ (x : Threaded). at_number x.owners m) (sym ended_threads)))) ends
+            (makes-each v v1 v2 (ap (λ (x : Threaded). x.without_lending) v1-is, sym (ap (λ (x : Threaded). x.without_lending) passed_threads)) (ap (λ (x : Threaded). x.tickets) v1-is) (λ m. inl (ap (λ (x : Threaded). at_number x.owners m) v1-is)) between one two) three
           where
             between : (u : ℕ) → (at_number v1.records u ≡ at_number v.records u) ⊎ (at_number v1.records u ≡ at_number v2.records u)
             between u = from (each-between released (λ r. refl) v.records clients nexts u)

@@ -22,6 +22,7 @@ opening_threads sizes = record {
   unit = sizes.unit;
   quantum = sizes.quantum;
   processors = sizes.processors;
+  without_lending = sizes.without_lending;
   threads = [];
   records = [];
   stale = [];

@@ -1,5 +1,5 @@
 -- How a whole trap goes: what it does, and then how its thread goes on or leaves.
-use Rattle.std.proofs.Common.{◌≡◌, ◌∙◌, ℕ, ◌-◌, Bool, Option, Some, None, List, [], ◌∷◌, ◌++◌, length, map, ap, sym, refl, subst, arith}
+use Rattle.std.proofs.Common.{◌≡◌, ◌∙◌, ℕ, ◌-◌, Bool, true, false, Option, Some, None, List, [], ◌∷◌, ◌++◌, length, map, ap, sym, refl, subst, arith}
 use Rattle.std.proofs.Math.ListN.{length-set}
 use Rattle.std.proofs.lemmas.List.{length-map}
 use Rattle.lot_machine.specs.declared.action.Action.{Action}
@@ -68,7 +68,7 @@ effect-runs s t p used action order runs = by (trap_refusal s t action) refl
 
 -- whoever leaves this way lends to somebody that is there, or to nobody
 abbrev LendsThere : State → After → Type 0
-LendsThere s after = (status : Status) → after ≡ Leaves status → (node : Node) → lend_node (lend_of status) ≡ Some node → IsBorrower (funding_of s) (lend_of status)
+LendsThere s after = (status : Status) → after ≡ Leaves status → (node : Node) → lend_node (lend_of s.limits.without_lending status) ≡ Some node → IsBorrower (funding_of s) (lend_of s.limits.without_lending status)
 
 leaves-same : (now then : Status) → Leaves now ≡ Leaves then → now ≡ then
 leaves-same now then e = cc
@@ -80,44 +80,57 @@ ends-nowhere : (status : Status) → ¬ (Ends ≡ Leaves status)
 ends-nowhere status e = cc
 
 -- who leaves this way lends to nobody
-lends-nothing : (now status : Status) → lend_of now ≡ Nobody → Leaves now ≡ Leaves status → (node : Node) → ¬ (lend_node (lend_of status) ≡ Some node)
-lends-nothing now status nobody e node to =
-    let none : None ≡ Some node = ap lend_node (sym nobody ∙ ap lend_of (leaves-same now status e)) ∙ to in
+lends-nothing : (without : Bool) (now status : Status) → lend_of without now ≡ Nobody → Leaves now ≡ Leaves status → (node : Node) → ¬ (lend_node (lend_of without status) ≡ Some node)
+lends-nothing without now status nobody e node to =
+    let none : None ≡ Some node = ap lend_node (sym nobody ∙ ap (lend_of without) (leaves-same now status e)) ∙ to in
     cc
 
 -- or to a thread or a mutex that is there
-served-there : (f : Funding) (records : List Record) (server : ℕ) → IsThere records server → (status : Status) → Leaves (Served server) ≡ Leaves status → f.lends ≡ map (λ r. lend_of r.status) records → IsBorrower f (lend_of status)
-served-there f records server there status e lends =
-    subst (λ (now : Status). IsBorrower f (lend_of now)) (leaves-same (Served server) status e) (there.0, omega (arith, there.1, ap (λ (ls : List Lend). length ls) lends, length-map records (λ (r : Record). lend_of r.status)))
+served-there : (without : Bool) (f : Funding) (records : List Record) (server : ℕ) → IsThere records server → f.lends ≡ map (λ r. lend_of without r.status) records
+    → (status : Status) → Leaves (Served server) ≡ Leaves status → (node : Node) → lend_node (lend_of without status) ≡ Some node → IsBorrower f (lend_of without status)
+served-there without f records server there lends status e =
+    subst (λ (now : Status). (node : Node) → lend_node (lend_of without now) ≡ Some node → IsBorrower f (lend_of without now)) (leaves-same (Served server) status e) (by without count)
+  where
+    count : length f.lends ≡ length records
+    count = ap (λ (ls : List Lend). length ls) lends ∙ length-map records (λ (r : Record). lend_of without r.status)
 
-waits-there : (f : Funding) (mutexes : List Mutex) (m : ℕ) → IsThere mutexes m → (status : Status) → Leaves (Waiting m) ≡ Leaves status → f.owners ≡ map (λ x. x.owner) mutexes → IsBorrower f (lend_of status)
-waits-there f mutexes m there status e owners =
-    subst (λ (now : Status). IsBorrower f (lend_of now)) (leaves-same (Waiting m) status e) (there.0, omega (arith, there.1, ap (λ (os : List (Option ℕ)). length os) owners, length-map mutexes (λ (x : Mutex). x.owner)))
+    by : (b : Bool) → length f.lends ≡ length records → (node : Node) → lend_node (lend_of b (Served server)) ≡ Some node → IsBorrower f (lend_of b (Served server))
+    by true many node to = cc
+    by false many node to = (there.0, omega (arith, there.1, many))
+
+waits-there : (without : Bool) (f : Funding) (mutexes : List Mutex) (m : ℕ) → IsThere mutexes m → f.owners ≡ map (λ x. x.owner) mutexes
+    → (status : Status) → Leaves (Waiting m) ≡ Leaves status → (node : Node) → lend_node (lend_of without status) ≡ Some node → IsBorrower f (lend_of without status)
+waits-there without f mutexes m there owners status e =
+    subst (λ (now : Status). (node : Node) → lend_node (lend_of without now) ≡ Some node → IsBorrower f (lend_of without now)) (leaves-same (Waiting m) status e) (by without)
+  where
+    by : (b : Bool) → (node : Node) → lend_node (lend_of b (Waiting m)) ≡ Some node → IsBorrower f (lend_of b (Waiting m))
+    by true node to = cc
+    by false node to = (there.0, omega (arith, there.1, ap (λ (os : List (Option ℕ)). length os) owners, length-map mutexes (λ (x : Mutex). x.owner)))
 
 module _ (s : State) (t p used : ℕ) (order : IsInOrder s) (runs : status_of s.records t ≡ Some (Running p used)) where
   call-there : (port number : ℕ) → LendsThere (trap_effect s t (Call port number)).state (trap_effect s t (Call port number)).after
   call-there port number = by (port_at s.ports port).receivers refl
     where
       by : (o : List ℕ) → (port_at s.ports port).receivers ≡ o → LendsThere (trap_effect s t (Call port number)).state (trap_effect s t (Call port number)).after
-      by [] is = rw is (λ status e node to. absurd (lends-nothing (Queued port) status refl e node to))
+      by [] is = rw is (λ status e node to. absurd (lends-nothing s.limits.without_lending (Queued port) status refl e node to))
       by (server ∷ others) is =
           let queue : IsQueue s.records (Receiving port) (server ∷ others) = subst (λ ts. IsQueue s.records (Receiving port) ts) is (receivers-queue s.records t p used runs s.clients s.ports s.mutexes order.queues port) in
           let there = status-there s.records server (Receiving port) (queue.each 0 server refl) in
           let count = change-count (λ r. record r { status = Ready; delivered = Some number }) s.records server in
-          rw is (λ status e node to. served-there (record (funding_of s) { lends = map (λ r. lend_of r.status) (change_record (λ r. record r { status = Ready; delivered = Some number }) s.records server) }) (change_record (λ r. record r { status = Ready; delivered = Some number }) s.records server) server (there.0, omega (arith, there.1, count)) status e refl)
+          rw is (served-there s.limits.without_lending (record (funding_of s) { lends = map (λ r. lend_of s.limits.without_lending r.status) (change_record (λ r. record r { status = Ready; delivered = Some number }) s.records server) }) (change_record (λ r. record r { status = Ready; delivered = Some number }) s.records server) server (there.0, omega (arith, there.1, count)) refl)
 
   receive-there : (port : ℕ) → LendsThere (trap_effect s t (Receive port)).state (trap_effect s t (Receive port)).after
   receive-there port = by (port_at s.ports port).calls refl
     where
       by : (o : List QueuedCall) → (port_at s.ports port).calls ≡ o → LendsThere (trap_effect s t (Receive port)).state (trap_effect s t (Receive port)).after
-      by [] is = rw is (λ status e node to. absurd (lends-nothing (Receiving port) status refl e node to))
+      by [] is = rw is (λ status e node to. absurd (lends-nothing s.limits.without_lending (Receiving port) status refl e node to))
       by (first ∷ others) is = rw is (λ status e. absurd (goes-nowhere status e))
 
   serve-there : (port number : ℕ) → LendsThere (trap_effect s t (Serve port number)).state (trap_effect s t (Serve port number)).after
   serve-there port number = by (port_at s.ports port).calls refl
     where
       by : (o : List QueuedCall) → (port_at s.ports port).calls ≡ o → LendsThere (trap_effect s t (Serve port number)).state (trap_effect s t (Serve port number)).after
-      by [] is = rw is (λ status e node to. absurd (lends-nothing (Receiving port) status refl e node to))
+      by [] is = rw is (λ status e node to. absurd (lends-nothing s.limits.without_lending (Receiving port) status refl e node to))
       by (first ∷ others) is = rw is (λ status e. absurd (goes-nowhere status e))
 
   lock-lends : (m : ℕ) → trap_refusal s t (Lock m) ≡ None → LendsThere (trap_effect s t (Lock m)).state (trap_effect s t (Lock m)).after
@@ -128,27 +141,27 @@ module _ (s : State) (t p used : ℕ) (order : IsInOrder s) (runs : status_of s.
       by (Some owner) is =
           let there = lock-there s t m allowed in
           let new : Mutex = record { owner = Some owner; waiters = (mutex_at s.mutexes m).waiters ++ t ∷ [] } in
-          rw is (λ status e node to. waits-there (record (funding_of s) { owners = map (λ x. x.owner) (set_number s.mutexes m new) }) (set_number s.mutexes m new) m (there.0, omega (arith, there.1, length-set s.mutexes (m - 1) new)) status e refl)
+          rw is (waits-there s.limits.without_lending (record (funding_of s) { owners = map (λ x. x.owner) (set_number s.mutexes m new) }) (set_number s.mutexes m new) m (there.0, omega (arith, there.1, length-set s.mutexes (m - 1) new)) refl)
 
   unlock-there : (m d : ℕ) → LendsThere (trap_effect s t (Unlock m d)).state (trap_effect s t (Unlock m d)).after
   unlock-there m d = by (mutex_at s.mutexes m).waiters refl
     where
       by : (o : List ℕ) → (mutex_at s.mutexes m).waiters ≡ o → LendsThere (trap_effect s t (Unlock m d)).state (trap_effect s t (Unlock m d)).after
       by [] is = rw is (λ status e. absurd (goes-nowhere status e))
-      by (w ∷ ws) is = rw is (λ status e node to. absurd (lends-nothing Ready status refl e node to))
+      by (w ∷ ws) is = rw is (λ status e node to. absurd (lends-nothing s.limits.without_lending Ready status refl e node to))
 
   pub lends-there : (action : Action) → LendsThere (effect_of s t action).state (effect_of s t action).after
   lends-there action = by (trap_refusal s t action) refl
     where
       done : (a : Action) → trap_refusal s t a ≡ None → LendsThere (trap_effect s t a).state (trap_effect s t a).after
-      done Yield allowed = λ status e node to. absurd (lends-nothing Ready status refl e node to)
+      done Yield allowed = λ status e node to. absurd (lends-nothing s.limits.without_lending Ready status refl e node to)
       done (Call port number) allowed = call-there port number
       done (Receive port) allowed = receive-there port
       done (ReplyTo number) allowed = λ status e. absurd (goes-nowhere status e)
       done (Serve port number) allowed = serve-there port number
       done (Lock m) allowed = lock-lends m allowed
       done (Unlock m d) allowed = unlock-there m d
-      done Sleep allowed = λ status e node to. absurd (lends-nothing Asleep status refl e node to)
+      done Sleep allowed = λ status e node to. absurd (lends-nothing s.limits.without_lending Asleep status refl e node to)
       done Exit allowed = λ status e. absurd (ends-nowhere status e)
 
       by : (o : Option TrapRefusal) → trap_refusal s t action ≡ o → LendsThere (effect_of s t action).state (effect_of s t action).after
@@ -168,10 +181,10 @@ finished-reply s p t ticks used e came after ends same_outcome same is =
     ap (λ o. Trapped t ticks o ends) same_outcome ∙ ap (Trapped t ticks e.outcome) (is ∙ ap (λ a. ends_quantum a used s.limits.quantum) same)
 
 -- what a trap makes stale, and its thread's last change
-pub makes-trap : (old mid new : Snapshot) (t : ℕ) (change : Record → Record) (was : Record) → at_number old.state.records t ≡ Some was → at_number mid.state.records t ≡ Some was
+pub makes-trap : (old mid new : Snapshot) → mid.state.limits.without_lending ≡ old.state.limits.without_lending → (t : ℕ) (change : Record → Record) (was : Record) → at_number old.state.records t ≡ Some was → at_number mid.state.records t ≡ Some was
     → new.state ≡ record mid.state { records = change_record change mid.state.records t } → MakesStale old mid → MakesStale mid new → MakesStale old new
-makes-trap old mid new t change was left there is =
-    makes-last (threads_of old.state old.stale old.meter) (threads_of mid.state mid.stale mid.meter) (threads_of new.state new.stale mid.meter) t was (change was) left there last
+makes-trap old mid new lending t change was left there is =
+    makes-last (threads_of old.state old.stale old.meter) (threads_of mid.state mid.stale mid.meter) (threads_of new.state new.stale mid.meter) lending t was (change was) left there last
   where
     set : change_record change mid.state.records t ≡ set_number mid.state.records t (change was)
     set = rw there refl

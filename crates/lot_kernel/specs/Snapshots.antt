@@ -38,6 +38,7 @@ threads_of s stale meter = record {
   unit = s.limits.unit;
   quantum = s.limits.quantum;
   processors = s.limits.processors;
+  without_lending = s.limits.without_lending;
   threads = s.threads;
   records = s.records;
   stale = stale;

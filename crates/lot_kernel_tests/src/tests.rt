@@ -341,6 +341,7 @@ fn largest_limits(quantum: u32, unit: u32) -> Option<Limits> {
         reuse: false,
         plain_names: false,
         without_compensation: false,
+        without_lending: false,
     })
 }
 

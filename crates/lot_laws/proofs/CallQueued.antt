@@ -1,7 +1,8 @@
 -- A call that is queued, and its receipt as the next event: what threads are worth then.
-use Rattle.std.proofs.Common.{◌≡◌, ◌≢◌, ℕ, ◌+◌, ◌-◌, Some, List, [], ◌∷◌, length, map, filter, option_map, sum_by, refl, sym, ◌∙◌, ap, subst}
+use Rattle.std.proofs.Common.{◌≡◌, ◌≢◌, ℕ, ◌+◌, ◌-◌, Some, List, [], ◌∷◌, length, map, filter, option_map, sum_by, refl, sym, ◌∙◌, ap, subst, false}
 use Rattle.std.specs.List.{range_with_len}
 use Rattle.std.proofs.lemmas.List.{map-set, set-set}
+use Rattle.lot_machine.specs.declared.sizes.Sizes.{Sizes}
 use Rattle.lot_machine.specs.declared.record.Record.{Record}
 use Rattle.lot_machine.specs.declared.record.Status.TheVariants.{Ready, Running, Queued as QueuedAt}
 use Rattle.lot_machine.specs.declared.action.Action.TheVariants.{Call}
@@ -24,7 +25,7 @@ use Rattle.lot_machine.proofs.Queues.{number-set_same, record-of}
 use Rattle.lot_machine.proofs.TrapCycles.{at_number-map}
 use Rattle.lot_machine.proofs.OrderKept.{step-order}
 use Rattle.lot_laws.specs.Transfers.{QueuesCall, TakesQueuedCall, with_ready}
-use Rattle.lot_machine.proofs.StepSizes.{change-length}
+use Rattle.lot_machine.proofs.StepSizes.{change-length, step-limits}
 use Rattle.lot_laws.proofs.Trapped.{IsDone, trap-done}
 use Rattle.lot_laws.proofs.Lending.{lending}
 use Rattle.lot_laws.proofs.Blocked.{lends_in}
@@ -73,11 +74,11 @@ module _ (s : State) (p ran used before port number caller : ℕ) (runs : status
   records_ready : List Record
   records_ready = change_record (λ r. record r { status = Ready }) (queued s p ran used port number caller).records caller
 
-  lends-kept : lends_in records_ready ≡ lends_in s.records
+  lends-kept : lends_in s.limits.without_lending records_ready ≡ lends_in s.limits.without_lending s.records
   unfolding records_ready
   lends-kept =
       let (r, there, status) = record-of s.records caller (Running p before) runs in
-      twice-kept (λ (x : Record). lend_of x.status) (λ r. with_ticks (ran + 1) (after_trap (Leaves (QueuedAt port)) p used s.limits r)) (λ r. record r { status = Ready }) s.records caller r there (sym (ap lend_of status))
+      twice-kept (λ (x : Record). lend_of s.limits.without_lending x.status) (λ r. with_ticks (ran + 1) (after_trap (Leaves (QueuedAt port)) p used s.limits r)) (λ r. record r { status = Ready }) s.records caller r there (sym (ap (lend_of s.limits.without_lending) status))
 
   live-kept : live_in records_ready ≡ live_in s.records
   unfolding records_ready
@@ -127,18 +128,18 @@ ready-together s e caller queues =
 
 -- ---- both events
 
-pub server-gets : (s : State) (e next : Event) (caller server : ℕ) → IsInOrder s → QueuesCall s e caller → TakesQueuedCall (step s e).state next caller server
+pub server-gets : (s : State) (e next : Event) (caller server : ℕ) → IsInOrder s → s.limits.without_lending ≡ false → QueuesCall s e caller → TakesQueuedCall (step s e).state next caller server
     → value_of (step (step s e).state next).state server ≡ value_of s server + value_of s caller
-server-gets s e next caller server order queues takes =
-    received.server-gets (step s e).state next caller server (step-order s e order) takes
+server-gets s e next caller server order lends queues takes =
+    received.server-gets (step s e).state next caller server (step-order s e order) (ap (λ (l : Sizes). l.without_lending) (step-limits s e) ∙ lends) takes
     ∙ ap (λ w. w + value_of (with_ready (step s e).state caller) caller) (ready-worth s e caller server queues) ∙ ap (λ w. value_of s server + w) (ready-worth s e caller caller queues)
 
-pub others-keep : (s : State) (e next : Event) (caller server other : ℕ) → IsInOrder s → QueuesCall s e caller → TakesQueuedCall (step s e).state next caller server → other ≢ server
+pub others-keep : (s : State) (e next : Event) (caller server other : ℕ) → IsInOrder s → s.limits.without_lending ≡ false → QueuesCall s e caller → TakesQueuedCall (step s e).state next caller server → other ≢ server
     → value_of (step (step s e).state next).state other ≡ value_of s other
-others-keep s e next caller server other order queues takes differs =
-    received.others-keep (step s e).state next caller server other (step-order s e order) takes differs ∙ ready-worth s e caller other queues
+others-keep s e next caller server other order lends queues takes differs =
+    received.others-keep (step s e).state next caller server other (step-order s e order) (ap (λ (l : Sizes). l.without_lending) (step-limits s e) ∙ lends) takes differs ∙ ready-worth s e caller other queues
 
-pub together-same : (s : State) (e next : Event) (caller server : ℕ) → IsInOrder s → QueuesCall s e caller → TakesQueuedCall (step s e).state next caller server
+pub together-same : (s : State) (e next : Event) (caller server : ℕ) → IsInOrder s → s.limits.without_lending ≡ false → QueuesCall s e caller → TakesQueuedCall (step s e).state next caller server
     → live_value (step (step s e).state next).state ≡ live_value s
-together-same s e next caller server order queues takes =
-    received.together-same (step s e).state next caller server (step-order s e order) takes ∙ ready-together s e caller queues
+together-same s e next caller server order lends queues takes =
+    received.together-same (step s e).state next caller server (step-order s e order) (ap (λ (l : Sizes). l.without_lending) (step-limits s e) ∙ lends) takes ∙ ready-together s e caller queues

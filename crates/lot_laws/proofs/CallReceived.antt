@@ -1,12 +1,11 @@
 -- The receipt of a queued call: what threads are worth then, against the same state with the caller Ready.
 use Rattle.std.proofs.Common.{◌≡◌, ◌≢◌, ℕ, ◌+◌, Bool, true, false, cond, is_none, ◌⊎◌, inl, inr, Option, Some, None, List, [], ◌∷◌, length, map, option_map, option_and_then, refl, sym, ◌∙◌, ap, subst, arith}
-use Rattle.std.proofs.lemmas.Bool.{cases_eq, eqb-true}
+use Rattle.std.proofs.lemmas.Bool.{cases_eq}
 use Rattle.lot_machine.specs.declared.record.Record.{Record}
 use Rattle.lot_machine.specs.declared.record.Status.{Status}
 use Rattle.lot_machine.specs.declared.record.Status.TheVariants.{Ready, Running, Receiving, Queued as QueuedAt, Served, Waiting, Asleep, Dead}
 use Rattle.lot_machine.specs.declared.funding.Lend.TheVariants.{Nobody}
 use Rattle.lot_machine.specs.declared.ticket.Ticket.{Ticket}
-use Rattle.lot_machine.specs.declared.ticket.Target.{Target}
 use Rattle.lot_machine.specs.declared.ticket.Target.TheVariants as target
 use Rattle.lot_machine.specs.declared.action.Action.TheVariants.{Receive}
 use Rattle.lot_machine.specs.declared.event.Event.{Event}
@@ -28,6 +27,7 @@ use Rattle.lot_machine.specs.Order.{IsQueue, IsInOrder}
 use Rattle.lot_machine.proofs.Sums.{sum-filter, sum-same, sum-nothing}
 use Rattle.lot_machine.proofs.Tickets.{some-injective}
 use Rattle.lot_machine.proofs.Tickets as tickets
+use Rattle.lot_machine.proofs.Unlent.{is_thread-is}
 use Rattle.lot_machine.proofs.CommandsKept.{all-pass}
 use Rattle.lot_machine.proofs.Queues.{status-now, status-other}
 use Rattle.lot_machine.proofs.TrapCycles.{cycle-nobody}
@@ -39,7 +39,7 @@ use Rattle.lot_laws.specs.Transfers.{TakesQueuedCall, OwnsNothing, with_ready}
 use Rattle.lot_machine.proofs.StepSizes.{change-length}
 use Rattle.lot_laws.proofs.Trapped.{IsDone, trap-done, lend-is, live-is}
 use Rattle.lot_laws.proofs.Lending.{same-borrower, leads-itself, worth-nothing, comes-alone}
-use Rattle.lot_laws.proofs.Blocked.{lends_in, lead-itself, lead-other, lends-nobody, is-live, not-live, blocked-worth, blocked-own}
+use Rattle.lot_laws.proofs.Blocked.{lends_in, lead-itself, lead-other, lends-nobody, is-live, not-live, blocked-worth, blocked-own, served-lends}
 use Rattle.lot_laws.proofs.CallTaken.{port-there}
 use Rattle.lot_laws.proofs.Replied.{lends-on, lives-on}
 
@@ -77,20 +77,15 @@ call-received s p ran used port number caller server = at (port_at s.ports port)
 
 -- ---- what a blocked thread is worth that lends to nobody
 
-is_thread-is : (t : ℕ) (aim : Target) → is_thread t aim ≡ true → aim ≡ target.Thread t
-is_thread-is t target.Unfunded h = cc
-is_thread-is t (target.Currency c) h = cc
-is_thread-is t (target.Thread u) h = ap target.Thread (eqb-true u t h)
-
-live-nobody : (status : Status) → is_live_status status ≡ true → lend_of status ≡ Nobody
-live-nobody Ready e = refl
-live-nobody (Running p used) e = refl
-live-nobody (Receiving port) e = cc
-live-nobody (QueuedAt port) e = cc
-live-nobody (Served server) e = cc
-live-nobody (Waiting m) e = cc
-live-nobody Asleep e = cc
-live-nobody Dead e = cc
+live-nobody : (without : Bool) (status : Status) → is_live_status status ≡ true → lend_of without status ≡ Nobody
+live-nobody without Ready e = refl
+live-nobody without (Running p used) e = refl
+live-nobody without (Receiving port) e = cc
+live-nobody without (QueuedAt port) e = cc
+live-nobody without (Served server) e = cc
+live-nobody without (Waiting m) e = cc
+live-nobody without Asleep e = cc
+live-nobody without Dead e = cc
 
 -- a live thread lends to nobody
 live-alone : (s : State) (u : ℕ) → IsLive (live_of s) u → borrower_of (funding_of s) u ≡ None
@@ -100,7 +95,7 @@ live-alone s u alive = by (status_of s.records u) refl
     by None is = let never : None ≡ Some true = sym (ap (option_map is_live_status) is) ∙ sym (live-is s.records u) ∙ alive in cc
     by (Some status) is =
         let live : is_live_status status ≡ true = some-injective (is_live_status status) true (sym (ap (option_map is_live_status) is) ∙ sym (live-is s.records u) ∙ alive) in
-        lends-nobody s u status is (live-nobody status live)
+        lends-nobody s u status is (live-nobody s.limits.without_lending status live)
 
 module _ (s : State) (t : ℕ) (no_cycle : HasNoCycle (funding_of s)) (there : FundsThere (funding_of s)) (nobody : borrower_of (funding_of s) t ≡ None) (blocked : ¬ IsLive (live_of s) t) where
   -- a chain from a thread that leads there ends there, and so leads to no live thread
@@ -187,9 +182,9 @@ module _ (s : State) (order : IsInOrder s) (p ran used before port caller server
       ∙ status-other (λ r. record r { status = Served server }) s.records caller u one
       ∙ sym (status-other (λ r. record r { status = Ready }) s.records caller u one)
 
-  server-lend : option_map lend_of (status_of records_now server) ≡ Some Nobody
+  server-lend : option_map (lend_of s.limits.without_lending) (status_of records_now server) ≡ Some Nobody
   unfolding records_now
-  server-lend = lends-on (taken s caller server) server p used (ran + 1) s.limits before server-then
+  server-lend = lends-on s.limits.without_lending (taken s caller server) server p used (ran + 1) s.limits before server-then
 
   server-live : option_map is_live_status (status_of records_now server) ≡ Some true
   unfolding records_now
@@ -202,12 +197,12 @@ module _ (s : State) (order : IsInOrder s) (p ran used before port caller server
       ∙ change-length (λ r. record r { status = Served server }) s.records caller
       ∙ sym (change-length (λ r. record r { status = Ready }) s.records caller)
 
-  lends-same : (u : ℕ) → u ≢ caller → option_map lend_of (status_of records_now u) ≡ option_map lend_of (status_of records_ready u)
+  lends-same : (u : ℕ) → u ≢ caller → option_map (lend_of s.limits.without_lending) (status_of records_now u) ≡ option_map (lend_of s.limits.without_lending) (status_of records_ready u)
   lends-same u differs = by (cases_eq u server)
     where
-      by : (u ≡ server) ⊎ (¬ (u ≡ server)) → option_map lend_of (status_of records_now u) ≡ option_map lend_of (status_of records_ready u)
-      by (inl same) = ap (λ x. option_map lend_of (status_of records_now x)) same ∙ server-lend ∙ sym (ap (option_map lend_of) server-ready) ∙ ap (λ x. option_map lend_of (status_of records_ready x)) (sym same)
-      by (inr other) = ap (option_map lend_of) (other-now u differs other)
+      by : (u ≡ server) ⊎ (¬ (u ≡ server)) → option_map (lend_of s.limits.without_lending) (status_of records_now u) ≡ option_map (lend_of s.limits.without_lending) (status_of records_ready u)
+      by (inl same) = ap (λ x. option_map (lend_of s.limits.without_lending) (status_of records_now x)) same ∙ server-lend ∙ sym (ap (option_map (lend_of s.limits.without_lending)) server-ready) ∙ ap (λ x. option_map (lend_of s.limits.without_lending) (status_of records_ready x)) (sym same)
+      by (inr other) = ap (option_map (lend_of s.limits.without_lending)) (other-now u differs other)
 
   lives-same : (u : ℕ) → u ≢ caller → option_map is_live_status (status_of records_now u) ≡ option_map is_live_status (status_of records_ready u)
   lives-same u differs = by (cases_eq u server)
@@ -224,37 +219,37 @@ module _ (s : State) (order : IsInOrder s) (p ran used before port caller server
   unfolding records_ready
   server-backed = (server, ([], refl), is-live records_ready server (Running p before) server-ready refl)
 
-  pub receipt-worth : (v : ℕ) → value_of (received s p ran used port others caller server) v
+  pub receipt-worth : s.limits.without_lending ≡ false → (v : ℕ) → value_of (received s p ran used port others caller server) v
       ≡ value_of (with_ready s caller) v + cond (lends_lead (funding_of (with_ready s caller)) server v) (value_of (with_ready s caller) caller) 0
   unfolding records_now records_ready
-  receipt-worth =
-      blocked-worth (with_ready s caller) records_now caller server Ready (Served server) many caller-ready refl refl caller-now refl refl lends-same no_cycle_ready order.funds_there no_cycle_now lives-same server-backed
+  receipt-worth lends =
+      blocked-worth (with_ready s caller) records_now caller server Ready (Served server) many caller-ready refl refl caller-now refl (served-lends (with_ready s caller) server lends) lends-same no_cycle_ready order.funds_there no_cycle_now lives-same server-backed
 
-  pub receipt-together : live_value (received s p ran used port others caller server) ≡ live_value (with_ready s caller)
+  pub receipt-together : s.limits.without_lending ≡ false → live_value (received s p ran used port others caller server) ≡ live_value (with_ready s caller)
   unfolding records_now records_ready
-  receipt-together =
+  receipt-together lends =
       counts-once (received s p ran used port others caller server) no_cycle_now
-      ∙ blocked-own (with_ready s caller) records_now caller server Ready (Served server) many caller-ready refl refl caller-now refl refl lends-same no_cycle_ready order.funds_there no_cycle_now lives-same server-backed
+      ∙ blocked-own (with_ready s caller) records_now caller server Ready (Served server) many caller-ready refl refl caller-now refl (served-lends (with_ready s caller) server lends) lends-same no_cycle_ready order.funds_there no_cycle_now lives-same server-backed
       ∙ sym (counts-once (with_ready s caller) no_cycle_ready)
 
-  pub receipt-others : (v : ℕ) → v ≢ server → value_of (received s p ran used port others caller server) v ≡ value_of (with_ready s caller) v
+  pub receipt-others : s.limits.without_lending ≡ false → (v : ℕ) → v ≢ server → value_of (received s p ran used port others caller server) v ≡ value_of (with_ready s caller) v
   unfolding records_ready
-  receipt-others v differs =
+  receipt-others lends v differs =
       let ready = with_ready s caller in
       let off : lends_lead (funding_of ready) server v ≡ false = lead-other (funding_of ready) server v no_cycle_ready (lends-nobody ready server (Running p before) server-ready refl) differs in
-      receipt-worth v ∙ ap (λ b. value_of ready v + cond b (value_of ready caller) 0) off ∙ omega arith
+      receipt-worth lends v ∙ ap (λ b. value_of ready v + cond b (value_of ready caller) 0) off ∙ omega arith
 
-  pub receipt-server : value_of (received s p ran used port others caller server) server ≡ value_of (with_ready s caller) server + value_of (with_ready s caller) caller
-  receipt-server =
+  pub receipt-server : s.limits.without_lending ≡ false → value_of (received s p ran used port others caller server) server ≡ value_of (with_ready s caller) server + value_of (with_ready s caller) caller
+  receipt-server lends =
       let ready = with_ready s caller in
-      receipt-worth server ∙ ap (λ b. value_of ready server + cond b (value_of ready caller) 0) (lead-itself (funding_of ready) server no_cycle_ready)
+      receipt-worth lends server ∙ ap (λ b. value_of ready server + cond b (value_of ready caller) 0) (lead-itself (funding_of ready) server no_cycle_ready)
 
   -- a server with nothing of its own has nothing if the caller is Ready
-  pub receipt-alone : OwnsNothing s server → value_of (received s p ran used port others caller server) server ≡ value_of (with_ready s caller) caller
+  pub receipt-alone : s.limits.without_lending ≡ false → OwnsNothing s server → value_of (received s p ran used port others caller server) server ≡ value_of (with_ready s caller) caller
   unfolding records_ready
-  receipt-alone owns =
+  receipt-alone lends owns =
       let ready = with_ready s caller in
-      comes-alone (value_of (received s p ran used port others caller server) server) (value_of ready server) (value_of ready caller) receipt-server
+      comes-alone (value_of (received s p ran used port others caller server) server) (value_of ready server) (value_of ready caller) (receipt-server lends)
       (worth-nothing (funding_of ready) (live_of ready) s.limits.unit server no_cycle_ready owns.0 (λ u lends. owns.1 u (by u lends (cases_eq u caller))))
     where
       by : (u : ℕ) → LendsTo (funding_of (with_ready s caller)) u server → (u ≡ caller) ⊎ (¬ (u ≡ caller)) → LendsTo (funding_of s) u server
@@ -262,8 +257,8 @@ module _ (s : State) (order : IsInOrder s) (p ran used before port caller server
           let never : None ≡ Some server = sym (lends-nobody (with_ready s caller) caller Ready caller-ready refl) ∙ ap (borrower_of (funding_of (with_ready s caller))) (sym same) ∙ lends in cc
       by u lends (inr differs) =
           ap (option_and_then (borrower (funding_of s)))
-          (lend-is s.records u ∙ ap (option_map lend_of) (sym (status-other (λ r. record r { status = Ready }) s.records caller u differs)) ∙ sym (lend-is records_ready u))
-          ∙ sym (same-borrower (funding_of s) (lends_in records_ready) (at_number (lends_in records_ready) u)) ∙ lends
+          (lend-is s.limits.without_lending s.records u ∙ ap (option_map (lend_of s.limits.without_lending)) (sym (status-other (λ r. record r { status = Ready }) s.records caller u differs)) ∙ sym (lend-is s.limits.without_lending records_ready u))
+          ∙ sym (same-borrower (funding_of s) (lends_in s.limits.without_lending records_ready) (at_number (lends_in s.limits.without_lending records_ready) u)) ∙ lends
 
   pub caller-nothing : value_of s caller ≡ 0
   caller-nothing = blocked-nothing s caller order.no_cycle order.funds_there (lends-nobody s caller (QueuedAt port) queued refl) (not-live s.records caller (QueuedAt port) queued refl)
@@ -285,25 +280,25 @@ after-receipt P s e caller server order (p, ran, port, number, ticks, ends_now, 
         let now : HasNoCycle (funding_of (step s e).state) = (step-order s e order).no_cycle in
         subst P (sym here) (holds p ran done.used done.before port first others done.runs (port-there s port (all-pass ((is_none (at_number s.ports port), NoPort) ∷ []) done.passed).0) calls caller_is (subst (λ x. HasNoCycle (funding_of x)) here now))
 
-pub server-gets : (s : State) (e : Event) (caller server : ℕ) → IsInOrder s → TakesQueuedCall s e caller server → value_of (step s e).state server ≡ value_of (with_ready s caller) server + value_of (with_ready s caller) caller
-server-gets s e caller server order takes =
+pub server-gets : (s : State) (e : Event) (caller server : ℕ) → IsInOrder s → s.limits.without_lending ≡ false → TakesQueuedCall s e caller server → value_of (step s e).state server ≡ value_of (with_ready s caller) server + value_of (with_ready s caller) caller
+server-gets s e caller server order lends takes =
     after-receipt (λ x. value_of x server ≡ value_of (with_ready s caller) server + value_of (with_ready s caller) caller) s e caller server order takes
-    (λ p ran used before port first others runs there calls caller_is now. receipt-server s order p ran used before port caller server first others runs there calls caller_is now)
+    (λ p ran used before port first others runs there calls caller_is now. receipt-server s order p ran used before port caller server first others runs there calls caller_is now lends)
 
-pub alone-gets : (s : State) (e : Event) (caller server : ℕ) → IsInOrder s → TakesQueuedCall s e caller server → OwnsNothing s server → value_of (step s e).state server ≡ value_of (with_ready s caller) caller
-alone-gets s e caller server order takes owns =
+pub alone-gets : (s : State) (e : Event) (caller server : ℕ) → IsInOrder s → s.limits.without_lending ≡ false → TakesQueuedCall s e caller server → OwnsNothing s server → value_of (step s e).state server ≡ value_of (with_ready s caller) caller
+alone-gets s e caller server order lends takes owns =
     after-receipt (λ x. value_of x server ≡ value_of (with_ready s caller) caller) s e caller server order takes
-    (λ p ran used before port first others runs there calls caller_is now. receipt-alone s order p ran used before port caller server first others runs there calls caller_is now owns)
+    (λ p ran used before port first others runs there calls caller_is now. receipt-alone s order p ran used before port caller server first others runs there calls caller_is now lends owns)
 
-pub others-keep : (s : State) (e : Event) (caller server other : ℕ) → IsInOrder s → TakesQueuedCall s e caller server → other ≢ server → value_of (step s e).state other ≡ value_of (with_ready s caller) other
-others-keep s e caller server other order takes differs =
+pub others-keep : (s : State) (e : Event) (caller server other : ℕ) → IsInOrder s → s.limits.without_lending ≡ false → TakesQueuedCall s e caller server → other ≢ server → value_of (step s e).state other ≡ value_of (with_ready s caller) other
+others-keep s e caller server other order lends takes differs =
     after-receipt (λ x. value_of x other ≡ value_of (with_ready s caller) other) s e caller server order takes
-    (λ p ran used before port first others runs there calls caller_is now. receipt-others s order p ran used before port caller server first others runs there calls caller_is now other differs)
+    (λ p ran used before port first others runs there calls caller_is now. receipt-others s order p ran used before port caller server first others runs there calls caller_is now lends other differs)
 
-pub together-same : (s : State) (e : Event) (caller server : ℕ) → IsInOrder s → TakesQueuedCall s e caller server → live_value (step s e).state ≡ live_value (with_ready s caller)
-together-same s e caller server order takes =
+pub together-same : (s : State) (e : Event) (caller server : ℕ) → IsInOrder s → s.limits.without_lending ≡ false → TakesQueuedCall s e caller server → live_value (step s e).state ≡ live_value (with_ready s caller)
+together-same s e caller server order lends takes =
     after-receipt (λ x. live_value x ≡ live_value (with_ready s caller)) s e caller server order takes
-    (λ p ran used before port first others runs there calls caller_is now. receipt-together s order p ran used before port caller server first others runs there calls caller_is now)
+    (λ p ran used before port first others runs there calls caller_is now. receipt-together s order p ran used before port caller server first others runs there calls caller_is now lends)
 
 pub waits-for-nothing : (s : State) (e : Event) (caller server : ℕ) → IsInOrder s → TakesQueuedCall s e caller server → value_of s caller ≡ 0
 waits-for-nothing s e caller server order takes =

@@ -26,7 +26,7 @@ use Rattle.lot_laws.specs.Transfers.{TakesCall, OwnsNothing}
 use Rattle.lot_machine.proofs.StepSizes.{change-length}
 use Rattle.lot_laws.proofs.Trapped.{IsDone, trap-done}
 use Rattle.lot_laws.proofs.Lending.{worth-nothing}
-use Rattle.lot_laws.proofs.Blocked.{lead-itself, lead-other, lends-nobody, is-live, woken-worth, woken-own}
+use Rattle.lot_laws.proofs.Blocked.{lead-itself, lead-other, lends-nobody, is-live, woken-worth, woken-own, served-lends}
 
 -- a port that is there
 pub port-there : (s : State) (port : ℕ) → is_none (at_number s.ports port) ≡ false → at_number s.ports port ≡ Some (port_at s.ports port)
@@ -65,7 +65,7 @@ call-taken s p ran used port number caller server = at (port_at s.ports port).re
     at (first ∷ others) is =
         rw is (λ came. let first_is : first ≡ server = cc in (others, ap (λ x. x ∷ others) first_is, ap (λ x. called s p ran used port number others x caller) first_is))
 
-module _ (s : State) (order : IsInOrder s) (p ran used before port number server caller : ℕ) (others : List ℕ)
+module _ (s : State) (order : IsInOrder s) (lends : s.limits.without_lending ≡ false) (p ran used before port number server caller : ℕ) (others : List ℕ)
     (runs : status_of s.records caller ≡ Some (Running p before)) (there : at_number s.ports port ≡ Some (port_at s.ports port))
     (receivers : (port_at s.ports port).receivers ≡ server ∷ others) (owns : OwnsNothing s server)
     (no_cycle_now : HasNoCycle (funding_of (called s p ran used port number others server caller))) where
@@ -105,12 +105,12 @@ module _ (s : State) (order : IsInOrder s) (p ran used before port number server
       change-length (λ r. with_ticks (ran + 1) (after_trap (Leaves (Served server)) p used s.limits r)) (woken s number server) caller
       ∙ change-length (λ r. record r { status = Ready; delivered = Some number }) s.records server
 
-  lends-same : (u : ℕ) → u ≢ caller → option_map lend_of (status_of records_now u) ≡ option_map lend_of (status_of s.records u)
+  lends-same : (u : ℕ) → u ≢ caller → option_map (lend_of s.limits.without_lending) (status_of records_now u) ≡ option_map (lend_of s.limits.without_lending) (status_of s.records u)
   lends-same u differs = by (cases_eq u server)
     where
-      by : (u ≡ server) ⊎ (¬ (u ≡ server)) → option_map lend_of (status_of records_now u) ≡ option_map lend_of (status_of s.records u)
-      by (inl same) = ap (λ x. option_map lend_of (status_of records_now x)) same ∙ ap (option_map lend_of) server-now ∙ sym (ap (option_map lend_of) receives) ∙ ap (λ x. option_map lend_of (status_of s.records x)) (sym same)
-      by (inr other) = ap (option_map lend_of) (other-now u differs other)
+      by : (u ≡ server) ⊎ (¬ (u ≡ server)) → option_map (lend_of s.limits.without_lending) (status_of records_now u) ≡ option_map (lend_of s.limits.without_lending) (status_of s.records u)
+      by (inl same) = ap (λ x. option_map (lend_of s.limits.without_lending) (status_of records_now x)) same ∙ ap (option_map (lend_of s.limits.without_lending)) server-now ∙ sym (ap (option_map (lend_of s.limits.without_lending)) receives) ∙ ap (λ x. option_map (lend_of s.limits.without_lending) (status_of s.records x)) (sym same)
+      by (inr other) = ap (option_map (lend_of s.limits.without_lending)) (other-now u differs other)
 
   lives-same : (u : ℕ) → u ≢ caller → u ≢ server → option_map is_live_status (status_of records_now u) ≡ option_map is_live_status (status_of s.records u)
   lives-same u first second = ap (option_map is_live_status) (other-now u first second)
@@ -118,14 +118,14 @@ module _ (s : State) (order : IsInOrder s) (p ran used before port number server
   pub call-worth : (v : ℕ) → value_of (called s p ran used port number others server caller) v ≡ value_of s v + cond (lends_lead (funding_of s) server v) (value_of s caller) 0
   unfolding records_now
   call-worth =
-      woken-worth s records_now caller server (Running p before) (Served server) many runs refl refl caller-now refl refl lends-same order.no_cycle order.funds_there no_cycle_now
+      woken-worth s records_now caller server (Running p before) (Served server) many runs refl refl caller-now refl (served-lends s server lends) lends-same order.no_cycle order.funds_there no_cycle_now
       (is-live records_now server Ready server-now refl) lives-same owns
 
   pub call-together : live_value (called s p ran used port number others server caller) ≡ live_value s
   unfolding records_now
   call-together =
       counts-once (called s p ran used port number others server caller) no_cycle_now
-      ∙ woken-own s records_now caller server (Running p before) (Served server) many runs refl refl caller-now refl refl lends-same order.no_cycle order.funds_there no_cycle_now
+      ∙ woken-own s records_now caller server (Running p before) (Served server) many runs refl refl caller-now refl (served-lends s server lends) lends-same order.no_cycle order.funds_there no_cycle_now
       (is-live records_now server Ready server-now refl) lives-same owns
       ∙ sym (counts-once s order.no_cycle)
 
@@ -156,17 +156,17 @@ after-call P s e caller server order (p, ran, port, number, ticks, ends, is, rep
         let now : HasNoCycle (funding_of (step s e).state) = (step-order s e order).no_cycle in
         subst P (sym here) (holds p ran done.used done.before port number others done.runs (port-there s port (all-pass ((is_none (at_number s.ports port), NoPort) ∷ []) done.passed).0) receivers (subst (λ x. HasNoCycle (funding_of x)) here now))
 
-pub server-gets : (s : State) (e : Event) (caller server : ℕ) → IsInOrder s → TakesCall s e caller server → OwnsNothing s server → value_of (step s e).state server ≡ value_of s caller
-server-gets s e caller server order takes owns =
+pub server-gets : (s : State) (e : Event) (caller server : ℕ) → IsInOrder s → s.limits.without_lending ≡ false → TakesCall s e caller server → OwnsNothing s server → value_of (step s e).state server ≡ value_of s caller
+server-gets s e caller server order lends takes owns =
     after-call (λ x. value_of x server ≡ value_of s caller) s e caller server order takes
-    (λ p ran used before port number others runs there receivers now. call-server s order p ran used before port number server caller others runs there receivers owns now)
+    (λ p ran used before port number others runs there receivers now. call-server s order lends p ran used before port number server caller others runs there receivers owns now)
 
-pub others-keep : (s : State) (e : Event) (caller server other : ℕ) → IsInOrder s → TakesCall s e caller server → OwnsNothing s server → other ≢ server → value_of (step s e).state other ≡ value_of s other
-others-keep s e caller server other order takes owns differs =
+pub others-keep : (s : State) (e : Event) (caller server other : ℕ) → IsInOrder s → s.limits.without_lending ≡ false → TakesCall s e caller server → OwnsNothing s server → other ≢ server → value_of (step s e).state other ≡ value_of s other
+others-keep s e caller server other order lends takes owns differs =
     after-call (λ x. value_of x other ≡ value_of s other) s e caller server order takes
-    (λ p ran used before port number others runs there receivers now. call-others s order p ran used before port number server caller others runs there receivers owns now other differs)
+    (λ p ran used before port number others runs there receivers now. call-others s order lends p ran used before port number server caller others runs there receivers owns now other differs)
 
-pub together-same : (s : State) (e : Event) (caller server : ℕ) → IsInOrder s → TakesCall s e caller server → OwnsNothing s server → live_value (step s e).state ≡ live_value s
-together-same s e caller server order takes owns =
+pub together-same : (s : State) (e : Event) (caller server : ℕ) → IsInOrder s → s.limits.without_lending ≡ false → TakesCall s e caller server → OwnsNothing s server → live_value (step s e).state ≡ live_value s
+together-same s e caller server order lends takes owns =
     after-call (λ x. live_value x ≡ live_value s) s e caller server order takes
-    (λ p ran used before port number others runs there receivers now. call-together s order p ran used before port number server caller others runs there receivers owns now)
+    (λ p ran used before port number others runs there receivers now. call-together s order lends p ran used before port number server caller others runs there receivers owns now)

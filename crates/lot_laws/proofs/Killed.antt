@@ -26,10 +26,12 @@ use Rattle.lot_machine.specs.Order.{IsInOrder}
 use Rattle.lot_machine.proofs.Tickets.{at_number-suc, some-injective}
 use Rattle.lot_machine.proofs.Changes.{number-set}
 use Rattle.lot_machine.proofs.Queues.{IsAbsent, number-set_same}
-use Rattle.lot_machine.proofs.TrapCycles.{at_number-map}
+use Rattle.lot_machine.specs.declared.funding.Lend.TheVariants.{ToThread, ToMutex}
+use Rattle.lot_machine.proofs.TrapCycles.{at_number-map, lent-to}
 use Rattle.lot_machine.proofs.EachOnce.{place-in, contains-at}
-use Rattle.lot_machine.proofs.Killed.{IsAmong, IsHeir, among-append_left, heir-released, released-why, client-waits, without-absent, calls-absent, record-now, record-other, each-record, each-record_either, each-record_other, owner-either, without-other}
-use Rattle.lot_machine.proofs.KillKept.{lends-by, lends-of, number-mapped}
+use Rattle.lot_machine.proofs.Killed.{IsAmong, IsHeir, among-append_left, heir-released, released-why, without-absent, calls-absent, record-now, record-other, each-record, each-record_either, each-record_other, owner-either, without-other}
+use Rattle.lot_machine.proofs.KillKept.{lends-by, number-mapped}
+use Rattle.lot_machine.proofs.Queues as queues
 use Rattle.lot_machine.proofs.OrderKept.{meant-number, meant-within, step-order}
 use Rattle.lot_machine.proofs.StepSizes.{step-grown}
 use Rattle.lot_laws.specs.Kills.{Kills, Owns, IsNextOwner, WaitsForThread, after_kill}
@@ -155,15 +157,9 @@ kill-owns s thread t m mutex kills there owner = from (number-mapped (mutex_with
 -- ---- who waited for it
 
 module _ (s : State) (order : IsInOrder s) (t : ℕ) where
-  -- nobody lends to itself
-  no-loop : ¬ LendsTo (funding_of s) t t
-  no-loop lends = order.no_cycle.lends t (t, lends, ([], refl))
-
   -- the thread doesn't wait for its own mutex
   own-absent : (m : ℕ) (mutex : Mutex) → Owns s t m mutex → IsAbsent mutex.waiters t
-  own-absent m mutex (there, owner) place e =
-      no-loop (lends-of s t t (status.Waiting m) ((order.queues.waiters m mutex there).each place t e)
-      (ap option_flatten (at_number-map (λ (x : Mutex). x.owner) s.mutexes m ∙ ap (option_map (λ (x : Mutex). x.owner)) there) ∙ owner))
+  own-absent m mutex (there, owner) = order.queues.own_waiters m t mutex there owner
 
   next-heir : (u : ℕ) → IsNextOwner s t u → IsHeir s t u
   next-heir u (m, (mutex, owns, first)) = record {
@@ -182,8 +178,8 @@ module _ (s : State) (order : IsInOrder s) (t : ℕ) where
   -- who waits for the thread is another, and the kill releases it
   waits-other : (u : ℕ) → WaitsForThread s t u → ¬ (u ≡ t)
   waits-other u (inl client) same =
-      let here = client-waits s order.queues t u (place-in (clients_of s.clients t) u client) in
-      no-loop (lends-of s t t (status.Served t) (ap (status_of s.records) (sym same) ∙ here) refl)
+      let (place, e) = place-in (clients_of s.clients t) u client in
+      queues.own-absent s.records s.clients s.ports s.mutexes order.queues t place (e ∙ ap Some same)
   waits-other u (inr next) same = without-other t (next-heir u next).held.waiters 0 u (next-heir u next).first same
 
   waits-among : (u : ℕ) → WaitsForThread s t u → IsAmong (released_by s t) u
@@ -313,15 +309,15 @@ kill-lends s thread t u reachable kills lends = from (lends-by (after_kill s thr
         mine None there owner = cc
         mine (Some mutex) there owner = kill-owns s thread t m mutex kills there owner
 
-    by : (now : Status) → status_of (after_kill s thread).records u ≡ Some now → borrower (funding_of (after_kill s thread)) (lend_of now) ≡ Some t → ⊥
+    by : (now : Status) → status_of (after_kill s thread).records u ≡ Some now → borrower (funding_of (after_kill s thread)) (lend_of (after_kill s thread).limits.without_lending now) ≡ Some t → ⊥
     by status.Ready is to = cc
     by (status.Running p used) is to = cc
     by (status.Receiving p) is to = cc
     by (status.Queued p) is to = cc
-    by (status.Served server) is to = served server (some-injective server t to) is
-    by (status.Waiting m) is to = owned m to
+    by (status.Served server) is to = served server (some-injective server t (lent-to (funding_of (after_kill s thread)) (after_kill s thread).limits.without_lending (ToThread server) t to)) is
+    by (status.Waiting m) is to = owned m (lent-to (funding_of (after_kill s thread)) (after_kill s thread).limits.without_lending (ToMutex m) t to)
     by status.Asleep is to = cc
     by status.Dead is to = cc
 
-    from : ((now : Status) × (status_of (after_kill s thread).records u ≡ Some now) × (borrower (funding_of (after_kill s thread)) (lend_of now) ≡ Some t)) → ⊥
+    from : ((now : Status) × (status_of (after_kill s thread).records u ≡ Some now) × (borrower (funding_of (after_kill s thread)) (lend_of (after_kill s thread).limits.without_lending now) ≡ Some t)) → ⊥
     from (now, is, to) = by now is to

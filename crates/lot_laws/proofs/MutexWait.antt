@@ -11,7 +11,7 @@ use Rattle.lot_machine.specs.declared.refusal.TrapRefusal.TheVariants.{NoMutex, 
 use Rattle.lot_machine.specs.declared.after.After.TheVariants.{Leaves}
 use Rattle.lot_machine.specs.Numbered.{at_number, set_number, numbers, option_any}
 use Rattle.lot_machine.specs.Funding.{owner_of}
-use Rattle.lot_machine.specs.Lends.{IsBacked, LendsLead, lends_lead, lends_on_to, is_backed}
+use Rattle.lot_machine.specs.Lends.{borrower, IsBacked, LendsLead, lends_lead, lends_on_to, is_backed}
 use Rattle.lot_machine.specs.Value.{own_value, thread_value}
 use Rattle.lot_machine.specs.State.{State, Mutex, funding_of, live_of, live_in, lend_of, is_live_status, status_of, value_of, change_record}
 use Rattle.lot_machine.specs.Traps.{after_trap, with_ticks}
@@ -58,7 +58,7 @@ lock-waits s p ran used m t = at (mutex_at s.mutexes m).owner refl
     at None is = rw is (λ came. cc)
     at (Some u) is = rw is (λ came. (u, refl, refl))
 
-module _ (s : State) (order : IsInOrder s) (p ran used before m owner t : ℕ) (runs : status_of s.records t ≡ Some (Running p before))
+module _ (s : State) (order : IsInOrder s) (lends : s.limits.without_lending ≡ false) (p ran used before m owner t : ℕ) (runs : status_of s.records t ≡ Some (Running p before))
     (mutex : Mutex) (there : at_number s.mutexes m ≡ Some mutex) (owned : mutex.owner ≡ Some owner) (owner_is : owner_of (funding_of s) m ≡ Some owner)
     (no_cycle_now : HasNoCycle (funding_of (waiting s p ran used m owner t))) (backed : IsBacked (funding_of s) (live_of s) owner) where
   records_now : List Record
@@ -80,11 +80,11 @@ module _ (s : State) (order : IsInOrder s) (p ran used before m owner t : ℕ) (
   owners-kept : map (λ (x : Mutex). x.owner) (waiting s p ran used m owner t).mutexes ≡ map (λ (x : Mutex). x.owner) s.mutexes
   owners-kept = map-kept (λ (x : Mutex). x.owner) s.mutexes m mutex (record { owner = Some owner; waiters = (mutex_at s.mutexes m).waiters ++ t ∷ [] }) there (sym owned)
 
-  funding-now : funding_of (waiting s p ran used m owner t) ≡ lending (funding_of s) (lends_in records_now)
+  funding-now : funding_of (waiting s p ran used m owner t) ≡ lending (funding_of s) (lends_in s.limits.without_lending records_now)
   unfolding records_now
-  funding-now = ap (λ owners. record (lending (funding_of s) (lends_in records_now)) { owners = owners }) owners-kept
+  funding-now = ap (λ owners. record (lending (funding_of s) (lends_in s.limits.without_lending records_now)) { owners = owners }) owners-kept
 
-  no_cycle_then : HasNoCycle (lending (funding_of s) (lends_in records_now))
+  no_cycle_then : HasNoCycle (lending (funding_of s) (lends_in s.limits.without_lending records_now))
   no_cycle_then = subst HasNoCycle funding-now no_cycle_now
 
   -- those to whom the owner leads are worth as much more as the thread was worth
@@ -92,7 +92,7 @@ module _ (s : State) (order : IsInOrder s) (p ran used before m owner t : ℕ) (
   unfolding records_now
   wait-worth v =
       ap (λ f. thread_value s.limits.unit f (live_in records_now) v) funding-now
-      ∙ blocked-worth s records_now t owner (Running p before) (Waiting m) many runs refl refl t-now refl owner_is (λ u differs. ap (option_map lend_of) (other-now u differs)) order.no_cycle order.funds_there no_cycle_then
+      ∙ blocked-worth s records_now t owner (Running p before) (Waiting m) many runs refl refl t-now refl (ap (λ (without : Bool). borrower (funding_of s) (lend_of without (Waiting m))) lends ∙ owner_is) (λ u differs. ap (option_map (lend_of s.limits.without_lending)) (other-now u differs)) order.no_cycle order.funds_there no_cycle_then
       (λ u differs. ap (option_map is_live_status) (other-now u differs)) backed v
 
   pub wait-together : live_value (waiting s p ran used m owner t) ≡ live_value s
@@ -100,7 +100,7 @@ module _ (s : State) (order : IsInOrder s) (p ran used before m owner t : ℕ) (
   wait-together =
       counts-once (waiting s p ran used m owner t) no_cycle_now
       ∙ ap (λ f. sum_by (own_value s.limits.unit f (live_in records_now)) (filter (is_backed f (live_in records_now)) (numbers records_now))) funding-now
-      ∙ blocked-own s records_now t owner (Running p before) (Waiting m) many runs refl refl t-now refl owner_is (λ u differs. ap (option_map lend_of) (other-now u differs)) order.no_cycle order.funds_there no_cycle_then
+      ∙ blocked-own s records_now t owner (Running p before) (Waiting m) many runs refl refl t-now refl (ap (λ (without : Bool). borrower (funding_of s) (lend_of without (Waiting m))) lends ∙ owner_is) (λ u differs. ap (option_map (lend_of s.limits.without_lending)) (other-now u differs)) order.no_cycle order.funds_there no_cycle_then
       (λ u differs. ap (option_map is_live_status) (other-now u differs)) backed
       ∙ sym (counts-once s order.no_cycle)
 
@@ -131,27 +131,27 @@ after-wait P s e t owner order (p, ran, m, ticks, ends, is, replied, seen) holds
         let now : HasNoCycle (funding_of (step s e).state) = (step-order s e order).no_cycle in
         subst P (sym here) (holds p ran done.used done.before m mutex done.runs there owned seen (subst (λ x. HasNoCycle (funding_of x)) here now))
 
-pub worth-then : (s : State) (e : Event) (t owner v : ℕ) → IsInOrder s → WaitsFor s e t owner → IsBacked (funding_of s) (live_of s) owner
+pub worth-then : (s : State) (e : Event) (t owner v : ℕ) → IsInOrder s → s.limits.without_lending ≡ false → WaitsFor s e t owner → IsBacked (funding_of s) (live_of s) owner
     → value_of (step s e).state v ≡ value_of s v + cond (lends_lead (funding_of s) owner v) (value_of s t) 0
-worth-then s e t owner v order waits backed =
+worth-then s e t owner v order lends waits backed =
     after-wait (λ x. value_of x v ≡ value_of s v + cond (lends_lead (funding_of s) owner v) (value_of s t) 0) s e t owner order waits
-    (λ p ran used before m mutex runs there owned seen now. wait-worth s order p ran used before m owner t runs mutex there owned seen now backed v)
+    (λ p ran used before m mutex runs there owned seen now. wait-worth s order lends p ran used before m owner t runs mutex there owned seen now backed v)
 
-pub leads-gets : (s : State) (e : Event) (t owner v : ℕ) → IsInOrder s → WaitsFor s e t owner → IsBacked (funding_of s) (live_of s) owner → LendsLead (funding_of s) owner v
+pub leads-gets : (s : State) (e : Event) (t owner v : ℕ) → IsInOrder s → s.limits.without_lending ≡ false → WaitsFor s e t owner → IsBacked (funding_of s) (live_of s) owner → LendsLead (funding_of s) owner v
     → value_of (step s e).state v ≡ value_of s v + value_of s t
-leads-gets s e t owner v order waits backed leads =
-    worth-then s e t owner v order waits backed ∙ ap (λ b. value_of s v + cond b (value_of s t) 0) ((lends_lead-exact (funding_of s) order.no_cycle.lends owner v).1 leads)
+leads-gets s e t owner v order lends waits backed leads =
+    worth-then s e t owner v order lends waits backed ∙ ap (λ b. value_of s v + cond b (value_of s t) 0) ((lends_lead-exact (funding_of s) order.no_cycle.lends owner v).1 leads)
 
-pub others-keep : (s : State) (e : Event) (t owner v : ℕ) → IsInOrder s → WaitsFor s e t owner → IsBacked (funding_of s) (live_of s) owner → ¬ LendsLead (funding_of s) owner v
+pub others-keep : (s : State) (e : Event) (t owner v : ℕ) → IsInOrder s → s.limits.without_lending ≡ false → WaitsFor s e t owner → IsBacked (funding_of s) (live_of s) owner → ¬ LendsLead (funding_of s) owner v
     → value_of (step s e).state v ≡ value_of s v
-others-keep s e t owner v order waits backed apart =
-    worth-then s e t owner v order waits backed ∙ ap (λ b. value_of s v + cond b (value_of s t) 0) (off (lends_lead (funding_of s) owner v) refl) ∙ omega arith
+others-keep s e t owner v order lends waits backed apart =
+    worth-then s e t owner v order lends waits backed ∙ ap (λ b. value_of s v + cond b (value_of s t) 0) (off (lends_lead (funding_of s) owner v) refl) ∙ omega arith
   where
     off : (b : Bool) → lends_lead (funding_of s) owner v ≡ b → b ≡ false
     off false is = refl
     off true is = absurd (apart ((lends_lead-exact (funding_of s) order.no_cycle.lends owner v).0 is))
 
-pub together-same : (s : State) (e : Event) (t owner : ℕ) → IsInOrder s → WaitsFor s e t owner → IsBacked (funding_of s) (live_of s) owner → live_value (step s e).state ≡ live_value s
-together-same s e t owner order waits backed =
+pub together-same : (s : State) (e : Event) (t owner : ℕ) → IsInOrder s → s.limits.without_lending ≡ false → WaitsFor s e t owner → IsBacked (funding_of s) (live_of s) owner → live_value (step s e).state ≡ live_value s
+together-same s e t owner order lends waits backed =
     after-wait (λ x. live_value x ≡ live_value s) s e t owner order waits
-    (λ p ran used before m mutex runs there owned seen now. wait-together s order p ran used before m owner t runs mutex there owned seen now backed)
+    (λ p ran used before m mutex runs there owned seen now. wait-together s order lends p ran used before m owner t runs mutex there owned seen now backed)

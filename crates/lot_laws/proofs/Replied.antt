@@ -1,5 +1,5 @@
 -- A reply: what threads are worth then.
-use Rattle.std.proofs.Common.{◌≡◌, ◌≢◌, ℕ, ◌+◌, true, false, cond, is_none, ◌⊎◌, inl, inr, Option, Some, None, List, [], ◌∷◌, length, drop, option_map, option_and_then, unwrap_or, refl, sym, ◌∙◌, ap, subst, arith}
+use Rattle.std.proofs.Common.{◌≡◌, ◌≢◌, ℕ, ◌+◌, true, false, cond, is_none, ◌⊎◌, inl, inr, Option, Some, None, List, [], ◌∷◌, length, drop, option_map, option_and_then, unwrap_or, refl, sym, ◌∙◌, ap, subst, arith, Bool}
 use Rattle.std.proofs.lemmas.Bool.{cases_eq}
 use Rattle.lot_machine.specs.declared.sizes.Sizes.{Sizes}
 use Rattle.lot_machine.specs.declared.record.Record.{Record}
@@ -27,20 +27,20 @@ use Rattle.lot_machine.proofs.OrderKept.{step-order}
 use Rattle.lot_laws.specs.Transfers.{RepliesTo}
 use Rattle.lot_machine.proofs.StepSizes.{change-length}
 use Rattle.lot_laws.proofs.Trapped.{IsDone, trap-done, lend-is, live-is, goes-on}
-use Rattle.lot_laws.proofs.Blocked.{lead-itself, lead-other, blocked-worth, blocked-own}
+use Rattle.lot_laws.proofs.Blocked.{lead-itself, lead-other, blocked-worth, blocked-own, served-lends}
 
 -- a thread that goes on after its trap: what it lends to, and that it is live
-pub lends-on : (records : List Record) (t p used ticks : ℕ) (limits : Sizes) (before : ℕ) → status_of records t ≡ Some (Running p before)
-    → option_map lend_of (status_of (change_record (λ r. with_ticks ticks (after_trap GoesOn p used limits r)) records t) t) ≡ Some Nobody
-lends-on records t p used ticks limits before is =
+pub lends-on : (without : Bool) (records : List Record) (t p used ticks : ℕ) (limits : Sizes) (before : ℕ) → status_of records t ≡ Some (Running p before)
+    → option_map (lend_of without) (status_of (change_record (λ r. with_ticks ticks (after_trap GoesOn p used limits r)) records t) t) ≡ Some Nobody
+lends-on without records t p used ticks limits before is =
     let (r, there, status) = record-of records t (Running p before) is in
-    ap (option_map lend_of) (status-set (λ r. with_ticks ticks (after_trap GoesOn p used limits r)) records t r there) ∙ ap Some (goes-on ticks p used limits r).0
+    ap (option_map (lend_of without)) (status-set (λ r. with_ticks ticks (after_trap GoesOn p used limits r)) records t r there) ∙ ap Some (goes-on without ticks p used limits r).0
 
 pub lives-on : (records : List Record) (t p used ticks : ℕ) (limits : Sizes) (before : ℕ) → status_of records t ≡ Some (Running p before)
     → option_map is_live_status (status_of (change_record (λ r. with_ticks ticks (after_trap GoesOn p used limits r)) records t) t) ≡ Some true
 lives-on records t p used ticks limits before is =
     let (r, there, status) = record-of records t (Running p before) is in
-    ap (option_map is_live_status) (status-set (λ r. with_ticks ticks (after_trap GoesOn p used limits r)) records t r there) ∙ ap Some (goes-on ticks p used limits r).1
+    ap (option_map is_live_status) (status-set (λ r. with_ticks ticks (after_trap GoesOn p used limits r)) records t r there) ∙ ap Some (goes-on true ticks p used limits r).1
 
 -- ---- the state
 
@@ -70,7 +70,7 @@ pub caller-first : (s : State) (caller server : ℕ) → unwrap_or (first_client
 caller-first s caller server same some =
     let (x, there) = some-of (first_client s.clients server) some in there ∙ ap Some (sym (ap (λ (o : Option ℕ). unwrap_or o 0) there) ∙ same)
 
-module _ (s : State) (order : IsInOrder s) (p ran used before number caller server : ℕ) (runs : status_of s.records server ≡ Some (Running p before))
+module _ (s : State) (order : IsInOrder s) (lends : s.limits.without_lending ≡ false) (p ran used before number caller server : ℕ) (runs : status_of s.records server ≡ Some (Running p before))
     (first : first_client s.clients server ≡ Some caller) (no_cycle_now : HasNoCycle (funding_of (replied s p ran used number caller server))) where
   served : status_of s.records caller ≡ Some (Served server)
   served = (queue-clients s.records s.clients s.ports s.mutexes order.queues server).each 0 caller first
@@ -97,9 +97,9 @@ module _ (s : State) (order : IsInOrder s) (p ran used before number caller serv
       sym (status-other (λ r. with_ticks (ran + 1) (after_trap GoesOn p used s.limits r)) (woken s number caller) server u second_apart
       ∙ status-other (λ r. record r { status = Ready; delivered = Some number }) s.records caller u first_apart)
 
-  server-lend : option_map lend_of (status_of records_now server) ≡ Some Nobody
+  server-lend : option_map (lend_of s.limits.without_lending) (status_of records_now server) ≡ Some Nobody
   unfolding records_now
-  server-lend = lends-on (woken s number caller) server p used (ran + 1) s.limits before server-then
+  server-lend = lends-on s.limits.without_lending (woken s number caller) server p used (ran + 1) s.limits before server-then
 
   server-live : option_map is_live_status (status_of records_now server) ≡ Some true
   unfolding records_now
@@ -111,12 +111,12 @@ module _ (s : State) (order : IsInOrder s) (p ran used before number caller serv
       sym (change-length (λ r. with_ticks (ran + 1) (after_trap GoesOn p used s.limits r)) (woken s number caller) server
       ∙ change-length (λ r. record r { status = Ready; delivered = Some number }) s.records caller)
 
-  lends-same : (u : ℕ) → u ≢ caller → option_map lend_of (status_of s.records u) ≡ option_map lend_of (status_of records_now u)
+  lends-same : (u : ℕ) → u ≢ caller → option_map (lend_of s.limits.without_lending) (status_of s.records u) ≡ option_map (lend_of s.limits.without_lending) (status_of records_now u)
   lends-same u differs = by (cases_eq u server)
     where
-      by : (u ≡ server) ⊎ (¬ (u ≡ server)) → option_map lend_of (status_of s.records u) ≡ option_map lend_of (status_of records_now u)
-      by (inl same) = ap (λ x. option_map lend_of (status_of s.records x)) same ∙ ap (option_map lend_of) runs ∙ sym server-lend ∙ ap (λ x. option_map lend_of (status_of records_now x)) (sym same)
-      by (inr other) = ap (option_map lend_of) (other-now u differs other)
+      by : (u ≡ server) ⊎ (¬ (u ≡ server)) → option_map (lend_of s.limits.without_lending) (status_of s.records u) ≡ option_map (lend_of s.limits.without_lending) (status_of records_now u)
+      by (inl same) = ap (λ x. option_map (lend_of s.limits.without_lending) (status_of s.records x)) same ∙ ap (option_map (lend_of s.limits.without_lending)) runs ∙ sym server-lend ∙ ap (λ x. option_map (lend_of s.limits.without_lending) (status_of records_now x)) (sym same)
+      by (inr other) = ap (option_map (lend_of s.limits.without_lending)) (other-now u differs other)
 
   lives-same : (u : ℕ) → u ≢ caller → option_map is_live_status (status_of s.records u) ≡ option_map is_live_status (status_of records_now u)
   lives-same u differs = by (cases_eq u server)
@@ -131,21 +131,21 @@ module _ (s : State) (order : IsInOrder s) (p ran used before number caller serv
 
   server-alone : borrower_of (funding_of (replied s p ran used number caller server)) server ≡ None
   unfolding records_now
-  server-alone = ap (option_and_then (borrower (funding_of (replied s p ran used number caller server)))) (lend-is records_now server ∙ server-lend)
+  server-alone = ap (option_and_then (borrower (funding_of (replied s p ran used number caller server)))) (lend-is s.limits.without_lending records_now server ∙ server-lend)
 
   -- what was lent to the server
   pub reply-worth : (v : ℕ) → value_of s v ≡ value_of (replied s p ran used number caller server) v
       + cond (lends_lead (funding_of (replied s p ran used number caller server)) server v) (value_of (replied s p ran used number caller server) caller) 0
   unfolding records_now
   reply-worth =
-      blocked-worth (replied s p ran used number caller server) s.records caller server Ready (Served server) many caller-now refl refl served refl refl lends-same no_cycle_now order.funds_there order.no_cycle
+      blocked-worth (replied s p ran used number caller server) s.records caller server Ready (Served server) many caller-now refl refl served refl (served-lends (replied s p ran used number caller server) server lends) lends-same no_cycle_now order.funds_there order.no_cycle
       lives-same server-backed
 
   pub reply-together : live_value (replied s p ran used number caller server) ≡ live_value s
   unfolding records_now
   reply-together =
       counts-once (replied s p ran used number caller server) no_cycle_now
-      ∙ sym (blocked-own (replied s p ran used number caller server) s.records caller server Ready (Served server) many caller-now refl refl served refl refl lends-same no_cycle_now order.funds_there order.no_cycle
+      ∙ sym (blocked-own (replied s p ran used number caller server) s.records caller server Ready (Served server) many caller-now refl refl served refl (served-lends (replied s p ran used number caller server) server lends) lends-same no_cycle_now order.funds_there order.no_cycle
       lives-same server-backed)
       ∙ sym (counts-once s order.no_cycle)
 
@@ -181,22 +181,22 @@ after-reply P s e caller server order (p, ran, number, ticks, ends, is, replies)
         let now : HasNoCycle (funding_of (step s e).state) = (step-order s e order).no_cycle in
         subst P (sym here) (holds p ran done.used done.before number done.runs (caller-first s caller server same some) (subst (λ x. HasNoCycle (funding_of x)) here now))
 
-pub server-returns : (s : State) (e : Event) (caller server : ℕ) → IsInOrder s → RepliesTo s e caller server → value_of s server ≡ value_of (step s e).state server + value_of s caller
-server-returns s e caller server order replies =
+pub server-returns : (s : State) (e : Event) (caller server : ℕ) → IsInOrder s → s.limits.without_lending ≡ false → RepliesTo s e caller server → value_of s server ≡ value_of (step s e).state server + value_of s caller
+server-returns s e caller server order lends replies =
     after-reply (λ x. value_of s server ≡ value_of x server + value_of s caller) s e caller server order replies
-    (λ p ran used before number runs first now. reply-server s order p ran used before number caller server runs first now)
+    (λ p ran used before number runs first now. reply-server s order lends p ran used before number caller server runs first now)
 
-pub others-keep : (s : State) (e : Event) (caller server other : ℕ) → IsInOrder s → RepliesTo s e caller server → other ≢ server → value_of (step s e).state other ≡ value_of s other
-others-keep s e caller server other order replies differs =
+pub others-keep : (s : State) (e : Event) (caller server other : ℕ) → IsInOrder s → s.limits.without_lending ≡ false → RepliesTo s e caller server → other ≢ server → value_of (step s e).state other ≡ value_of s other
+others-keep s e caller server other order lends replies differs =
     after-reply (λ x. value_of x other ≡ value_of s other) s e caller server order replies
-    (λ p ran used before number runs first now. reply-others s order p ran used before number caller server runs first now other differs)
+    (λ p ran used before number runs first now. reply-others s order lends p ran used before number caller server runs first now other differs)
 
-pub caller-keeps : (s : State) (e : Event) (caller server : ℕ) → IsInOrder s → RepliesTo s e caller server → value_of (step s e).state caller ≡ value_of s caller
-caller-keeps s e caller server order replies =
+pub caller-keeps : (s : State) (e : Event) (caller server : ℕ) → IsInOrder s → s.limits.without_lending ≡ false → RepliesTo s e caller server → value_of (step s e).state caller ≡ value_of s caller
+caller-keeps s e caller server order lends replies =
     after-reply (λ x. value_of x caller ≡ value_of s caller) s e caller server order replies
-    (λ p ran used before number runs first now. reply-caller s order p ran used before number caller server runs first now)
+    (λ p ran used before number runs first now. reply-caller s order lends p ran used before number caller server runs first now)
 
-pub together-same : (s : State) (e : Event) (caller server : ℕ) → IsInOrder s → RepliesTo s e caller server → live_value (step s e).state ≡ live_value s
-together-same s e caller server order replies =
+pub together-same : (s : State) (e : Event) (caller server : ℕ) → IsInOrder s → s.limits.without_lending ≡ false → RepliesTo s e caller server → live_value (step s e).state ≡ live_value s
+together-same s e caller server order lends replies =
     after-reply (λ x. live_value x ≡ live_value s) s e caller server order replies
-    (λ p ran used before number runs first now. reply-together s order p ran used before number caller server runs first now)
+    (λ p ran used before number runs first now. reply-together s order lends p ran used before number caller server runs first now)

@@ -28,7 +28,7 @@ use Rattle.lot_laws.specs.Transfers.{RepliesThenWaits, RepliesThenReceives, Owns
 use Rattle.lot_machine.proofs.StepSizes.{change-length}
 use Rattle.lot_laws.proofs.Trapped.{IsDone, trap-done}
 use Rattle.lot_laws.proofs.Lending.{worth-nothing, comes-alone}
-use Rattle.lot_laws.proofs.Blocked.{lead-itself, lead-other, lends-nobody, is-live, woken-worth, woken-own, blocked-worth, blocked-own}
+use Rattle.lot_laws.proofs.Blocked.{lead-itself, lead-other, lends-nobody, is-live, woken-worth, woken-own, blocked-worth, blocked-own, served-lends}
 use Rattle.lot_laws.proofs.CallTaken.{port-there}
 use Rattle.lot_laws.proofs.Replied.{woken, lends-on, lives-on, caller-first}
 
@@ -88,7 +88,7 @@ serve-receives s p ran used port number caller next got server = at (port_at s.p
 
 -- ---- the thread that is replied to, and the server
 
-module _ (s : State) (order : IsInOrder s) (p before caller server : ℕ) (runs : status_of s.records server ≡ Some (Running p before)) (first : first_client s.clients server ≡ Some caller) where
+module _ (s : State) (order : IsInOrder s) (lends : s.limits.without_lending ≡ false) (p before caller server : ℕ) (runs : status_of s.records server ≡ Some (Running p before)) (first : first_client s.clients server ≡ Some caller) where
   served : status_of s.records caller ≡ Some (Served server)
   served = (queue-clients s.records s.clients s.ports s.mutexes order.queues server).each 0 caller first
 
@@ -126,12 +126,12 @@ module _ (s : State) (order : IsInOrder s) (p before caller server : ℕ) (runs 
         sym (change-length (λ r. with_ticks (ran + 1) (after_trap (Leaves (Receiving port)) p used s.limits r)) (woken s number caller) server
         ∙ change-length (λ r. record r { status = Ready; delivered = Some number }) s.records caller)
 
-    lends-left : (u : ℕ) → u ≢ caller → option_map lend_of (status_of s.records u) ≡ option_map lend_of (status_of records_left u)
+    lends-left : (u : ℕ) → u ≢ caller → option_map (lend_of s.limits.without_lending) (status_of s.records u) ≡ option_map (lend_of s.limits.without_lending) (status_of records_left u)
     lends-left u differs = by (cases_eq u server)
       where
-        by : (u ≡ server) ⊎ (¬ (u ≡ server)) → option_map lend_of (status_of s.records u) ≡ option_map lend_of (status_of records_left u)
-        by (inl same) = ap (λ x. option_map lend_of (status_of s.records x)) same ∙ ap (option_map lend_of) runs ∙ sym (ap (option_map lend_of) server-left) ∙ ap (λ x. option_map lend_of (status_of records_left x)) (sym same)
-        by (inr other) = ap (option_map lend_of) (other-left u differs other)
+        by : (u ≡ server) ⊎ (¬ (u ≡ server)) → option_map (lend_of s.limits.without_lending) (status_of s.records u) ≡ option_map (lend_of s.limits.without_lending) (status_of records_left u)
+        by (inl same) = ap (λ x. option_map (lend_of s.limits.without_lending) (status_of s.records x)) same ∙ ap (option_map (lend_of s.limits.without_lending)) runs ∙ sym (ap (option_map (lend_of s.limits.without_lending)) server-left) ∙ ap (λ x. option_map (lend_of s.limits.without_lending) (status_of records_left x)) (sym same)
+        by (inr other) = ap (option_map (lend_of s.limits.without_lending)) (other-left u differs other)
 
     lives-left : (u : ℕ) → u ≢ caller → u ≢ server → option_map is_live_status (status_of s.records u) ≡ option_map is_live_status (status_of records_left u)
     lives-left u one two = ap (option_map is_live_status) (other-left u one two)
@@ -141,14 +141,14 @@ module _ (s : State) (order : IsInOrder s) (p before caller server : ℕ) (runs 
           + cond (lends_lead (funding_of (waiting s p ran used port number caller server)) server v) (value_of (waiting s p ran used port number caller server) caller) 0
       unfolding records_left
       left-worth =
-          woken-worth (waiting s p ran used port number caller server) s.records caller server Ready (Served server) many-left caller-left refl refl served refl refl lends-left no_cycle_now order.funds_there order.no_cycle
+          woken-worth (waiting s p ran used port number caller server) s.records caller server Ready (Served server) many-left caller-left refl refl served refl (served-lends (waiting s p ran used port number caller server) server lends) lends-left no_cycle_now order.funds_there order.no_cycle
           (is-live s.records server (Running p before) runs refl) lives-left owns
 
       left-together : live_value (waiting s p ran used port number caller server) ≡ live_value s
       unfolding records_left
       left-together =
           counts-once (waiting s p ran used port number caller server) no_cycle_now
-          ∙ sym (woken-own (waiting s p ran used port number caller server) s.records caller server Ready (Served server) many-left caller-left refl refl served refl refl lends-left no_cycle_now order.funds_there order.no_cycle
+          ∙ sym (woken-own (waiting s p ran used port number caller server) s.records caller server Ready (Served server) many-left caller-left refl refl served refl (served-lends (waiting s p ran used port number caller server) server lends) lends-left no_cycle_now order.funds_there order.no_cycle
           (is-live s.records server (Running p before) runs refl) lives-left owns)
           ∙ sym (counts-once s order.no_cycle)
 
@@ -241,9 +241,9 @@ module _ (s : State) (order : IsInOrder s) (p before caller server : ℕ) (runs 
         ∙ status-other (λ r. record r { status = Served server }) (woken s number caller) next u two
         ∙ status-other (λ r. record r { status = Ready; delivered = Some number }) s.records caller u one
 
-    server-lend : option_map lend_of (status_of records_now server) ≡ Some Nobody
+    server-lend : option_map (lend_of s.limits.without_lending) (status_of records_now server) ≡ Some Nobody
     unfolding records_now
-    server-lend = lends-on (taken s number caller next server) server p used (ran + 1) s.limits before server-then
+    server-lend = lends-on s.limits.without_lending (taken s number caller next server) server p used (ran + 1) s.limits before server-then
 
     server-live : option_map is_live_status (status_of records_now server) ≡ Some true
     unfolding records_now
@@ -257,15 +257,15 @@ module _ (s : State) (order : IsInOrder s) (p before caller server : ℕ) (runs 
         ∙ change-length (λ r. record r { status = Ready; delivered = Some number }) s.records caller
         ∙ sym (change-length (λ r. record r { status = Ready }) (change_record (λ r. record r { status = Ready }) s.records caller) next ∙ change-length (λ r. record r { status = Ready }) s.records caller)
 
-    lends-now : (u : ℕ) → u ≢ next → option_map lend_of (status_of records_now u) ≡ option_map lend_of (status_of records_ready u)
+    lends-now : (u : ℕ) → u ≢ next → option_map (lend_of s.limits.without_lending) (status_of records_now u) ≡ option_map (lend_of s.limits.without_lending) (status_of records_ready u)
     lends-now u differs = by (cases_eq u server) (cases_eq u caller)
       where
-        by : (u ≡ server) ⊎ (¬ (u ≡ server)) → (u ≡ caller) ⊎ (¬ (u ≡ caller)) → option_map lend_of (status_of records_now u) ≡ option_map lend_of (status_of records_ready u)
+        by : (u ≡ server) ⊎ (¬ (u ≡ server)) → (u ≡ caller) ⊎ (¬ (u ≡ caller)) → option_map (lend_of s.limits.without_lending) (status_of records_now u) ≡ option_map (lend_of s.limits.without_lending) (status_of records_ready u)
         by (inl same) which =
-            ap (λ x. option_map lend_of (status_of records_now x)) same ∙ server-lend ∙ sym (ap (option_map lend_of) server-ready) ∙ ap (λ x. option_map lend_of (status_of records_ready x)) (sym same)
+            ap (λ x. option_map (lend_of s.limits.without_lending) (status_of records_now x)) same ∙ server-lend ∙ sym (ap (option_map (lend_of s.limits.without_lending)) server-ready) ∙ ap (λ x. option_map (lend_of s.limits.without_lending) (status_of records_ready x)) (sym same)
         by (inr other) (inl same) =
-            ap (λ x. option_map lend_of (status_of records_now x)) same ∙ ap (option_map lend_of) (caller-now ∙ sym caller-ready) ∙ ap (λ x. option_map lend_of (status_of records_ready x)) (sym same)
-        by (inr other) (inr another) = ap (option_map lend_of) (other-now u another differs other ∙ sym (other-ready u another differs))
+            ap (λ x. option_map (lend_of s.limits.without_lending) (status_of records_now x)) same ∙ ap (option_map (lend_of s.limits.without_lending)) (caller-now ∙ sym caller-ready) ∙ ap (λ x. option_map (lend_of s.limits.without_lending) (status_of records_ready x)) (sym same)
+        by (inr other) (inr another) = ap (option_map (lend_of s.limits.without_lending)) (other-now u another differs other ∙ sym (other-ready u another differs))
 
     lives-now : (u : ℕ) → u ≢ next → option_map is_live_status (status_of records_now u) ≡ option_map is_live_status (status_of records_ready u)
     lives-now u differs = by (cases_eq u server) (cases_eq u caller)
@@ -288,13 +288,13 @@ module _ (s : State) (order : IsInOrder s) (p before caller server : ℕ) (runs 
         ≡ value_of (with_ready (with_ready s caller) next) v + cond (lends_lead (funding_of (with_ready (with_ready s caller) next)) server v) (value_of (with_ready (with_ready s caller) next) next) 0
     unfolding records_now records_ready
     serve-worth =
-        blocked-worth (with_ready (with_ready s caller) next) records_now next server Ready (Served server) many-now next-ready refl refl next-now refl refl lends-now no_cycle_ready order.funds_there no_cycle_now lives-now server-backed
+        blocked-worth (with_ready (with_ready s caller) next) records_now next server Ready (Served server) many-now next-ready refl refl next-now refl (served-lends (with_ready (with_ready s caller) next) server lends) lends-now no_cycle_ready order.funds_there no_cycle_now lives-now server-backed
 
     serve-together : live_value (serving s p ran used port number others caller next server) ≡ live_value (with_ready (with_ready s caller) next)
     unfolding records_now records_ready
     serve-together =
         counts-once (serving s p ran used port number others caller next server) no_cycle_now
-        ∙ blocked-own (with_ready (with_ready s caller) next) records_now next server Ready (Served server) many-now next-ready refl refl next-now refl refl lends-now no_cycle_ready order.funds_there no_cycle_now lives-now server-backed
+        ∙ blocked-own (with_ready (with_ready s caller) next) records_now next server Ready (Served server) many-now next-ready refl refl next-now refl (served-lends (with_ready (with_ready s caller) next) server lends) lends-now no_cycle_ready order.funds_there no_cycle_now lives-now server-backed
         ∙ sym (counts-once (with_ready (with_ready s caller) next) no_cycle_ready)
 
     serve-others : (v : ℕ) → v ≢ server → value_of (serving s p ran used port number others caller next server) v ≡ value_of (with_ready (with_ready s caller) next) v
@@ -342,33 +342,33 @@ after-serve P s e caller next server order (p, ran, port, number, got, ticks, en
         subst P (sym here) (holds p ran done.used done.before port number queued others done.runs (caller-first s caller server same checks.1.0) there calls next_is (subst (λ x. HasNoCycle (funding_of x)) here now))
 
 -- that a server is left with nothing, if it is in the state then
-pub waits-server : (s : State) (e : Event) (caller server : ℕ) → IsInOrder s → RepliesThenWaits s e caller server → OwnsNothing (step s e).state server → value_of s server ≡ value_of s caller
-waits-server s e caller server order replies =
+pub waits-server : (s : State) (e : Event) (caller server : ℕ) → IsInOrder s → s.limits.without_lending ≡ false → RepliesThenWaits s e caller server → OwnsNothing (step s e).state server → value_of s server ≡ value_of s caller
+waits-server s e caller server order lends replies =
     after-wait (λ x. OwnsNothing x server → value_of s server ≡ value_of s caller) s e caller server order replies
-    (λ p ran used before port number runs first now owns. left-server s order p before caller server runs first ran used port number now owns)
+    (λ p ran used before port number runs first now owns. left-server s order lends p before caller server runs first ran used port number now owns)
 
-pub waits-others : (s : State) (e : Event) (caller server other : ℕ) → IsInOrder s → RepliesThenWaits s e caller server → other ≢ server → OwnsNothing (step s e).state server → value_of (step s e).state other ≡ value_of s other
-waits-others s e caller server other order replies differs =
+pub waits-others : (s : State) (e : Event) (caller server other : ℕ) → IsInOrder s → s.limits.without_lending ≡ false → RepliesThenWaits s e caller server → other ≢ server → OwnsNothing (step s e).state server → value_of (step s e).state other ≡ value_of s other
+waits-others s e caller server other order lends replies differs =
     after-wait (λ x. OwnsNothing x server → value_of x other ≡ value_of s other) s e caller server order replies
-    (λ p ran used before port number runs first now owns. left-others s order p before caller server runs first ran used port number now owns other differs)
+    (λ p ran used before port number runs first now owns. left-others s order lends p before caller server runs first ran used port number now owns other differs)
 
-pub waits-together : (s : State) (e : Event) (caller server : ℕ) → IsInOrder s → RepliesThenWaits s e caller server → OwnsNothing (step s e).state server → live_value (step s e).state ≡ live_value s
-waits-together s e caller server order replies =
+pub waits-together : (s : State) (e : Event) (caller server : ℕ) → IsInOrder s → s.limits.without_lending ≡ false → RepliesThenWaits s e caller server → OwnsNothing (step s e).state server → live_value (step s e).state ≡ live_value s
+waits-together s e caller server order lends replies =
     after-wait (λ x. OwnsNothing x server → live_value x ≡ live_value s) s e caller server order replies
-    (λ p ran used before port number runs first now owns. left-together s order p before caller server runs first ran used port number now owns)
+    (λ p ran used before port number runs first now owns. left-together s order lends p before caller server runs first ran used port number now owns)
 
-pub serves-server : (s : State) (e : Event) (caller next server : ℕ) → IsInOrder s → RepliesThenReceives s e caller next server
+pub serves-server : (s : State) (e : Event) (caller next server : ℕ) → IsInOrder s → s.limits.without_lending ≡ false → RepliesThenReceives s e caller next server
     → value_of (step s e).state server ≡ value_of (with_ready (with_ready s caller) next) server + value_of (with_ready (with_ready s caller) next) next
-serves-server s e caller next server order replies =
+serves-server s e caller next server order lends replies =
     after-serve (λ x. value_of x server ≡ value_of (with_ready (with_ready s caller) next) server + value_of (with_ready (with_ready s caller) next) next) s e caller next server order replies
-    (λ p ran used before port number queued others runs first there calls next_is now. serve-server s order p before caller server runs first ran used port number next queued others there calls next_is now)
+    (λ p ran used before port number queued others runs first there calls next_is now. serve-server s order lends p before caller server runs first ran used port number next queued others there calls next_is now)
 
-pub serves-others : (s : State) (e : Event) (caller next server other : ℕ) → IsInOrder s → RepliesThenReceives s e caller next server → other ≢ server → value_of (step s e).state other ≡ value_of (with_ready (with_ready s caller) next) other
-serves-others s e caller next server other order replies differs =
+pub serves-others : (s : State) (e : Event) (caller next server other : ℕ) → IsInOrder s → s.limits.without_lending ≡ false → RepliesThenReceives s e caller next server → other ≢ server → value_of (step s e).state other ≡ value_of (with_ready (with_ready s caller) next) other
+serves-others s e caller next server other order lends replies differs =
     after-serve (λ x. value_of x other ≡ value_of (with_ready (with_ready s caller) next) other) s e caller next server order replies
-    (λ p ran used before port number queued others runs first there calls next_is now. serve-others s order p before caller server runs first ran used port number next queued others there calls next_is now other differs)
+    (λ p ran used before port number queued others runs first there calls next_is now. serve-others s order lends p before caller server runs first ran used port number next queued others there calls next_is now other differs)
 
-pub serves-together : (s : State) (e : Event) (caller next server : ℕ) → IsInOrder s → RepliesThenReceives s e caller next server → live_value (step s e).state ≡ live_value (with_ready (with_ready s caller) next)
-serves-together s e caller next server order replies =
+pub serves-together : (s : State) (e : Event) (caller next server : ℕ) → IsInOrder s → s.limits.without_lending ≡ false → RepliesThenReceives s e caller next server → live_value (step s e).state ≡ live_value (with_ready (with_ready s caller) next)
+serves-together s e caller next server order lends replies =
     after-serve (λ x. live_value x ≡ live_value (with_ready (with_ready s caller) next)) s e caller next server order replies
-    (λ p ran used before port number queued others runs first there calls next_is now. serve-together s order p before caller server runs first ran used port number next queued others there calls next_is now)
+    (λ p ran used before port number queued others runs first there calls next_is now. serve-together s order lends p before caller server runs first ran used port number next queued others there calls next_is now)

@@ -1,5 +1,5 @@
 -- Nothing refers to a thread that was removed: tickets, lends and owners that an event makes name a thread that is there.
-use Rattle.std.proofs.Common.{◌≡◌, ◌≢◌, cond, slice_set, ℕ, zero, suc, ◌+◌, ◌-◌, ◌⊎◌, inl, inr, Bool, true, false, not, Option, Some, None, is_none, List, [], ◌∷◌, ◌++◌, Contains, length, map, position, refl, sym, ◌∙◌, ap, subst, arith, nat_lt, option_map, option_and_then, unwrap_or, get_or, slice_get, slice_index}
+use Rattle.std.proofs.Common.{◌≡◌, ◌≢◌, cond, slice_set, ℕ, zero, suc, ◌+◌, ◌-◌, ◌⊎◌, inl, inr, Bool, true, false, not, Option, Some, None, is_none, List, [], ◌∷◌, ◌++◌, Contains, length, map, position, refl, sym, ◌∙◌, ap, subst, arith, nat_lt, option_map, option_and_then, unwrap_or, get_or, slice_get, slice_index, ◌||◌, is_some}
 use Rattle.std.specs.Prelude.{remove}
 use Rattle.std.specs.Option.{option_flatten, option_or}
 use Rattle.std.proofs.lemmas.Bool.{ltb-false}
@@ -67,7 +67,7 @@ use Rattle.lot_machine.proofs.OrderKept.{step-order, opening-order}
 use Rattle.lot_machine.specs.Change.{NewThread, PutRecord}
 use Rattle.lot_laws.specs.Reachable.{IsReachable}
 use Rattle.lot_machine.specs.Named.{thread_given}
-use Rattle.lot_laws.specs.Removed.{IsRemoved, IsNotGiven, NothingLeadsTo, NothingLeadsToRemoved, StandsNowhere}
+use Rattle.lot_laws.specs.Removed.{IsRemoved, IsNotGiven, NothingLeadsToRemoved, StandsNowhere}
 
 -- ---- whom a state refers to
 
@@ -75,7 +75,7 @@ use Rattle.lot_laws.specs.Removed.{IsRemoved, IsNotGiven, NothingLeadsTo, Nothin
 abbrev IsIn : List (Option ThreadRecord) → ℕ → Type 0
 IsIn threads t = ¬ (at_number threads t ≡ Some None)
 
--- whom tickets fund, whom threads lend to, and who owns a mutex, is so
+-- whom tickets fund, whom threads lend to if they lend, and who owns a mutex, is so
 abbrev Funded : (ℕ → Type 0) → List (Option Ticket) → Type 0
 Funded IsSo tickets = (n t : ℕ) (ticket : Ticket) → ticket_in tickets n ≡ Some ticket → ticket.target ≡ target.Thread t → IsSo t
 
@@ -86,7 +86,11 @@ abbrev Owned : (ℕ → Type 0) → List Mutex → Type 0
 Owned IsSo mutexes = (m t : ℕ) (mutex : Mutex) → at_number mutexes m ≡ Some mutex → mutex.owner ≡ Some t → IsSo t
 
 abbrev Refers : (ℕ → Type 0) → State → Type 0
-Refers IsSo s = Funded IsSo s.tickets × Lent IsSo s.records × Owned IsSo s.mutexes
+Refers IsSo s = Funded IsSo s.tickets × Lent (λ t. s.limits.without_lending ≡ false → IsSo t) s.records × Owned IsSo s.mutexes
+
+-- the thread wasn't removed, if threads lend
+abbrev LentIn : State → ℕ → Type 0
+LentIn s t = s.limits.without_lending ≡ false → IsIn s.threads t
 
 -- the state refers only to threads that are there
 abbrev RefersIn : State → Type 0
@@ -104,8 +108,9 @@ ticket-edge : (f : Funding) (n t : ℕ) (ticket : Ticket) → ticket_at f n ≡ 
 ticket-edge f n t ticket at is =
     ap (option_and_then (λ (x : Ticket). option_map (pair (Currency x.issuer)) (target_node x.target))) at ∙ ap (λ (to : Target). option_map (pair (Currency ticket.issuer)) (target_node to)) is
 
-lend-edge : (s : State) (u t : ℕ) → status_of s.records u ≡ Some (status.Served t) → ends_of (funding_of s) (OfLender u) ≡ Some (pair (Thread u) (Thread t))
-lend-edge s u t is = ap (option_and_then (λ (lend : Lend). option_map (pair (Thread u)) (lend_node lend))) (lend-at s.records u (status.Served t) is)
+lend-edge : (s : State) (u t : ℕ) → s.limits.without_lending ≡ false → status_of s.records u ≡ Some (status.Served t) → ends_of (funding_of s) (OfLender u) ≡ Some (pair (Thread u) (Thread t))
+lend-edge s u t on is =
+    ap (option_and_then (λ (lend : Lend). option_map (pair (Thread u)) (lend_node lend))) (lend-at s.limits.without_lending s.records u (status.Served t) is ∙ ap (λ (without : Bool). Some (lend_of without (status.Served t))) on)
 
 owner-edge : (s : State) (m t : ℕ) (mutex : Mutex) → at_number s.mutexes m ≡ Some mutex → mutex.owner ≡ Some t → ends_of (funding_of s) (OfMutex m) ≡ Some (pair (MutexNode m) (Thread t))
 owner-edge s m t mutex at is =
@@ -115,7 +120,7 @@ owner-edge s m t mutex at is =
 refers-from : (s : State) → NothingLeadsToRemoved s → RefersIn s
 refers-from s none = (
   λ n t ticket at is gone. none t gone (Currency ticket.issuer) (OfTicket n, ticket-edge (funding_of s) n t ticket at is),
-  λ u t is gone. none t gone (Thread u) (OfLender u, lend-edge s u t is),
+  λ u t is on gone. none t gone (Thread u) (OfLender u, lend-edge s u t on is),
   λ m t mutex at is gone. none t gone (MutexNode m) (OfMutex m, owner-edge s m t mutex at is),
 )
 
@@ -125,24 +130,27 @@ target-thread target.Unfunded t e = cc
 target-thread (target.Currency c) t e = cc
 target-thread (target.Thread u) t e = let same : Thread u ≡ Thread t = some-injective (Thread u) (Thread t) e in let number : u ≡ t = cc in ap target.Thread number
 
-served-thread : (now : Status) (t : ℕ) → lend_node (lend_of now) ≡ Some (Thread t) → now ≡ status.Served t
-served-thread status.Ready t e = cc
-served-thread (status.Running p used) t e = cc
-served-thread (status.Receiving p) t e = cc
-served-thread (status.Queued p) t e = cc
-served-thread (status.Served u) t e = let same : Thread u ≡ Thread t = some-injective (Thread u) (Thread t) e in let number : u ≡ t = cc in ap status.Served number
-served-thread (status.Waiting m) t e = cc
-served-thread status.Asleep t e = cc
-served-thread status.Dead t e = cc
+served-thread : (without : Bool) (now : Status) (t : ℕ) → lend_node (lend_of without now) ≡ Some (Thread t) → (without ≡ false) × (now ≡ status.Served t)
+served-thread without status.Ready t e = cc
+served-thread without (status.Running p used) t e = cc
+served-thread without (status.Receiving p) t e = cc
+served-thread without (status.Queued p) t e = cc
+served-thread true (status.Served u) t e = cc
+served-thread false (status.Served u) t e = let same : Thread u ≡ Thread t = some-injective (Thread u) (Thread t) e in let number : u ≡ t = cc in (refl, ap status.Served number)
+served-thread true (status.Waiting m) t e = cc
+served-thread false (status.Waiting m) t e = cc
+served-thread without status.Asleep t e = cc
+served-thread without status.Dead t e = cc
 
 edges-from : (s : State) → RefersIn s → NothingLeadsToRemoved s
 edges-from s refers t gone from (edge, ends) = by edge (ends-are (funding_of s) edge from (Thread t) ends)
   where
-    lent : (u : ℕ) (lend : Lend) → lend_node lend ≡ Some (Thread t) → (o : Option Record) → at_number s.records u ≡ o → option_map (λ (r : Record). lend_of r.status) o ≡ Some lend → ⊥
+    lent : (u : ℕ) (lend : Lend) → lend_node lend ≡ Some (Thread t) → (o : Option Record) → at_number s.records u ≡ o → option_map (λ (r : Record). lend_of s.limits.without_lending r.status) o ≡ Some lend → ⊥
     lent u lend to None at e = cc
     lent u lend to (Some r) at e =
-        let same : lend_of r.status ≡ lend = some-injective (lend_of r.status) lend e in
-        refers.1 u t (ap (option_map (λ (x : Record). x.status)) at ∙ ap Some (served-thread r.status t (ap lend_node same ∙ to))) gone
+        let same : lend_of s.limits.without_lending r.status ≡ lend = some-injective (lend_of s.limits.without_lending r.status) lend e in
+        let (on, serves) = served-thread s.limits.without_lending r.status t (ap lend_node same ∙ to) in
+        refers.1 u t (ap (option_map (λ (x : Record). x.status)) at ∙ ap Some serves) on gone
 
     owned : (m owner : ℕ) → Thread t ≡ Thread owner → (o : Option Mutex) → at_number s.mutexes m ≡ o → option_flatten (option_map (λ (x : Mutex). x.owner) o) ≡ Some owner → ⊥
     owned m owner to None at e = cc
@@ -150,7 +158,7 @@ edges-from s refers t gone from (edge, ends) = by edge (ends-are (funding_of s) 
 
     by : (edge : Edge) → EndsAre (funding_of s) edge from (Thread t) → ⊥
     by (OfTicket n) (ticket, at, first, to) = refers.0 n t ticket at (target-thread ticket.target t to) gone
-    by (OfLender u) (lend, at, first, to) = lent u lend to (at_number s.records u) refl (sym (at_number-map (λ (r : Record). lend_of r.status) s.records u) ∙ at)
+    by (OfLender u) (lend, at, first, to) = lent u lend to (at_number s.records u) refl (sym (at_number-map (λ (r : Record). lend_of s.limits.without_lending r.status) s.records u) ∙ at)
     by (OfMutex m) (owner, at, first, to) =
         owned m owner to (at_number s.mutexes m) refl (sym (ap option_flatten (at_number-map (λ (x : Mutex). x.owner) s.mutexes m)) ∙ at)
 
@@ -218,10 +226,10 @@ module _ (s : State) (order : IsInOrder s) where
   alive-in : (t : ℕ) → IsAlive s.records t → IsIn s.threads t
   alive-in t alive gone = alive (order.removed t gone)
 
-  module _ (lent : Lent (IsIn s.threads) s.records) (owned : Owned (IsIn s.threads) s.mutexes) where
+  module _ (lent : Lent (LentIn s) s.records) (owned : Owned (IsIn s.threads) s.mutexes) where
     -- the effect refers only to threads that are there, and so does how the thread leaves its processor
     abbrev IsGood : Effect → Type 0
-    IsGood e = Lent (IsIn s.threads) e.state.records × Owned (IsIn s.threads) e.state.mutexes × ((t : ℕ) → e.after ≡ Leaves (status.Served t) → IsIn s.threads t)
+    IsGood e = Lent (LentIn s) e.state.records × Owned (IsIn s.threads) e.state.mutexes × ((t : ℕ) → e.after ≡ Leaves (status.Served t) → IsIn s.threads t)
 
     call-good : (t port number : ℕ) → IsGood (of_ports s (call s.records s.clients s.ports t port number))
     call-good t port number = at (port_at s.ports port).receivers refl
@@ -230,21 +238,21 @@ module _ (s : State) (order : IsInOrder s) where
         at [] is = rw is (lent, owned, λ u e. cc)
         at (server ∷ others) is =
             let here = alive-in server (receiver-alive s.records s.clients s.ports s.mutexes order.queues port server others is) in
-            let woken = lent-changed (IsIn s.threads) (λ r. record r { status = status.Ready; delivered = Some number }) s.records server (λ r u e. cc) lent in
+            let woken = lent-changed (LentIn s) (λ r. record r { status = status.Ready; delivered = Some number }) s.records server (λ r u e. cc) lent in
             rw is (woken, owned, λ u e. subst (IsIn s.threads) (served-same server u (leaves-same (status.Served server) (status.Served u) e)) here)
 
-    receive-good : (a : State) (server port : ℕ) → IsIn s.threads server → Lent (IsIn s.threads) a.records → Owned (IsIn s.threads) a.mutexes → IsGood (of_ports a (receive a.records a.clients a.ports server port))
+    receive-good : (a : State) (server port : ℕ) → IsIn s.threads server → Lent (LentIn s) a.records → Owned (IsIn s.threads) a.mutexes → IsGood (of_ports a (receive a.records a.clients a.ports server port))
     receive-good a server port here lends owns = at (port_at a.ports port).calls refl
       where
         at : (o : List QueuedCall) → (port_at a.ports port).calls ≡ o → IsGood (of_ports a (receive a.records a.clients a.ports server port))
         at [] is = rw is (lends, owns, λ u e. cc)
         at (first ∷ others) is =
-            let taken = lent-changed (IsIn s.threads) (λ r. record r { status = status.Served server }) a.records first.caller (λ r u e. subst (IsIn s.threads) (served-same server u e) here) lends in
+            let taken = lent-changed (LentIn s) (λ r. record r { status = status.Served server }) a.records first.caller (λ r u e on. subst (IsIn s.threads) (served-same server u e) here) lends in
             rw is (taken, owns, λ u e. cc)
 
     reply-good : (server number : ℕ) → IsGood (of_ports s (reply s.records s.clients s.ports server number))
     reply-good server number =
-        (lent-changed (IsIn s.threads) (λ r. record r { status = status.Ready; delivered = Some number }) s.records (unwrap_or (first_client s.clients server) 0) (λ r u e. cc) lent, owned, λ u e. cc)
+        (lent-changed (LentIn s) (λ r. record r { status = status.Ready; delivered = Some number }) s.records (unwrap_or (first_client s.clients server) 0) (λ r u e. cc) lent, owned, λ u e. cc)
 
     owner-kept : (m t : ℕ) → (mutex_at s.mutexes m).owner ≡ Some t → IsIn s.threads t
     owner-kept m t = by (at_number s.mutexes m) refl
@@ -271,7 +279,7 @@ module _ (s : State) (order : IsInOrder s) where
             let place = unwrap_or (option_map (λ (drawn : Drawn). drawn.place) (winner (map value (w ∷ ws)) d)) 0 in
             let passed = slice_index (w ∷ ws) place in
             let here = alive-in passed (waiter-alive s.records s.clients s.ports s.mutexes order.queues m place (w ∷ ws) is) in
-            let woken = lent-changed (IsIn s.threads) (λ r. record r { status = status.Ready }) s.records passed (λ r u e. cc) lent in
+            let woken = lent-changed (LentIn s) (λ r. record r { status = status.Ready }) s.records passed (λ r u e. cc) lent in
             rw is (woken, owned-set (IsIn s.threads) s.mutexes m (record { owner = Some passed; waiters = remove (w ∷ ws) place }) (λ u e. subst (IsIn s.threads) (some-injective passed u e) here) owned, λ u e. cc)
 
     effect-good : (t : ℕ) (action : Action) → IsIn s.threads t → IsGood (trap_effect s t action)
@@ -291,13 +299,13 @@ module _ (s : State) (order : IsInOrder s) where
 
     -- lends and owners after an event
     abbrev LendsWell : State → Type 0
-    LendsWell a = Lent (IsIn s.threads) a.records × Owned (IsIn s.threads) a.mutexes
+    LendsWell a = Lent (LentIn s) a.records × Owned (IsIn s.threads) a.mutexes
 
     trap-good : (p t used ran : ℕ) (action : Action) → IsIn s.threads t → LendsWell (trap s p t used ran action).state
     trap-good p t used ran action here =
         let effect = checked_effect s (trap_refusal s t action) (trap_effect s t action) in
         let good = checked-good t action (trap_refusal s t action) here in
-        (lent-changed (IsIn s.threads) (λ r. with_ticks (ran + 1) (after_trap effect.after p (used + ran + 1) s.limits r)) effect.state.records t (λ r u e. new effect.after good.2 r u e) good.0, good.1)
+        (lent-changed (LentIn s) (λ r. with_ticks (ran + 1) (after_trap effect.after p (used + ran + 1) s.limits r)) effect.state.records t (λ r u e on. new effect.after good.2 r u e) good.0, good.1)
       where
         new : (after : After) → ((u : ℕ) → after ≡ Leaves (status.Served u) → IsIn s.threads u) → (r : Record) (u : ℕ) → (after_trap after p (used + ran + 1) s.limits r).status ≡ status.Served u → IsIn s.threads u
         new GoesOn leaves r u e = at (nat_lt (used + ran + 1) s.limits.quantum) refl
@@ -313,23 +321,23 @@ module _ (s : State) (order : IsInOrder s) where
       where
         at : (o : Option Drawn) → winner (map (weight_of s) (ready_threads s.records)) d ≡ o → LendsWell (draw s p d).state
         at None is = rw is (lent, owned)
-        at (Some w) is = rw is (lent-changed (IsIn s.threads) (started p) s.records (slice_index (ready_threads s.records) w.place) (λ r u e. cc) lent, owned)
+        at (Some w) is = rw is (lent-changed (LentIn s) (started p) s.records (slice_index (ready_threads s.records) w.place) (λ r u e. cc) lent, owned)
 
     stopped-good : (t ticks : ℕ) (compensation : Option ℕ) → LendsWell (stopped s t ticks compensation).state
     stopped-good t ticks compensation =
-        (lent-changed (IsIn s.threads) (λ r. with_ticks ticks (record r { status = status.Ready; compensation = compensation })) s.records t (λ r u e. cc) lent, owned)
+        (lent-changed (LentIn s) (λ r. with_ticks ticks (record r { status = status.Ready; compensation = compensation })) s.records t (λ r u e. cc) lent, owned)
 
     wake-good : (t : ℕ) → LendsWell (wake s t).state
-    wake-good t = (lent-changed (IsIn s.threads) (λ r. record r { status = status.Ready }) s.records t (λ r u e. cc) lent, owned)
+    wake-good t = (lent-changed (LentIn s) (λ r. record r { status = status.Ready }) s.records t (λ r u e. cc) lent, owned)
 
     -- a kill
     kill-good : (t : ℕ) → LendsWell (killed s t)
     kill-good t = (lends, owns)
       where
-        lends : Lent (IsIn s.threads) (killed s t).records
+        lends : Lent (LentIn s) (killed s t).records
         lends u v is = from (killed-either s t u)
           where
-            from : (status_of (killed s t).records u ≡ status_of s.records u) ⊎ ((status_of (killed s t).records u ≡ Some status.Ready) ⊎ (status_of (killed s t).records u ≡ Some status.Dead)) → IsIn s.threads v
+            from : (status_of (killed s t).records u ≡ status_of s.records u) ⊎ ((status_of (killed s t).records u ≡ Some status.Ready) ⊎ (status_of (killed s t).records u ≡ Some status.Dead)) → LentIn s v
             from (inl same) = lent u v (sym same ∙ is)
             from (inr (inl ready)) = let never : Some status.Ready ≡ Some (status.Served v) = sym ready ∙ is in cc
             from (inr (inr dead)) = let never : Some status.Dead ≡ Some (status.Served v) = sym dead ∙ is in cc
@@ -378,7 +386,7 @@ other-refers : (s : State) (e : Event) → ¬ (by_event s e ≡ Console) → IsI
 other-refers s e other order refers =
     let good = other-good s order refers.1 refers.2 e other in
     let funded : Funded (IsIn s.threads) (step s e).state.tickets = subst (Funded (IsIn s.threads)) (sym (other-tickets s e other)) refers.0 in
-    subst (λ threads. Refers (IsIn threads) (step s e).state) (sym (other-sizes s e other).2) (funded, good.0, good.1)
+    subst (λ threads. Refers (IsIn threads) (step s e).state) (sym (other-sizes s e other).2) (funded, λ u t is on. good.0 u t is (sym (ap (λ (l : Sizes). l.without_lending) (step-limits s e)) ∙ on), good.1)
 
 -- ---- commands
 
@@ -464,7 +472,7 @@ refers-more s name script (funded, lent, owned) =
     let threads = placed s.threads (free_threads s) (Some (record { name = name; script = script })) in
     let more : (t : ℕ) → IsIn s.threads t → IsIn threads t = in-more s.threads (free_threads s) (record { name = name; script = script }) in (
       λ n t ticket at is. more t (funded n t ticket at is),
-      lent-more (IsIn threads) s.records (free_threads s) newborn refl (λ u t is. more t (lent u t is)),
+      lent-more (λ t. s.limits.without_lending ≡ false → IsIn threads t) s.records (free_threads s) newborn refl (λ u t is on. more t (lent u t is on)),
       λ m t mutex at is. more t (owned m t mutex at is),
     )
 
@@ -472,7 +480,7 @@ refers-more s name script (funded, lent, owned) =
 refers-dropped : (s : State) (gone : ℕ) → status_of s.records gone ≡ Some status.Dead → nat_lt 0 (edge_count_into (funding_of s) (Thread gone)) ≡ false → RefersIn s → RefersIn (record s { threads = set_number s.threads gone None })
 refers-dropped s gone dead none (funded, lent, owned) = (
   λ n t ticket at is. still t (funded n t ticket at is) (λ same. unused (funding_of s) (Thread gone) none (OfTicket n) (Currency ticket.issuer) (ticket-edge (funding_of s) n gone ticket at (is ∙ ap target.Thread same))),
-  λ u t is. still t (lent u t is) (λ same. unused (funding_of s) (Thread gone) none (OfLender u) (Thread u) (lend-edge s u gone (is ∙ ap (λ k. Some (status.Served k)) same))),
+  λ u t is on. still t (lent u t is on) (λ same. unused (funding_of s) (Thread gone) none (OfLender u) (Thread u) (lend-edge s u gone on (is ∙ ap (λ k. Some (status.Served k)) same))),
   λ m t mutex at is. still t (owned m t mutex at is) (λ same. unused (funding_of s) (Thread gone) none (OfMutex m) (MutexNode m) (owner-edge s m gone mutex at (is ∙ ap Some same))),
 )
   where
@@ -505,9 +513,13 @@ command-refers s (RemoveThread thread) order refers =
     holds true e = refl
     holds false e = cc
 
+    neither : (a b : Bool) → (a || b) ≡ false → a ≡ false
+    neither true b e = cc
+    neither false b e = refl
+
     by : (o : Option ℕ) → is_none o ≡ false → not (option_any (is_dead_in s) o) ≡ false → option_any (is_thread_in_use s) o ≡ false → RefersIn (record s { threads = set_number s.threads (unwrap_or o 0) None })
     by None named alive used = cc
-    by (Some t) named alive used = refers-dropped s t (is-dead (status_of s.records t) (holds (is_dead_in s t) alive)) used refers
+    by (Some t) named alive used = refers-dropped s t (is-dead (status_of s.records t) (holds (is_dead_in s t) alive)) (neither (nat_lt 0 (edge_count_into (funding_of s) (Thread t))) (is_some (first_client s.clients t)) used) refers
 command-refers s (MakeFunded amount currency name script) order refers =
     unrefused RefersIn s _ (command_effect s (MakeFunded amount currency name script)) refers (λ _.
     let made : ThreadRecord = record { name = name; script = script } in
@@ -561,12 +573,6 @@ module _ (s : State) (order : IsInOrder s) where
     waiters = λ m mutex at. out (status.Waiting m) (λ e. cc) mutex.waiters (order.queues.waiters m mutex at) t dead;
     served = λ server clients at. out (status.Served server) (λ e. cc) clients (order.queues.served server clients at) t dead;
   }
-
-  -- who serves a thread is lent to by it
-  pub serves-nobody : (t : ℕ) → NothingLeadsTo (funding_of s) t → (clients : List ℕ) → at_number s.clients t ≡ Some clients → clients ≡ []
-  serves-nobody t none [] at = refl
-  serves-nobody t none (client ∷ clients) at =
-      absurd (none (Thread client) (OfLender client, lend-edge s client t ((order.queues.served t (client ∷ clients) at).each 0 client refl)))
 
 pub stands-nowhere : (s : State) (t : ℕ) → IsInOrder s → IsRemoved s t → StandsNowhere s t
 stands-nowhere s t order gone = dead-nowhere s order t (order.removed t gone)

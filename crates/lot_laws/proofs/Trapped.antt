@@ -65,10 +65,10 @@ module _ (s : State) (p ran : ℕ) (action : Action) (t ticks : ℕ) (outcome : 
 
 -- ---- what records say
 
-pub lend-is : (records : List Record) (u : ℕ) → at_number (map (λ (r : Record). lend_of r.status) records) u ≡ option_map lend_of (status_of records u)
-lend-is records u = at_number-map (λ (r : Record). lend_of r.status) records u ∙ by (at_number records u)
+pub lend-is : (without : Bool) (records : List Record) (u : ℕ) → at_number (map (λ (r : Record). lend_of without r.status) records) u ≡ option_map (lend_of without) (status_of records u)
+lend-is without records u = at_number-map (λ (r : Record). lend_of without r.status) records u ∙ by (at_number records u)
   where
-    by : (o : Option Record) → option_map (λ (r : Record). lend_of r.status) o ≡ option_map lend_of (option_map (λ (r : Record). r.status) o)
+    by : (o : Option Record) → option_map (λ (r : Record). lend_of without r.status) o ≡ option_map (lend_of without) (option_map (λ (r : Record). r.status) o)
     by None = refl
     by (Some r) = refl
 
@@ -80,9 +80,9 @@ live-is records u = at_number-map (λ (r : Record). is_live_status r.status) rec
     by (Some r) = refl
 
 -- a thread that goes on after its trap lends to nobody, and is live
-pub goes-on : (ticks p used : ℕ) (limits : Sizes) (r : Record) → (lend_of (with_ticks ticks (after_trap GoesOn p used limits r)).status ≡ Nobody) × (is_live_status (with_ticks ticks (after_trap GoesOn p used limits r)).status ≡ true)
-goes-on ticks p used limits r = by (nat_lt used limits.quantum) refl
+pub goes-on : (without : Bool) (ticks p used : ℕ) (limits : Sizes) (r : Record) → (lend_of without (with_ticks ticks (after_trap GoesOn p used limits r)).status ≡ Nobody) × (is_live_status (with_ticks ticks (after_trap GoesOn p used limits r)).status ≡ true)
+goes-on without ticks p used limits r = by (nat_lt used limits.quantum) refl
   where
-    by : (b : Bool) → nat_lt used limits.quantum ≡ b → (lend_of (with_ticks ticks (after_trap GoesOn p used limits r)).status ≡ Nobody) × (is_live_status (with_ticks ticks (after_trap GoesOn p used limits r)).status ≡ true)
+    by : (b : Bool) → nat_lt used limits.quantum ≡ b → (lend_of without (with_ticks ticks (after_trap GoesOn p used limits r)).status ≡ Nobody) × (is_live_status (with_ticks ticks (after_trap GoesOn p used limits r)).status ≡ true)
     by true is = rw is (refl, refl)
     by false is = rw is (refl, refl)

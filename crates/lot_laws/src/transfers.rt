@@ -1,6 +1,6 @@
 //! Transfers lose nothing: a thread that blocks passes its value to the thread that it waits for, and gets it back
-//! with the reply (3.1, 4.6, 6.1).
-ghost use Rattle.std.specs.Prelude.{◌≡◌, ◌≢◌, ◌+◌, ℕ};
+//! with the reply (3.1, 4.6, 6.1), unless the kernel is without lending.
+ghost use Rattle.std.specs.Prelude.{◌≡◌, ◌≢◌, ◌+◌, ℕ, false};
 ghost use Rattle.lot_machine.specs.declared.event.Event.{Event};
 ghost use Rattle.lot_machine.specs.Lends.{LendsLead, IsBacked};
 ghost use Rattle.lot_machine.specs.State.{State, funding_of, live_of, value_of};
@@ -14,12 +14,15 @@ ghost use Rattle.lot_laws.specs.Transfers.{RepliesThenReceives, WaitsFor, OwnsNo
 /// Every other thread, and the caller, keeps its value, and so does the sum over the live threads.
 pub fn calls_transfer_value()
     ensures before { (s : State) (server : ℕ) → IsInOrder s → OwnsNothing s server → value_of s server ≡ 0 }
-    ensures server { (s : State) (e : Event) (caller server : ℕ) → IsInOrder s → TakesCall s e caller server
+    ensures server { (s : State) (e : Event) (caller server : ℕ) → IsInOrder s
+        → s.limits.without_lending ≡ false → TakesCall s e caller server
         → OwnsNothing s server → value_of (step s e).state server ≡ value_of s caller }
-    ensures others { (s : State) (e : Event) (caller server other : ℕ) → IsInOrder s → TakesCall s e caller server
+    ensures others { (s : State) (e : Event) (caller server other : ℕ) → IsInOrder s
+        → s.limits.without_lending ≡ false → TakesCall s e caller server
         → OwnsNothing s server → other ≢ server
         → value_of (step s e).state other ≡ value_of s other }
-    ensures together { (s : State) (e : Event) (caller server : ℕ) → IsInOrder s → TakesCall s e caller server
+    ensures together { (s : State) (e : Event) (caller server : ℕ) → IsInOrder s
+        → s.limits.without_lending ≡ false → TakesCall s e caller server
         → OwnsNothing s server → live_value (step s e).state ≡ live_value s }
 {}
 
@@ -28,32 +31,39 @@ pub fn calls_transfer_value()
 pub fn receipts_transfer_value()
     ensures queued { (s : State) (e : Event) (caller server : ℕ) → IsInOrder s → TakesQueuedCall s e caller server
         → value_of s caller ≡ 0 }
-    ensures server { (s : State) (e : Event) (caller server : ℕ) → IsInOrder s → TakesQueuedCall s e caller server
+    ensures server { (s : State) (e : Event) (caller server : ℕ) → IsInOrder s
+        → s.limits.without_lending ≡ false → TakesQueuedCall s e caller server
         → value_of (step s e).state server
         ≡ value_of (with_ready s caller) server + value_of (with_ready s caller) caller }
-    ensures alone { (s : State) (e : Event) (caller server : ℕ) → IsInOrder s → TakesQueuedCall s e caller server
+    ensures alone { (s : State) (e : Event) (caller server : ℕ) → IsInOrder s
+        → s.limits.without_lending ≡ false → TakesQueuedCall s e caller server
         → OwnsNothing s server
         → value_of (step s e).state server ≡ value_of (with_ready s caller) caller }
     ensures others { (s : State) (e : Event) (caller server other : ℕ) → IsInOrder s
-        → TakesQueuedCall s e caller server → other ≢ server
+        → s.limits.without_lending ≡ false → TakesQueuedCall s e caller server → other ≢ server
         → value_of (step s e).state other ≡ value_of (with_ready s caller) other }
-    ensures together { (s : State) (e : Event) (caller server : ℕ) → IsInOrder s → TakesQueuedCall s e caller server
+    ensures together { (s : State) (e : Event) (caller server : ℕ) → IsInOrder s
+        → s.limits.without_lending ≡ false → TakesQueuedCall s e caller server
         → live_value (step s e).state ≡ live_value (with_ready s caller) }
 {}
 
 /// A queued call that a running server takes in the next event transfers as much as a call that a waiting server
 /// takes at once.
 pub fn queued_calls_transfer_value()
-    ensures server { (s : State) (e next : Event) (caller server : ℕ) → IsInOrder s → QueuesCall s e caller
+    ensures server { (s : State) (e next : Event) (caller server : ℕ) → IsInOrder s
+        → s.limits.without_lending ≡ false → QueuesCall s e caller
         → TakesQueuedCall (step s e).state next caller server
         → value_of (step (step s e).state next).state server ≡ value_of s server + value_of s caller }
-    ensures alone { (s : State) (e next : Event) (caller server : ℕ) → IsInOrder s → QueuesCall s e caller
+    ensures alone { (s : State) (e next : Event) (caller server : ℕ) → IsInOrder s
+        → s.limits.without_lending ≡ false → QueuesCall s e caller
         → TakesQueuedCall (step s e).state next caller server → OwnsNothing s server
         → value_of (step (step s e).state next).state server ≡ value_of s caller }
-    ensures others { (s : State) (e next : Event) (caller server other : ℕ) → IsInOrder s → QueuesCall s e caller
+    ensures others { (s : State) (e next : Event) (caller server other : ℕ) → IsInOrder s
+        → s.limits.without_lending ≡ false → QueuesCall s e caller
         → TakesQueuedCall (step s e).state next caller server → other ≢ server
         → value_of (step (step s e).state next).state other ≡ value_of s other }
-    ensures together { (s : State) (e next : Event) (caller server : ℕ) → IsInOrder s → QueuesCall s e caller
+    ensures together { (s : State) (e next : Event) (caller server : ℕ) → IsInOrder s
+        → s.limits.without_lending ≡ false → QueuesCall s e caller
         → TakesQueuedCall (step s e).state next caller server
         → live_value (step (step s e).state next).state ≡ live_value s }
 {}
@@ -61,28 +71,34 @@ pub fn queued_calls_transfer_value()
 /// A server that replies gives back exactly what the caller is worth, which is all that it had if it is left with
 /// nothing. Every other thread, and the caller, keeps its value, and so does the sum over the live threads.
 pub fn replies_return_value()
-    ensures server { (s : State) (e : Event) (caller server : ℕ) → IsInOrder s → RepliesTo s e caller server
+    ensures server { (s : State) (e : Event) (caller server : ℕ) → IsInOrder s
+        → s.limits.without_lending ≡ false → RepliesTo s e caller server
         → value_of s server ≡ value_of (step s e).state server + value_of s caller }
-    ensures alone { (s : State) (e : Event) (caller server : ℕ) → IsInOrder s → RepliesTo s e caller server
+    ensures alone { (s : State) (e : Event) (caller server : ℕ) → IsInOrder s
+        → s.limits.without_lending ≡ false → RepliesTo s e caller server
         → OwnsNothing (step s e).state server → value_of s server ≡ value_of s caller }
-    ensures caller { (s : State) (e : Event) (caller server : ℕ) → IsInOrder s → RepliesTo s e caller server
+    ensures caller { (s : State) (e : Event) (caller server : ℕ) → IsInOrder s
+        → s.limits.without_lending ≡ false → RepliesTo s e caller server
         → value_of (step s e).state caller ≡ value_of s caller }
-    ensures others { (s : State) (e : Event) (caller server other : ℕ) → IsInOrder s → RepliesTo s e caller server
+    ensures others { (s : State) (e : Event) (caller server other : ℕ) → IsInOrder s
+        → s.limits.without_lending ≡ false → RepliesTo s e caller server
         → other ≢ server → value_of (step s e).state other ≡ value_of s other }
-    ensures together { (s : State) (e : Event) (caller server : ℕ) → IsInOrder s → RepliesTo s e caller server
+    ensures together { (s : State) (e : Event) (caller server : ℕ) → IsInOrder s
+        → s.limits.without_lending ≡ false → RepliesTo s e caller server
         → live_value (step s e).state ≡ live_value s }
 {}
 
 /// A server that replies and then waits for a call, in one trap, and is left with nothing, gives back as much as with
 /// a reply alone.
 pub fn servings_return_value()
-    ensures server { (s : State) (e : Event) (caller server : ℕ) → IsInOrder s → RepliesThenWaits s e caller server
+    ensures server { (s : State) (e : Event) (caller server : ℕ) → IsInOrder s
+        → s.limits.without_lending ≡ false → RepliesThenWaits s e caller server
         → OwnsNothing (step s e).state server → value_of s server ≡ value_of s caller }
     ensures others { (s : State) (e : Event) (caller server other : ℕ) → IsInOrder s
-        → RepliesThenWaits s e caller server → other ≢ server → OwnsNothing (step s e).state server
+        → s.limits.without_lending ≡ false → RepliesThenWaits s e caller server → other ≢ server → OwnsNothing (step s e).state server
         → value_of (step s e).state other ≡ value_of s other }
     ensures together { (s : State) (e : Event) (caller server : ℕ) → IsInOrder s
-        → RepliesThenWaits s e caller server → OwnsNothing (step s e).state server
+        → s.limits.without_lending ≡ false → RepliesThenWaits s e caller server → OwnsNothing (step s e).state server
         → live_value (step s e).state ≡ live_value s }
 {}
 
@@ -90,15 +106,15 @@ pub fn servings_return_value()
 /// worth if both callers were Ready; all other values and the sum are as in that case.
 pub fn servings_transfer_value()
     ensures server { (s : State) (e : Event) (caller next server : ℕ) → IsInOrder s
-        → RepliesThenReceives s e caller next server
+        → s.limits.without_lending ≡ false → RepliesThenReceives s e caller next server
         → value_of (step s e).state server
         ≡ value_of (with_ready (with_ready s caller) next) server
         + value_of (with_ready (with_ready s caller) next) next }
     ensures others { (s : State) (e : Event) (caller next server other : ℕ) → IsInOrder s
-        → RepliesThenReceives s e caller next server → other ≢ server
+        → s.limits.without_lending ≡ false → RepliesThenReceives s e caller next server → other ≢ server
         → value_of (step s e).state other ≡ value_of (with_ready (with_ready s caller) next) other }
     ensures together { (s : State) (e : Event) (caller next server : ℕ) → IsInOrder s
-        → RepliesThenReceives s e caller next server
+        → s.limits.without_lending ≡ false → RepliesThenReceives s e caller next server
         → live_value (step s e).state ≡ live_value (with_ready (with_ready s caller) next) }
 {}
 
@@ -107,18 +123,23 @@ pub fn servings_transfer_value()
 /// and so does the sum over the live threads. The owner must be backed: otherwise the waiter's value goes to no live
 /// thread, as `worked::transfers::owner_not_backed` shows.
 pub fn waits_transfer_value()
-    ensures owner { (s : State) (e : Event) (t owner : ℕ) → IsInOrder s → WaitsFor s e t owner
+    ensures owner { (s : State) (e : Event) (t owner : ℕ) → IsInOrder s
+        → s.limits.without_lending ≡ false → WaitsFor s e t owner
         → IsBacked (funding_of s) (live_of s) owner
         → value_of (step s e).state owner ≡ value_of s owner + value_of s t }
-    ensures alone { (s : State) (e : Event) (t owner : ℕ) → IsInOrder s → WaitsFor s e t owner
+    ensures alone { (s : State) (e : Event) (t owner : ℕ) → IsInOrder s
+        → s.limits.without_lending ≡ false → WaitsFor s e t owner
         → IsBacked (funding_of s) (live_of s) owner → OwnsNothing s owner
         → value_of (step s e).state owner ≡ value_of s t }
-    ensures behind { (s : State) (e : Event) (t owner behind : ℕ) → IsInOrder s → WaitsFor s e t owner
+    ensures behind { (s : State) (e : Event) (t owner behind : ℕ) → IsInOrder s
+        → s.limits.without_lending ≡ false → WaitsFor s e t owner
         → IsBacked (funding_of s) (live_of s) owner → LendsLead (funding_of s) owner behind
         → value_of (step s e).state behind ≡ value_of s behind + value_of s t }
-    ensures others { (s : State) (e : Event) (t owner other : ℕ) → IsInOrder s → WaitsFor s e t owner
+    ensures others { (s : State) (e : Event) (t owner other : ℕ) → IsInOrder s
+        → s.limits.without_lending ≡ false → WaitsFor s e t owner
         → IsBacked (funding_of s) (live_of s) owner → ¬ LendsLead (funding_of s) owner other
         → value_of (step s e).state other ≡ value_of s other }
-    ensures together { (s : State) (e : Event) (t owner : ℕ) → IsInOrder s → WaitsFor s e t owner
+    ensures together { (s : State) (e : Event) (t owner : ℕ) → IsInOrder s
+        → s.limits.without_lending ≡ false → WaitsFor s e t owner
         → IsBacked (funding_of s) (live_of s) owner → live_value (step s e).state ≡ live_value s }
 {}

@@ -1,5 +1,5 @@
 -- After a kill nothing makes a cycle, and those who wait stand where their statuses say.
-use Rattle.std.proofs.Common.{◌≡◌, ℕ, suc, ◌-◌, ◌==◌, Bool, true, false, not, ◌⊎◌, inl, inr, Option, Some, None, List, [], ◌∷◌, map, refl, sym, ◌∙◌, ap, subst, option_map, option_and_then, unwrap_or, slice_get}
+use Rattle.std.proofs.Common.{◌≡◌, ℕ, zero, suc, arith, cond, ◌-◌, ◌==◌, Bool, true, false, not, ◌⊎◌, inl, inr, Option, Some, None, List, [], ◌∷◌, map, refl, sym, ◌∙◌, ap, subst, option_map, option_and_then, unwrap_or, slice_get}
 use Rattle.std.specs.Option.{option_flatten}
 use Rattle.std.proofs.lemmas.Bool.{cases_eq}
 use Rattle.lot_machine.specs.declared.record.Record.{Record}
@@ -19,24 +19,24 @@ use Rattle.lot_machine.proofs.Paths.{IsEnd, steps-to-ends}
 use Rattle.lot_machine.proofs.Changes.{number-set}
 use Rattle.lot_machine.proofs.Tickets.{some-injective}
 use Rattle.lot_machine.proofs.LendsKept.{no-lend-return, no-lend-back}
-use Rattle.lot_machine.proofs.Queues.{number-set_same, queue-empty, queue-rest, absent-rest, status-other}
+use Rattle.lot_machine.proofs.Queues.{IsAbsent, number-set_same, queue-empty, queue-rest, absent-rest, status-other}
 use Rattle.lot_machine.proofs.TrapCycles.{at_number-map, lend-at}
-use Rattle.lot_machine.proofs.Killed.{IsAmong, IsHeir, owner-either, heir-released, without-other, queue-filter, queue-kept, callers-without, each-either, each-now, stands-still, killed-either}
+use Rattle.lot_machine.proofs.Killed.{filter-was, passed-first, IsAmong, IsHeir, owner-either, heir-released, without-other, queue-filter, queue-kept, callers-without, each-either, each-now, stands-still, killed-either}
 
 -- ---- lends
 
 -- who lends to a thread has a status that says so
-pub lends-by : (s : State) (u v : ℕ) → LendsTo (funding_of s) u v → (now : Status) × (status_of s.records u ≡ Some now) × (borrower (funding_of s) (lend_of now) ≡ Some v)
-lends-by s u v lends = from (at_number s.records u) refl (ap (option_and_then (borrower (funding_of s))) (sym (at_number-map (λ (r : Record). lend_of r.status) s.records u)) ∙ lends)
+pub lends-by : (s : State) (u v : ℕ) → LendsTo (funding_of s) u v → (now : Status) × (status_of s.records u ≡ Some now) × (borrower (funding_of s) (lend_of s.limits.without_lending now) ≡ Some v)
+lends-by s u v lends = from (at_number s.records u) refl (ap (option_and_then (borrower (funding_of s))) (sym (at_number-map (λ (r : Record). lend_of s.limits.without_lending r.status) s.records u)) ∙ lends)
   where
-    from : (o : Option Record) → at_number s.records u ≡ o → option_and_then (borrower (funding_of s)) (option_map (λ (r : Record). lend_of r.status) o) ≡ Some v
-        → (now : Status) × (status_of s.records u ≡ Some now) × (borrower (funding_of s) (lend_of now) ≡ Some v)
+    from : (o : Option Record) → at_number s.records u ≡ o → option_and_then (borrower (funding_of s)) (option_map (λ (r : Record). lend_of s.limits.without_lending r.status) o) ≡ Some v
+        → (now : Status) × (status_of s.records u ≡ Some now) × (borrower (funding_of s) (lend_of s.limits.without_lending now) ≡ Some v)
     from None is e = cc
     from (Some r) is e = (r.status, ap (option_map (λ (x : Record). x.status)) is, e)
 
 -- and the other way round
-pub lends-of : (s : State) (u v : ℕ) (now : Status) → status_of s.records u ≡ Some now → borrower (funding_of s) (lend_of now) ≡ Some v → LendsTo (funding_of s) u v
-lends-of s u v now is to = ap (option_and_then (borrower (funding_of s))) (lend-at s.records u now is) ∙ to
+pub lends-of : (s : State) (u v : ℕ) (now : Status) → status_of s.records u ≡ Some now → borrower (funding_of s) (lend_of s.limits.without_lending now) ≡ Some v → LendsTo (funding_of s) u v
+lends-of s u v now is to = ap (option_and_then (borrower (funding_of s))) (lend-at s.limits.without_lending s.records u now is) ∙ to
 
 module _ (s : State) (t : ℕ) where
   -- an heir is Ready, if it is there
@@ -65,9 +65,9 @@ module _ (s : State) (t : ℕ) where
   heir-ends : (u : ℕ) → IsHeir s t u → IsEnd (LendsTo (funding_of (killed s t))) u
   heir-ends u why v lends = from (lends-by (killed s t) u v lends) (heir-idle u why)
     where
-      from : ((now : Status) × (status_of (killed s t).records u ≡ Some now) × (borrower (funding_of (killed s t)) (lend_of now) ≡ Some v))
+      from : ((now : Status) × (status_of (killed s t).records u ≡ Some now) × (borrower (funding_of (killed s t)) (lend_of s.limits.without_lending now) ≡ Some v))
           → (status_of (killed s t).records u ≡ Some status.Ready) ⊎ (status_of (killed s t).records u ≡ None) → ⊥
-      from (now, is, to) (inl ready) = let same : now ≡ status.Ready = some-injective now status.Ready (sym is ∙ ready) in let none : None ≡ Some v = sym (ap (λ x. borrower (funding_of (killed s t)) (lend_of x)) same) ∙ to in cc
+      from (now, is, to) (inl ready) = let same : now ≡ status.Ready = some-injective now status.Ready (sym is ∙ ready) in let none : None ≡ Some v = sym (ap (λ x. borrower (funding_of (killed s t)) (lend_of s.limits.without_lending x)) same) ∙ to in cc
       from (now, is, to) (inr none) = let never : None ≡ Some now = sym none ∙ is in cc
 
   -- whoever gets a lend got it before, or is an heir
@@ -93,17 +93,17 @@ module _ (s : State) (t : ℕ) where
   lends-either : (u v : ℕ) → LendsTo (funding_of (killed s t)) u v → LendsTo (funding_of s) u v ⊎ IsEnd (LendsTo (funding_of (killed s t))) v
   lends-either u v lends = from (lends-by (killed s t) u v lends) (killed-either s t u)
     where
-      nobody : (now other : Status) → lend_of other ≡ Nobody → status_of (killed s t).records u ≡ Some now → status_of (killed s t).records u ≡ Some other → ¬ (borrower (funding_of (killed s t)) (lend_of now) ≡ Some v)
+      nobody : (now other : Status) → lend_of s.limits.without_lending other ≡ Nobody → status_of (killed s t).records u ≡ Some now → status_of (killed s t).records u ≡ Some other → ¬ (borrower (funding_of (killed s t)) (lend_of s.limits.without_lending now) ≡ Some v)
       nobody now other none is new to =
-          let same : lend_of now ≡ Nobody = ap lend_of (some-injective now other (sym is ∙ new)) ∙ none in
+          let same : lend_of s.limits.without_lending now ≡ Nobody = ap (lend_of s.limits.without_lending) (some-injective now other (sym is ∙ new)) ∙ none in
           let never : None ≡ Some v = sym (ap (borrower (funding_of (killed s t))) same) ∙ to in cc
 
-      from : ((now : Status) × (status_of (killed s t).records u ≡ Some now) × (borrower (funding_of (killed s t)) (lend_of now) ≡ Some v))
+      from : ((now : Status) × (status_of (killed s t).records u ≡ Some now) × (borrower (funding_of (killed s t)) (lend_of s.limits.without_lending now) ≡ Some v))
           → (status_of (killed s t).records u ≡ status_of s.records u) ⊎ ((status_of (killed s t).records u ≡ Some status.Ready) ⊎ (status_of (killed s t).records u ≡ Some status.Dead))
           → LendsTo (funding_of s) u v ⊎ IsEnd (LendsTo (funding_of (killed s t))) v
-      from (now, is, to) (inl same) = to_whom (borrower-either (lend_of now) v to)
+      from (now, is, to) (inl same) = to_whom (borrower-either (lend_of s.limits.without_lending now) v to)
         where
-          to_whom : (borrower (funding_of s) (lend_of now) ≡ Some v) ⊎ IsHeir s t v → LendsTo (funding_of s) u v ⊎ IsEnd (LendsTo (funding_of (killed s t))) v
+          to_whom : (borrower (funding_of s) (lend_of s.limits.without_lending now) ≡ Some v) ⊎ IsHeir s t v → LendsTo (funding_of s) u v ⊎ IsEnd (LendsTo (funding_of (killed s t))) v
           to_whom (inl old) = inl (lends-of s u v now (sym same ∙ is) old)
           to_whom (inr why) = inr (heir-ends v why)
       from (now, is, to) (inr (inl ready)) = absurd (nobody now status.Ready refl is ready to)
@@ -204,6 +204,38 @@ module _ (s : State) (queues : HasQueues s.records s.clients s.ports s.mutexes) 
           subst (IsQueue (killed s t).records (status.Served server)) is
           (without-queue (status.Served server) old (λ e. other (served-same server t e)) (λ u why e. cc) (queues.served server old here))
 
+  own-clients : (server : ℕ) (threads : List ℕ) → at_number (set_number (map (without t) s.clients) t []) server ≡ Some threads → IsAbsent threads server
+  own-clients server threads there place e = from (number-set (map (without t) s.clients) t [] server)
+    where
+      nothing : slice_get {X = ℕ} [] place ≡ Some server → ⊥
+      nothing none = cc
+
+      from : (at_number (set_number (map (without t) s.clients) t []) server ≡ at_number (map (without t) s.clients) server) ⊎ ((server ≡ suc (t - 1)) × (at_number (set_number (map (without t) s.clients) t []) server ≡ Some []))
+          → ⊥
+      from (inr (at, new)) = nothing (ap (λ xs. slice_get xs place) (some-injective [] threads (sym new ∙ there)) ∙ e)
+      from (inl same) =
+          let (old, (here, is)) = number-mapped (without t) s.clients server threads (sym same ∙ there) in
+          let (k, was) = filter-was (λ u. not (u == t)) old place server (ap (λ xs. slice_get xs place) is ∙ e) in
+          queues.own_clients server old here k was
+
+  own-waiters : (m owner : ℕ) (mutex : Mutex) → at_number (map (mutex_without t) s.mutexes) m ≡ Some mutex → mutex.owner ≡ Some owner → IsAbsent mutex.waiters owner
+  own-waiters m owner mutex there owned place e = from (number-mapped (mutex_without t) s.mutexes m mutex there)
+    where
+      rest-of : (xs : List ℕ) → slice_get (passed_on xs).waiters place ≡ Some owner → slice_get xs (suc place) ≡ Some owner
+      rest-of [] w = cc
+      rest-of (x ∷ xs) w = w
+
+      from : ((held : Mutex) × ((at_number s.mutexes m ≡ Some held) × (mutex_without t held ≡ mutex))) → ⊥
+      from (held, (here, is)) = by (is_owned_by t held) (ap (λ (x : Mutex). x.owner) is ∙ owned) (ap (λ (x : Mutex). slice_get x.waiters place) is ∙ e)
+        where
+          by : (b : Bool) → (cond b (passed_on (without t held.waiters)) (record { owner = held.owner; waiters = without t held.waiters })).owner ≡ Some owner
+              → slice_get (cond b (passed_on (without t held.waiters)) (record { owner = held.owner; waiters = without t held.waiters })).waiters place ≡ Some owner → ⊥
+          by true first later =
+              let queue = queue-filter (λ u. not (u == t)) s.records (status.Waiting m) held.waiters (queues.waiters m held here) in
+              let same : zero ≡ suc place = queue.once zero (suc place) owner (passed-first (without t held.waiters) owner first) (rest-of (without t held.waiters) later) in
+              absurd (omega (arith, same))
+          by false before waits = let (k, was) = filter-was (λ u. not (u == t)) held.waiters place owner waits in queues.own_waiters m owner held here before k was
+
   pub kill-queues : HasQueues (killed s t).records (killed s t).clients (killed s t).ports (killed s t).mutexes
   kill-queues = record {
     receivers = λ p port there.
@@ -219,4 +251,6 @@ module _ (s : State) (queues : HasQueues s.records s.clients s.ports s.mutexes) 
         let (old, (here, is)) = number-mapped (mutex_without t) s.mutexes m mutex there in
         subst (λ (x : Mutex). IsQueue (killed s t).records (status.Waiting m) x.waiters) is (waiters-then m old here);
     served = served-then;
+    own_clients = own-clients;
+    own_waiters = own-waiters;
   }

@@ -198,10 +198,10 @@ module _ (s : State) (order : IsInOrder s) (t p before ticks used : ℕ) (runs :
   finish after r = with_ticks ticks (after_trap after p used s.limits r)
 
   -- one that goes on lends to nobody
-  goes-on : (r : Record) → lend_of (finish GoesOn r).status ≡ Nobody
+  goes-on : (r : Record) → lend_of s.limits.without_lending (finish GoesOn r).status ≡ Nobody
   goes-on r = at (nat_lt used s.limits.quantum) refl
     where
-      at : (b : Bool) → nat_lt used s.limits.quantum ≡ b → lend_of (finish GoesOn r).status ≡ Nobody
+      at : (b : Bool) → nat_lt used s.limits.quantum ≡ b → lend_of s.limits.without_lending (finish GoesOn r).status ≡ Nobody
       at true is = rw is refl
       at false is = rw is refl
 
@@ -210,7 +210,7 @@ module _ (s : State) (order : IsInOrder s) (t p before ticks used : ℕ) (runs :
   finished e = record e.state { records = change_record (finish e.after) e.state.records t }
 
   -- one that changes nothing besides
-  nothing-else : (after : After) → ((r : Record) → lend_of (finish after r).status ≡ Nobody) → IsUntangled (record s { records = change_record (finish after) s.records t })
+  nothing-else : (after : After) → ((r : Record) → lend_of s.limits.without_lending (finish after r).status ≡ Nobody) → IsUntangled (record s { records = change_record (finish after) s.records t })
   nothing-else after nobody =
       (cycle-nobody s (finish after) t nobody order.no_cycle, stay-queues finish (λ st r. refl) s.records s.clients s.ports s.mutexes order.queues t p before runs after)
 
@@ -221,31 +221,31 @@ module _ (s : State) (order : IsInOrder s) (t p before ticks used : ℕ) (runs :
   effect-untangled (Call port number) allowed =
       let passed = all-pass ((is_none (at_number s.ports port), NoPort) ∷ []) allowed in
       let there = default-of (at_number s.ports port) (record { calls = []; receivers = [] }) passed.0 in
-      (call-cycle finish (λ st r. refl) goes-on s order.no_cycle order.queues t p before runs port number there, call-queues finish (λ st r. refl) s.records s.clients s.ports s.mutexes order.queues t p before runs port number there)
+      (call-cycle finish (λ st r. refl) s goes-on order.no_cycle order.queues t p before runs port number there, call-queues finish (λ st r. refl) s.records s.clients s.ports s.mutexes order.queues t p before runs port number there)
   effect-untangled (Receive port) allowed =
       let passed = all-pass ((is_none (at_number s.ports port), NoPort) ∷ []) allowed in
       let there = default-of (at_number s.ports port) (record { calls = []; receivers = [] }) passed.0 in
-      (receive-cycle finish (λ st r. refl) goes-on s order.no_cycle order.queues t p before runs port there, receive-queues finish (λ st r. refl) s.records s.clients s.ports s.mutexes order.queues t p before runs port there)
+      (receive-cycle finish (λ st r. refl) s goes-on order.no_cycle order.queues t p before runs port there, receive-queues finish (λ st r. refl) s.records s.clients s.ports s.mutexes order.queues t p before runs port there)
   effect-untangled (ReplyTo number) allowed =
       let passed = all-pass ((is_none (first_client s.clients t), NothingToReply) ∷ []) allowed in
-      (reply-cycle finish (λ st r. refl) goes-on s order.no_cycle order.queues t p before runs number, reply-queues finish (λ st r. refl) s.records s.clients s.ports s.mutexes order.queues t p before runs number passed.0)
+      (reply-cycle finish (λ st r. refl) s goes-on order.no_cycle order.queues t p before runs number, reply-queues finish (λ st r. refl) s.records s.clients s.ports s.mutexes order.queues t p before runs number passed.0)
   effect-untangled (Serve port number) allowed =
       let passed = all-pass ((is_none (at_number s.ports port), NoPort) ∷ (is_none (first_client s.clients t), NothingToReply) ∷ []) allowed in
       let there = default-of (at_number s.ports port) (record { calls = []; receivers = [] }) passed.0 in
       let replied = reply s.records s.clients s.ports t number in
       let middle : State = record s { records = replied.records; clients = replied.clients; ports = replied.ports } in
       let left = replied-queues finish (λ st r. refl) s.records s.clients s.ports s.mutexes order.queues t p before runs number passed.1.0 in
-      let no_cycle = replied-cycle finish (λ st r. refl) goes-on s order.no_cycle order.queues t p before runs number in
-      (receive-cycle finish (λ st r. refl) goes-on middle no_cycle left.0 t p before left.1 port there, receive-queues finish (λ st r. refl) replied.records replied.clients replied.ports s.mutexes left.0 t p before left.1 port there)
+      let no_cycle = replied-cycle finish (λ st r. refl) s goes-on order.no_cycle order.queues t p before runs number in
+      (receive-cycle finish (λ st r. refl) middle goes-on no_cycle left.0 t p before left.1 port there, receive-queues finish (λ st r. refl) replied.records replied.clients replied.ports s.mutexes left.0 t p before left.1 port there)
   effect-untangled (Lock m) allowed =
       let passed = all-pass ((is_none (at_number s.mutexes m), NoMutex) ∷ (owns s t m, AlreadyOwner)
       ∷ (option_any (λ owner. lends_on_to (funding_of s) owner t) (mutex_at s.mutexes m).owner, LockCycle) ∷ []) allowed in
       let there = default-of (at_number s.mutexes m) (record { owner = None; waiters = [] }) passed.0 in
-      (lock-cycle finish (λ st r. refl) goes-on s order.no_cycle order.queues t p before runs m there passed.1.0 passed.1.1.0, lock-queues finish (λ st r. refl) s.records s.clients s.ports s.mutexes order.queues t p before runs m there)
+      (lock-cycle finish (λ st r. refl) s goes-on order.no_cycle order.queues t p before runs m there passed.1.0 passed.1.1.0, lock-queues finish (λ st r. refl) s.records s.clients s.ports s.mutexes order.queues t p before runs m there passed.1.0)
   effect-untangled (Unlock m d) allowed =
       let passed = all-pass ((is_none (at_number s.mutexes m), NoMutex) ∷ (not (owns s t m), NotOwner) ∷ []) allowed in
       let there = default-of (at_number s.mutexes m) (record { owner = None; waiters = [] }) passed.0 in
-      (unlock-cycle finish (λ st r. refl) goes-on s order.no_cycle order.queues t p before runs (value_of s) m d, unlock-queues finish (λ st r. refl) s.records s.clients s.ports s.mutexes order.queues t p before runs (value_of s) m d there)
+      (unlock-cycle finish (λ st r. refl) s goes-on order.no_cycle order.queues t p before runs (value_of s) m d, unlock-queues finish (λ st r. refl) s.records s.clients s.ports s.mutexes order.queues t p before runs (value_of s) m d there)
 
   checked-untangled : (action : Action) (o : Option TrapRefusal) → trap_refusal s t action ≡ o → IsUntangled (finished (checked_effect s o (trap_effect s t action)))
   checked-untangled action None allowed = effect-untangled action allowed
@@ -321,6 +321,9 @@ opening-order limits bounds = record {
     callers = λ p port there. subst (λ (x : Port). IsQueue [] (status.Queued p) (map (λ (call : QueuedCall). call.caller) x.calls)) (sym (number-replicate limits.ports (record { calls = []; receivers = [] }) port p there)) (queue-empty [] (status.Queued p));
     waiters = λ m mutex there. subst (λ (x : Mutex). IsQueue [] (status.Waiting m) x.waiters) (sym (number-replicate limits.mutexes (record { owner = None; waiters = [] }) mutex m there)) (queue-empty [] (status.Waiting m));
     served = λ server threads there. absurd (no-client server threads there);
+    own_clients = λ server threads there. absurd (no-client server threads there);
+    own_waiters = λ m owner mutex there owned.
+        let free : None ≡ Some owner = sym (ap (λ (x : Mutex). x.owner) (number-replicate limits.mutexes (record { owner = None; waiters = [] }) mutex m there)) ∙ owned in absurd (unowned owner free);
   };
   removed = λ t there. absurd (nobody t there);
   idle = λ t there. absurd (nobody t there);
@@ -330,6 +333,9 @@ opening-order limits bounds = record {
   bounds = bounds;
 }
   where
+    unowned : (owner : ℕ) → None ≡ Some owner → ⊥
+    unowned owner e = cc
+
     no-place : {A : Type 0} (place : ℕ) (x : A) → ¬ (slice_get {X = A} [] place ≡ Some x)
     no-place place x e = cc
 

@@ -118,6 +118,14 @@ queue-push records status threads t is absent queue = record {
     once place other u e more (inr (at, new)) (inl old) = absurd (absent other (sym old ∙ more ∙ sym e ∙ new))
     once place other u e more (inr (at, new)) (inr (at_other, _)) = at ∙ sym at_other
 
+-- who isn't among them, and isn't added, isn't among them then
+pub absent-push : (threads : List ℕ) (t u : ℕ) → IsAbsent threads u → ¬ (t ≡ u) → IsAbsent (threads ++ t ∷ []) u
+absent-push threads t u absent other place e = from (push-place threads t place)
+  where
+    from : (slice_get (threads ++ t ∷ []) place ≡ slice_get threads place) ⊎ ((place ≡ length threads) × (slice_get (threads ++ t ∷ []) place ≡ Some t)) → ⊥
+    from (inl same) = absent place (sym same ∙ e)
+    from (inr (at, is)) = other (some-injective t u (sym is ∙ e))
+
 pub queue-rest : (records : List Record) (status : Status) (t : ℕ) (threads : List ℕ) → IsQueue records status (t ∷ threads) → IsQueue records status threads
 queue-rest records status t threads queue = record {
   each = λ place u e. queue.each (suc place) u e;
@@ -181,6 +189,8 @@ module _ (records : List Record) (clients : List (List ℕ)) (ports : List Port)
     callers = λ p port there. queue-changed change records t (Queued p) (map (λ (call : QueuedCall). call.caller) port.calls) (nowhere.callers p port there) (queues.callers p port there);
     waiters = λ m mutex there. queue-changed change records t (Waiting m) mutex.waiters (nowhere.waiters m mutex there) (queues.waiters m mutex there);
     served = λ server threads there. queue-changed change records t (Served server) threads (nowhere.served server threads there) (queues.served server threads there);
+    own_clients = queues.own_clients;
+    own_waiters = queues.own_waiters;
   }
 
   -- a live thread is in none
@@ -205,8 +215,18 @@ module _ (records : List Record) (clients : List (List ℕ)) (ports : List Port)
     callers = λ p port there. queue-placed records free r (Queued p) (map (λ (call : QueuedCall). call.caller) port.calls) (λ e. cc) first (queues.callers p port there);
     waiters = λ m mutex there. queue-placed records free r (Waiting m) mutex.waiters (λ e. cc) first (queues.waiters m mutex there);
     served = λ server threads there. from server threads there (number-placed clients free [] server);
+    own_clients = λ server threads there. own server threads there (number-placed clients free [] server);
+    own_waiters = queues.own_waiters;
   }
     where
+      nothing : (place u : ℕ) → slice_get {X = ℕ} [] place ≡ Some u → ⊥
+      nothing place u e = cc
+
+      own : (server : ℕ) (threads : List ℕ) → at_number (placed clients free []) server ≡ Some threads
+          → (at_number (placed clients free []) server ≡ at_number clients server) ⊎ (at_number (placed clients free []) server ≡ Some []) → IsAbsent threads server
+      own server threads there (inl same) = queues.own_clients server threads (sym same ∙ there)
+      own server threads there (inr new) = λ place e. nothing place server (ap (λ ts. slice_get ts place) (some-injective [] threads (sym new ∙ there)) ∙ e)
+
       from : (server : ℕ) (threads : List ℕ) → at_number (placed clients free []) server ≡ Some threads
           → (at_number (placed clients free []) server ≡ at_number clients server) ⊎ (at_number (placed clients free []) server ≡ Some []) → IsQueue (placed records free r) (Served server) threads
       from server threads there (inl same) = queue-placed records free r (Served server) threads (λ e. cc) first (queues.served server threads (sym same ∙ there))
@@ -221,6 +241,8 @@ module _ (records : List Record) (clients : List (List ℕ)) (ports : List Port)
     callers = λ q port is. calls q port is (number-set ports p new q);
     waiters = queues.waiters;
     served = queues.served;
+    own_clients = queues.own_clients;
+    own_waiters = queues.own_waiters;
   }
     where
       receive : (q : ℕ) (port : Port) → at_number (set_number ports p new) q ≡ Some port
@@ -239,14 +261,24 @@ module _ (records : List Record) (clients : List (List ℕ)) (ports : List Port)
           (subst (λ x. IsQueue records (Queued x) (map (λ (call : QueuedCall). call.caller) new.calls)) number callers)
 
   -- another mutex in the place of one
-  pub queues-mutex : (m : ℕ) (old new : Mutex) → at_number mutexes m ≡ Some old → IsQueue records (Waiting m) new.waiters → HasQueues records clients ports (set_number mutexes m new)
-  queues-mutex m old new there waiters = record {
+  pub queues-mutex : (m : ℕ) (old new : Mutex) → at_number mutexes m ≡ Some old → IsQueue records (Waiting m) new.waiters
+      → ((owner : ℕ) → new.owner ≡ Some owner → IsAbsent new.waiters owner) → HasQueues records clients ports (set_number mutexes m new)
+  queues-mutex m old new there waiters apart = record {
     receivers = queues.receivers;
     callers = queues.callers;
     waiters = λ n mutex is. wait n mutex is (number-set mutexes m new n);
     served = queues.served;
+    own_clients = queues.own_clients;
+    own_waiters = λ n owner mutex is owned. own n owner mutex is owned (number-set mutexes m new n);
   }
     where
+      own : (n owner : ℕ) (mutex : Mutex) → at_number (set_number mutexes m new) n ≡ Some mutex → mutex.owner ≡ Some owner
+          → (at_number (set_number mutexes m new) n ≡ at_number mutexes n) ⊎ ((n ≡ suc (m - 1)) × (at_number (set_number mutexes m new) n ≡ Some new)) → IsAbsent mutex.waiters owner
+      own n owner mutex is owned (inl same) = queues.own_waiters n owner mutex (sym same ∙ is) owned
+      own n owner mutex is owned (inr (at, now)) =
+          let here : new ≡ mutex = some-injective new mutex (sym now ∙ is) in
+          λ place e. apart owner (ap (λ (x : Mutex). x.owner) here ∙ owned) place (ap (λ (x : Mutex). slice_get x.waiters place) here ∙ e)
+
       wait : (n : ℕ) (mutex : Mutex) → at_number (set_number mutexes m new) n ≡ Some mutex
           → (at_number (set_number mutexes m new) n ≡ at_number mutexes n) ⊎ ((n ≡ suc (m - 1)) × (at_number (set_number mutexes m new) n ≡ Some new)) → IsQueue records (Waiting n) mutex.waiters
       wait n mutex is (inl same) = queues.waiters n mutex (sym same ∙ is)
@@ -255,14 +287,23 @@ module _ (records : List Record) (clients : List (List ℕ)) (ports : List Port)
           subst (λ x. IsQueue records (Waiting n) x.waiters) (some-injective new mutex (sym now ∙ is)) (subst (λ x. IsQueue records (Waiting x) new.waiters) number waiters)
 
   -- other clients of a thread
-  pub queues-clients : (server : ℕ) (threads : List ℕ) → suc (server - 1) ≡ server → IsQueue records (Served server) threads → HasQueues records (set_number clients server threads) ports mutexes
-  queues-clients server threads number queue = record {
+  pub queues-clients : (server : ℕ) (threads : List ℕ) → suc (server - 1) ≡ server → IsQueue records (Served server) threads → IsAbsent threads server
+      → HasQueues records (set_number clients server threads) ports mutexes
+  queues-clients server threads number queue apart = record {
     receivers = queues.receivers;
     callers = queues.callers;
     waiters = queues.waiters;
     served = λ other these is. serve other these is (number-set clients server threads other);
+    own_clients = λ other these is. own other these is (number-set clients server threads other);
+    own_waiters = queues.own_waiters;
   }
     where
+      own : (other : ℕ) (these : List ℕ) → at_number (set_number clients server threads) other ≡ Some these
+          → (at_number (set_number clients server threads) other ≡ at_number clients other) ⊎ ((other ≡ suc (server - 1)) × (at_number (set_number clients server threads) other ≡ Some threads)) → IsAbsent these other
+      own other these is (inl same) = queues.own_clients other these (sym same ∙ is)
+      own other these is (inr (at, now)) =
+          λ place e. apart place (ap (λ ts. slice_get ts place) (some-injective threads these (sym now ∙ is)) ∙ e ∙ ap Some (at ∙ number))
+
       serve : (other : ℕ) (these : List ℕ) → at_number (set_number clients server threads) other ≡ Some these
           → (at_number (set_number clients server threads) other ≡ at_number clients other) ⊎ ((other ≡ suc (server - 1)) × (at_number (set_number clients server threads) other ≡ Some threads)) → IsQueue records (Served other) these
       serve other these is (inl same) = queues.served other these (sym same ∙ is)
@@ -277,3 +318,14 @@ module _ (records : List Record) (clients : List (List ℕ)) (ports : List Port)
       from : (o : Option (List ℕ)) → at_number clients server ≡ o → IsQueue records (Served server) (unwrap_or o [])
       from None is = queue-empty records (Served server)
       from (Some threads) is = queues.served server threads is
+
+  -- which is never itself
+  pub own-absent : (server : ℕ) → IsAbsent (clients_of clients server) server
+  own-absent server = from (at_number clients server) refl
+    where
+      from : (o : Option (List ℕ)) → at_number clients server ≡ o → IsAbsent (unwrap_or o []) server
+      from None is = nothing
+        where
+          nothing : (place : ℕ) → slice_get {X = ℕ} [] place ≡ Some server → ⊥
+          nothing place e = cc
+      from (Some threads) is = queues.own_clients server threads is

@@ -1,55 +1,39 @@
--- Who serves nobody: a thread that nothing leads to; and a dead thread's clients stay as they are.
-use Rattle.std.proofs.Common.{◌≡◌, ℕ, zero, suc, ◌-◌, Bool, true, false, ◌⊎◌, inl, inr, Option, Some, None, List, [], ◌∷◌, ◌++◌, count_by, cond, drop, refl, sym, ◌∙◌, ap, arith, eq-eqb, unwrap_or, slice_get}
-use Rattle.std.proofs.lemmas.Bool.{ltb-false}
-use Rattle.std.proofs.lemmas.List.Sums.{sum_by-cons}
+-- Who serves nobody: a thread that is not in use; and a dead thread's clients stay as they are.
+use Rattle.std.proofs.Common.{◌≡◌, ℕ, suc, ◌-◌, nat_lt, Bool, true, false, ◌||◌, ◌⊎◌, inl, inr, Option, Some, None, is_some, List, [], ◌∷◌, ◌++◌, drop, refl, sym, ◌∙◌, ap, subst, unwrap_or, slice_get}
 use Rattle.lot_machine.specs.declared.record.Record.{Record}
 use Rattle.lot_machine.specs.declared.record.Status.{Status}
 use Rattle.lot_machine.specs.declared.record.Status.TheVariants as status
 use Rattle.lot_machine.specs.declared.action.Action.{Action}
 use Rattle.lot_machine.specs.declared.action.Action.TheVariants.{Yield, Call, Receive, Reply as ReplyTo, Serve, Lock, Unlock, Sleep, Exit}
 use Rattle.lot_machine.specs.declared.refusal.TrapRefusal.{TrapRefusal}
-use Rattle.lot_machine.specs.declared.funding.Lend.{Lend}
-use Rattle.lot_machine.specs.declared.funding.Lend.TheVariants.{ToThread}
 use Rattle.lot_machine.specs.declared.funding.Node.TheVariants.{Thread}
 use Rattle.lot_machine.specs.Numbered.{at_number, set_number}
-use Rattle.lot_machine.specs.Funding.{edge_count_into, is_to_thread}
+use Rattle.lot_machine.specs.Funding.{edge_count_into}
 use Rattle.lot_machine.specs.State.{State, QueuedCall, funding_of, status_of}
 use Rattle.lot_machine.specs.Commands.{is_thread_in_use}
-use Rattle.lot_machine.specs.Ports.{clients_of, port_at, call, receive, reply}
+use Rattle.lot_machine.specs.Ports.{clients_of, first_client, port_at, call, receive, reply}
 use Rattle.lot_machine.specs.Step.{of_ports, trap_effect, checked_effect}
 use Rattle.lot_machine.specs.Order.{HasQueues}
-use Rattle.lot_machine.proofs.Tickets.{at_number-suc, some-injective}
+use Rattle.lot_machine.proofs.Tickets.{some-injective}
 use Rattle.lot_machine.proofs.Changes.{number-set}
-use Rattle.lot_machine.proofs.TrapCycles.{lend-at}
 use Rattle.lot_machine.proofs.Idle.{status-number, receiver-stands}
 
--- ---- nothing leads to a thread
-
--- a test that counts none passes nowhere
-count-none : (test : Lend → Bool) (xs : List Lend) (i : ℕ) (x : Lend) → slice_get xs i ≡ Some x → test x ≡ true → ¬ (count_by test xs ≡ 0)
-count-none test [] i x at passes none = cc
-count-none test (y ∷ ys) zero x at passes none =
-    let here : test y ≡ true = ap test (some-injective y x at) ∙ passes in
-    let one : ◌≡◌ {A = ℕ} (cond {A = ℕ} (test y) 1 0) 1 = ap (λ b. cond {A = ℕ} b 1 0) here in
-    absurd (omega (arith, one, none, sum_by-cons (λ z. cond (test z) 1 0) y ys))
-count-none test (y ∷ ys) (suc i) x at passes none = count-none test ys i x at passes (omega (arith, none, sum_by-cons (λ z. cond (test z) 1 0) y ys))
+-- ---- a thread that isn't in use
 
 -- a thread that isn't in use serves nobody
-pub unused-serves : (s : State) (t : ℕ) → HasQueues s.records s.clients s.ports s.mutexes → is_thread_in_use s t ≡ false → clients_of s.clients t ≡ []
-unused-serves s t queues unused = by (at_number s.clients t) refl
+pub unused-serves : (s : State) (t : ℕ) → is_thread_in_use s t ≡ false → clients_of s.clients t ≡ []
+unused-serves s t unused = by (clients_of s.clients t) refl (second (nat_lt 0 (edge_count_into (funding_of s) (Thread t))) (is_some (first_client s.clients t)) unused)
   where
-    no-lender : (u : ℕ) → status_of s.records u ≡ Some (status.Served t) → ⊥
-    no-lender zero is = cc
-    no-lender (suc i) is =
-        let lends = funding_of s in
-        let at : slice_get lends.lends i ≡ Some (ToThread t) = sym (at_number-suc lends.lends i) ∙ lend-at s.records (suc i) (status.Served t) is in
-        let few : edge_count_into (funding_of s) (Thread t) ≡ 0 = omega (arith, ltb-false 0 (edge_count_into (funding_of s) (Thread t)) unused) in
-        count-none (is_to_thread t) lends.lends i (ToThread t) at (eq-eqb t t refl) (omega (arith, few))
+    second : (a b : Bool) → (a || b) ≡ false → b ≡ false
+    second true b e = cc
+    second false b e = e
 
-    by : (o : Option (List ℕ)) → at_number s.clients t ≡ o → unwrap_or o [] ≡ []
-    by None is = refl
-    by (Some []) is = refl
-    by (Some (client ∷ clients)) is = absurd (no-lender client ((queues.served t (client ∷ clients) is).each 0 client refl))
+    by : (clients : List ℕ) → clients_of s.clients t ≡ clients → is_some (slice_get (clients_of s.clients t) 0) ≡ false → clients_of s.clients t ≡ []
+    by [] is none = is
+    by (client ∷ clients) is none = let some : is_some (slice_get (client ∷ clients) 0) ≡ false = subst (λ xs. is_some (slice_get xs 0) ≡ false) is none in absurd (clash some)
+      where
+        clash : true ≡ false → ⊥
+        clash e = cc
 
 -- ---- a dead thread's clients
 

@@ -537,15 +537,15 @@ command-leads s (RemoveThread thread) =
     unrefused (Leads Console s) s _ (command_effect s (RemoveThread thread)) Stays (λ e.
     let passed = all-pass ((is_none (thread_meant s thread), NoThread) ∷ (not (option_any (is_dead_in s) (thread_meant s thread)), Alive)
     ∷ (option_any (is_thread_in_use s) (thread_meant s thread), InUse) ∷ []) e in
-    Then Stays (DropThread (unwrap_or (thread_meant s thread) 0)) (refl, ended (thread_meant s thread) passed.0 passed.1.0, thread-there s thread passed.0, λ queues. unserved queues (thread_meant s thread) passed.0 passed.1.1.0))
+    Then Stays (DropThread (unwrap_or (thread_meant s thread) 0)) (refl, ended (thread_meant s thread) passed.0 passed.1.0, thread-there s thread passed.0, λ queues. unserved (thread_meant s thread) passed.0 passed.1.1.0))
   where
     holds : (b : Bool) → not b ≡ false → b ≡ true
     holds true e = refl
     holds false e = cc
 
-    unserved : Queues s → (o : Option ℕ) → is_none o ≡ false → option_any (is_thread_in_use s) o ≡ false → clients_of s.clients (unwrap_or o 0) ≡ []
-    unserved queues None named unused = cc
-    unserved queues (Some t) named unused = unused-serves s t queues unused
+    unserved : (o : Option ℕ) → is_none o ≡ false → option_any (is_thread_in_use s) o ≡ false → clients_of s.clients (unwrap_or o 0) ≡ []
+    unserved None named unused = cc
+    unserved (Some t) named unused = unused-serves s t unused
 
     ended : (o : Option ℕ) → is_none o ≡ false → not (option_any (is_dead_in s) o) ≡ false → status_of s.records (unwrap_or o 0) ≡ Some status.Dead
     ended None named alive = cc
@@ -583,7 +583,7 @@ change-funded s a (DropCurrency c) (console, unused, _) (no_cycle, there) = (
   subst (λ xs. FundsThere (record (funding_of a) { currencies = xs })) (sym (map-set is_some a.currencies c None)) (FundsThere-removed (funding_of a) c unused there),
 )
 change-funded s a (NewThread t) allowed (no_cycle, there) =
-    (subst (λ xs. HasNoCycle (record (funding_of a) { lends = xs })) (sym (map-placed (λ (r : Record). lend_of r.status) a.records (free_threads a) newborn)) (HasNoCycle-lends_placed (funding_of a) (free_threads a) no_cycle), there)
+    (subst (λ xs. HasNoCycle (record (funding_of a) { lends = xs })) (sym (map-placed (λ (r : Record). lend_of a.limits.without_lending r.status) a.records (free_threads a) newborn)) (HasNoCycle-lends_placed (funding_of a) (free_threads a) no_cycle), there)
 change-funded s a (DropThread t) allowed funded = funded
 change-funded s a (PutRecord t r) allowed funded = absurd (allowed.mover refl)
 change-funded s a (PutClients t x) allowed funded = absurd (allowed refl)

@@ -1,5 +1,5 @@
 -- No trap makes a cycle.
-use Rattle.std.proofs.Common.{◌≡◌, ℕ, zero, suc, ◌-◌, ◌==◌, true, false, Option, Some, None, List, [], ◌∷◌, ◌++◌, map, remove, refl, sym, ◌∙◌, ap, subst, option_map, option_and_then, slice_index, unwrap_or}
+use Rattle.std.proofs.Common.{◌≡◌, ℕ, zero, suc, ◌-◌, ◌==◌, Bool, true, false, Option, Some, None, List, [], ◌∷◌, ◌++◌, map, remove, refl, sym, ◌∙◌, ap, subst, option_map, option_and_then, slice_index, unwrap_or, if◌then◌else◌}
 use Rattle.std.specs.Option.{option_flatten}
 use Rattle.std.proofs.lemmas.Bool.{eq-eqb}
 use Rattle.std.proofs.lemmas.List.{map-set}
@@ -34,12 +34,17 @@ at_number-map v xs zero = refl
 at_number-map v xs (suc i) = at_number-suc (map v xs) i ∙ slice_get-map v xs i ∙ ap (option_map v) (sym (at_number-suc xs i))
 
 -- what a thread lends to, from its status
-pub lend-at : (records : List Record) (t : ℕ) (now : Status) → status_of records t ≡ Some now → at_number (map (λ (r : Record). lend_of r.status) records) t ≡ Some (lend_of now)
-lend-at records t now e = at_number-map (λ (r : Record). lend_of r.status) records t ∙ from (at_number records t) e
+pub lend-at : (without : Bool) (records : List Record) (t : ℕ) (now : Status) → status_of records t ≡ Some now → at_number (map (λ (r : Record). lend_of without r.status) records) t ≡ Some (lend_of without now)
+lend-at without records t now e = at_number-map (λ (r : Record). lend_of without r.status) records t ∙ from (at_number records t) e
   where
-    from : (o : Option Record) → option_map (λ (r : Record). r.status) o ≡ Some now → option_map (λ (r : Record). lend_of r.status) o ≡ Some (lend_of now)
+    from : (o : Option Record) → option_map (λ (r : Record). r.status) o ≡ Some now → option_map (λ (r : Record). lend_of without r.status) o ≡ Some (lend_of without now)
     from None h = cc
-    from (Some r) h = ap (λ s. Some (lend_of s)) (some-injective r.status now h)
+    from (Some r) h = ap (λ s. Some (lend_of without s)) (some-injective r.status now h)
+
+-- a lend that isn't left out has its borrower
+pub lent-to : (f : Funding) (without : Bool) (lend : Lend) (b : ℕ) → borrower f (if without then Nobody else lend) ≡ Some b → borrower f lend ≡ Some b
+lent-to f true lend b e = cc
+lent-to f false lend b e = e
 
 -- who lends to nobody leads to itself alone
 alone : (f : Funding) (t u : ℕ) → at_number f.lends t ≡ Some Nobody → LendsLead f t u → t ≡ u
@@ -54,43 +59,43 @@ module _ (s : State) (change : Record → Record) (u : ℕ) where
   abbrev changed : State
   changed = record s { records = change_record change s.records u }
 
-  changed-lends : (r : Record) → at_number s.records u ≡ Some r → map (λ (x : Record). lend_of x.status) (change_record change s.records u) ≡ set_number (map (λ (x : Record). lend_of x.status) s.records) u (lend_of (change r).status)
+  changed-lends : (r : Record) → at_number s.records u ≡ Some r → map (λ (x : Record). lend_of s.limits.without_lending x.status) (change_record change s.records u) ≡ set_number (map (λ (x : Record). lend_of s.limits.without_lending x.status) s.records) u (lend_of s.limits.without_lending (change r).status)
   changed-lends r there =
       let set : change_record change s.records u ≡ set_number s.records u (change r) = rw there refl in
-      ap (map (λ (x : Record). lend_of x.status)) set ∙ map-set (λ (x : Record). lend_of x.status) s.records (u - 1) (change r)
+      ap (map (λ (x : Record). lend_of s.limits.without_lending x.status)) set ∙ map-set (λ (x : Record). lend_of s.limits.without_lending x.status) s.records (u - 1) (change r)
 
   -- to one that lends so
-  pub cycle-changed : (lend : Lend) → ((r : Record) → lend_of (change r).status ≡ lend) → ((b : ℕ) → borrower (funding_of s) lend ≡ Some b → ¬ LendsLead (funding_of s) b u) → HasNoCycle (funding_of s) → HasNoCycle (funding_of changed)
+  pub cycle-changed : (lend : Lend) → ((r : Record) → lend_of s.limits.without_lending (change r).status ≡ lend) → ((b : ℕ) → borrower (funding_of s) lend ≡ Some b → ¬ LendsLead (funding_of s) b u) → HasNoCycle (funding_of s) → HasNoCycle (funding_of changed)
   cycle-changed lend lends apart no_cycle = at (at_number s.records u) refl
     where
       at : (o : Option Record) → at_number s.records u ≡ o → HasNoCycle (funding_of changed)
       at None is = rw is no_cycle
       at (Some r) is =
-          let before : at_number (map (λ (x : Record). lend_of x.status) s.records) u ≡ Some (lend_of r.status) = lend-at s.records u r.status (ap (option_map (λ (x : Record). x.status)) is) in
-          let same : map (λ (x : Record). lend_of x.status) (change_record change s.records u) ≡ set_number (map (λ (x : Record). lend_of x.status) s.records) u lend =
-          changed-lends r is ∙ ap (set_number (map (λ (x : Record). lend_of x.status) s.records) u) (lends r) in
-          subst (λ xs. HasNoCycle (record (funding_of s) { lends = xs })) (sym same) (HasNoCycle-lends (funding_of s) u lend (lend_of r.status) before apart no_cycle)
+          let before : at_number (map (λ (x : Record). lend_of s.limits.without_lending x.status) s.records) u ≡ Some (lend_of s.limits.without_lending r.status) = lend-at s.limits.without_lending s.records u r.status (ap (option_map (λ (x : Record). x.status)) is) in
+          let same : map (λ (x : Record). lend_of s.limits.without_lending x.status) (change_record change s.records u) ≡ set_number (map (λ (x : Record). lend_of s.limits.without_lending x.status) s.records) u lend =
+          changed-lends r is ∙ ap (set_number (map (λ (x : Record). lend_of s.limits.without_lending x.status) s.records) u) (lends r) in
+          subst (λ xs. HasNoCycle (record (funding_of s) { lends = xs })) (sym same) (HasNoCycle-lends (funding_of s) u lend (lend_of s.limits.without_lending r.status) before apart no_cycle)
 
   -- to one that lends to nobody
-  pub cycle-nobody : ((r : Record) → lend_of (change r).status ≡ Nobody) → HasNoCycle (funding_of s) → HasNoCycle (funding_of changed)
+  pub cycle-nobody : ((r : Record) → lend_of s.limits.without_lending (change r).status ≡ Nobody) → HasNoCycle (funding_of s) → HasNoCycle (funding_of changed)
   cycle-nobody nobody = cycle-changed Nobody nobody none
     where
       none : (b : ℕ) → None ≡ Some b → ¬ LendsLead (funding_of s) b u
       none b e = cc
 
   -- which it does then, if it is there
-  pub lends-then : ((r : Record) → lend_of (change r).status ≡ Nobody) → (lend : Lend) → at_number (funding_of changed).lends u ≡ Some lend → lend ≡ Nobody
+  pub lends-then : ((r : Record) → lend_of s.limits.without_lending (change r).status ≡ Nobody) → (lend : Lend) → at_number (funding_of changed).lends u ≡ Some lend → lend ≡ Nobody
   lends-then nobody lend e = at (at_number s.records u) refl
     where
       at : (o : Option Record) → at_number s.records u ≡ o → lend ≡ Nobody
       at None is =
           let same : change_record change s.records u ≡ s.records = rw is refl in
           let none : at_number (funding_of changed).lends u ≡ None =
-          ap (λ rs. at_number (map (λ (x : Record). lend_of x.status) rs) u) same ∙ at_number-map (λ (x : Record). lend_of x.status) s.records u ∙ ap (option_map (λ (x : Record). lend_of x.status)) is in
+          ap (λ rs. at_number (map (λ (x : Record). lend_of s.limits.without_lending x.status) rs) u) same ∙ at_number-map (λ (x : Record). lend_of s.limits.without_lending x.status) s.records u ∙ ap (option_map (λ (x : Record). lend_of s.limits.without_lending x.status)) is in
           let never : None ≡ Some lend = sym none ∙ e in cc
       at (Some r) is =
           let now : status_of (change_record change s.records u) u ≡ Some (change r).status = status-set change s.records u r is in
-          some-injective lend Nobody (sym e ∙ lend-at (change_record change s.records u) u (change r).status now ∙ ap Some (nobody r))
+          some-injective lend Nobody (sym e ∙ lend-at s.limits.without_lending (change_record change s.records u) u (change r).status now ∙ ap Some (nobody r))
 
 -- one mutex changes
 module _ (s : State) (m : ℕ) (new : Mutex) where
@@ -122,10 +127,10 @@ module _ (s : State) (m : ℕ) (new : Mutex) where
 
 -- The thread that makes a trap runs. How it leaves its processor says its new status; if it goes on it lends to nobody.
 module _ (finish : After → Record → Record) (leaves : (status : Status) (r : Record) → (finish (Leaves status) r).status ≡ status)
-    (stays : (r : Record) → lend_of (finish GoesOn r).status ≡ Nobody) (s : State) (no_cycle : HasNoCycle (funding_of s))
+    (s : State) (stays : (r : Record) → lend_of s.limits.without_lending (finish GoesOn r).status ≡ Nobody) (no_cycle : HasNoCycle (funding_of s))
     (queues : HasQueues s.records s.clients s.ports s.mutexes) (t p used : ℕ) (runs : status_of s.records t ≡ Some (Running p used)) where
-  pub leaves-nobody : (status : Status) → lend_of status ≡ Nobody → (r : Record) → lend_of (finish (Leaves status) r).status ≡ Nobody
-  leaves-nobody status nobody r = ap lend_of (leaves status r) ∙ nobody
+  pub leaves-nobody : (status : Status) → lend_of s.limits.without_lending status ≡ Nobody → (r : Record) → lend_of s.limits.without_lending (finish (Leaves status) r).status ≡ Nobody
+  leaves-nobody status nobody r = ap (lend_of s.limits.without_lending) (leaves status r) ∙ nobody
 
   differs : (u : ℕ) (now : Status) → status_of s.records u ≡ Some now → ¬ (Running p used ≡ now) → ¬ (t ≡ u)
   differs u now is other same = other (some-injective (Running p used) now (sym runs ∙ ap (status_of s.records) same ∙ is))
@@ -141,9 +146,9 @@ module _ (finish : After → Record → Record) (leaves : (status : Status) (r :
           let queue : IsQueue s.records (Receiving port) (server ∷ others) = subst (λ ts. IsQueue s.records (Receiving port) ts) is (queues.receivers port (port_at s.ports port) there) in
           let receives = queue.each 0 server refl in
           let woken : State = record s { records = change_record change s.records server } in
-          let ready = lend-at woken.records server Ready (status-now change s.records server (Receiving port) Ready receives (λ r. refl)) in
-          cycle-changed woken (finish (Leaves (Served server))) t (ToThread server) (λ r. ap lend_of (leaves (Served server) r))
-          (λ b to lead. let same : server ≡ b = some-injective server b to in
+          let ready = lend-at s.limits.without_lending woken.records server Ready (status-now change s.records server (Receiving port) Ready receives (λ r. refl)) in
+          cycle-changed woken (finish (Leaves (Served server))) t (lend_of s.limits.without_lending (Served server)) (λ r. ap (lend_of s.limits.without_lending) (leaves (Served server) r))
+          (λ b to lead. let same : server ≡ b = some-injective server b (lent-to (funding_of woken) s.limits.without_lending (ToThread server) b to) in
           differs server (Receiving port) receives (running-not port) (sym (alone (funding_of woken) server t ready (subst (λ x. LendsLead (funding_of woken) x t) (sym same) lead))))
           (cycle-nobody s change server (λ r. refl) no_cycle)
         where
@@ -167,10 +172,10 @@ module _ (finish : After → Record → Record) (leaves : (status : Status) (r :
           subst (λ cs. IsQueue s.records (Queued port) (map (λ (call : QueuedCall). call.caller) cs)) is (queues.callers port (port_at s.ports port) there) in
           let calls = queue.each 0 first.caller refl in
           let moved : State = record s { records = change_record change s.records first.caller } in
-          let runs_alone = lend-at s.records t (Running p used) runs in
+          let runs_alone = lend-at s.limits.without_lending s.records t (Running p used) runs in
           cycle-nobody moved (finish GoesOn) t stays
-          (cycle-changed s change first.caller (ToThread t) (λ r. refl)
-          (λ b to lead. let same : t ≡ b = some-injective t b to in
+          (cycle-changed s change first.caller (lend_of s.limits.without_lending (Served t)) (λ r. refl)
+          (λ b to lead. let same : t ≡ b = some-injective t b (lent-to (funding_of s) s.limits.without_lending (ToThread t) b to) in
           differs first.caller (Queued port) calls (running-not port) (alone (funding_of s) t first.caller runs_alone (subst (λ x. LendsLead (funding_of s) x first.caller) (sym same) lead)))
           no_cycle)
         where
@@ -202,7 +207,7 @@ module _ (finish : After → Record → Record) (leaves : (status : Status) (r :
       free =
           let new : Mutex = record { owner = Some t; waiters = (mutex_at s.mutexes m).waiters } in
           cycle-nobody (with_mutex s m new) (finish GoesOn) t stays
-          (cycle-owned s m new t refl (λ lend is. some-injective lend Nobody (sym is ∙ lend-at s.records t (Running p used) runs)) no_cycle)
+          (cycle-owned s m new t refl (λ lend is. some-injective lend Nobody (sym is ∙ lend-at s.limits.without_lending s.records t (Running p used) runs)) no_cycle)
 
       waits : (owner : ℕ) → (mutex_at s.mutexes m).owner ≡ Some owner
           → HasNoCycle (funding_of (record s { records = change_record (finish (Leaves (Waiting m))) s.records t; mutexes = set_number s.mutexes m (record { owner = Some owner; waiters = (mutex_at s.mutexes m).waiters ++ t ∷ [] }) }))
@@ -210,7 +215,7 @@ module _ (finish : After → Record → Record) (leaves : (status : Status) (r :
           let new : Mutex = record { owner = Some owner; waiters = (mutex_at s.mutexes m).waiters ++ t ∷ [] } in
           let then_waits : State = record s { records = change_record (finish (Leaves (Waiting m))) s.records t } in
           cycle-kept then_waits m new (mutex_at s.mutexes m) there (sym owned)
-          (cycle-changed s (finish (Leaves (Waiting m))) t (ToMutex m) (λ r. ap lend_of (leaves (Waiting m) r)) leads no_cycle)
+          (cycle-changed s (finish (Leaves (Waiting m))) t (lend_of s.limits.without_lending (Waiting m)) (λ r. ap (lend_of s.limits.without_lending) (leaves (Waiting m) r)) leads no_cycle)
         where
           owner-is : owner_of (funding_of s) m ≡ Some owner
           owner-is = ap option_flatten (at_number-map (λ (x : Mutex). x.owner) s.mutexes m ∙ ap (option_map (λ (x : Mutex). x.owner)) there) ∙ owned
@@ -224,8 +229,8 @@ module _ (finish : After → Record → Record) (leaves : (status : Status) (r :
               ap (option_any (λ x. lends_lead (funding_of s) x t)) first ∙ (lends_lead-exact (funding_of s) no_cycle.lends b t).1 (rest, others) in
               let off : lends_on_to (funding_of s) owner t ≡ false = sym (ap (option_any (λ o. lends_on_to (funding_of s) o t)) owned) ∙ apart in cc
 
-          leads : (b : ℕ) → borrower (funding_of s) (ToMutex m) ≡ Some b → ¬ LendsLead (funding_of s) b t
-          leads b to lead = from-owner (subst (λ x. LendsLead (funding_of s) x t) (some-injective b owner (sym to ∙ owner-is)) lead)
+          leads : (b : ℕ) → borrower (funding_of s) (lend_of s.limits.without_lending (Waiting m)) ≡ Some b → ¬ LendsLead (funding_of s) b t
+          leads b to lead = from-owner (subst (λ x. LendsLead (funding_of s) x t) (some-injective b owner (sym (lent-to (funding_of s) s.limits.without_lending (ToMutex m) b to) ∙ owner-is)) lead)
 
       at : (o : Option ℕ) → (mutex_at s.mutexes m).owner ≡ o
           → HasNoCycle (funding_of (record s { records = change_record (finish (lock s.records s.mutexes t m).after) (lock s.records s.mutexes t m).records t; mutexes = (lock s.records s.mutexes t m).mutexes }))

@@ -1,5 +1,6 @@
 -- Those who wait still stand where their statuses say after a trap.
-use Rattle.std.proofs.Common.{◌≡◌, ℕ, suc, ◌-◌, ◌<◌, ◌≤◌, true, false, ◌⊎◌, inl, inr, Option, Some, None, is_none, List, [], ◌∷◌, ◌++◌, length, map, remove, refl, sym, ◌∙◌, ap, subst, option_map, slice_get, slice_index, get_or, unwrap_or}
+use Rattle.std.proofs.Common.{◌≡◌, ℕ, suc, ◌-◌, ◌==◌, ◌<◌, ◌≤◌, true, false, ◌⊎◌, inl, inr, Option, Some, None, is_none, List, [], ◌∷◌, ◌++◌, length, map, remove, refl, sym, ◌∙◌, ap, subst, option_map, slice_get, slice_index, get_or, unwrap_or}
+use Rattle.std.proofs.lemmas.Bool.{eq-eqb}
 use Rattle.std.proofs.lemmas.List.{map-append, get_or_past}
 use Rattle.std.proofs.lemmas.Option.{slice_get_cases, get_or_from_slice_get}
 use Rattle.lot_machine.specs.declared.record.Record.{Record}
@@ -7,7 +8,7 @@ use Rattle.lot_machine.specs.declared.record.Status.{Status}
 use Rattle.lot_machine.specs.declared.record.Status.TheVariants.{Ready, Running, Queued, Receiving, Served, Waiting}
 use Rattle.lot_machine.specs.declared.drawn.Drawn.{Drawn}
 use Rattle.lot_machine.specs.Lottery.{winner}
-use Rattle.lot_machine.specs.Numbered.{at_number, set_number}
+use Rattle.lot_machine.specs.Numbered.{at_number, set_number, option_any}
 use Rattle.lot_machine.specs.State.{Port, Mutex, QueuedCall, status_of, change_record}
 use Rattle.lot_machine.specs.declared.after.After.{After}
 use Rattle.lot_machine.specs.declared.after.After.TheVariants.{GoesOn, Leaves}
@@ -16,7 +17,7 @@ use Rattle.lot_machine.specs.Mutexes.{mutex_at, lock, unlock}
 use Rattle.lot_machine.specs.Order.{IsQueue, HasQueues}
 use Rattle.lot_machine.proofs.Changes.{number-there}
 use Rattle.lot_machine.proofs.Tickets.{some-injective}
-use Rattle.lot_machine.proofs.Queues.{IsAbsent, StandsNowhere, number-set_same, record-of, status-now, status-other, queue-empty, absent-other, queue-push, queue-rest, absent-rest, queue-without, absent-without, queues-changed, queues-live, nowhere-live, queues-port, queues-mutex, queues-clients, queue-clients}
+use Rattle.lot_machine.proofs.Queues.{IsAbsent, StandsNowhere, number-set_same, record-of, status-now, status-other, queue-empty, absent-other, absent-push, queue-push, queue-rest, absent-rest, queue-without, absent-without, queues-changed, queues-live, nowhere-live, queues-port, queues-mutex, queues-clients, queue-clients, own-absent}
 
 -- who stands nowhere else than in the queue of its own status, and not there, stands nowhere
 pub nowhere-from : (records : List Record) (clients : List (List ℕ)) (ports : List Port) (mutexes : List Mutex) (t : ℕ) (now : Status) → HasQueues records clients ports mutexes → status_of records t ≡ Some now
@@ -113,6 +114,7 @@ module _ (finish : After → Record → Record) (leaves : (status : Status) (r :
           (status-now (finish (Leaves (Served server))) (change_record change records server) t (Running p used) (Served server) runs_then (leaves (Served server)))
           (absent-other records (Served server) (Running p used) (clients_of clients server) t (queue-clients records clients ports mutexes queues server) runs (running-not-served server))
           (queue-clients then_records clients (set_number ports port new) mutexes left server))
+          (absent-push (clients_of clients server) t server (own-absent records clients ports mutexes queues server) (other-thread server (Receiving port) receives (running-not port)))
         where
           not-queued : (q : ℕ) → ¬ (Receiving port ≡ Queued q)
           not-queued q e = cc
@@ -171,7 +173,8 @@ module _ (finish : After → Record → Record) (leaves : (status : Status) (r :
           let with_client = queues-clients then_records clients (set_number ports port new) mutexes moved t (clients_of clients t ++ first.caller ∷ []) number-of
           (queue-push then_records (Served t) (clients_of clients t) first.caller (status-now change records first.caller (Queued port) (Served t) calls (λ r. refl))
           (absent-other records (Served t) (Queued port) (clients_of clients t) first.caller (queue-clients records clients ports mutexes queues t) calls (not-served t))
-          (queue-clients then_records clients (set_number ports port new) mutexes moved t)) in
+          (queue-clients then_records clients (set_number ports port new) mutexes moved t))
+          (absent-push (clients_of clients t) first.caller t (own-absent records clients ports mutexes queues t) (λ same. other-thread first.caller (Queued port) calls (running-not port) (sym same))) in
           after-other change first.caller (Queued port) GoesOn (set_number clients t (clients_of clients t ++ first.caller ∷ [])) (set_number ports port new) mutexes with_client calls (running-not port)
         where
           not-receiving : (q : ℕ) → ¬ (Queued port ≡ Receiving q)
@@ -204,7 +207,7 @@ module _ (finish : After → Record → Record) (leaves : (status : Status) (r :
       answered client rest there =
           let queue = queues.served t (client ∷ rest) there in
           let waits = queue.each 0 client refl in
-          let shorter = queues-clients records clients ports mutexes queues t rest number-of (queue-rest records (Served t) client rest queue) in
+          let shorter = queues-clients records clients ports mutexes queues t rest number-of (queue-rest records (Served t) client rest queue) (λ place e. queues.own_clients t (client ∷ rest) there (suc place) e) in
           let nowhere = nowhere-from records (set_number clients t rest) ports mutexes client (Served t) shorter waits
           (λ q other same at. absurd (not-receiving q same)) (λ q other same at. absurd (not-queued q same)) (λ m other same at. absurd (not-waiting m same))
           (λ u other same at. subst (λ x. IsAbsent x client) (at-set clients t u (client ∷ rest) rest other (served-same t u same) there at) (absent-rest records (Served t) client rest queue)) in
@@ -244,14 +247,15 @@ module _ (finish : After → Record → Record) (leaves : (status : Status) (r :
       let left = replied-queues number some in
       queues-live replied.records replied.clients replied.ports mutexes left.0 (finish GoesOn) t (Running p used) left.1 refl
 
-  pub lock-queues : (m : ℕ) → at_number mutexes m ≡ Some (mutex_at mutexes m)
+  pub lock-queues : (m : ℕ) → at_number mutexes m ≡ Some (mutex_at mutexes m) → option_any (λ owner. owner == t) (mutex_at mutexes m).owner ≡ false
       → HasQueues (change_record (finish (lock records mutexes t m).after) (lock records mutexes t m).records t) clients ports (lock records mutexes t m).mutexes
-  lock-queues m there = at (mutex_at mutexes m).owner refl
+  lock-queues m there other = at (mutex_at mutexes m).owner refl
     where
       at : (o : Option ℕ) → (mutex_at mutexes m).owner ≡ o → HasQueues (change_record (finish (lock records mutexes t m).after) (lock records mutexes t m).records t) clients ports (lock records mutexes t m).mutexes
       at None is =
           rw is
-          (queues-mutex (change_record (finish GoesOn) records t) clients ports mutexes (stay-queues GoesOn) m (mutex_at mutexes m) (record { owner = Some t; waiters = (mutex_at mutexes m).waiters }) there ((stay-queues GoesOn).waiters m (mutex_at mutexes m) there))
+          (queues-mutex (change_record (finish GoesOn) records t) clients ports mutexes (stay-queues GoesOn) m (mutex_at mutexes m) (record { owner = Some t; waiters = (mutex_at mutexes m).waiters }) there ((stay-queues GoesOn).waiters m (mutex_at mutexes m) there)
+          (λ owner mine place e. (nowhere-live records clients ports mutexes queues t (Running p used) runs refl).waiters m (mutex_at mutexes m) there place (e ∙ sym mine)))
       at (Some owner) is =
           let then_records = change_record (finish (Leaves (Waiting m))) records t in
           let then_queues = stay-queues (Leaves (Waiting m)) in
@@ -259,31 +263,48 @@ module _ (finish : After → Record → Record) (leaves : (status : Status) (r :
           rw is
           (queues-mutex then_records clients ports mutexes then_queues m (mutex_at mutexes m) (record { owner = Some owner; waiters = (mutex_at mutexes m).waiters ++ t ∷ [] }) there
           (queue-push then_records (Waiting m) (mutex_at mutexes m).waiters t
-          (status-now (finish (Leaves (Waiting m))) records t (Running p used) (Waiting m) runs (leaves (Waiting m))) (nowhere.waiters m (mutex_at mutexes m) there) (then_queues.waiters m (mutex_at mutexes m) there)))
+          (status-now (finish (Leaves (Waiting m))) records t (Running p used) (Waiting m) runs (leaves (Waiting m))) (nowhere.waiters m (mutex_at mutexes m) there) (then_queues.waiters m (mutex_at mutexes m) there))
+          (λ holder held. absent-push (mutex_at mutexes m).waiters t holder (queues.own_waiters m holder (mutex_at mutexes m) there (is ∙ held)) (λ same. differs (sym (eq-eqb holder t (sym same)) ∙ sym (ap (option_any (λ o. o == t)) (is ∙ held)) ∙ other))))
+        where
+          differs : true ≡ false → ⊥
+          differs e = cc
 
   -- a place in a queue, and the thread that stands there, if any
-  pub passed-queues : (m place w : ℕ) (old : Mutex) (owner : Option ℕ) → at_number mutexes m ≡ Some old → slice_index old.waiters place ≡ w
-      → HasQueues (change_record (finish (Leaves Ready)) (change_record (λ r. record r { status = Ready }) records w) t) clients ports (set_number mutexes m (record { owner = owner; waiters = remove old.waiters place }))
-  passed-queues m place w old owner there at = from (slice_get_cases old.waiters place).1
+  pub passed-queues : (m place w : ℕ) (old : Mutex) → at_number mutexes m ≡ Some old → slice_index old.waiters place ≡ w
+      → HasQueues (change_record (finish (Leaves Ready)) (change_record (λ r. record r { status = Ready }) records w) t) clients ports (set_number mutexes m (record { owner = Some w; waiters = remove old.waiters place }))
+  passed-queues m place w old there at = from (slice_get_cases old.waiters place).1
     where
       new : Mutex
-      new = record { owner = owner; waiters = remove old.waiters place }
+      new = record { owner = Some w; waiters = remove old.waiters place }
 
-      shorter : HasQueues records clients ports (set_number mutexes m (record { owner = owner; waiters = remove old.waiters place }))
-      shorter = queues-mutex records clients ports mutexes queues m old (record { owner = owner; waiters = remove old.waiters place }) there (queue-without records (Waiting m) old.waiters place (queues.waiters m old there))
+      apart : ((x : ℕ) × (place < length old.waiters) × (slice_get old.waiters place ≡ Some x) × (get_or old.waiters place x ≡ x)) ⊎ ((length old.waiters ≤ place) × (slice_get old.waiters place ≡ None))
+          → IsAbsent (remove old.waiters place) w
+      apart (inl (x, below, here, same)) =
+          let is : x ≡ w = sym (get_or_from_slice_get old.waiters place x 0 here) ∙ at in
+          absent-without records (Waiting m) old.waiters place w (queues.waiters m old there) (here ∙ ap Some is)
+      apart (inr (past, none)) =
+          let nobody : 0 ≡ w = sym (get_or_past old.waiters place 0 past) ∙ at in
+          λ i e. no-thread ((queue-without records (Waiting m) old.waiters place (queues.waiters m old there)).each i 0 (e ∙ ap Some (sym nobody)))
+        where
+          no-thread : status_of records 0 ≡ Some (Waiting m) → ⊥
+          no-thread e = cc
+
+      shorter : HasQueues records clients ports (set_number mutexes m (record { owner = Some w; waiters = remove old.waiters place }))
+      shorter = queues-mutex records clients ports mutexes queues m old (record { owner = Some w; waiters = remove old.waiters place }) there (queue-without records (Waiting m) old.waiters place (queues.waiters m old there))
+          (λ owner mine i e. apart (slice_get_cases old.waiters place).1 i (e ∙ sym mine))
 
       stands : slice_get old.waiters place ≡ Some w
-          → HasQueues (change_record (finish (Leaves Ready)) (change_record (λ r. record r { status = Ready }) records w) t) clients ports (set_number mutexes m (record { owner = owner; waiters = remove old.waiters place }))
+          → HasQueues (change_record (finish (Leaves Ready)) (change_record (λ r. record r { status = Ready }) records w) t) clients ports (set_number mutexes m (record { owner = Some w; waiters = remove old.waiters place }))
       stands here =
           let queue = queues.waiters m old there in
           let waits = queue.each place w here in
-          let nowhere = nowhere-from records clients ports (set_number mutexes m (record { owner = owner; waiters = remove old.waiters place })) w (Waiting m) shorter waits
+          let nowhere = nowhere-from records clients ports (set_number mutexes m (record { owner = Some w; waiters = remove old.waiters place })) w (Waiting m) shorter waits
           (λ q other same is. absurd (not-receiving q same)) (λ q other same is. absurd (not-queued q same))
-          (λ n other same is. subst (λ (x : Mutex). IsAbsent x.waiters w) (at-set mutexes m n old (record { owner = owner; waiters = remove old.waiters place }) other (waiting-same m n same) there is)
+          (λ n other same is. subst (λ (x : Mutex). IsAbsent x.waiters w) (at-set mutexes m n old (record { owner = Some w; waiters = remove old.waiters place }) other (waiting-same m n same) there is)
           (absent-without records (Waiting m) old.waiters place w queue here))
           (λ u other same is. absurd (not-served u same)) in
-          let woken = queues-changed records clients ports (set_number mutexes m (record { owner = owner; waiters = remove old.waiters place })) shorter (λ r. record r { status = Ready }) w nowhere in
-          after-other (λ r. record r { status = Ready }) w (Waiting m) (Leaves Ready) clients ports (set_number mutexes m (record { owner = owner; waiters = remove old.waiters place })) woken waits (running-not m)
+          let woken = queues-changed records clients ports (set_number mutexes m (record { owner = Some w; waiters = remove old.waiters place })) shorter (λ r. record r { status = Ready }) w nowhere in
+          after-other (λ r. record r { status = Ready }) w (Waiting m) (Leaves Ready) clients ports (set_number mutexes m (record { owner = Some w; waiters = remove old.waiters place })) woken waits (running-not m)
         where
           not-receiving : (q : ℕ) → ¬ (Waiting m ≡ Receiving q)
           not-receiving q e = cc
@@ -297,11 +318,13 @@ module _ (finish : After → Record → Record) (leaves : (status : Status) (r :
           running-not : (q : ℕ) → ¬ (Running p used ≡ Waiting q)
           running-not q e = cc
 
-      nobody : w ≡ 0 → HasQueues (change_record (finish (Leaves Ready)) (change_record (λ r. record r { status = Ready }) records w) t) clients ports (set_number mutexes m (record { owner = owner; waiters = remove old.waiters place }))
-      nobody none = rw none (queues-live records clients ports (set_number mutexes m (record { owner = owner; waiters = remove old.waiters place })) shorter (finish (Leaves Ready)) t (Running p used) runs refl)
+      nobody : w ≡ 0 → HasQueues (change_record (finish (Leaves Ready)) (change_record (λ r. record r { status = Ready }) records w) t) clients ports (set_number mutexes m (record { owner = Some w; waiters = remove old.waiters place }))
+      nobody none =
+          subst (λ u. HasQueues (change_record (finish (Leaves Ready)) (change_record (λ r. record r { status = Ready }) records u) t) clients ports (set_number mutexes m (record { owner = Some w; waiters = remove old.waiters place }))) (sym none)
+          (queues-live records clients ports (set_number mutexes m (record { owner = Some w; waiters = remove old.waiters place })) shorter (finish (Leaves Ready)) t (Running p used) runs refl)
 
       from : ((x : ℕ) × (place < length old.waiters) × (slice_get old.waiters place ≡ Some x) × (get_or old.waiters place x ≡ x)) ⊎ ((length old.waiters ≤ place) × (slice_get old.waiters place ≡ None))
-          → HasQueues (change_record (finish (Leaves Ready)) (change_record (λ r. record r { status = Ready }) records w) t) clients ports (set_number mutexes m (record { owner = owner; waiters = remove old.waiters place }))
+          → HasQueues (change_record (finish (Leaves Ready)) (change_record (λ r. record r { status = Ready }) records w) t) clients ports (set_number mutexes m (record { owner = Some w; waiters = remove old.waiters place }))
       from (inl (x, below, here, same)) = let is : x ≡ w = sym (get_or_from_slice_get old.waiters place x 0 here) ∙ at in stands (here ∙ ap Some is)
       from (inr (past, none)) = nobody (sym at ∙ get_or_past old.waiters place 0 past)
 
@@ -309,11 +332,14 @@ module _ (finish : After → Record → Record) (leaves : (status : Status) (r :
       → HasQueues (change_record (finish (unlock records mutexes value m d).after) (unlock records mutexes value m d).records t) clients ports (unlock records mutexes value m d).mutexes
   unlock-queues value m d there = at (mutex_at mutexes m).waiters refl
     where
+      free : (owner : ℕ) → None ≡ Some owner → IsAbsent [] owner
+      free owner e = cc
+
       at : (o : List ℕ) → (mutex_at mutexes m).waiters ≡ o → HasQueues (change_record (finish (unlock records mutexes value m d).after) (unlock records mutexes value m d).records t) clients ports (unlock records mutexes value m d).mutexes
       at [] is =
-          rw is (queues-mutex (change_record (finish GoesOn) records t) clients ports mutexes (stay-queues GoesOn) m (mutex_at mutexes m) (record { owner = None; waiters = [] }) there (queue-empty (change_record (finish GoesOn) records t) (Waiting m)))
+          rw is (queues-mutex (change_record (finish GoesOn) records t) clients ports mutexes (stay-queues GoesOn) m (mutex_at mutexes m) (record { owner = None; waiters = [] }) there (queue-empty (change_record (finish GoesOn) records t) (Waiting m)) free)
       at (w ∷ ws) is =
           let place = unwrap_or (option_map (λ (drawn : Drawn). drawn.place) (winner (map value (w ∷ ws)) d)) 0 in
-          let passed = passed-queues m place (slice_index (w ∷ ws) place) (mutex_at mutexes m) (Some (slice_index (w ∷ ws) place)) there (ap (λ ts. slice_index ts place) is) in
+          let passed = passed-queues m place (slice_index (w ∷ ws) place) (mutex_at mutexes m) there (ap (λ ts. slice_index ts place) is) in
           rw is (subst (λ ts. HasQueues (change_record (finish (Leaves Ready)) (change_record (λ r. record r { status = Ready }) records (slice_index (w ∷ ws) place)) t) clients ports
           (set_number mutexes m (record { owner = Some (slice_index (w ∷ ws) place); waiters = remove ts place }))) is passed)

@@ -1,5 +1,5 @@
 -- An invariant: true at the start and preserved by each event. It implies that each reachable state is sound.
-use Rattle.std.specs.Prelude.{◌≡◌, ℕ, ◌^◌, ◌<◌, ◌≤◌, true, Option, None, Some, List, [], All, IfSome, length, map, slice_get}
+use Rattle.std.specs.Prelude.{◌≡◌, ◌≢◌, ℕ, ◌^◌, ◌<◌, ◌≤◌, true, Option, None, Some, List, [], All, IfSome, length, map, slice_get}
 use Rattle.lot_machine.specs.declared.record.Record.{Record}
 use Rattle.lot_machine.specs.declared.record.Status.{Status}
 use Rattle.lot_machine.specs.declared.record.Status.TheVariants.{Receiving, Queued, Served, Waiting, Dead}
@@ -16,12 +16,14 @@ pub record IsQueue (records : List Record) (status : Status) (threads : List ℕ
   pub once : (place other t : ℕ) → slice_get threads place ≡ Some t → slice_get threads other ≡ Some t → place ≡ other
 
 -- Each thread in a queue has the queue's status: Receiving or Queued at that port, Waiting for that mutex, or Served
--- by that server (4.6, 6.1).
+-- by that server. No thread is its own client, or waits for a mutex that it owns (4.6, 6.1).
 pub record HasQueues (records : List Record) (clients : List (List ℕ)) (ports : List Port) (mutexes : List Mutex) : Type 0 where
   pub receivers : (p : ℕ) (port : Port) → at_number ports p ≡ Some port → IsQueue records (Receiving p) port.receivers
   pub callers : (p : ℕ) (port : Port) → at_number ports p ≡ Some port → IsQueue records (Queued p) (map (λ call. call.caller) port.calls)
   pub waiters : (m : ℕ) (mutex : Mutex) → at_number mutexes m ≡ Some mutex → IsQueue records (Waiting m) mutex.waiters
   pub served : (server : ℕ) (threads : List ℕ) → at_number clients server ≡ Some threads → IsQueue records (Served server) threads
+  pub own_clients : (server : ℕ) (threads : List ℕ) → at_number clients server ≡ Some threads → (place : ℕ) → slice_get threads place ≢ Some server
+  pub own_waiters : (m owner : ℕ) (mutex : Mutex) → at_number mutexes m ≡ Some mutex → mutex.owner ≡ Some owner → (place : ℕ) → slice_get mutex.waiters place ≢ Some owner
 
 -- the place was left by what was removed
 abbrev pub IsGap : {A : Type 0} → List (Option A) → ℕ → Type 0

@@ -67,6 +67,7 @@ sizes_of l = record {
   reuse = l.reuse;
   plain_names = l.plain_names;
   without_compensation = l.without_compensation;
+  without_lending = l.without_lending;
 }
 
 -- the opening state: base alone, empty ports and free mutexes
@@ -117,11 +118,12 @@ next_thread s = next_place s.threads (free_threads s) + 1
 
 -- ---- the funding graph of a state
 
--- the receiver of a thread's lend: a served thread's server, a waiting thread's mutex, or nobody (4.6, 6.1)
-abbrev pub lend_of : Status → Lend
-lend_of (Served server) = ToThread server
-lend_of (Waiting mutex) = ToMutex mutex
-lend_of other = Nobody
+-- The receiver of a thread's lend: a served thread's server, a waiting thread's mutex, or nobody; in a kernel without
+-- lending always nobody (3.1, 4.6, 6.1).
+abbrev pub lend_of : Bool → Status → Lend
+lend_of without_lending (Served server) = if without_lending then Nobody else ToThread server
+lend_of without_lending (Waiting mutex) = if without_lending then Nobody else ToMutex mutex
+lend_of without_lending other = Nobody
 
 -- whether a thread with this status is live: it competes or runs
 abbrev pub is_live_status : Status → Bool
@@ -139,7 +141,7 @@ live_of s = live_in s.records
 
 -- the state's funding: its currencies, tickets, lends and owners of mutexes
 abbrev pub funding_of : State → Funding
-funding_of s = record { currencies = map is_some s.currencies; tickets = s.tickets; lends = map (λ r. lend_of r.status) s.records; owners = map (λ m. m.owner) s.mutexes }
+funding_of s = record { currencies = map is_some s.currencies; tickets = s.tickets; lends = map (λ r. lend_of s.limits.without_lending r.status) s.records; owners = map (λ m. m.owner) s.mutexes }
 
 -- ---- threads
 

@@ -16,6 +16,7 @@ pub struct Limits {
     pub reuse: bool,
     pub plain_names: bool,
     pub without_compensation: bool,
+    pub without_lending: bool,
     ghost within_bounds: { IsWithinBounds (record {
       tickets = tickets;
       currencies = currencies;
@@ -29,5 +30,6 @@ pub struct Limits {
       reuse = reuse;
       plain_names = plain_names;
       without_compensation = without_compensation;
+      without_lending = without_lending;
     }) },
 }

@@ -7,7 +7,7 @@ use crate::Limits;
 
 /// The sizes of a kernel: the largest numbers of tickets, user currencies and threads, the numbers of ports, mutexes,
 /// processors and scripts, the ticks of a quantum, the value of one of base, whether numbers are given again, which
-/// names are allowed, and whether threads are compensated.
+/// names are allowed, and whether threads are compensated and lend.
 #[derive(Clone, Copy, Debug, PartialEq, Eq)]
 pub struct Sizes {
     /// 1 to 65535.
@@ -36,11 +36,13 @@ pub struct Sizes {
     pub plain_names: bool,
     /// Whether no thread is compensated: one that gave up its quantum early, or ran past its end, weighs its value.
     pub without_compensation: bool,
+    /// Whether a blocked thread lends to nobody: its server, or the owner of its mutex, has its own tickets alone.
+    pub without_lending: bool,
 }
 
 impl Sizes {
     /// The smallest sizes within their bounds. No number is given again, names are good names,
-    /// and threads are compensated.
+    /// threads are compensated, and blocked ones lend.
     pub const SMALLEST: Sizes = Sizes {
         tickets: 1,
         currencies: 1,
@@ -54,9 +56,10 @@ impl Sizes {
         reuse: false,
         plain_names: false,
         without_compensation: false,
+        without_lending: false,
     };
     /// The largest sizes within their bounds. No number is given again, names are good names,
-    /// and threads are compensated.
+    /// threads are compensated, and blocked ones lend.
     pub const LARGEST: Sizes = Sizes {
         tickets: 65535,
         currencies: 4096,
@@ -70,6 +73,7 @@ impl Sizes {
         reuse: false,
         plain_names: false,
         without_compensation: false,
+        without_lending: false,
     };
 }
 
@@ -95,6 +99,7 @@ impl Limits {
             reuse: sizes.reuse,
             plain_names: sizes.plain_names,
             without_compensation: sizes.without_compensation,
+            without_lending: sizes.without_lending,
         })
     }
 }

@@ -58,7 +58,7 @@ nowhere-replied q records server t number nowhere = record {
     by u (inr (at, set)) w = nowhere.clients server (contains-drop (clients_of q.clients server) 1 t (subst (λ (o : Option (List ℕ)). Contains (unwrap_or o []) t) set w))
 
 -- a change of one record, and then a receipt that leaves it
-module _ (a b c : Threaded) (clients : List (List ℕ)) (ports : List Port) (server client port : ℕ) (wake : Record → Record) (woken : b.records ≡ change_record wake a.records client)
+module _ (a b c : Threaded) (lending : b.without_lending ≡ a.without_lending) (clients : List (List ℕ)) (ports : List Port) (server client port : ℕ) (wake : Record → Record) (woken : b.records ≡ change_record wake a.records client)
     (taken : c ≡ with_records b (receive b.records clients ports server port).records c.stale) (apart : ¬ Contains (callers_at ports port) client) (first_makes : MakesStaleIn a b) (then_makes : MakesStaleIn b c) where
   -- if no record changes then
   same-records : c ≡ with_records b b.records c.stale → MakesStaleIn a c
@@ -76,7 +76,7 @@ module _ (a b c : Threaded) (clients : List (List ℕ)) (ports : List Port) (ser
       by (Some was) there =
           let set : change_record (λ r. record r { status = Served server }) b.records caller ≡ set_number b.records caller (record was { status = Served server }) = rw there refl in
           let left : at_number a.records caller ≡ Some was = sym (ap (λ (rs : List Record). at_number rs caller) woken ∙ record-other wake a.records client caller other) ∙ there in
-          makes-last a b c caller was (record was { status = Served server }) left there (is ∙ ap (λ (rs : List Record). with_records b rs c.stale) set) first_makes then_makes
+          makes-last a b c lending caller was (record was { status = Served server }) left there (is ∙ ap (λ (rs : List Record). with_records b rs c.stale) set) first_makes then_makes
 
   pub makes-serving : MakesStaleIn a c
   makes-serving = by (port_at ports port).calls refl

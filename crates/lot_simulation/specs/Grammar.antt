@@ -45,6 +45,13 @@ first_line (word ∷ version ∷ []) =
     else Err BadHeader
 first_line other = Err BadHeader
 
+-- The reading after `without` with this word, in a timed input: `compensation` or `lending`, each at most once.
+abbrev pub without_line : Reading → List ℕ → Result Reading InputRefusal
+without_line r mechanism =
+    if bytes_eq mechanism (codes "compensation") then checked ((not r.is_timed, BadLine) ∷ (r.without_compensation, BadHeader) ∷ []) (record r { without_compensation = true })
+    else if bytes_eq mechanism (codes "lending") then checked ((not r.is_timed, BadLine) ∷ (r.without_lending, BadHeader) ∷ []) (record r { without_lending = true })
+    else Err BadLine
+
 -- the reading after a line of the header
 abbrev pub header_line : Reading → HeaderWord → List (List ℕ) → Result Reading InputRefusal
 header_line r header.Processors (p ∷ []) = do
@@ -69,11 +76,13 @@ header_line r header.Limits (t ∷ c ∷ h ∷ []) = do
   currencies ← number_between 1 4096 c
   threads ← number_between 1 4096 h
   Ok (record r { tickets = tickets; currencies = currencies; threads = threads })
+header_line r header.Without (mechanism ∷ []) = without_line r mechanism
 header_line r header.Reuse [] = checked ((not r.is_timed, BadLine) ∷ []) (record r { reuse = true })
 header_line r word tokens = Err BadLine
 
--- whether the header has a line with this word
+-- whether the header has a line with this word, which can't come again; `without` can, with another word
 abbrev pub is_given : Reading → HeaderWord → Bool
+is_given r header.Without = false
 is_given r word = list_any (λ given. header_place given == header_place word) r.given
 
 -- whether the word is `processors` after `seed`, whose line has a number for each processor
@@ -275,7 +284,7 @@ body_line n r word tokens = Err BadLine
 abbrev pub body_after_header : ℕ → Reading → BodyWord → List (List ℕ) → Result Reading InputRefusal
 body_after_header n r word tokens = do
   after ← body_line n r word tokens
-  Ok (record after { place = 8 })
+  Ok (record after { place = 9 })
 
 -- ---- a line
 
@@ -381,7 +390,8 @@ limits_of r = record {
   unit = r.unit;
   reuse = r.reuse;
   plain_names = false;
-  without_compensation = false;
+  without_compensation = r.without_compensation;
+  without_lending = r.without_lending;
 }
 
 -- The seeds unless the input gives them: seed p for processor p, or its mixed seed in a timed input.

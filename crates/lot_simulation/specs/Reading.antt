@@ -22,7 +22,7 @@ pub record OpenScript : Type 0 where
   pub loops : ℕ
 
 -- The contents of the lines read so far. Header lines up to the place come too late: the place is that of the last header
--- line, or 0 in a timed input, and 8 from the body on.
+-- line, or 0 in a timed input, and 9 from the body on.
 pub record Reading : Type 0 where
   pub place : ℕ
   pub given : List HeaderWord  -- the words of the header lines so far, after the first line
@@ -37,6 +37,8 @@ pub record Reading : Type 0 where
   pub currencies : ℕ
   pub threads : ℕ
   pub reuse : Bool  -- whether numbers are given again
+  pub without_compensation : Bool  -- whether no thread is compensated
+  pub without_lending : Bool  -- whether blocked threads lend to nobody
   pub ports : List (List ℕ)  -- names, as for mutexes
   pub mutexes : List (List ℕ)
   pub scripts : List NamedScript
@@ -62,6 +64,8 @@ opening_reading is_timed unit = record {
   currencies = 4096;
   threads = 4096;
   reuse = false;
+  without_compensation = false;
+  without_lending = false;
   ports = [];
   mutexes = [];
   scripts = [];

@@ -11,6 +11,7 @@ use Rattle.lot_simulation.specs.declared.input.InputFault.{InputFault}
 use Rattle.lot_simulation.specs.declared.style.LineStyle.TheVariants.{Whole}
 use Rattle.lot_simulation.specs.Grammar.{program_in}
 use Rattle.lot_simulation.specs.Output.{output_after}
+use Rattle.lot_simulation.specs.Reading.{◌>>=◌}
 use Rattle.lot_simulation.specs.Texts.{fault_line, newline, plain_text, thread_line}
 use Rattle.lot_simulation.specs.Timed.{opening_moment, turns_from}
 use Rattle.lot_simulation.specs.World.{Program}
@@ -188,6 +189,12 @@ trap_line made came ends = plain_text Whole 1 (Trap 1 4 made) (Trapped 1 5 came 
 -- the line of thread 1 in a listing, with this status
 abbrev pub status_line : Status → List ℕ
 status_line status = thread_line Whole 1 1 (record { name = codes "a"; status = status; value = 10; weight = 20; quanta = 3; ticks = 40 })
+
+-- whether the kernel of the input in these bytes is without compensation, and whether it is without lending
+abbrev pub is_without : List ℕ → Result (Bool × Bool) InputFault
+is_without bytes = do
+  program ← program_in bytes
+  Ok (program.limits.without_compensation, program.limits.without_lending)
 
 -- ---- timed inputs with room for few turns
 

@@ -20,9 +20,9 @@ header_words =
     (codes "lottery", header.Lottery) ∷ (codes "processors", header.Processors) ∷ (codes "quantum", header.Quantum)
     ∷ (codes "turns", header.Turns) ∷ (codes "seed", header.Seed) ∷ (codes "limits", header.Limits) ∷ []
 
--- the words of a timed input's header: also `for`, which gives the duration, and `reuse`
+-- the words of a timed input's header: also `for`, which gives the duration, `reuse` and `without`
 abbrev pub timed_header_words : List (List ℕ × HeaderWord)
-timed_header_words = (codes "for", header.For) ∷ (codes "reuse", header.Reuse) ∷ header_words
+timed_header_words = (codes "for", header.For) ∷ (codes "reuse", header.Reuse) ∷ (codes "without", header.Without) ∷ header_words
 
 -- a header word's place in the order of the lines
 abbrev pub header_place : HeaderWord → ℕ
@@ -34,6 +34,7 @@ header_place header.For = 4
 header_place header.Seed = 5
 header_place header.Limits = 6
 header_place header.Reuse = 7
+header_place header.Without = 8
 
 -- the words of the body
 abbrev pub body_words : List (List ℕ × BodyWord)

@@ -27,6 +27,8 @@ pub enum Argument {
     Time(Range),
     /// The version of the format.
     Version,
+    /// What the kernel goes without: `compensation` or `lending`.
+    Mechanism,
 }
 
 /// The form of a line: the arguments after its first word, each with its name.

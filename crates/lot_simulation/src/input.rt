@@ -13,6 +13,7 @@ pub enum HeaderWord {
     Seed,
     Limits,
     Reuse,
+    Without,
 }
 
 /// A word that begins a line of the body.

@@ -27,5 +27,6 @@ pub use separators::Separators;
 pub use style::LineStyle;
 pub use timed::{Clock, Due, EarlyEnd, PastLives, Sleeper, Span, SpanChange, Spans};
 pub use words::{
-    BODY_WORDS, FIRST_WORD, HEADER_WORDS, RUNS_WORD, SCHEDULE_WORD, SCRIPT_WORDS, WordRow,
+    BODY_WORDS, COMPENSATION_WORD, FIRST_WORD, HEADER_WORDS, LENDING_WORD, RUNS_WORD,
+    SCHEDULE_WORD, SCRIPT_WORDS, WordRow,
 };

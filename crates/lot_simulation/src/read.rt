@@ -1,9 +1,10 @@
 //! Worked rows for lines, tokens, numbers and refused inputs.
-ghost use Rattle.std.specs.Prelude.{◌≡◌, ◌++◌, [], ◌∷◌, codes, replicate};
+ghost use Rattle.std.specs.Prelude.{◌≡◌, ◌++◌, [], ◌∷◌, codes, replicate, true, false, Ok};
 ghost use Rattle.lot_simulation.specs.Grammar.{program_in};
 ghost use Rattle.lot_simulation.specs.Lines.{lines_of, tokens_of, number_of};
 ghost use Rattle.lot_simulation.specs.Output.{output};
-ghost use Rattle.lot_simulation.specs.Samples.{text, empty_report, refused_on_line, second_line, script_of};
+ghost use Rattle.lot_simulation.specs.Samples.{text, empty_report, is_without, refused_on_line, second_line};
+ghost use Rattle.lot_simulation.specs.Samples.{script_of};
 ghost use Rattle.lot_simulation.specs.declared.separators.Separators.TheVariants.{Spaces, Blanks};
 
 /// Lines, tokens and numbers.
@@ -90,6 +91,18 @@ pub fn timed_header()
         ≡ refused_on_line (codes "4 50 BadHeader") }
     ensures second { output (text (codes "lottery 2" ∷ codes "turns 5" ∷ codes "quantum 5" ∷ []))
         ≡ refused_on_line (codes "3 50 BadHeader") }
+{}
+
+/// What a kernel goes without: neither, one or both, in any order.
+#[tactic(auto, unfolding(crate::specs::OnLiterals::texts_on_literals))]
+pub fn without()
+    ensures neither { is_without (text (codes "lottery 3" ∷ codes "for 9" ∷ [])) ≡ Ok (false, false) }
+    ensures compensation { is_without (text (codes "lottery 3" ∷ codes "without compensation" ∷ codes "for 9" ∷ []))
+        ≡ Ok (true, false) }
+    ensures lending { is_without (text (codes "lottery 3" ∷ codes "for 9" ∷ codes "without lending" ∷ []))
+        ≡ Ok (false, true) }
+    ensures both { is_without (text (codes "lottery 3" ∷ codes "without lending" ∷ codes "for 9"
+        ∷ codes "without compensation" ∷ [])) ≡ Ok (true, true) }
 {}
 
 /// Tokens are judged from left to right.

@@ -320,6 +320,16 @@ pub fn refused_inputs()
         ≡ refused_on_line (codes "2 51 BadLine") }
     ensures reuse_in_first { output (text (codes "lottery 1" ∷ codes "reuse" ∷ []))
         ≡ refused_on_line (codes "2 51 BadLine") }
+    ensures without_in_second { output (text (codes "lottery 2" ∷ codes "without lending" ∷ []))
+        ≡ refused_on_line (codes "2 51 BadLine") }
+    ensures without_in_first { output (text (codes "lottery 1" ∷ codes "without lending" ∷ []))
+        ≡ refused_on_line (codes "2 51 BadLine") }
+    ensures without_nothing { output (text (codes "lottery 3" ∷ codes "for 5" ∷ codes "without" ∷ []))
+        ≡ refused_on_line (codes "3 51 BadLine") }
+    ensures without_other { output (text (codes "lottery 3" ∷ codes "for 5" ∷ codes "without reuse" ∷ []))
+        ≡ refused_on_line (codes "3 51 BadLine") }
+    ensures without_twice { output (text (codes "lottery 3" ∷ codes "without lending" ∷ codes "for 5"
+        ∷ codes "without lending" ∷ [])) ≡ refused_on_line (codes "4 50 BadHeader") }
     ensures reuse_with_number { output (text (codes "lottery 3" ∷ codes "for 5" ∷ codes "reuse 1" ∷ []))
         ≡ refused_on_line (codes "3 51 BadLine") }
     ensures sleep_in_second { output (text (codes "lottery 2" ∷ codes "script s" ∷ codes "sleep 5" ∷ []))

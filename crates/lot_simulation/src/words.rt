@@ -8,7 +8,7 @@ ghost use Rattle.lot_simulation.specs.Words.{header_place, script_words, timed_s
 
 use crate::format::Format;
 use crate::forms::Argument::{
-    Actor, AnyName, AnyNumber, KnownName, NewName, Number, Time, Version,
+    Actor, AnyName, AnyNumber, KnownName, Mechanism, NewName, Number, Time, Version,
 };
 use crate::forms::Form;
 use crate::forms::Form::{Command, Once, PerProcessor, Repeated};
@@ -22,20 +22,32 @@ pub type WordRow<W> = (&'static [u8], W, Form);
 /// The word that begins the first line.
 pub const FIRST_WORD: &[u8] = b"lottery";
 
+/// After `without`: no thread is compensated.
+pub const COMPENSATION_WORD: &[u8] = b"compensation";
+
+/// After `without`: a blocked thread lends to nobody.
+pub const LENDING_WORD: &[u8] = b"lending";
+
 /// The first word of a line of a schedule, which lists actors.
 pub const SCHEDULE_WORD: &[u8] = b"schedule";
 
 /// The first word of a line of a schedule that lists runs, several turns of one actor in a row.
 pub const RUNS_WORD: &[u8] = b"runs";
 
-/// The words of the header in the order of their lines; first `for` and `reuse`, which only some formats have.
-pub const HEADER_WORDS: [WordRow<HeaderWord>; 8] = [
+/// The words of the header in the order of their lines; first `for`, `reuse` and `without`, which only some formats
+/// have.
+pub const HEADER_WORDS: [WordRow<HeaderWord>; 9] = [
     (
         b"for",
         HeaderWord::For,
         Once(&[("TICKS", Number(ranges::DURATION))]),
     ),
     (b"reuse", HeaderWord::Reuse, Once(&[])),
+    (
+        b"without",
+        HeaderWord::Without,
+        Once(&[("MECHANISM", Mechanism)]),
+    ),
     (
         FIRST_WORD,
         HeaderWord::Lottery,
@@ -220,7 +232,7 @@ pub const SCRIPT_WORDS: [WordRow<ScriptWord>; 14] = [
 ];
 
 // The tables above as static data: a constant would be built anew at each call.
-static HEADER_TABLE: [WordRow<HeaderWord>; 8] = HEADER_WORDS;
+static HEADER_TABLE: [WordRow<HeaderWord>; 9] = HEADER_WORDS;
 
 static BODY_TABLE: [WordRow<BodyWord>; 20] = BODY_WORDS;
 
@@ -234,7 +246,7 @@ impl HeaderWord {
         if format.is_timed() {
             word_spelled(&HEADER_TABLE, token)
         } else {
-            word_spelled(&HEADER_TABLE[2..], token)
+            word_spelled(&HEADER_TABLE[3..], token)
         }
     }
 

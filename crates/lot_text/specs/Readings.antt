@@ -41,7 +41,7 @@ pub record IsReading (r : Reading) : Type 0 where
 
 -- the reading after a line of the body, which ends the header
 abbrev pub after_header : Result Reading InputRefusal → Result Reading InputRefusal
-after_header read = read >>= λ after. Ok (record after { place = 8 })
+after_header read = read >>= λ after. Ok (record after { place = 9 })
 
 -- the reading with this script open
 abbrev pub within_script : Reading → OpenScript → Reading

@@ -10,7 +10,9 @@ use crate::fault::LineFault;
 use crate::number::number_in;
 use crate::reading::Reading;
 use crate::tokens::Tokens;
-use lot_simulation::{FIRST_WORD, Format, HeaderWord, InputRefusal, ranges};
+use lot_simulation::{
+    COMPENSATION_WORD, FIRST_WORD, Format, HeaderWord, InputRefusal, LENDING_WORD, ranges,
+};
 use std::alloc::Global;
 
 /// The first line that isn't ignored, which gives the format: `lottery 1`, `lottery 2` or `lottery 3`.
@@ -67,6 +69,7 @@ fn header_arguments(
         HeaderWord::Seed => read_seed(alloc, reading, tokens),
         HeaderWord::Limits => read_limits(reading, tokens),
         HeaderWord::Reuse => read_reuse(reading, tokens),
+        HeaderWord::Without => read_without(reading, tokens),
     }
 }
 
@@ -161,4 +164,29 @@ fn read_reuse(reading: &mut Reading, tokens: Tokens<'_>) -> Result<(), LineFault
     }
     reading.reuse = true;
     Ok(())
+}
+
+/// `without compensation` or `without lending`, each at most once, in a timed input
+fn read_without(reading: &mut Reading, tokens: Tokens<'_>) -> Result<(), LineFault>
+    ensures { Gives reading.new result (header_line_read reading.old HeaderWord.Without tokens.entry) }
+{
+    let mechanism = tokens.only()?;
+    if !reading.format.is_timed() {
+        return Err(LineFault::Refused(InputRefusal::BadLine));
+    }
+    if mechanism == COMPENSATION_WORD {
+        if reading.without_compensation {
+            return Err(LineFault::Refused(InputRefusal::BadHeader));
+        }
+        reading.without_compensation = true;
+        return Ok(());
+    }
+    if mechanism == LENDING_WORD {
+        if reading.without_lending {
+            return Err(LineFault::Refused(InputRefusal::BadHeader));
+        }
+        reading.without_lending = true;
+        return Ok(());
+    }
+    Err(LineFault::Refused(InputRefusal::BadLine))
 }

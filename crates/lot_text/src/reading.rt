@@ -85,6 +85,10 @@ pub(crate) struct Reading {
     pub(crate) threads: u32,
     /// Whether numbers are given again.
     pub(crate) reuse: bool,
+    /// Whether no thread is compensated.
+    pub(crate) without_compensation: bool,
+    /// Whether blocked threads lend to nobody.
+    pub(crate) without_lending: bool,
     pub(crate) ports: Vec<Name>,
     pub(crate) mutexes: Vec<Name>,
     pub(crate) scripts: Vec<NamedScript>,
@@ -128,6 +132,8 @@ impl Reading {
             currencies: Sizes::LARGEST.currencies,
             threads: Sizes::LARGEST.threads,
             reuse: false,
+            without_compensation: false,
+            without_lending: false,
             ports: Vec::new(alloc),
             mutexes: Vec::new(alloc),
             scripts: Vec::new(alloc),
@@ -153,10 +159,13 @@ impl Reading {
         word.place() <= self.place || self.is_given(word) || self.is_after_seed(word)
     }
 
-    /// Whether the header has a line with this word.
+    /// Whether the header has a line with this word, which can't come again. `without` can, with another word.
     fn is_given(&self, word: HeaderWord) -> bool
         ensures { result ≡ is_given_read self.now word }
     {
+        if word == HeaderWord::Without {
+            return false;
+        }
         let place = word.place();
         self.given.iter().any(|given| given.place() == place)
     }
@@ -251,7 +260,8 @@ impl Reading {
             unit: self.format.unit(),
             reuse: self.reuse,
             plain_names: false,
-            without_compensation: false,
+            without_compensation: self.without_compensation,
+            without_lending: self.without_lending,
         };
         Limits::new(sizes).unwrap()
     }
@@ -291,6 +301,8 @@ impl Reading {
             currencies: _,
             threads: _,
             reuse: _,
+            without_compensation: _,
+            without_lending: _,
             ports: _,
             mutexes: _,
             scripts,

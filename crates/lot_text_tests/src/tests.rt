@@ -99,6 +99,7 @@ fn sizes_of(limits: Limits) -> Sizes {
         reuse: limits.reuse,
         plain_names: limits.plain_names,
         without_compensation: limits.without_compensation,
+        without_lending: limits.without_lending,
     }
 }
 
@@ -174,6 +175,7 @@ const FIRST_RUN_SAYS: Said<'_> = Said {
         reuse: false,
         plain_names: false,
         without_compensation: false,
+        without_lending: false,
     },
     seeds: &[1],
     turns: 0,
@@ -227,6 +229,7 @@ const HEADERS_SAY: Said<'_> = Said {
         reuse: false,
         plain_names: false,
         without_compensation: false,
+        without_lending: false,
     },
     seeds: &[2147483646],
     turns: 0,
@@ -264,6 +267,7 @@ const WHOLE_GRAMMAR_SAYS: Said<'_> = Said {
         reuse: false,
         plain_names: false,
         without_compensation: false,
+        without_lending: false,
     },
     seeds: &[5, 6],
     turns: 10000,
@@ -328,6 +332,7 @@ const TIMED_SAYS: Said<'_> = Said {
         reuse: true,
         plain_names: false,
         without_compensation: false,
+        without_lending: false,
     },
     seeds: &[48271, 182605794],
     turns: 5,
@@ -363,9 +368,9 @@ fn reads_turns_in_the_order_of_time(rt: HostRuntime) {
 
 /// One header of a timed input in three orders.
 const HEADER_ORDERS: [&str; 3] = [
-    "processors 2\nquantum 50\nturns 5\nfor 9\nseed 7 8\nlimits 4 3 2\nreuse",
-    "reuse\nlimits 4 3 2\nprocessors 2\nseed 7 8\nfor 9\nturns 5\nquantum 50",
-    "for 9\nprocessors 2\nreuse\nturns 5\nlimits 4 3 2\nquantum 50\nseed 7 8",
+    "processors 2\nquantum 50\nturns 5\nfor 9\nseed 7 8\nlimits 4 3 2\nreuse\nwithout lending\nwithout compensation",
+    "without compensation\nreuse\nlimits 4 3 2\nwithout lending\nprocessors 2\nseed 7 8\nfor 9\nturns 5\nquantum 50",
+    "for 9\nwithout lending\nprocessors 2\nreuse\nturns 5\nwithout compensation\nlimits 4 3 2\nquantum 50\nseed 7 8",
 ];
 
 const HEADER_ORDERS_SAY: Said<'_> = Said {
@@ -381,7 +386,8 @@ const HEADER_ORDERS_SAY: Said<'_> = Said {
         unit: 256,
         reuse: true,
         plain_names: false,
-        without_compensation: false,
+        without_compensation: true,
+        without_lending: true,
     },
     seeds: &[7, 8],
     turns: 5,

@@ -138,16 +138,16 @@ runs-added records runners is = record { each = each; all = all }
         by (inl same) = let no : Some Ready ≡ Some (Running p used) = sym (ap (λ (n : ℕ). status_of (records ++ newborn ∷ []) n) same ∙ ap (option_map (λ (r : Record). r.status)) (number-next records newborn)) ∙ runs in cc
         by (inr other) = is.all t p used (sym (ap (option_map (λ (r : Record). r.status)) (number-before records newborn t other)) ∙ runs)
 
-pub added-of : (v mid new : Valued) (q then : Queued) (threads : List (Option Thread)) (records : List Record) (runners : List (Option ℕ)) (thread : Thread) (n : ℕ)
-    → AreOf v q threads records runners → length records < v.now.thread_limit → n ≡ length records + 1
+pub added-of : {without : Bool} (v mid new : Valued) (q then : Queued) (threads : List (Option Thread)) (records : List Record) (runners : List (Option ℕ)) (thread : Thread) (n : ℕ)
+    → AreOf without v q threads records runners → length records < v.now.thread_limit → n ≡ length records + 1
     → mid.now ≡ with_lends v.now (v.now.funding.lends ++ Nobody ∷ []) → mid.live ≡ v.live ++ false ∷ [] → mid.known ≡ v.known
     → new.now ≡ mid.now → new.live ≡ set_number mid.live n true → new.known ≡ record mid.known { stale = new.known.stale } → ((node : Node) → IsStale mid.known node → IsStale new.known node)
     → then ≡ record q { competitors = set_number q.competitors n (competitor_of newborn); changed = then.changed }
     → ((c : Known) → AreWeights q c → AreWeights then c)
-    → AreOf new then (threads ++ Some thread ∷ []) (records ++ newborn ∷ []) runners
-added-of v mid new q then threads records runners thread n is room number added live_mid known_mid now live known kept set weigh = record {
+    → AreOf without new then (threads ++ Some thread ∷ []) (records ++ newborn ∷ []) runners
+added-of {without} v mid new q then threads records runners thread n is room number added live_mid known_mid now live known kept set weigh = record {
   names = length-append threads (Some thread ∷ []) ∙ ap (λ k. k + 1) is.names ∙ sym (length-append records (newborn ∷ []));
-  lends = ap (λ (w : LimitedFunding). w.funding.lends) (now ∙ added) ∙ ap (λ ls. ls ++ Nobody ∷ []) is.lends ∙ sym (map-append (λ (r : Record). lend_of r.status) records (newborn ∷ []));
+  lends = ap (λ (w : LimitedFunding). w.funding.lends) (now ∙ added) ∙ ap (λ ls. ls ++ Nobody ∷ []) is.lends ∙ sym (map-append (λ (r : Record). lend_of without r.status) records (newborn ∷ []));
   live = live ∙ lives ∙ sym (map-append (λ (r : Record). is_live_status r.status) records (newborn ∷ []));
   ready = subst (AreReady (records ++ newborn ∷ [])) (sym (ap (λ (x : Queued). x.competitors) set ∙ ap (λ k. set_number q.competitors k (competitor_of newborn)) number)) (ready-added records q.competitors newborn (omega (arith, room, is.competes.places)) is.ready);
   competes = queue-set q then new n (competitor_of newborn) there set (competes-more q.competitors v new (ap (λ (w : LimitedFunding). w.thread_limit) (now ∙ added)) (omega (arith, more)) is.competes);
@@ -157,7 +157,7 @@ added-of v mid new q then threads records runners thread n is room number added 
 }
   where
     count : length v.now.funding.lends ≡ length records
-    count = ap (λ (ls : List Lend). length ls) is.lends ∙ length-map records (λ (r : Record). lend_of r.status)
+    count = ap (λ (ls : List Lend). length ls) is.lends ∙ length-map records (λ (r : Record). lend_of without r.status)
 
     more : length new.now.funding.lends ≡ length v.now.funding.lends + 1
     more = ap (λ (w : LimitedFunding). length w.funding.lends) (now ∙ added) ∙ length-append v.now.funding.lends (Nobody ∷ [])
@@ -180,8 +180,8 @@ added-of v mid new q then threads records runners thread n is room number added 
     one = All-cons (IsTimely q.quantum) newborn [] (tt, tt) (All-nil (IsTimely q.quantum))
 
 -- the number of a thread that was just made
-pub number-made : (v mid : Valued) (q : Queued) (threads : List (Option Thread)) (records : List Record) (runners : List (Option ℕ)) (n : ℕ) → AreOf v q threads records runners
+pub number-made : {without : Bool} (v mid : Valued) (q : Queued) (threads : List (Option Thread)) (records : List Record) (runners : List (Option ℕ)) (n : ℕ) → AreOf without v q threads records runners
     → mid.now ≡ with_lends v.now (v.now.funding.lends ++ Nobody ∷ []) → n ≡ length mid.now.funding.lends → n ≡ length records + 1
-number-made v mid q threads records runners n is added count =
+number-made {without} v mid q threads records runners n is added count =
     count ∙ ap (λ (w : LimitedFunding). length w.funding.lends) added ∙ length-append v.now.funding.lends (Nobody ∷ [])
-    ∙ ap (λ k. k + 1) (ap (λ (ls : List Lend). length ls) is.lends ∙ length-map records (λ (r : Record). lend_of r.status))
+    ∙ ap (λ k. k + 1) (ap (λ (ls : List Lend). length ls) is.lends ∙ length-map records (λ (r : Record). lend_of without r.status))

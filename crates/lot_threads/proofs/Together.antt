@@ -57,9 +57,9 @@ ready-changed records competitors t next low high ready = record {
         ap option_flatten (number-other competitors t (competitor_of next) u low other) ∙ ready.each u ∙ sym (ap (option_and_then competitor_of) (number-other records t next u low other))
 
 -- After a change of one record all is kept together again.
-pub changed-of : (v new : Valued) (q then : Queued) (threads : List (Option Thread)) (records : List Record) (runners : List (Option ℕ)) (t : ℕ) (next : Record)
-    → AreOf v q threads records runners → 1 ≤ t → t ≤ length records → (was : Record) → at_number records t ≡ Some was
-    → new.now ≡ with_lends v.now (set_number v.now.funding.lends t (lend_of next.status))
+pub changed-of : {without : Bool} (v new : Valued) (q then : Queued) (threads : List (Option Thread)) (records : List Record) (runners : List (Option ℕ)) (t : ℕ) (next : Record)
+    → AreOf without v q threads records runners → 1 ≤ t → t ≤ length records → (was : Record) → at_number records t ≡ Some was
+    → new.now ≡ with_lends v.now (set_number v.now.funding.lends t (lend_of without next.status))
     → new.live ≡ set_number v.live t (is_live_status next.status)
     → new.known ≡ record v.known { stale = new.known.stale }
     → ((node : Node) → IsStale v.known node → IsStale new.known node)
@@ -67,10 +67,10 @@ pub changed-of : (v new : Valued) (q then : Queued) (threads : List (Option Thre
     → ((c : Known) → AreWeights q c → AreWeights then c)
     → IsTimely q.quantum next
     → ((p used : ℕ) → next.status ≡ Running p used → IsBetween 1 (length runners) p × ((u more : ℕ) → status_of records u ≡ Some (Running p more) → u ≡ t))
-    → AreOf new then threads (set_number records t next) (with_runner t next.status (without_runner was.status runners))
-changed-of v new q then threads records runners t next is low high was there now live known kept set weigh timely free = record {
+    → AreOf without new then threads (set_number records t next) (with_runner t next.status (without_runner was.status runners))
+changed-of {without} v new q then threads records runners t next is low high was there now live known kept set weigh timely free = record {
   names = is.names ∙ sym (length-set records (t - 1) next);
-  lends = ap (λ (w : LimitedFunding). w.funding.lends) now ∙ ap (λ ls. set_number ls t (lend_of next.status)) is.lends ∙ sym (map-set (λ (r : Record). lend_of r.status) records (t - 1) next);
+  lends = ap (λ (w : LimitedFunding). w.funding.lends) now ∙ ap (λ ls. set_number ls t (lend_of without next.status)) is.lends ∙ sym (map-set (λ (r : Record). lend_of without r.status) records (t - 1) next);
   live = live ∙ ap (λ ls. set_number ls t (is_live_status next.status)) is.live ∙ sym (map-set (λ (r : Record). is_live_status r.status) records (t - 1) next);
   ready = subst (AreReady (set_number records t next)) (sym (ap (λ (x : Queued). x.competitors) set)) (ready-changed records q.competitors t next low high is.ready);
   competes = competes-more then.competitors v new (ap (λ (w : LimitedFunding). w.thread_limit) now) same_count (queue-set q then v t (competitor_of next) thread set is.competes);
@@ -80,19 +80,19 @@ changed-of v new q then threads records runners t next is low high was there now
 }
   where
     count : length v.now.funding.lends ≡ length records
-    count = ap (λ (ls : List Lend). length ls) is.lends ∙ length-map records (λ (r : Record). lend_of r.status)
+    count = ap (λ (ls : List Lend). length ls) is.lends ∙ length-map records (λ (r : Record). lend_of without r.status)
 
     thread : IsThread v.now.funding t
     thread = (low, omega (arith, high, count))
 
     same_count : length v.now.funding.lends ≤ length new.now.funding.lends
-    same_count = omega (arith, ap (λ (w : LimitedFunding). length w.funding.lends) now, length-set v.now.funding.lends (t - 1) (lend_of next.status))
+    same_count = omega (arith, ap (λ (w : LimitedFunding). length w.funding.lends) now, length-set v.now.funding.lends (t - 1) (lend_of without next.status))
 
 -- a change of the graph that changes neither what is lent nor who is live
-pub graph-of : (v new : Valued) (q : Queued) (threads : List (Option Thread)) (records : List Record) (runners : List (Option ℕ)) → AreOf v q threads records runners
+pub graph-of : {without : Bool} (v new : Valued) (q : Queued) (threads : List (Option Thread)) (records : List Record) (runners : List (Option ℕ)) → AreOf without v q threads records runners
     → new.now.funding.lends ≡ v.now.funding.lends → new.now.thread_limit ≡ v.now.thread_limit → new.live ≡ v.live
     → new.known ≡ record v.known { stale = new.known.stale } → ((node : Node) → IsStale v.known node → IsStale new.known node)
-    → AreOf new q threads records runners
+    → AreOf without new q threads records runners
 graph-of v new q threads records runners is lends limit live known kept = record {
   names = is.names;
   lends = lends ∙ is.lends;
@@ -105,9 +105,9 @@ graph-of v new q threads records runners is lends limit live known kept = record
 }
 
 -- after a draw
-pub drawn-of : (v new : Valued) (q then : Queued) (threads : List (Option Thread)) (records : List Record) (runners : List (Option ℕ)) → AreOf v q threads records runners
+pub drawn-of : {without : Bool} (v new : Valued) (q then : Queued) (threads : List (Option Thread)) (records : List Record) (runners : List (Option ℕ)) → AreOf without v q threads records runners
     → new.now ≡ v.now → new.live ≡ v.live → then ≡ record q { weights = then.weights; changed = []; visits = then.visits } → AreWeights then new.known
-    → AreOf new then threads records runners
+    → AreOf without new then threads records runners
 drawn-of v new q then threads records runners is now live queue weights = record {
   names = is.names;
   lends = ap (λ (w : LimitedFunding). w.funding.lends) now ∙ is.lends;
@@ -123,7 +123,7 @@ drawn-of v new q then threads records runners is now live queue weights = record
     competitors = ap (λ (x : Queued). x.competitors) queue
 
 -- the graph is that of the records
-pub graph-is : (v : Valued) (q : Queued) (threads : List (Option Thread)) (records : List Record) (runners : List (Option ℕ)) → AreOf v q threads records runners → v.now ≡ with_lends v.now (lends_in records)
+pub graph-is : {without : Bool} (v : Valued) (q : Queued) (threads : List (Option Thread)) (records : List Record) (runners : List (Option ℕ)) → AreOf without v q threads records runners → v.now ≡ with_lends v.now (lends_in without records)
 graph-is v q threads records runners is = ap (with_lends v.now) is.lends
 
 -- what may be lent, by other words for the graph and for the lend
@@ -174,9 +174,9 @@ no-records : (t : ℕ) → option_and_then competitor_of (at_number [] t) ≡ No
 no-records zero = refl
 no-records (suc i) = ap (option_and_then competitor_of) (at_number-suc [] i)
 
-pub opened-of : (v : Valued) (q : Queued) (threads : List (Option Thread)) (records : List Record) (runners : List (Option ℕ)) (n m : ℕ)
+pub opened-of : {without : Bool} (v : Valued) (q : Queued) (threads : List (Option Thread)) (records : List Record) (runners : List (Option ℕ)) (n m : ℕ)
     → v.now.funding.lends ≡ [] → v.live ≡ [] → v.now.thread_limit ≡ n → q.competitors ≡ replicate n None → ((c : Known) → AreWeights q c)
-    → threads ≡ [] → records ≡ [] → runners ≡ replicate m nobody → AreOf v q threads records runners
+    → threads ≡ [] → records ≡ [] → runners ≡ replicate m nobody → AreOf without v q threads records runners
 opened-of v q threads records runners n m lends live limit queue weights no_threads no_records table = rw (no_threads, no_records, table) (record {
   names = refl;
   lends = lends;
@@ -201,11 +201,11 @@ opened-of v q threads records runners n m lends live limit queue weights no_thre
     idle (suc i) = ap option_flatten (at_number-suc (replicate n unready) i) ∙ idle-at n i
 
 -- what is settled stays the threads'
-pub settled-of : (v new : Valued) (q then : Queued) (threads : List (Option Thread)) (records : List Record) (runners : List (Option ℕ))
-    → AreOf v q threads records runners → then ≡ record q { changed = then.changed } → AreWeights then new.known → new.now ≡ v.now → new.live ≡ v.live → AreOf new then threads records runners
-settled-of v new q then threads records runners is queue weights now live = record {
+pub settled-of : {without : Bool} (v new : Valued) (q then : Queued) (threads : List (Option Thread)) (records : List Record) (runners : List (Option ℕ))
+    → AreOf without v q threads records runners → then ≡ record q { changed = then.changed } → AreWeights then new.known → new.now ≡ v.now → new.live ≡ v.live → AreOf without new then threads records runners
+settled-of {without} v new q then threads records runners is queue weights now live = record {
   names = is.names;
-  lends = subst (λ (w : LimitedFunding). w.funding.lends ≡ lends_in records) (sym now) is.lends;
+  lends = subst (λ (w : LimitedFunding). w.funding.lends ≡ lends_in without records) (sym now) is.lends;
   live = live ∙ is.live;
   ready = subst (λ (cs : List (Option Competitor)). AreReady records cs) (sym same) is.ready;
   competes = subst (λ (cs : List (Option Competitor)). CompetesIn cs new) (sym same) (record {

@@ -1,5 +1,5 @@
 -- What two changes of threads make stale together.
-use Rattle.std.proofs.Common.{◌≡◌, ◌∙◌, ℕ, ◌⊎◌, inl, inr, Option, Some, None, List, refl, ap, sym, option_map, option_and_then}
+use Rattle.std.proofs.Common.{◌≡◌, ◌∙◌, ℕ, Bool, ◌⊎◌, inl, inr, Option, Some, None, List, refl, ap, sym, option_map, option_and_then}
 use Rattle.std.specs.Option.{option_flatten}
 use Rattle.lot_machine.specs.declared.ticket.Ticket.{Ticket}
 use Rattle.lot_machine.specs.declared.funding.Edge.{Edge}
@@ -48,11 +48,13 @@ edge-owner m (Some t) (Some u) weighed first second =
     let same : node.Thread t ≡ node.Thread u = ap (λ (x : Node × Node × ℕ). x.1) (some-injective _ _ (first ∙ sym second)) in
     let number : u ≡ t = cc in (t, refl, ap Some number)
 
-module _ (a b c : Threaded) (tickets : b.tickets ≡ a.tickets) (owners : (m : ℕ) → IsOwnerBetween a b c m)
+module _ (a b c : Threaded) (lending : (b.without_lending ≡ a.without_lending) × (b.without_lending ≡ c.without_lending)) (tickets : b.tickets ≡ a.tickets) (owners : (m : ℕ) → IsOwnerBetween a b c m)
     (records : (u : ℕ) → (at_number b.records u ≡ at_number a.records u) ⊎ (at_number b.records u ≡ at_number c.records u)) where
-  lender-same : (v w : Threaded) (u : ℕ) → at_number v.records u ≡ at_number w.records u → weighed_of (funding_in v) (OfLender u) ≡ weighed_of (funding_in w) (OfLender u)
-  lender-same v w u same =
-      ap (lender_edge u) (at_number-map (λ (r : Record). lend_of r.status) v.records u ∙ ap (option_map (λ (r : Record). lend_of r.status)) same ∙ sym (at_number-map (λ (r : Record). lend_of r.status) w.records u))
+  lender-same : (v w : Threaded) (u : ℕ) → v.without_lending ≡ w.without_lending → at_number v.records u ≡ at_number w.records u → weighed_of (funding_in v) (OfLender u) ≡ weighed_of (funding_in w) (OfLender u)
+  lender-same v w u alike same =
+      ap (lender_edge u)
+      (at_number-map (λ (r : Record). lend_of v.without_lending r.status) v.records u ∙ ap (option_map (λ (r : Record). lend_of v.without_lending r.status)) same
+      ∙ ap (λ (without : Bool). option_map (λ (r : Record). lend_of without r.status) (at_number w.records u)) alike ∙ sym (at_number-map (λ (r : Record). lend_of w.without_lending r.status) w.records u))
 
   edge-kept : (edge : Edge) (weighed : Node × Node × ℕ) → weighed_of (funding_in a) edge ≡ Some weighed → weighed_of (funding_in c) edge ≡ Some weighed → weighed_of (funding_in b) edge ≡ Some weighed
   edge-kept (OfTicket n) weighed old new =
@@ -60,8 +62,8 @@ module _ (a b c : Threaded) (tickets : b.tickets ≡ a.tickets) (owners : (m : �
   edge-kept (OfLender u) weighed old new = from (records u)
     where
       from : (at_number b.records u ≡ at_number a.records u) ⊎ (at_number b.records u ≡ at_number c.records u) → weighed_of (funding_in b) (OfLender u) ≡ Some weighed
-      from (inl same) = lender-same b a u same ∙ old
-      from (inr same) = lender-same b c u same ∙ new
+      from (inl same) = lender-same b a u lending.0 same ∙ old
+      from (inr same) = lender-same b c u lending.1 same ∙ new
   edge-kept (OfMutex m) weighed old new = from (owners m)
     where
       from : IsOwnerBetween a b c m → weighed_of (funding_in b) (OfMutex m) ≡ Some weighed
@@ -76,8 +78,8 @@ module _ (a b c : Threaded) (tickets : b.tickets ≡ a.tickets) (owners : (m : �
   edge-only (OfLender u) weighed is = from (records u)
     where
       from : (at_number b.records u ≡ at_number a.records u) ⊎ (at_number b.records u ≡ at_number c.records u) → (weighed_of (funding_in a) (OfLender u) ≡ Some weighed) ⊎ (weighed_of (funding_in c) (OfLender u) ≡ Some weighed)
-      from (inl same) = inl (lender-same a b u (sym same) ∙ is)
-      from (inr same) = inr (lender-same c b u (sym same) ∙ is)
+      from (inl same) = inl (lender-same a b u (sym lending.0) (sym same) ∙ is)
+      from (inr same) = inr (lender-same c b u (sym lending.1) (sym same) ∙ is)
   edge-only (OfMutex m) weighed is = from (owners m)
     where
       from : IsOwnerBetween a b c m → (weighed_of (funding_in a) (OfMutex m) ≡ Some weighed) ⊎ (weighed_of (funding_in c) (OfMutex m) ≡ Some weighed)

@@ -30,8 +30,8 @@ use Rattle.lot_threads.specs.Timely.{IsTimely}
 use Rattle.lot_threads.specs.Runners.{AreRunners}
 
 -- The existing currencies, the tickets, and the owner of each mutex; the limits on tickets, user currencies and
--- threads, the unit, the quantum and the number of processors; each thread's name and script, and its record; the
--- stale nodes; and the counts.
+-- threads, the unit, the quantum, the number of processors, and whether nobody lends; each thread's name and script,
+-- and its record; the stale nodes; and the counts.
 pub record Threaded : Type 0 where
   pub currencies : List Bool
   pub tickets : List (Option Ticket)
@@ -42,18 +42,19 @@ pub record Threaded : Type 0 where
   pub unit : ℕ
   pub quantum : ℕ
   pub processors : ℕ
+  pub without_lending : Bool
   pub threads : List (Option Thread)
   pub records : List Record
   pub stale : List Node
   pub meter : Meter
 
 -- the lends of threads with these records
-abbrev pub lends_in : List Record → List Lend
-lends_in records = map (λ r. lend_of r.status) records
+abbrev pub lends_in : Bool → List Record → List Lend
+lends_in without_lending records = map (λ r. lend_of without_lending r.status) records
 
 -- the funding of these threads: tickets, owners, and the lends that follow from the records
 abbrev pub funding_in : Threaded → Funding
-funding_in v = record { currencies = v.currencies; tickets = v.tickets; lends = lends_in v.records; owners = v.owners }
+funding_in v = record { currencies = v.currencies; tickets = v.tickets; lends = lends_in v.without_lending v.records; owners = v.owners }
 
 -- the funding of these threads, with its limits
 abbrev pub limited_in : Threaded → LimitedFunding
@@ -89,7 +90,7 @@ CanRun v t other = ⊤
 pub record CanChange (v : Threaded) (t : ℕ) (next : Record) : Type 0 where
   pub there : IsThreadOf v t
   pub timely : IsTimely v.quantum next
-  pub lend : CanLend (funding_in v) t (lend_of next.status)
+  pub lend : CanLend (funding_in v) t (lend_of v.without_lending next.status)
   pub run : CanRun v t next.status
 
 -- a thread's value, in base units (4.4)
@@ -130,9 +131,9 @@ pub record StaleByIn (change : Change) (old new : Threaded) : Type 0 where
 
 -- The graph and the queue match the records: the lends, the live threads, the competitors, and the thread on each
 -- processor.
-pub record AreOf (v : Valued) (q : Queued) (threads : List (Option Thread)) (records : List Record) (runners : List (Option ℕ)) : Type 0 where
+pub record AreOf (without_lending : Bool) (v : Valued) (q : Queued) (threads : List (Option Thread)) (records : List Record) (runners : List (Option ℕ)) : Type 0 where
   pub names : length threads ≡ length records
-  pub lends : v.now.funding.lends ≡ lends_in records
+  pub lends : v.now.funding.lends ≡ lends_in without_lending records
   pub live : v.live ≡ live_in records
   pub ready : AreReady records q.competitors
   pub competes : CompetesIn q.competitors v

@@ -14,10 +14,14 @@ use lot_draw::Competitor;
 use lot_machine::{Lend, Node, Record, Status};
 use lot_value::{Change, ValuedGraph};
 
-/// The receiver of a thread's lend: a served thread's server, a waiting thread's mutex, or nobody (4.6, 6.1).
-pub(crate) fn lend_of(status: Status) -> Lend
-    ensures { result ≡ states.lend_of status }
+/// The receiver of a thread's lend: a served thread's server, a waiting thread's mutex, or nobody, as always without
+/// lending (3.1, 4.6, 6.1).
+pub(crate) fn lend_of(without_lending: bool, status: Status) -> Lend
+    ensures { result ≡ states.lend_of without_lending status }
 {
+    if without_lending {
+        return Lend::Nobody;
+    }
     match status {
         Status::Served(server) => Lend::ToThread(server),
         Status::Waiting(mutex) => Lend::ToMutex(mutex),
@@ -35,18 +39,24 @@ pub(crate) fn is_live(status: Status) -> bool
 /// Updates the graph to a thread's new status: whether the thread is live, and its lend. If neither changes, it does
 /// nothing.
 #[inline(always)]
-pub(crate) fn follow_status(graph: &mut ValuedGraph, thread: u32, before: Status, now: Status)
+pub(crate) fn follow_status(
+    graph: &mut ValuedGraph,
+    without_lending: bool,
+    thread: u32,
+    before: Status,
+    now: Status,
+)
     requires thread { IsThread graph.old.now.funding thread }
-    requires lend { CanLend graph.old.now.funding thread (states.lend_of now) }
-    requires lent { at_number graph.old.now.funding.lends thread ≡ Some (states.lend_of before) }
+    requires lend { CanLend graph.old.now.funding thread (states.lend_of without_lending now) }
+    requires lent { at_number graph.old.now.funding.lends thread ≡ Some (states.lend_of without_lending before) }
     requires lived { at_number graph.old.live thread ≡ Some (states.is_live_status before) }
     ensures follows { Becomes graph.old graph.new
-        (with_lends graph.old.now (set_number graph.old.now.funding.lends thread (states.lend_of now)))
+        (with_lends graph.old.now (set_number graph.old.now.funding.lends thread (states.lend_of without_lending now)))
         (set_number graph.old.live thread (states.is_live_status now)) }
 {
     let live = is_live(now);
-    let lend = lend_of(now);
-    if live != is_live(before) || lend != lend_of(before) {
+    let lend = lend_of(without_lending, now);
+    if live != is_live(before) || lend != lend_of(without_lending, before) {
         graph.apply(Change::PutThread { thread, lend, live });
     }
 }

@@ -63,6 +63,8 @@ pub struct Threads {
     records: Vec<Record>,
     /// By processor, processor 1 first.
     runners: Vec<Option<u32>>,
+    /// Whether blocked threads lend to nobody.
+    without_lending: bool,
 }
 
 impl Drop for Threads {
@@ -74,6 +76,7 @@ impl Drop for Threads {
             threads: _,
             records: _,
             runners: _,
+            without_lending: _,
         } = self;
     }
 }
@@ -94,6 +97,7 @@ impl Model for Threads {
       unit = s.graph.known.unit;
       quantum = s.queue.quantum;
       processors = length s.runners.items;
+      without_lending = s.without_lending;
       threads = s.threads.items;
       records = s.records.items;
       stale = s.graph.known.stale;
@@ -101,7 +105,7 @@ impl Model for Threads {
     } };
 
     ghost invariant = { λ s. record {
-      together : AreOf s.graph s.queue s.threads.items s.records.items s.runners.items;
+      together : AreOf s.without_lending s.graph s.queue s.threads.items s.records.items s.runners.items;
       thread_room : s.graph.now.thread_limit ≤ vec_capacity s.threads;
       record_room : s.graph.now.thread_limit ≤ vec_capacity s.records;
     } };
@@ -120,6 +124,7 @@ impl Threads {
           unit = limits.now.unit;
           quantum = limits.now.quantum;
           processors = limits.now.processors;
+          without_lending = limits.now.without_lending;
           threads = [];
           records = [];
           stale = [];
@@ -139,6 +144,7 @@ impl Threads {
             threads,
             records,
             runners,
+            without_lending: limits.without_lending,
         })
     }
 
@@ -221,7 +227,7 @@ impl Threads {
         let place = index_of(thread);
         let before = self.records[place].status;
         let now = next.status;
-        follow_status(&mut self.graph, thread, before, now);
+        follow_status(&mut self.graph, self.without_lending, thread, before, now);
         self.queue.set_competitor(thread, competitor_of(next));
         move_runner(&mut self.runners, thread, before, now);
         self.records[place] = next;
@@ -235,7 +241,8 @@ impl Threads {
         if !self.can_stand(thread.number, next) {
             return false;
         }
-        can_lend(&mut self.graph, thread.number, lend_of(next.status))
+        let lend = lend_of(self.without_lending, next.status);
+        can_lend(&mut self.graph, thread.number, lend)
     }
 
     /// Whether a thread may have this record, leaving its lend aside.

@@ -26,7 +26,7 @@ pub(crate) fn word_problem<'a>(
             let first = refused.now;
             range_problem(word, Range { first, ..range })
         }
-        Argument::Version => None,
+        Argument::Version | Argument::Mechanism => None,
     }
 }
 

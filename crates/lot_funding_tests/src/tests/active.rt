@@ -230,6 +230,7 @@ fn play(
         reuse: false,
         plain_names: false,
         without_compensation: false,
+        without_lending: false,
     });
     let mut kept = Kept::new(rt, alloc, limits)?;
     for _ in 0..threads {

@@ -29,6 +29,7 @@ fn small_graph(rt: &impl Abort, alloc: Global) -> Result<Graph, Fail>
         reuse: false,
         plain_names: false,
         without_compensation: false,
+        without_lending: false,
     });
     let limits = limits.expect(rt, "limits are not in bounds");
     Ok(Graph::new(alloc, &limits)?)
@@ -219,6 +220,7 @@ fn opening(
         reuse: false,
         plain_names: false,
         without_compensation: false,
+        without_lending: false,
     });
     let limits = limits.expect(rt, "limits are not in bounds");
     let mut graph = ValuedGraph::new(alloc, &limits)?;

@@ -294,7 +294,7 @@ impl Tables {
         if !self.is_dead(number) {
             return Reply::Refused(Refusal::Alive);
         }
-        if self.threads.graph().has_edge_into(Node::Thread(number)) {
+        if self.is_thread_in_use(number) {
             return Reply::Refused(Refusal::InUse);
         }
         self.thread_index.remove(index_of(number));
@@ -569,6 +569,15 @@ impl Tables {
             Target::Thread(thread) => self.is_dead(thread),
             _ => false,
         }
+    }
+
+    /// Whether a ticket funds the thread, it serves a thread, or it owns a mutex.
+    fn is_thread_in_use(&self, thread: u32) -> bool
+        requires { (0 < thread) × (thread ≤ length self.now.state.records) }
+        ensures { result ≡ names.is_thread_in_use self.now.state thread }
+    {
+        self.threads.graph().has_edge_into(Node::Thread(thread))
+            || self.queues.first_client(thread).is_some()
     }
 
     fn is_dead(&self, thread: u32) -> bool

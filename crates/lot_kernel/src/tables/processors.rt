@@ -155,7 +155,8 @@ impl Tables {
         requires alone { RunsAlone self.old.state.records trap.processor.number trap.thread.number }
         requires stops { StopsIfLeaves after }
         requires lend { (status : AStatus) → after ≡ Leaves status
-            → CanLend (funding_of self.old.state) trap.thread.number (lend_of status) }
+            → CanLend (funding_of self.old.state) trap.thread.number
+            (lend_of self.old.state.limits.without_lending status) }
         ensures state { self.new.state
             ≡ record self.old.state {
               records = change_record

@@ -15,6 +15,7 @@ const LEAST: Sizes = Sizes {
     reuse: false,
     plain_names: false,
     without_compensation: false,
+    without_lending: false,
 };
 
 /// The largest sizes.
@@ -31,6 +32,7 @@ const MOST: Sizes = Sizes {
     reuse: false,
     plain_names: false,
     without_compensation: false,
+    without_lending: false,
 };
 
 /// Sizes with one of them one past its bound. A unit is 1 or 256.

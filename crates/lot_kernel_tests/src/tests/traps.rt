@@ -1,10 +1,11 @@
 //! Yields, ports, mutexes and exits.
 use super::same::check_same;
 use super::{
-    Line, Step, check_run, check_thread, fund, largest, play, take, take_all, thread_row, won,
+    Line, Pause, Step, check_run, check_thread, fund, kernel_of, largest, play, take, take_all,
+    thread_row, won,
 };
 use lot_kernel::{
-    Action, Event, Kernel, MutexNumber, Name, Outcome, Refusal, Reply, Status, ThreadNumber,
+    Action, Event, Kernel, MutexNumber, Name, Outcome, Refusal, Reply, Sizes, Status, ThreadNumber,
     ThreadRef, TrapRefusal,
 };
 use std::alloc::Global;
@@ -638,4 +639,80 @@ fn threads_meant(rt: HostRuntime) {
             &number,
         );
     }
+}
+
+/// In a kernel without lending `l` owns a mutex for which `h` waits, and is drawn on its own funding alone: thread `m`
+/// wins before it. The mutex then passes to `h` without a lottery.
+const INVERTED: [Step<'_>; 11] = [
+    Step::Wins(1, 0, (1, 0, 200), None),
+    Step::Traps(1, Action::Lock(1), 1, Outcome::Locked),
+    Step::Pauses(
+        Pause::Preempt(1, 0),
+        Reply::Expired {
+            thread: 1,
+            ticks: 0,
+        },
+    ),
+    Step::Wins(1, 1, (2, 1, 200), None),
+    Step::Traps(1, Action::Lock(1), 2, Outcome::Waits),
+    Step::Value(1, 1),
+    Step::Value(2, 0),
+    Step::Wins(1, 99, (3, 99, 101), None),
+    Step::Wins(2, 0, (1, 0, 1), None),
+    Step::Traps(
+        2,
+        Action::Unlock(1, 5),
+        1,
+        Outcome::Passed { to: 2, draw: None },
+    ),
+    Step::Value(2, 99),
+];
+
+/// Without lending two threads that lock each other's mutexes both wait, and a server with clients stays in use when it
+/// has ended and lost its ticket.
+const UNLENT: [Step<'_>; 14] = [
+    Step::Wins(1, 0, (1, 0, 40), None),
+    Step::Wins(2, 0, (2, 0, 30), None),
+    Step::Traps(1, Action::Lock(1), 1, Outcome::Locked),
+    Step::Traps(2, Action::Lock(2), 2, Outcome::Locked),
+    Step::Traps(1, Action::Lock(2), 1, Outcome::Waits),
+    Step::Traps(2, Action::Lock(1), 2, Outcome::Waits),
+    Step::Wins(1, 0, (3, 0, 20), None),
+    Step::Traps(1, Action::Receive(1), 3, Outcome::Waits),
+    Step::Wins(1, 0, (4, 0, 10), None),
+    Step::Traps(1, Action::Call(1, 7), 4, Outcome::ServedBy(3)),
+    Step::Wins(1, 0, (3, 0, 1000), Some(7)),
+    Step::Traps(1, Action::Exit, 3, Outcome::Exited),
+    Step::Gives(Line::Unfund(3), Reply::Done),
+    Step::Gives(Line::Rmthr("c"), Reply::Refused(Refusal::InUse)),
+];
+
+/// A kernel without lending, and threads of these names, funded with this much base.
+fn unlent(rt: &impl Abort, alloc: Global, threads: &[(u64, &str)]) -> Kernel {
+    let sizes = Sizes {
+        tickets: 4,
+        threads: 4,
+        ports: 1,
+        mutexes: 2,
+        processors: 2,
+        scripts: 1,
+        quantum: 100,
+        without_lending: true,
+        ..Sizes::SMALLEST
+    };
+    let mut kernel = kernel_of(rt, alloc, sizes);
+    fund(rt, &mut kernel, threads);
+    kernel
+}
+
+#[test]
+fn without_lending(rt: HostRuntime) {
+    let mut kernel = unlent(&rt, rt.alloc(), &[(1, "l"), (99, "h"), (100, "m")]);
+    take_all(&rt, &mut kernel, &INVERTED);
+    let mut kernel = unlent(
+        &rt,
+        rt.alloc(),
+        &[(10, "a"), (10, "b"), (10, "c"), (10, "d")],
+    );
+    take_all(&rt, &mut kernel, &UNLENT)
 }

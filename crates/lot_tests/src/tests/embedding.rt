@@ -18,6 +18,7 @@ fn first_winner(rt: &impl Abort, alloc: Global) -> Reply {
         reuse: false,
         plain_names: false,
         without_compensation: false,
+        without_lending: false,
     });
     let limits = limits.expect(rt, "limits");
     let mut kernel = Kernel::new(alloc, limits).expect(rt, "memory");

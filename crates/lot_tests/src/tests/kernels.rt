@@ -25,6 +25,7 @@ fn largest(rt: &impl Abort) -> Limits {
         reuse: false,
         plain_names: false,
         without_compensation: false,
+        without_lending: false,
     });
     limits.expect(rt, "limits")
 }

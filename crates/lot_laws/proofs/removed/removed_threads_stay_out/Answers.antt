@@ -1,5 +1,6 @@
+use Rattle.std.proofs.Common.{◌∙◌, [], ap, sym, unwrap_or}
 use Rattle.lot_laws.proofs.EachTicket.{reachable-order}
-use Rattle.lot_laws.proofs.StayOut.{reachable-edges, stands-nowhere, serves-nobody, stays-removed, record-stays}
+use Rattle.lot_laws.proofs.StayOut.{reachable-edges, stands-nowhere, stays-removed, record-stays}
 use Rattle.lot_laws.proofs.removed.removed_threads_stay_out.Goals as goal
 
 pub returns-clause-edges : goal.returns-clause-edges
@@ -9,7 +10,7 @@ pub returns-clause-lists : goal.returns-clause-lists
 returns-clause-lists c = stands-nowhere
 
 pub returns-clause-serves : goal.returns-clause-serves
-returns-clause-serves c s t clients is gone at = serves-nobody s (reachable-order s is) t (reachable-edges s is t gone) clients at
+returns-clause-serves c s t clients is gone at = sym (ap (λ o. unwrap_or o []) at) ∙ (reachable-order s is).idle t gone
 
 pub returns-clause-later : goal.returns-clause-later
 returns-clause-later c = stays-removed

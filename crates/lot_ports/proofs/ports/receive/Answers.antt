@@ -3,14 +3,17 @@ use Rattle.lot_machine.specs.Ports.{port_at}
 use Rattle.std.specs.List.{Contains}
 use Rattle.lot_queues.specs.QueueLists.{QueueLists, callers_at}
 use Rattle.lot_queues.specs.Calls.{queued_call}
-use Rattle.lot_threads.proofs.Ways.{live-counted, lends-to-live}
+use Rattle.lot_threads.proofs.Ways.{live-counted, lends-to-live, may-lend-to}
+use Rattle.lot_threads.specs.Threaded.{funding_in}
+use Rattle.lot_machine.specs.declared.funding.Lend.TheVariants.{ToThread}
 use Rattle.lot_ports.proofs.Callers.{caller-first}
 use Rattle.lot_ports.proofs.ports.receive.Goals as goal
 
 pub set_status-requires-clause-lend : goal.set_status-requires-clause-lend
 set_status-requires-clause-lend c =
-    lends-to-live c.args.threads.now c.in-Some.call.caller c.args.server.number c.requires.server
-    (λ same. c.requires.nowhere.calls c.args.port.number (subst (λ t. Contains (callers_at c.args.queues.now.ports c.args.port.number) t) (sym same) (caller-first (port_at c.args.queues.now.ports c.args.port.number).calls (queued_call c.in-Some.call) (sym c.take_call.ensures.first ∙ ap (option_map queued_call) c.in-Some.is))))
+    may-lend-to (funding_in c.args.threads.now) c.in-Some.call.caller c.args.threads.now.without_lending (ToThread c.args.server.number)
+    (lends-to-live c.args.threads.now c.in-Some.call.caller c.args.server.number c.requires.server
+    (λ same. c.requires.nowhere.calls c.args.port.number (subst (λ t. Contains (callers_at c.args.queues.now.ports c.args.port.number) t) (sym same) (caller-first (port_at c.args.queues.now.ports c.args.port.number).calls (queued_call c.in-Some.call) (sym c.take_call.ensures.first ∙ ap (option_map queued_call) c.in-Some.is)))))
 
 pub push_client-requires-clause-server_there : goal.push_client-requires-clause-server_there
 push_client-requires-clause-server_there c =

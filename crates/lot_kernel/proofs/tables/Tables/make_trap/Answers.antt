@@ -59,7 +59,7 @@ finish-requires-clause-lend c status leaves =
     let runs = c.requires.runs.1 in
     let left = left-alone s c.requires.order t p c.args.action.now c.requires.runs in
     let leaving = sym c.act-effect.ensures.after ∙ leaves in
-    subst (λ (x : State). CanLend (funding_of x) t (lend_of status)) (sym c.act-effect.ensures.state)
+    subst (λ (x : State). CanLend (funding_of x) t (lend_of x.limits.without_lending status)) (sym c.act-effect.ensures.state)
     (may-leave s (effect_of s t c.args.action.now).state t p used c.args.trap.ticks c.args.trap.used c.args.action.now c.requires.order runs c.requires.ticks.0 c.requires.ticks.1 refl
     (ap (option_map (λ (r : Record). r.status)) left ∙ runs) status leaving (lends-there s t p used c.requires.order runs c.args.action.now status leaving))
 
@@ -88,7 +88,8 @@ returns-clause-stale c =
     let trap = c.args.trap in
     let left = left-alone s c.requires.order trap.thread.number trap.processor.number c.args.action.now c.requires.runs in
     let was = record-of s.records trap.thread.number (Running trap.processor.number c.requires.runs.0) c.requires.runs.1 in
-    makes-trap c.args.self.now c.act-effect.new.self c.finish.new.self trap.thread.number _ was.0 was.1
+    let lending = ap (λ (x : State). x.limits.without_lending) c.act-effect.ensures.state ∙ ap (λ (l : Sizes). l.without_lending) (effect-limits s trap.thread.number c.args.action.now) in
+    makes-trap c.args.self.now c.act-effect.new.self c.finish.new.self lending trap.thread.number _ was.0 was.1
     (ap (λ (x : State). at_number x.records trap.thread.number) c.act-effect.ensures.state ∙ left ∙ was.1) c.finish.ensures.state c.act-effect.ensures.stale c.finish.ensures.stale
 
 pub returns-clause-counts : goal.returns-clause-counts

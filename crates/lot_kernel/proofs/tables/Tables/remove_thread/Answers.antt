@@ -1,4 +1,4 @@
-use Rattle.std.proofs.Common.{◌≡◌, ◌∙◌, ◌-◌, ◌∷◌, ℕ, List, None, Option, Some, ap, arith, cond, false, inl, nat_lt, true, option_map, rules, slice_get, slice_set, subst, sym}
+use Rattle.std.proofs.Common.{◌≡◌, ◌∙◌, ◌-◌, ◌∷◌, ℕ, List, None, Option, Some, ap, arith, cond, false, inl, true, option_map, rules, slice_get, slice_set, subst, sym}
 use Rattle.std.proofs.lemmas.List.{map-set}
 use Rattle.std.proofs.lemmas.Option.{slice_get_within}
 use Rattle.lot_machine.specs.declared.record.Thread.{Thread}
@@ -13,11 +13,8 @@ use Rattle.lot_machine.specs.State.{sizes_of}
 use Rattle.lot_kernel.proofs.Indexed.{meant-place}
 use Rattle.std.specs.List.{Contains}
 use Rattle.lot_machine.specs.declared.funding.Node.{Node}
-use Rattle.lot_machine.specs.declared.funding.Node.TheVariants as node
 use Rattle.lot_machine.specs.Commands.{Step, is_dead_in, is_thread_in_use, thread_meant}
-use Rattle.lot_machine.specs.Funding.{Funding, edge_count_into}
-use Rattle.lot_graph.specs.Graphs.{LimitedFunding}
-use Rattle.lot_threads.specs.Threaded.{Threaded, funding_in}
+use Rattle.lot_threads.specs.Threaded.{Threaded}
 use Rattle.lot_kernel.proofs.tables.Tables.remove_thread.Goals as goal
 
 pub remove-requires : goal.remove-requires
@@ -83,8 +80,7 @@ returns-clause-state c =
     let s = held (sizes_of i.limits) (freed_in i.freed) i.currencies.items i.threads i.queues in
     let meant : Some n ≡ thread_meant s c.args.thread.now = rw (← c.self.view_is) at c.in-Some.ensures in
     let dead : is_dead_in s n ≡ true = sym (rw (← c.self.view_is) at c.is_dead.ensures) ∙ c.if-not-is_dead.false in
-    let unused : is_thread_in_use s n ≡ false =
-    sym (ap (λ (f : Funding). nat_lt 0 (edge_count_into f (node.Thread n))) (ap (λ (w : LimitedFunding). w.funding) c.graph.ensures ∙ ap funding_in c.self.invariant.threads)) ∙ sym c.has_edge_into.ensures ∙ c.if-has_edge_into.false in
+    let unused : is_thread_in_use s n ≡ false = sym (rw (← c.self.view_is) at c.is_thread_in_use.ensures) ∙ c.if-is_thread_in_use.false in
     let left = ap (λ (x : FreeStack). x.places) c.leave.ensures ∙ ap (λ k. cond {A = List ℕ} i.limits.reuse (k ∷ i.freed.threads.places) i.freed.threads.places) c.index_of-2.ensures in
     rw (← c.self.view_is)
     (thread-gone (sizes_of i.limits) (freed_in i.freed) i.currencies.items i.threads c.remove_thread.new.self i.queues c.leave.new.self.places n c.self.invariant.none_freed c.remove_thread.ensures left

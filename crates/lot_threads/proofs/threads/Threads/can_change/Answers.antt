@@ -1,7 +1,7 @@
 use Rattle.std.proofs.Common.{◌≡◌, ◌∙◌, ap, refl, sym}
 use Rattle.lot_machine.specs.State.{lend_of}
 use Rattle.lot_graph.specs.Graphs.{LimitedFunding}
-use Rattle.lot_threads.specs.Threaded.{funding_in}
+use Rattle.lot_threads.specs.Threaded.{Threaded, funding_in}
 use Rattle.lot_threads.proofs.Together.{graph-is, lend-same}
 use Rattle.lot_threads.proofs.threads.Threads.can_change.Goals as goal
 
@@ -11,12 +11,13 @@ returns-clause-can c =
     let was = graph-is i.graph i.queue i.threads.items i.records.items i.runners.items c.self.invariant.together in
     let same : i.graph.now.funding ≡ funding_in c.args.self.now = ap (λ (w : LimitedFunding). w.funding) was ∙ ap funding_in c.self.view_is in
     let stands = c.if-not-can_stand.ensures.can.0 refl in
-    let lend = lend_of c.args.next.status in (
+    let lend = lend_of c.args.self.now.without_lending c.args.next.status in
+    let lent : c.lend_of-lend.result ≡ lend = c.lend_of-lend.ensures ∙ ap (λ (v : Threaded). lend_of v.without_lending c.args.next.status) c.self.view_is in (
       λ yes. record {
         there = stands.0;
         timely = stands.1;
-        lend = lend-same i.graph.now.funding (funding_in c.args.self.now) c.args.thread.number c.lend_of.result lend same c.lend_of.ensures (c.can_lend.ensures.can.0 yes);
+        lend = lend-same i.graph.now.funding (funding_in c.args.self.now) c.args.thread.number c.lend_of-lend.result lend same lent (c.can_lend.ensures.can.0 yes);
         run = stands.2;
       },
-      λ can. c.can_lend.ensures.can.1 (lend-same (funding_in c.args.self.now) i.graph.now.funding c.args.thread.number lend c.lend_of.result (sym same) (sym c.lend_of.ensures) can.lend),
+      λ can. c.can_lend.ensures.can.1 (lend-same (funding_in c.args.self.now) i.graph.now.funding c.args.thread.number lend c.lend_of-lend.result (sym same) (sym lent) can.lend),
     )
