@@ -575,7 +575,8 @@ impl System {
 
     /// The counters of all turns so far.
     pub fn total(&self) -> Counts
-        ensures { result ≡ counted (turns_made self.now.setting.program self.now.history) }
+        ensures counts { result ≡ counted (turns_made self.now.setting.program self.now.history) }
+        ensures small { result.ticks ≤ length self.now.history * 2 ^ 32 }
     {
         self.total
     }

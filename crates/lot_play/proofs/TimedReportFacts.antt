@@ -11,7 +11,7 @@ use Rattle.lot_machine.specs.Facts.{live_value}
 use Rattle.lot_machine.specs.Lends.{is_live}
 use Rattle.lot_machine.specs.Numbered.{at_number}
 use Rattle.lot_machine.specs.Rows.{row_of_thread, thread_name, thread_row}
-use Rattle.lot_machine.specs.State.{State, live_of, value_of}
+use Rattle.lot_machine.specs.State.{State, opening, value_of}
 use Rattle.lot_print.specs.declared.timed_totals.ThreadShares.{ThreadShares}
 use Rattle.lot_print.specs.TableRows.{timed_thread_record}
 use Rattle.lot_print.specs.Totals.{timed_processor_line, timed_thread_line, timed_total_line}
@@ -21,8 +21,11 @@ use Rattle.lot_simulation.specs.declared.timed.PastLives.{PastLives}
 use Rattle.lot_simulation.specs.declared.timed.Spans.{Spans}
 use Rattle.lot_simulation.specs.Report.{ActorTurn, ticks_in, total_of, turns_made, turns_of}
 use Rattle.lot_simulation.specs.Timed.{Moment, TimedTurn, clock_of, end_of, ended_at, last_moment, moment_after_all, next_due, opening_moment, timed_turns}
-use Rattle.lot_simulation.specs.TimedReport.{actor_turns, early_end, early_text, idle_until, life_change, live_part, mutex_change, no_lives, past_lives, refusals_in, refused_traps_in, reply_change, report_at, timed_processor_total, timed_report, timed_report_of, timed_whole_total, spans_in, with_lives}
-use Rattle.lot_simulation.specs.World.{Program}
+use Rattle.lot_simulation.specs.TimedReport.{actor_turns, due_in, early_end, early_text, idle_until, life_change, live_part, mutex_change, no_lives, past_lives, ready_in, refusals_in, refused_traps_in, reply_change, report_at, timed_processor_total, timed_report, timed_report_of, timed_whole_total, spans_in, with_lives}
+use Rattle.lot_simulation.specs.World.{Program, World, opening_world, system_after, system_turn}
+use Rattle.lot_simulation.proofs.ClocksAddUp.{turn-limits}
+use Rattle.lot_machine.specs.declared.sizes.Sizes.{Sizes}
+use Rattle.lot_playback.specs.Owed.{AreDue, AreReadyFor}
 use Rattle.lot_engine.specs.declared.counts.Counts.{Counts}
 use Rattle.lot_playback.specs.declared.timekeeper.Timekeeper.{Timekeeper}
 use Rattle.lot_engine.specs.Counted.{counted}
@@ -35,6 +38,11 @@ use Rattle.lot_text.proofs.SeedLemmas.{range_with_len-push}
 use Rattle.lot_playback.proofs.FollowFacts.{within-room}
 
 -- ---- all of the program's turns
+
+-- turns keep the sizes
+run-limits : (program : Program) (w : World) (actors : List ℕ) → (system_after program w actors).state.limits ≡ w.state.limits
+run-limits program w [] = refl
+run-limits program w (actor ∷ actors) = run-limits program (system_turn program w actor).world actors ∙ turn-limits program w actor
 
 module _ (seen : Seen) (timekeeper : Timekeeper) (end : IsAtEnd seen timekeeper) where
   abbrev all : List TimedTurn
@@ -64,6 +72,16 @@ module _ (seen : Seen) (timekeeper : Timekeeper) (end : IsAtEnd seen timekeeper)
   -- how long they have lived
   pub lives-are : AreSpans life_change all (length seen.history) timekeeper.lives.threads.items
   lives-are = subst (λ ts. AreSpans life_change ts (length seen.history) timekeeper.lives.threads.items) end.all end.followed.followed.lives
+
+  -- how long they have waited to run
+  pub ready-are : AreReadyFor all (length seen.history) (world_of seen).state timekeeper.ready.threads.items
+  ready-are = subst (λ ts. AreReadyFor ts (length seen.history) (world_of seen).state timekeeper.ready.threads.items) end.all end.followed.dues.ready
+
+  -- what they are due
+  pub dues-are : AreDue (opening (world_of seen).state.limits) all (length seen.history) (world_of seen).state timekeeper.dues
+  dues-are =
+      subst (λ (sizes : Sizes). AreDue (opening sizes) all (length seen.history) (world_of seen).state timekeeper.dues) (sym (run-limits seen.setting.program (opening_world seen.setting.program) seen.history))
+      (subst (λ ts. AreDue (opening seen.setting.program.limits) ts (length seen.history) (world_of seen).state timekeeper.dues) end.all end.followed.dues.dues)
 
   -- how many of their traps were refused
   pub traps-are : AreRefusedTraps all (length seen.history) timekeeper.refused_traps.threads.items
@@ -120,10 +138,10 @@ row-value s t row (Some name) None is = absurd (cc)
 row-value s t row (Some name) (Some r) is = let e : row_of_thread s t r ≡ row = cc in sym (ap (λ (x : ThreadRow). x.value) e)
 
 -- what the report tells of a thread, by what was asked of the system
-pub shares-are : (s : State) (turns : List TimedTurn) (t all live values : ℕ) (mutexes replies lives : Spans) (refused : ℕ) → all ≡ total_of ticks_in (actor_turns turns) → live ≡ live_part s t (value_of s t)
-    → values ≡ live_value s → mutexes ≡ spans_in mutex_change turns t → replies ≡ spans_in reply_change turns t → refused ≡ refused_traps_in turns t → lives ≡ spans_in life_change turns t
-    → record { all_ticks = all; live_value = live; all_values = values; mutexes = mutexes; replies = replies; refused_traps = refused; lives = lives } ≡ shares_in s turns t
-shares-are s turns t all live values mutexes replies lives refused ticks own whole for_mutex for_reply traps lived = rw (ticks, own, whole, for_mutex, for_reply, traps, lived) (refl {a = shares_in s turns t})
+pub shares-are : (s : State) (turns : List TimedTurn) (t all due live values : ℕ) (ready mutexes replies lives : Spans) (refused : ℕ) → all ≡ total_of ticks_in (actor_turns turns) → due ≡ due_in (opening s.limits) turns t → live ≡ live_part s t (value_of s t)
+    → values ≡ live_value s → ready ≡ ready_in turns t → mutexes ≡ spans_in mutex_change turns t → replies ≡ spans_in reply_change turns t → refused ≡ refused_traps_in turns t → lives ≡ spans_in life_change turns t
+    → record { all_ticks = all; due = due; live_value = live; all_values = values; ready = ready; mutexes = mutexes; replies = replies; refused_traps = refused; lives = lives } ≡ shares_in s turns t
+shares-are s turns t all due live values ready mutexes replies lives refused ticks owed own whole to_run for_mutex for_reply traps lived = rw (ticks, owed, own, whole, to_run, for_mutex, for_reply, traps, lived) (refl {a = shares_in s turns t})
 
 -- the ticks of all turns
 pub ticks-are : (seen last : Seen) (timekeeper : Timekeeper) (c : Counts) → IsAtEnd seen timekeeper → last ≡ seen → c ≡ counted (turns_made last.setting.program last.history)
@@ -150,33 +168,6 @@ module _ (seen mid : Seen) (t : ℕ) (row : ThreadRow) (shares : ThreadShares) (
   thread-record =
       ap (timed_thread_record t row) own
       ∙ sym (ap (λ o. option_map_or (timed_thread_text Table (world_of seen).state (timed_turns seen.setting.program) t) o []) there)
-
--- ---- the value of live threads
-
--- one number more counts if it passes
-passed-push : (f : ℕ → ℕ) (test : ℕ → Bool) (a k : ℕ) → sum_by f (filter test (range_with_len a (suc k))) ≡ sum_by f (filter test (range_with_len a k)) + (if test (a + k) then f (a + k) else 0)
-passed-push f test a zero = let e : a + 0 ≡ a = omega arith in rw e (from (test a))
-  where
-    from : (b : Bool) → sum_by f (cond b (a ∷ []) []) ≡ 0 + (if b then f a else 0)
-    from true = refl
-    from false = refl
-passed-push f test a (suc k) =
-    let e : a + 1 + k ≡ a + suc k = omega arith in
-    let more = subst (λ n. sum_by f (filter test (range_with_len (a + 1) (suc k))) ≡ sum_by f (filter test (range_with_len (a + 1) k)) + (if test n then f n else 0)) e (passed-push f test (a + 1) k) in
-    from (test a) (filter test (range_with_len (a + 1) (suc k))) (filter test (range_with_len (a + 1) k)) (if test (a + suc k) then f (a + suc k) else 0) more
-  where
-    from : (b : Bool) (longer shorter : List ℕ) (last : ℕ) → sum_by f longer ≡ sum_by f shorter + last → sum_by f (cond b (a ∷ longer) longer) ≡ sum_by f (cond b (a ∷ shorter) shorter) + last
-    from true longer shorter last is = let one : sum_by f (a ∷ longer) ≡ sum_by f (a ∷ shorter) + last = omega (arith, is, sum_by-cons f a longer, sum_by-cons f a shorter) in one
-    from false longer shorter last is = is
-
--- the value of one thread more
-pub value-more : (s : State) (k j value : ℕ) → j ≡ k + 1 → value ≡ live_part s j (value_of s j)
-    → sum_by (value_of s) (filter (is_live (live_of s)) (range_with_len 1 k)) + value ≡ sum_by (value_of s) (filter (is_live (live_of s)) (range_with_len 1 (k + 1)))
-value-more s k j value is own =
-    let e : k + 1 ≡ suc k = omega arith in
-    let n : j ≡ 1 + k = omega arith in
-    ap (λ v. sum_by (value_of s) (filter (is_live (live_of s)) (range_with_len 1 k)) + v) (own ∙ ap (λ i. live_part s i (value_of s i)) n)
-    ∙ sym (passed-push (value_of s) (is_live (live_of s)) 1 k) ∙ ap (λ i. sum_by (value_of s) (filter (is_live (live_of s)) (range_with_len 1 i))) (sym e)
 
 -- ---- past lives
 

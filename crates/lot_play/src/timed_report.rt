@@ -6,12 +6,11 @@ ghost use Rattle.lot_machine.specs.Bounds.{IsBetween};
 ghost use Rattle.lot_machine.specs.Facts as facts;
 ghost use Rattle.lot_machine.specs.Numbered.{numbers};
 ghost use Rattle.lot_machine.specs.Rows.{thread_row};
-ghost use Rattle.lot_machine.specs.State.{is_live_status, value_of};
 ghost use Rattle.lot_simulation.specs.Texts.{lines_for};
 ghost use Rattle.lot_simulation.specs.Timed as timed;
 ghost use Rattle.lot_simulation.specs.Timed.{timed_turns};
 ghost use Rattle.lot_simulation.specs.TimedReport as reports;
-ghost use Rattle.lot_simulation.specs.TimedReport.{actor_turns, live_part};
+ghost use Rattle.lot_simulation.specs.TimedReport.{actor_turns};
 ghost use Rattle.lot_playback.specs.InTime.{IsAtEnd, IsFollowed, moment_in};
 ghost use Rattle.lot_engine.specs.Seen.{world_of};
 ghost use Rattle.lot_io.specs.Writing.{Writes};
@@ -20,8 +19,7 @@ ghost use Rattle.lot_play.specs.ReportTable.{shares_in, timed_thread_text};
 use crate::Form;
 use lot_engine::System;
 use lot_io::{IoFault, Watched};
-use lot_machine::Status;
-use lot_playback::Timekeeper;
+use lot_playback::{Timekeeper, live_value, live_value_of};
 use lot_print::{
     ThreadShares, TimedProcessorTotal, TimedWholeTotal, write_early_end, write_report_line,
     write_timed_processor_total, write_timed_thread_record, write_timed_thread_total,
@@ -134,42 +132,6 @@ pub(crate) fn write_threads<W: Write>(
     Ok(())
 }
 
-/// The value of all live threads.
-fn live_value(system: &mut System) -> u128
-    ensures value { result ≡ facts.live_value (world_of system.old).state }
-    ensures small { result < 2 ^ 96 }
-    ensures same { system.new ≡ system.old }
-{
-    let mut sum = 0u128;
-    for place in 0..system.thread_count() {
-        sum += u128::from(live_value_of(system, place + 1));
-    }
-    sum
-}
-
-/// The thread's value if it is live, and 0 otherwise.
-fn live_value_of(system: &mut System, thread: u32) -> u64
-    ensures value { result ≡ live_part (world_of system.old).state thread
-        (value_of (world_of system.old).state thread) }
-    ensures same { system.new ≡ system.old }
-{
-    match system.thread_row(thread) {
-        Some(row) if is_live(row.status) => row.value,
-        _ => 0,
-    }
-}
-
-/// Whether a thread with this status is live.
-fn is_live(status: Status) -> bool
-    ensures { result ≡ is_live_status status }
-{
-    match status {
-        Status::Ready => true,
-        Status::Running { .. } => true,
-        _ => false,
-    }
-}
-
 /// Writes the thread's line or row.
 fn write_thread<W: Write>(
     system: &mut System,
@@ -212,12 +174,17 @@ fn shares_of(
     ensures same { system.new ≡ system.old }
     ensures shares { result
         ≡ shares_in (world_of system.old).state (timed_turns system.old.setting.program) thread }
+    ensures ticks { result.all_ticks < 2 ^ 57 }
+    ensures due { result.due < 2 ^ 121 }
+    ensures values { result.all_values ≡ all_values }
 {
     let live_value = live_value_of(system, thread);
     ThreadShares {
         all_ticks: system.total().ticks,
+        due: timekeeper.dues.of(thread),
         live_value,
         all_values,
+        ready: timekeeper.ready.of(thread),
         mutexes: timekeeper.mutexes.of(thread),
         replies: timekeeper.replies.of(thread),
         refused_traps: timekeeper.refused_traps.of(thread),

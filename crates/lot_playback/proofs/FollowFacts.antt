@@ -1,5 +1,5 @@
 -- One more of a program's turns in time.
-use Rattle.std.proofs.Common.{◌≡◌, ℕ, zero, suc, ◌+◌, ◌-◌, ◌<◌, ◌≤◌, ◌==◌, Bool, true, false, Option, Some, None, List, [], ◌∷◌, ◌++◌, length, take, drop, refl, sym, ◌∙◌, ap, subst, arith, append_assoc, append-nil, length-append, length-drop, ne_eqb}
+use Rattle.std.proofs.Common.{◌≡◌, ℕ, zero, suc, ◌+◌, ◌-◌, ◌^◌, ◌<◌, ◌≤◌, ◌==◌, Bool, true, false, Option, Some, None, List, [], ◌∷◌, ◌++◌, length, take, drop, refl, sym, ◌∙◌, ap, subst, arith, append_assoc, append-nil, length-append, length-drop, ne_eqb}
 use Rattle.std.specs.Prelude.{map, count_by, replicate, if◌then◌else◌, Result, Ok, Err, IsErr, IfOk}
 use Rattle.std.proofs.lemmas.List.{length-map, map-append}
 use Rattle.std.proofs.Math.Seq.{take-append_seam, drop-append_seam}
@@ -11,15 +11,19 @@ use Rattle.std.proofs.lemmas.List.Sums.{sum_by_push}
 use Rattle.lot_simulation.specs.Report.{ActorTurn, count_in, total_of}
 use Rattle.lot_simulation.specs.Timed.{Moment, TimedTurn, turns_from, timed_turns, timed_room, next_due, due_first, turn_due, moment_after, moment_after_all, opening_moment, alarms_after, clocks_after, is_idle_draw}
 use Rattle.lot_simulation.specs.TimedReport.{actor_turns, refusals_in}
-use Rattle.lot_simulation.specs.World.{Program, World, Answer, console_turn, system_turn}
-use Rattle.lot_simulation.specs.World.Answer.{Answered}
+use Rattle.lot_simulation.specs.World.{Program, World, Answer, actor_event, console_turn, processor_turn, system_turn}
+use Rattle.lot_simulation.specs.World.Answer.{Answered, Ended}
 use Rattle.lot_simulation.proofs.OtherTurns.{turn-grows}
 use Rattle.lot_simulation.proofs.TimedRuns.{turns-few}
 use Rattle.lot_simulation.proofs.TimesRise.{AreLater, alarms-later}
 use Rattle.lot_machine.specs.Bounds.{IsWithinBounds}
+use Rattle.lot_machine.specs.declared.event.Event.TheVariants as event
+use Rattle.lot_machine.specs.State.{opening}
+use Rattle.lot_machine.specs.Step.{step}
+use Rattle.lot_playback.specs.Owed.{Answers}
 use Rattle.lot_playback.proofs.AlarmFacts.{none-asleep}
 use Rattle.lot_playback.specs.declared.timekeeper.Timekeeper.{Timekeeper}
-use Rattle.lot_playback.specs.InTime.{AreAlarms, AreNumbered, HasFollowed, HasRoomFor, IsFollowed, alarms_in, moment_in, next_turns, turns_done}
+use Rattle.lot_playback.specs.InTime.{AreAlarms, AreNumbered, HasDues, HasFollowed, HasRoomFor, IsFollowed, alarms_in, moment_in, next_turns, turns_done}
 use Rattle.lot_engine.specs.Seen.{Seen, after_turn, commands_made, world_of}
 use Rattle.lot_engine.proofs.Runs.{system_run-one_more}
 use Rattle.lot_engine.proofs.TurnFacts.{count-console, count-processor}
@@ -65,6 +69,30 @@ refusals-more done turn e r answered =
     ap (λ ts. total_of refusals_in ts) (map-append beside done (turn ∷ []))
     ∙ sum_by_push counted (actor_turns done) (beside turn)
     ∙ ap (λ (a : Answer). total_of refusals_in (actor_turns done) + count_in refusals_in a) answered
+
+-- a turn's answer is the machine's, in the state before it
+pub turn-answers : (program : Program) (w : World) (actor : ℕ) (e : Event) (r : Reply) → (system_turn program w actor).answer ≡ Answered e r → Answers w.state e r (system_turn program w actor).world.state
+turn-answers program w actor e r is = by (actor == 0) is
+  where
+    event_or : Answer → Event
+    event_or (Answered x y) = x
+    event_or Ended = e
+
+    reply_or : Answer → Reply
+    reply_or (Answered x y) = y
+    reply_or Ended = r
+
+    made : (x : Event) → Answered x (step w.state x).reply ≡ Answered e r → Answers w.state e r (step w.state x).state
+    made x same = ap (step w.state) (sym (ap event_or same)) ∙ ap (λ y. record { state = (step w.state x).state; reply = y }) (ap reply_or same)
+
+    from : (cs : List Command) → (console_turn program w cs).answer ≡ Answered e r → Answers w.state e r (console_turn program w cs).world.state
+    from [] same = cc
+    from (c ∷ cs) same = made (event.Command c) same
+
+    by : (b : Bool) → (if b then console_turn program w w.commands else processor_turn w actor (actor_event program w actor)).answer ≡ Answered e r
+        → Answers w.state e r (if b then console_turn program w w.commands else processor_turn w actor (actor_event program w actor)).world.state
+    by true same = from w.commands same
+    by false same = made (actor_event program w actor) same
 
 -- ---- a system that is followed
 
@@ -179,8 +207,8 @@ module _ (program : Program) (seen : Seen) (timekeeper : Timekeeper) (is : IsFol
           let later = alarms-later now (length (world_of after).state.records) 0 due.time due.actor (omega arith) before grown t time (ap (λ (f : ℕ → Option ℕ). f t) (sym alarms) ∙ there) in
           (later.0, omega (arith, later.1))
 
-      pub followed-more : HasFollowed (done ++ turn ∷ []) (length seen.history + 1) next → HasRoomFor program next → AreAlarms program.limits.processors next.alarms → IsFollowed program after next
-      followed-more followed fits sleeping = record {
+      pub followed-more : HasFollowed (done ++ turn ∷ []) (length seen.history + 1) next → HasDues (opening program.limits) (done ++ turn ∷ []) (length seen.history + 1) (world_of after).state next → HasRoomFor program next → AreAlarms program.limits.processors next.alarms → IsFollowed program after next
+      followed-more followed dues fits sleeping = record {
         program_is = is.program_is;
         room_is = is.room_is;
         timer_is = is.timer_is;
@@ -193,6 +221,7 @@ module _ (program : Program) (seen : Seen) (timekeeper : Timekeeper) (is : IsFol
         left = left-more;
         room = fits;
         followed = subst (λ ts. HasFollowed ts (length after.history) next) (sym done-more) (subst (λ n. HasFollowed (done ++ turn ∷ []) n next) (sym longer) followed);
+        dues = subst (λ ts. HasDues (opening program.limits) ts (length after.history) (world_of after).state next) (sym done-more) (subst (λ n. HasDues (opening program.limits) (done ++ turn ∷ []) n (world_of after).state next) (sym longer) dues);
       }
 
 -- ---- before the first turn
@@ -201,10 +230,14 @@ room-is : 16000000 ≡ timed_room
 unfolding timed_room
 room-is = refl
 
+pub room-few : timed_room < 2 ^ 24
+unfolding timed_room
+room-few = omega arith
+
 -- a system that was opened has made none of the program's turns
-pub opened-followed : (program : Program) (timekeeper : Timekeeper) → IsWithinBounds program.limits → AreAlarms program.limits.processors timekeeper.alarms → timekeeper.alarms.threads.items ≡ replicate program.limits.threads None → length program.times ≡ length program.commands → timekeeper.clocks.time ≡ 0 → timekeeper.clocks.processors.items ≡ replicate program.limits.processors (record { time = 0; waits = false; idle = 0 }) → HasRoomFor program timekeeper → HasFollowed [] 0 timekeeper
+pub opened-followed : (program : Program) (timekeeper : Timekeeper) → IsWithinBounds program.limits → AreAlarms program.limits.processors timekeeper.alarms → timekeeper.alarms.threads.items ≡ replicate program.limits.threads None → length program.times ≡ length program.commands → timekeeper.clocks.time ≡ 0 → timekeeper.clocks.processors.items ≡ replicate program.limits.processors (record { time = 0; waits = false; idle = 0 }) → HasRoomFor program timekeeper → HasFollowed [] 0 timekeeper → HasDues (opening program.limits) [] 0 (opening program.limits) timekeeper
     → IsFollowed program (record { setting = record { program = program; room = 16000000; timer = true }; history = [] }) timekeeper
-opened-followed program timekeeper bounds sleeping nobody as_many time clocks fits followed =
+opened-followed program timekeeper bounds sleeping nobody as_many time clocks fits followed dues =
     let seen : Seen = record { setting = record { program = program; room = 16000000; timer = true }; history = [] } in
     let none_asleep : alarms_in timekeeper.alarms.threads.items ≡ (λ (t : ℕ). None) = ap alarms_in nobody ∙ none-asleep program.limits.threads in
     let moment : moment_in seen timekeeper ≡ opening_moment program = λ i. record { world = world_of seen; time = time i; clocks = clocks i; times = program.times; alarms = none_asleep i } in
@@ -222,6 +255,7 @@ opened-followed program timekeeper bounds sleeping nobody as_many time clocks fi
       left = sym as_many;
       room = fits;
       followed = followed;
+      dues = dues;
     }
 
 -- what a result that is an error says of its value

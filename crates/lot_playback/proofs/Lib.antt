@@ -7,3 +7,6 @@ pub mod TurnFacts
 pub mod MadeFacts
 pub mod PlaceFacts
 pub mod ClockFacts
+pub mod DispatchFacts
+pub mod DueFacts
+pub mod ValueFacts

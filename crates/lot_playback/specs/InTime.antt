@@ -11,6 +11,7 @@ use Rattle.std.specs.List.{flat_map, range_with_len}
 use Rattle.std.specs.Option.{IfSome, option_flatten, option_map_or}
 use Rattle.lot_machine.specs.Bounds.{IsBetween, IsWithinBounds}
 use Rattle.lot_machine.specs.Numbered.{at_number, numbers}
+use Rattle.lot_machine.specs.State.{State, opening}
 use Rattle.lot_simulation.specs.declared.timed.Due.{Due}
 use Rattle.lot_simulation.specs.declared.timed.Sleeper.{Sleeper}
 use Rattle.lot_simulation.specs.declared.script.ScriptTrap.{ScriptTrap}
@@ -26,6 +27,7 @@ use Rattle.lot_playback.specs.declared.timekeeper.Timekeeper.{Timekeeper}
 use Rattle.lot_script.specs.Slices.{Parts}
 use Rattle.lot_engine.specs.Playing.{turn_in}
 use Rattle.lot_engine.specs.Seen.{Seen, commands_made, world_of}
+use Rattle.lot_playback.specs.Owed.{AreDue, AreReadyFor}
 
 -- the moment of a system at this time, with these clocks and alarms
 abbrev pub moment_of : Seen → ℕ → List Clock → (ℕ → Option ℕ) → Moment
@@ -143,6 +145,12 @@ pub record HasFollowed (done : List TimedTurn) (n : ℕ) (timekeeper : Timekeepe
   pub refused : timekeeper.refused ≡ total_of refusals_in (actor_turns done)
   pub few : timekeeper.refused ≤ n
 
+-- what threads are due and how long they waited to run are those of these turns, the first of which was made in the
+-- first state, and which led to the other
+pub record HasDues (first : State) (done : List TimedTurn) (n : ℕ) (s : State) (timekeeper : Timekeeper) : Type 0 where
+  pub ready : AreReadyFor done n s timekeeper.ready.threads.items
+  pub dues : AreDue first done n s timekeeper.dues
+
 -- the records have room for the program's processors and threads
 pub record HasRoomFor (program : Program) (timekeeper : Timekeeper) : Type 0 where
   pub clocks : length timekeeper.clocks.processors.items ≡ program.limits.processors
@@ -150,6 +158,8 @@ pub record HasRoomFor (program : Program) (timekeeper : Timekeeper) : Type 0 whe
   pub replies : length timekeeper.replies.threads.items ≡ program.limits.threads
   pub lives : length timekeeper.lives.threads.items ≡ program.limits.threads
   pub refused_traps : length timekeeper.refused_traps.threads.items ≡ program.limits.threads
+  pub ready : length timekeeper.ready.threads.items ≡ program.limits.threads
+  pub dues : length timekeeper.dues.threads.items ≡ program.limits.threads
   pub alarms : length timekeeper.alarms.threads.items ≡ program.limits.threads
 
 -- ---- turns that a system has made
@@ -184,6 +194,7 @@ pub record IsFollowed (program : Program) (seen : Seen) (timekeeper : Timekeeper
   pub sleeping : AreAlarms program.limits.processors timekeeper.alarms
   pub sleepers : AreNumbered (length (world_of seen).state.records) (alarms_in timekeeper.alarms.threads.items)
   pub followed : HasFollowed (turns_done program seen) (length seen.history) timekeeper
+  pub dues : HasDues (opening program.limits) (turns_done program seen) (length seen.history) (world_of seen).state timekeeper
 
 -- this is the next turn, no later than the program's end, and there is room for it
 pub record IsDue (program : Program) (seen : Seen) (timekeeper : Timekeeper) (due : Due) : Type 0 where

@@ -6,3 +6,5 @@ pub mod Stages
 pub mod InTime
 -- The next turn of a play.
 pub mod Orders
+-- The tables of what threads are due, and of how long they are Ready before they run.
+pub mod Owed

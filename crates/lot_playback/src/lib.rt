@@ -3,19 +3,24 @@
 
 mod alarms;
 mod clocks;
+mod dues;
 mod making;
 mod observer;
 mod playback;
+mod ready;
 mod refused_traps;
 mod spans;
 mod timekeeper;
 mod turn;
+mod values;
 
 pub use alarms::Alarms;
 pub use clocks::Clocks;
+pub use dues::{DueTable, ThreadDue};
 pub use observer::Observer;
 pub use playback::{Order, Playback};
 pub use refused_traps::RefusedTraps;
 pub use spans::SpanTable;
 pub use timekeeper::Timekeeper;
 pub use turn::{NextTurn, Turn};
+pub use values::{live_value, live_value_of};

@@ -11,6 +11,9 @@ ghost use Rattle.lot_simulation.specs.declared.timed.SpanChange.{SpanChange as S
 ghost use Rattle.lot_machine.specs.declared.event.Event.{Event as EventRecord};
 ghost use Rattle.lot_machine.specs.declared.event.Event.TheVariants as event;
 ghost use Rattle.lot_simulation.specs.declared.timed.SpanChange.TheVariants.{Anew, Begins, Ends};
+ghost use Rattle.lot_machine.specs.State.{State, opening};
+ghost use Rattle.lot_machine.specs.declared.sizes.Sizes.{Sizes};
+ghost use Rattle.lot_playback.specs.Owed.{AreReadyFor};
 ghost use Rattle.lot_playback.specs.InTime as in_time;
 ghost use Rattle.lot_playback.specs.InTime.{AreFew, AreSpans, HaveFollowed};
 
@@ -40,6 +43,8 @@ impl SpanTable {
     pub(crate) fn open(alloc: Global, threads: u32) -> Result<SpanTable, AllocError>
         ensures none { (kind : WorldTurn → SpanChangeRecord)
             → IfOk result (λ table. AreSpans kind [] 0 table.threads.items) }
+        ensures ready { (sizes : Sizes)
+            → IfOk result (λ table. AreReadyFor [] 0 (opening sizes) table.threads.items) }
         ensures count { IfOk result (λ table. vec_len table.threads ≡ threads) }
     {
         Ok(SpanTable {
@@ -50,8 +55,10 @@ impl SpanTable {
     /// The spans of the thread with this number.
     pub fn of(&self, thread: u32) -> Spans
         requires { IsBetween 1 (vec_len self.now.threads) thread }
-        ensures { (kind : WorldTurn → SpanChangeRecord) (done : List TimedTurn) (n : ℕ)
+        ensures spans { (kind : WorldTurn → SpanChangeRecord) (done : List TimedTurn) (n : ℕ)
             → AreSpans kind done n self.now.threads.items → result ≡ timed.spans_in kind done thread }
+        ensures ready { (s : State) (done : List TimedTurn) (n : ℕ)
+            → AreReadyFor done n s self.now.threads.items → result ≡ timed.ready_in done thread }
     {
         self.threads[thread as usize - 1]
     }
@@ -74,7 +81,7 @@ impl SpanTable {
     }
 
     /// Forgets the spans of the thread that had this number before.
-    fn forget(&mut self, thread: u32)
+    pub(crate) fn forget(&mut self, thread: u32)
         ensures { (time : ℕ) → HaveFollowed time (Anew thread) self.old.threads.items self.new.threads.items }
     {
         if thread == 0 || self.threads.len() < thread as usize {
@@ -111,7 +118,7 @@ impl SpanTable {
 }
 
 /// The spans after the current one, if any, ends at this time.
-fn span_ended(spans: Spans, time: u32) -> Spans
+pub(crate) fn span_ended(spans: Spans, time: u32) -> Spans
     requires { (spans.count < 2 ^ 31) × (spans.total < 2 ^ 63) }
     ensures { result ≡ timed.span_ended time spans }
 {

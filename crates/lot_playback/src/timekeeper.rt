@@ -1,18 +1,21 @@
 //! The records of a timed play, which its report needs in addition to the system.
 ghost use Rattle.std.specs.Prelude.{◌≡◌, ℕ, ◌<◌, ◌≤◌, ◌+◌, ◌^◌, ◌++◌, List, [], ◌∷◌, None, false, length, replicate};
 ghost use Rattle.std.specs.Prelude.{IfOk, IfSome, vec_len};
+ghost use Rattle.lot_machine.specs.State.{State, opening};
 ghost use Rattle.lot_simulation.specs.TimedReport as reports;
 ghost use Rattle.lot_simulation.specs.Timed as timed;
 ghost use Rattle.lot_simulation.specs.Timed.{Moment, TimedTurn, alarms_after, clocks_after, is_idle_draw};
 ghost use Rattle.lot_simulation.specs.World.{Program as ProgramRecord, sleeper_on};
 ghost use Rattle.lot_simulation.specs.World.Answer.{Answered};
 ghost use Rattle.lot_engine.specs.Seen.{world_of};
-ghost use Rattle.lot_playback.specs.InTime.{AreAlarms, CanFollow, HasFollowed, HasRoomFor, IsFollowed};
+ghost use Rattle.lot_playback.specs.InTime.{AreAlarms, CanFollow, HasDues, HasFollowed, HasRoomFor, IsFollowed};
 ghost use Rattle.lot_playback.specs.InTime.{alarms_in, moment_in};
+ghost use Rattle.lot_playback.specs.Owed.{Answers};
 ghost use Rattle.lot_text.specs.Programs.{IsProgram};
 
 use crate::alarms::Alarms;
 use crate::clocks::Clocks;
+use crate::dues::DueTable;
 use crate::refused_traps::RefusedTraps;
 use crate::spans::{SpanTable, life, mutex_wait, reply_wait};
 use lot_engine::System;
@@ -37,6 +40,10 @@ pub struct Timekeeper {
     pub replies: SpanTable,
     /// The lives of the threads that have had each number.
     pub lives: SpanTable,
+    /// Each thread's waits to run.
+    pub ready: SpanTable,
+    /// What each thread is due.
+    pub dues: DueTable,
     /// Each thread's refused traps.
     pub refused_traps: RefusedTraps,
     /// The number of refused commands and wakes.
@@ -55,6 +62,7 @@ impl Timekeeper {
         ensures sleeping { IfOk result (λ timekeeper. AreAlarms program.now.limits.processors timekeeper.alarms) }
         ensures room { IfOk result (HasRoomFor program.now) }
         ensures followed { IfOk result (HasFollowed [] 0) }
+        ensures dues { IfOk result (HasDues (opening program.now.limits) [] 0 (opening program.now.limits)) }
         ensures legal { IsProgram program.now }
     {
         let limits = program.limits();
@@ -64,6 +72,8 @@ impl Timekeeper {
             mutexes: SpanTable::open(alloc, limits.threads)?,
             replies: SpanTable::open(alloc, limits.threads)?,
             lives: SpanTable::open(alloc, limits.threads)?,
+            ready: SpanTable::open(alloc, limits.threads)?,
+            dues: DueTable::open(alloc, limits.threads)?,
             refused_traps: RefusedTraps::open(alloc, limits.threads)?,
             refused: 0,
         })
@@ -83,7 +93,7 @@ impl Timekeeper {
     /// goes to sleep with it, if one does.
     pub(crate) fn follow(
         &mut self,
-        system: &System,
+        system: &mut System,
         time: u32,
         actor: u32,
         event: &Event,
@@ -95,9 +105,13 @@ impl Timekeeper {
         requires can { CanFollow actor (vec_len self.old.clocks.processors)
             (length self.old.alarms.threads.items) sleeper }
         requires followed { (done : List TimedTurn) × (n : ℕ) × (n < 2 ^ 31) × HasFollowed done n self.old }
+        requires threads { (vec_len self.old.ready.threads ≤ 4096) × (vec_len self.old.dues.threads ≤ 4096) }
+        requires dues { (first before : State) × (done : List TimedTurn) × (n : ℕ) × (n < 2 ^ 24)
+            × HasDues first done n before self.old × Answers before event.now reply (world_of system.old).state }
+        ensures same { system.new ≡ system.old }
         ensures time { self.new.clocks.time ≡ time }
         ensures clocks { self.new.clocks.processors.items
-            ≡ clocks_after (world_of system.now).state self.old.clocks.processors.items
+            ≡ clocks_after (world_of system.old).state self.old.clocks.processors.items
             (record { time = time; actor = actor }) (is_idle_draw (Answered event.now reply)) }
         ensures alarms { (m : Moment) → m.alarms ≡ alarms_in self.old.alarms.threads.items
             → length m.clocks ≡ length self.old.clocks.processors.items
@@ -105,10 +119,16 @@ impl Timekeeper {
             → alarms_in self.new.alarms.threads.items ≡ alarms_after m time actor }
         ensures sleeping { AreAlarms (vec_len self.old.clocks.processors) self.new.alarms }
         ensures followed { (done : List TimedTurn) (n : ℕ) (turn : TimedTurn) → turn.time ≡ time
-            → turn.turn.answer ≡ Answered event.now reply → turn.turn.world ≡ world_of system.now
+            → turn.turn.answer ≡ Answered event.now reply → turn.turn.world ≡ world_of system.old
             → HasFollowed done n self.old → HasFollowed (done ++ turn ∷ []) (n + 1) self.new }
+        ensures dues { (first before : State) (done : List TimedTurn) (n : ℕ) (turn : TimedTurn) → n < 2 ^ 24
+            → turn.time ≡ time → turn.turn.answer ≡ Answered event.now reply → turn.turn.world ≡ world_of system.old
+            → Answers before event.now reply (world_of system.old).state → HasDues first done n before self.old
+            → HasDues first (done ++ turn ∷ []) (n + 1) (world_of system.old).state self.new }
         ensures room { (program : ProgramRecord) → HasRoomFor program self.old → HasRoomFor program self.new }
     {
+        self.ready.queue(system, time, event, reply);
+        self.dues.follow(system, event, reply);
         let processors = self.clocks.processors.len() as u32;
         self.clocks.follow(system, time, actor, reply);
         self.alarms.follow(time, actor, processors, sleeper);

@@ -4,6 +4,7 @@ use Rattle.std.specs.Fmt.{decimal}
 use Rattle.lot_machine.specs.declared.row.ThreadRow.{ThreadRow}
 use Rattle.lot_simulation.specs.declared.timed.Span.{Span}
 use Rattle.lot_simulation.specs.declared.timed.Spans.{Spans}
+use Rattle.lot_simulation.specs.TimedReport.{tick_parts}
 use Rattle.lot_simulation.specs.Texts.{newline, quotient_text}
 use Rattle.lot_print.specs.declared.figures.Figures.{Figures}
 use Rattle.lot_print.specs.declared.figures.Spread.{Spread}
@@ -17,8 +18,9 @@ use Rattle.lot_print.specs.declared.timed_totals.ThreadShares.{ThreadShares}
 abbrev pub header_row : Columns → List ℕ
 header_row columns.Totals = codes "thread,name,quanta,ticks\n"
 header_row columns.TimedTotals =
-    codes "thread,name,quanta,ticks,share_percent,value_percent"
-    ++ codes ",mutex_waits,mutex_mean,mutex_longest,reply_waits,reply_mean,reply_longest,refused,made,ended\n"
+    codes "thread,name,quanta,ticks,share_percent,due_percent,value_percent"
+    ++ (codes ",ready_waits,ready_mean,ready_longest,mutex_waits,mutex_mean,mutex_longest"
+    ++ codes ",reply_waits,reply_mean,reply_longest,refused,made,ended\n")
 header_row columns.Figures =
     codes "thread,name,plays,quanta_mean,quanta_least,quanta_most,ticks_mean,ticks_least,ticks_most"
     ++ codes ",share_percent_mean,share_percent_least,share_percent_most\n"
@@ -66,14 +68,15 @@ life_fields lives = fields lives.since lives.last
     fields None (Some life) = next_field (decimal life.from) ++ next_field (decimal life.to)
     fields None None = next_field [] ++ next_field []
 
--- A thread's row in the table of a timed program: also its share of all ticks, its share of the live value, its waits
--- for mutexes and for replies, the number of its refused traps, and when it was made and ended.
+-- A thread's row in the table of a timed program: also its share of all ticks, what it was due of them, its share of the
+-- live value, its waits to run, for mutexes and for replies, the number of its refused traps, and when it was made and ended.
 abbrev pub timed_thread_record : ℕ → ThreadRow → ThreadShares → List ℕ
 timed_thread_record t row shares =
     thread_fields t row ++ (next_field (percent_field row.ticks shares.all_ticks)
+    ++ (next_field (percent_field shares.due (shares.all_ticks * tick_parts))
     ++ (next_field (percent_field shares.live_value shares.all_values)
-    ++ (waits_fields shares.mutexes ++ (waits_fields shares.replies
-    ++ (next_field (decimal shares.refused_traps) ++ (life_fields shares.lives ++ newline))))))
+    ++ (waits_fields shares.ready ++ (waits_fields shares.mutexes ++ (waits_fields shares.replies
+    ++ (next_field (decimal shares.refused_traps) ++ (life_fields shares.lives ++ newline))))))))
 
 -- ---- a report over several plays
 

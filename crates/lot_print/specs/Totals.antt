@@ -1,7 +1,8 @@
 -- The report's lines of totals, from the numbers that they print.
-use Rattle.std.specs.Prelude.{ℕ, List, ◌++◌, codes}
+use Rattle.std.specs.Prelude.{ℕ, ◌*◌, List, ◌++◌, codes}
 use Rattle.std.specs.Fmt.{decimal}
 use Rattle.lot_machine.specs.declared.row.ThreadRow.{ThreadRow}
+use Rattle.lot_simulation.specs.TimedReport.{tick_parts}
 use Rattle.lot_simulation.specs.Texts.{newline}
 use Rattle.lot_simulation.specs.TimedReport.{ended_text, life_text, percent_text, refused_traps_text, waits_text}
 use Rattle.lot_print.specs.declared.timed_totals.ThreadShares.{ThreadShares}
@@ -19,14 +20,16 @@ total_line turns quanta ticks =
 
 -- ---- timed reports
 
--- a thread's line: its row, its shares, its waits, its refused traps, and when it was made and ended
+-- a thread's line: its row, its shares, what it was due, its waits, its refused traps, and when it was made and ended
 abbrev pub timed_thread_line : ℕ → ThreadRow → ThreadShares → List ℕ
 timed_thread_line n row shares =
     codes "thread " ++ (decimal n ++ (codes " " ++ (row.name ++ (codes " quanta " ++ (decimal row.quanta
     ++ (codes " ticks " ++ (decimal row.ticks ++ (codes " share " ++ (percent_text row.ticks shares.all_ticks
+    ++ (codes " due " ++ (percent_text shares.due (shares.all_ticks * tick_parts)
     ++ (codes " value " ++ (percent_text shares.live_value shares.all_values
-    ++ (waits_text (codes " mutex") shares.mutexes ++ (waits_text (codes " reply") shares.replies
-    ++ (refused_traps_text shares.refused_traps ++ (life_text shares.lives ++ newline)))))))))))))))
+    ++ (waits_text (codes " ready") shares.ready ++ (waits_text (codes " mutex") shares.mutexes
+    ++ (waits_text (codes " reply") shares.replies ++ (refused_traps_text shares.refused_traps
+    ++ (life_text shares.lives ++ newline))))))))))))))))))
 
 -- a processor's line: its won draws, its idle draws, the ticks used there, and the ticks in which it was idle
 abbrev pub timed_processor_line : ℕ → ℕ → ℕ → ℕ → ℕ → List ℕ

@@ -137,6 +137,8 @@ const TIMED_THREAD: usize = NAMED
     + COUNTS
     + PERCENT
     + PERCENT
+    + PERCENT
+    + WAITS
     + WAITS
     + WAITS
     + REFUSED_TRAPS
@@ -144,7 +146,7 @@ const TIMED_THREAD: usize = NAMED
     + 1;
 
 /// The longest line of a timed report.
-pub(crate) const TIMED_ROW: usize = 512;
+pub(crate) const TIMED_ROW: usize = 640;
 
 /// A figure's word, and its mean, its least and its most over several plays.
 const SPREAD: usize = b" quanta".len()
@@ -162,8 +164,8 @@ const NAMED_FIELDS: usize = NUMBER + 1 + NAME;
 /// A thread's row in the table of a timed report.
 const TIMED_FIELDS: usize = NAMED_FIELDS
     + 2 * (1 + LONG_NUMBER)
-    + 2 * (1 + QUOTIENT)
-    + 2 * (1 + NUMBER + 1 + QUOTIENT + 1 + NUMBER)
+    + 3 * (1 + QUOTIENT)
+    + 3 * (1 + NUMBER + 1 + QUOTIENT + 1 + NUMBER)
     + 3 * (1 + NUMBER)
     + 1;
 

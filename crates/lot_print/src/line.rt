@@ -172,7 +172,7 @@ impl<const N: usize> Line<N> {
     #[inline(never)]
     pub(crate) fn push_quotient(&mut self, text: &str, number: u128, divisor: u128)
         requires room { length self.old + length text.now + 43 ≤ N }
-        requires divisor { (0 < divisor) × (divisor < 2 ^ 96) }
+        requires divisor { (0 < divisor) × (divisor < 2 ^ 118) }
         ensures text { self.new ≡ self.old ++ (text.now ++ quotient_text number divisor) }
         ensures len { length self.new ≤ length self.old + length text.now + 43 }
     {

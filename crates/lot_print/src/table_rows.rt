@@ -1,6 +1,7 @@
 //! The rows of a report as a table: fields with commas between them.
-ghost use Rattle.std.specs.Prelude.{◌≡◌, ◌<◌, ◌≤◌, ◌+◌, ◌^◌, ◌++◌, codes, false, length};
+ghost use Rattle.std.specs.Prelude.{◌≡◌, ◌<◌, ◌≤◌, ◌+◌, ◌*◌, ◌^◌, ◌++◌, codes, false, length};
 ghost use Rattle.std.specs.Fmt.{decimal};
+ghost use Rattle.lot_simulation.specs.TimedReport.{tick_parts};
 ghost use Rattle.lot_print.specs.TableRows as rows;
 ghost use Rattle.lot_print.specs.TableRows.{figures_record, header_row, next_field, part_field, percent_field};
 ghost use Rattle.lot_print.specs.TableRows.{spread_fields, thread_fields, thread_record, timed_thread_record};
@@ -13,7 +14,7 @@ use crate::line::Line;
 use crate::timed_totals::ThreadShares;
 use lot_io::{IoFault, Watched};
 use lot_machine::{Name, ThreadRow};
-use lot_simulation::Spans;
+use lot_simulation::{Spans, TICK_PARTS};
 use std::io::Write;
 
 /// A row of a table.
@@ -46,10 +47,9 @@ fn header_of(columns: Columns) -> TableRow
     match columns {
         Columns::Totals => row.push_text("thread,name,quanta,ticks\n"),
         Columns::TimedTotals => {
-            row.push_text("thread,name,quanta,ticks,share_percent,value_percent");
-            row.push_text(
-                ",mutex_waits,mutex_mean,mutex_longest,reply_waits,reply_mean,reply_longest,refused,made,ended\n",
-            );
+            row.push_text("thread,name,quanta,ticks,share_percent,due_percent,value_percent");
+            row.push_text(",ready_waits,ready_mean,ready_longest,mutex_waits,mutex_mean,mutex_longest");
+            row.push_text(",reply_waits,reply_mean,reply_longest,refused,made,ended\n");
         }
         Columns::Figures => {
             row.push_text(
@@ -84,6 +84,8 @@ pub fn write_timed_thread_record<W: Write>(
     shares: ThreadShares,
 ) -> Result<(), IoFault>
     requires working { writer.old.failed ≡ false }
+    requires ticks { shares.all_ticks < 2 ^ 57 }
+    requires due { shares.due < 2 ^ 121 }
     requires values { shares.all_values < 2 ^ 96 }
     ensures { Writes W.contents writer.old writer.new result (timed_thread_record number row.now shares) }
 {
@@ -92,13 +94,15 @@ pub fn write_timed_thread_record<W: Write>(
 
 /// A thread's row in the table of a timed report.
 fn timed_row(number: u32, row: &ThreadRow, shares: ThreadShares) -> TableRow
-    requires { shares.all_values < 2 ^ 96 }
+    requires ticks { shares.all_ticks < 2 ^ 57 }
+    requires due { shares.due < 2 ^ 121 }
+    requires values { shares.all_values < 2 ^ 96 }
     ensures { result ≡ timed_thread_record number row.now shares }
 {
     let mut fields = TableRow::new();
     push_thread(&mut fields, number, row);
-    push_percent(&mut fields, row.ticks, u128::from(shares.all_ticks));
-    push_percent(&mut fields, shares.live_value, shares.all_values);
+    push_shares(&mut fields, row.ticks, shares);
+    push_waits(&mut fields, shares.ready);
     push_waits(&mut fields, shares.mutexes);
     push_waits(&mut fields, shares.replies);
     fields.push_field(",", shares.refused_traps);
@@ -158,10 +162,29 @@ fn push_thread(fields: &mut TableRow, number: u32, row: &ThreadRow)
     fields.push_field(",", row.ticks);
 }
 
+/// Appends the thread's shares of all ticks, that which it has used and that which it was due, and then its share of
+/// the live value.
+fn push_shares(fields: &mut TableRow, ticks: u64, shares: ThreadShares)
+    requires room { length fields.old ≤ 150 }
+    requires ticks { shares.all_ticks < 2 ^ 57 }
+    requires due { shares.due < 2 ^ 121 }
+    requires values { shares.all_values < 2 ^ 96 }
+    ensures text { fields.new ≡ fields.old ++ (next_field (percent_field ticks shares.all_ticks)
+        ++ (next_field (percent_field shares.due (shares.all_ticks * tick_parts))
+        ++ next_field (percent_field shares.live_value shares.all_values))) }
+    ensures len { length fields.new ≤ length fields.old + 132 }
+{
+    let all_ticks = u128::from(shares.all_ticks);
+    push_percent(fields, u128::from(ticks), all_ticks);
+    push_percent(fields, shares.due, all_ticks * TICK_PARTS);
+    push_percent(fields, u128::from(shares.live_value), shares.all_values);
+}
+
 /// Appends a field with a part of a whole in percent; 0 if the whole is 0.
-fn push_percent(fields: &mut TableRow, part: u64, whole: u128)
+fn push_percent(fields: &mut TableRow, part: u128, whole: u128)
     requires room { length fields.old ≤ 300 }
-    requires whole { whole < 2 ^ 96 }
+    requires part { part < 2 ^ 121 }
+    requires whole { whole < 2 ^ 118 }
     ensures text { fields.new ≡ fields.old ++ next_field (percent_field part whole) }
     ensures len { length fields.new ≤ length fields.old + 44 }
 {
@@ -169,13 +192,13 @@ fn push_percent(fields: &mut TableRow, part: u64, whole: u128)
         fields.push_text(",");
         fields.push_text("0");
     } else {
-        fields.push_quotient(",", u128::from(part) * 100, whole);
+        fields.push_quotient(",", part * 100, whole);
     }
 }
 
 /// Appends the number of a thread's waits of one kind, their mean, and the longest.
 fn push_waits(fields: &mut TableRow, waits: Spans)
-    requires { length fields.old ≤ 300 }
+    requires { length fields.old ≤ 350 }
     ensures text { fields.new ≡ fields.old ++ waits_fields waits }
     ensures len { length fields.new ≤ length fields.old + 66 }
 {
@@ -191,7 +214,7 @@ fn push_waits(fields: &mut TableRow, waits: Spans)
 
 /// Appends when a thread was made, and when it ended, or an empty field if it hasn't.
 fn push_life(fields: &mut TableRow, lives: Spans)
-    requires { length fields.old ≤ 400 }
+    requires { length fields.old ≤ 450 }
     ensures text { fields.new ≡ fields.old ++ life_fields lives }
     ensures len { length fields.new ≤ length fields.old + 22 }
 {

@@ -1,10 +1,11 @@
 //! The text of a timed report.
-ghost use Rattle.std.specs.Prelude.{◌≡◌, ◌==◌, ◌<◌, ◌≤◌, ◌+◌, ◌^◌, ◌++◌, [], codes, false, length};
+ghost use Rattle.std.specs.Prelude.{◌≡◌, ◌==◌, ◌<◌, ◌≤◌, ◌+◌, ◌*◌, ◌^◌, ◌++◌, [], codes, false, length};
 ghost use Rattle.std.specs.Prelude.{if◌then◌else◌};
 ghost use Rattle.std.specs.Fmt.{decimal};
 ghost use Rattle.lot_simulation.specs.TimedReport as reports;
 ghost use Rattle.lot_simulation.specs.TimedReport.{ended_text, life_text, percent_text, refused_traps_text};
 ghost use Rattle.lot_simulation.specs.TimedReport.{waits_text};
+ghost use Rattle.lot_simulation.specs.TimedReport.{tick_parts};
 ghost use Rattle.lot_print.specs.Totals.{timed_processor_line, timed_thread_line, timed_total_line};
 ghost use Rattle.lot_io.specs.Writing.{Writes};
 
@@ -13,7 +14,7 @@ use crate::line::Line;
 use crate::rows::{push_counts, push_named};
 use lot_io::{IoFault, Watched};
 use lot_machine::ThreadRow;
-use lot_simulation::{EarlyEnd, PastLives, Spans};
+use lot_simulation::{EarlyEnd, PastLives, Spans, TICK_PARTS};
 use std::io::Write;
 
 /// A line of a timed report.
@@ -24,11 +25,14 @@ type TimedLine = Line<TIMED_ROW>;
 pub struct ThreadShares {
     /// The ticks that all threads have used.
     pub all_ticks: u64,
+    /// What the thread was due, in parts of a tick, below 2^122.
+    pub due: u128,
     /// The thread's value if it is live, and 0 otherwise.
     pub live_value: u64,
     /// The value of all live threads, below 2^96.
     pub all_values: u128,
-    /// Its waits for mutexes, followed by those for replies.
+    /// Its waits to run, followed by those for mutexes and for replies.
+    pub ready: Spans,
     pub mutexes: Spans,
     pub replies: Spans,
     /// How many of its traps were refused.
@@ -68,6 +72,8 @@ pub fn write_timed_thread_total<W: Write>(
     shares: ThreadShares,
 ) -> Result<(), IoFault>
     requires working { writer.old.failed ≡ false }
+    requires ticks { shares.all_ticks < 2 ^ 57 }
+    requires due { shares.due < 2 ^ 121 }
     requires values { shares.all_values < 2 ^ 96 }
     ensures { Writes W.contents writer.old writer.new result
         (timed_thread_line number row.now shares) }
@@ -77,41 +83,58 @@ pub fn write_timed_thread_total<W: Write>(
 
 /// A thread's line of a timed report.
 fn thread_line(number: u32, row: &ThreadRow, shares: ThreadShares) -> TimedLine
-    requires { shares.all_values < 2 ^ 96 }
+    requires ticks { shares.all_ticks < 2 ^ 57 }
+    requires due { shares.due < 2 ^ 121 }
+    requires values { shares.all_values < 2 ^ 96 }
     ensures { result ≡ timed_thread_line number row.now shares }
 {
     let mut line = TimedLine::new();
     push_named(&mut line, "thread ", number, &row.name);
     push_counts(&mut line, row.quanta, row.ticks);
-    push_percent(
-        &mut line,
-        " share ",
-        row.ticks,
-        u128::from(shares.all_ticks),
-    );
-    push_percent(&mut line, " value ", shares.live_value, shares.all_values);
+    push_shares(&mut line, row.ticks, shares);
     push_waits_and_traps(&mut line, shares);
     push_life(&mut line, shares.lives);
     line.push_text("\n");
     line
 }
 
-/// Appends the thread's waits for mutexes and for replies, and its refused traps.
-fn push_waits_and_traps(line: &mut TimedLine, shares: ThreadShares)
-    requires { length line.old ≤ 200 }
-    ensures text { line.new ≡ line.old ++ (waits_text (codes " mutex") shares.mutexes
-        ++ (waits_text (codes " reply") shares.replies ++ refused_traps_text shares.refused_traps)) }
-    ensures len { length line.new ≤ length line.old + 201 }
+/// Appends the thread's shares of all ticks: that which it has used, and that which it was due. Then follows its share
+/// of the live value.
+fn push_shares(line: &mut TimedLine, ticks: u64, shares: ThreadShares)
+    requires room { length line.old ≤ 150 }
+    requires ticks { shares.all_ticks < 2 ^ 57 }
+    requires due { shares.due < 2 ^ 121 }
+    requires values { shares.all_values < 2 ^ 96 }
+    ensures text { line.new ≡ line.old ++ (codes " share " ++ (percent_text ticks shares.all_ticks
+        ++ (codes " due " ++ (percent_text shares.due (shares.all_ticks * tick_parts)
+        ++ (codes " value " ++ percent_text shares.live_value shares.all_values))))) }
+    ensures len { length line.new ≤ length line.old + 153 }
 {
+    let all_ticks = u128::from(shares.all_ticks);
+    push_percent(line, " share ", u128::from(ticks), all_ticks);
+    push_percent(line, " due ", shares.due, all_ticks * TICK_PARTS);
+    push_percent(line, " value ", u128::from(shares.live_value), shares.all_values);
+}
+
+/// Appends the thread's waits to run, for mutexes and for replies, and its refused traps.
+fn push_waits_and_traps(line: &mut TimedLine, shares: ThreadShares)
+    requires { length line.old ≤ 250 }
+    ensures text { line.new ≡ line.old ++ (waits_text (codes " ready") shares.ready
+        ++ (waits_text (codes " mutex") shares.mutexes
+        ++ (waits_text (codes " reply") shares.replies ++ refused_traps_text shares.refused_traps))) }
+    ensures len { length line.new ≤ length line.old + 292 }
+{
+    push_waits(line, " ready", shares.ready);
     push_waits(line, " mutex", shares.mutexes);
     push_waits(line, " reply", shares.replies);
     push_refused_traps(line, shares.refused_traps);
 }
 
 /// Appends the text and then a part of a whole in percent; 0 if the whole is 0.
-fn push_percent(line: &mut TimedLine, text: &str, part: u64, whole: u128)
-    requires room { (length line.old ≤ 256) × (length text.now ≤ 7) }
-    requires whole { whole < 2 ^ 96 }
+fn push_percent(line: &mut TimedLine, text: &str, part: u128, whole: u128)
+    requires room { (length line.old ≤ 300) × (length text.now ≤ 7) }
+    requires part { part < 2 ^ 121 }
+    requires whole { whole < 2 ^ 118 }
     ensures text { line.new ≡ line.old ++ (text.now ++ percent_text part whole) }
     ensures len { length line.new ≤ length line.old + 51 }
 {
@@ -119,14 +142,14 @@ fn push_percent(line: &mut TimedLine, text: &str, part: u64, whole: u128)
         line.push_text(text);
         line.push_text("0");
     } else {
-        line.push_quotient(text, u128::from(part) * 100, whole);
+        line.push_quotient(text, part * 100, whole);
     }
     line.push_text("%");
 }
 
 /// Appends the number of a thread's waits of this kind, their mean and the longest, if it has waited.
 fn push_waits(line: &mut TimedLine, what: &str, waits: Spans)
-    requires { (length line.old ≤ 400) × (length what.now ≤ 6) }
+    requires { (length line.old ≤ 450) × (length what.now ≤ 6) }
     ensures text { line.new ≡ line.old ++ waits_text what.now waits }
     ensures len { length line.new ≤ length line.old + 91 }
 {
@@ -141,7 +164,7 @@ fn push_waits(line: &mut TimedLine, what: &str, waits: Spans)
 
 /// Appends the number of a thread's refused traps, if there are any.
 fn push_refused_traps(line: &mut TimedLine, refused: u32)
-    requires { length line.old ≤ 400 }
+    requires { length line.old ≤ 550 }
     ensures text { line.new ≡ line.old ++ refused_traps_text refused }
     ensures len { length line.new ≤ length line.old + 19 }
 {
@@ -153,7 +176,7 @@ fn push_refused_traps(line: &mut TimedLine, refused: u32)
 
 /// Appends when the thread was made, unless that was at 0 and it hasn't ended, and when it ended, if it has.
 fn push_life(line: &mut TimedLine, lives: Spans)
-    requires { length line.old ≤ 420 }
+    requires { length line.old ≤ 570 }
     ensures text { line.new ≡ line.old ++ life_text lives }
     ensures len { length line.new ≤ length line.old + 33 }
 {
@@ -169,7 +192,7 @@ fn push_life(line: &mut TimedLine, lives: Spans)
 
 /// Appends when a thread that hasn't ended was made, unless that was at 0.
 fn push_made(line: &mut TimedLine, made: u32)
-    requires { length line.old ≤ 420 }
+    requires { length line.old ≤ 570 }
     ensures text { line.new ≡ line.old ++ (if made == 0 then [] else codes " made " ++ decimal made) }
     ensures len { length line.new ≤ length line.old + 16 }
 {

@@ -104,7 +104,7 @@ turn-cost program w p low high there =
     let some : (p == 0) ≡ false = ne_eqb p 0 (λ e. omega (arith, low, e)) in
     rw (some, le-leb p program.limits.processors there) (own-cost w p low high)
 
-turn-limits : (program : Program) (w : World) (actor : ℕ) → (system_turn program w actor).world.state.limits ≡ w.state.limits
+pub turn-limits : (program : Program) (w : World) (actor : ℕ) → (system_turn program w actor).world.state.limits ≡ w.state.limits
 turn-limits program w actor = at (actor == 0)
   where
     console : (commands : List Command) → (console_turn program w commands).world.state.limits ≡ w.state.limits

@@ -1,5 +1,5 @@
 -- The report of a timed input.
-use Rattle.std.specs.Prelude.{ℕ, ◌+◌, ◌-◌, ◌*◌, max, ◌==◌, Option, Some, None, List, [], ◌++◌, length, map, fold, codes, if◌then◌else◌}
+use Rattle.std.specs.Prelude.{ℕ, ◌+◌, ◌-◌, ◌*◌, ◌/◌, ◌^◌, max, ◌==◌, Bool, false, is_some, Option, Some, None, List, [], ◌∷◌, ◌++◌, length, map, fold, codes, if◌then◌else◌}
 use Rattle.std.specs.List.{flat_map, range_with_len}
 use Rattle.std.specs.Option.{option_map, option_map_or}
 use Rattle.std.specs.Fmt.{decimal}
@@ -14,9 +14,11 @@ use Rattle.lot_machine.specs.Lends.{is_live}
 use Rattle.lot_machine.specs.Named.{killed_by}
 use Rattle.lot_machine.specs.Numbered.{numbers}
 use Rattle.lot_machine.specs.Rows.{thread_row}
-use Rattle.lot_machine.specs.State.{State, live_of}
+use Rattle.lot_machine.specs.declared.record.Status.{Status}
+use Rattle.lot_machine.specs.declared.record.Status.TheVariants.{Ready, Running}
+use Rattle.lot_machine.specs.State.{State, live_of, opening, status_of, value_of}
 use Rattle.lot_simulation.specs.Texts.{newline, quotient_text}
-use Rattle.lot_simulation.specs.Report.{ActorTurn, quanta_in, idles_in, ticks_in, total_of, turns_of}
+use Rattle.lot_simulation.specs.Report.{ActorTurn, count_in, quanta_in, idles_in, ticks_in, total_of, turns_of}
 use Rattle.lot_simulation.specs.declared.timed.Clock.{Clock}
 use Rattle.lot_simulation.specs.declared.timed.EarlyEnd.{EarlyEnd}
 use Rattle.lot_simulation.specs.declared.timed.PastLives.{PastLives}
@@ -104,6 +106,30 @@ spans_after t time spans (Ends u) = if u == t then span_ended time spans else sp
 abbrev pub spans_in : (Turn → SpanChange) → List TimedTurn → ℕ → Spans
 spans_in change turns t = fold (λ spans done. spans_after t done.time spans (change done.turn)) no_spans turns
 
+-- ---- waits to run
+
+-- whether a thread with this number was made
+abbrev pub makes : ℕ → Answer → Bool
+makes t (Answered e (reply.Thread thread)) = thread == t
+makes t (Answered e (reply.Funded ticket thread)) = thread == t
+makes t other = false
+
+-- The thread's waits to run, with this status after a turn at this time. A wait begins when the thread becomes Ready,
+-- and ends when it runs; one that a kill ends isn't counted (4.2).
+abbrev pub queued : ℕ → Spans → Option Status → Spans
+queued time spans (Some Ready) = if is_some spans.since then spans else span_begun time spans
+queued time spans (Some (Running processor used)) = span_ended time spans
+queued time spans other = record spans { since = None }
+
+-- the thread's waits to run after this turn; a new thread has never waited, whoever had its number before
+abbrev pub ready_after : ℕ → Spans → TimedTurn → Spans
+ready_after t spans done =
+    queued done.time (if makes t done.turn.answer then no_spans else spans) (status_of done.turn.world.state.records t)
+
+-- the thread's waits to run in these turns
+abbrev pub ready_in : List TimedTurn → ℕ → Spans
+ready_in turns t = fold (ready_after t) no_spans turns
+
 -- ---- refused traps
 
 -- The number of a thread's refused traps after this answer, from their number before it. A new thread has none, whoever
@@ -138,6 +164,33 @@ refused_traps_text n = if n == 0 then [] else codes " refused " ++ decimal n
 abbrev pub live_part : State → ℕ → ℕ → ℕ
 live_part s t value = if is_live (live_of s) t then value else 0
 
+-- a tick is shared out in this many parts
+abbrev pub tick_parts : ℕ
+tick_parts = 10 ^ 18
+
+-- The parts that each base unit of live value is due when so many ticks are used in this state. They are rounded up, so
+-- that what is due exactly doesn't read as less.
+abbrev pub due_rate : State → ℕ → ℕ
+due_rate s ticks = if live_value s == 0 then 0 else (ticks * tick_parts + (live_value s - 1)) / live_value s
+
+-- the parts that are due to the thread, by its value, when so many ticks are used in this state (2, 4.4)
+abbrev pub due_part : State → ℕ → ℕ → ℕ
+due_part s t ticks = live_part s t (value_of s t) * due_rate s ticks
+
+-- The parts due to the thread after a turn that was made in this state, from those before it: the live threads share
+-- the turn's ticks by their values. A new thread is due nothing, whoever had its number before.
+abbrev pub due_after : State → ℕ → ℕ → Answer → ℕ
+due_after s t due answer = if makes t answer then 0 else due + due_part s t (count_in ticks_in answer)
+
+-- the parts due to the thread after these turns, from those before them, when the first was made in this state
+abbrev pub due_from : State → ℕ → ℕ → List TimedTurn → ℕ
+due_from s t due [] = due
+due_from s t due (done ∷ others) = due_from done.turn.world.state t (due_after s t due done.turn.answer) others
+
+-- the parts due to the thread after these turns, the first of which was made in this state
+abbrev pub due_in : State → List TimedTurn → ℕ → ℕ
+due_in s turns t = due_from s t 0 turns
+
 -- When a thread was made, unless that was at 0 and it hasn't ended, and when it ended, if it has.
 abbrev pub life_text : Spans → List ℕ
 life_text lives = text lives.since lives.last
@@ -147,17 +200,20 @@ life_text lives = text lives.since lives.last
     text None (Some life) = codes " made " ++ (decimal life.from ++ (codes " ended " ++ decimal life.to))
     text None None = []
 
--- A thread's line: its name, the draws it has won, the ticks it has used and their share of all ticks, its share of
--- the live value, its waits for mutexes and for replies, its refused traps, and when it was made and ended.
+-- A thread's line: its name, the draws it has won, the ticks it has used and their share of all ticks, the share that
+-- it was due, its share of the live value, its waits to run, for mutexes and for replies, its refused traps, and when
+-- it was made and ended.
 abbrev pub timed_thread_total : State → List TimedTurn → ℕ → ℕ → ThreadRow → List ℕ
 timed_thread_total s turns all t row =
     codes "thread " ++ (decimal t ++ (codes " " ++ (row.name ++ (codes " quanta " ++ (decimal row.quanta
     ++ (codes " ticks " ++ (decimal row.ticks ++ (codes " share " ++ (percent_text row.ticks all
+    ++ (codes " due " ++ (percent_text (due_in (opening s.limits) turns t) (all * tick_parts)
     ++ (codes " value " ++ (percent_text (live_part s t row.value) (live_value s)
+    ++ (waits_text (codes " ready") (ready_in turns t)
     ++ (waits_text (codes " mutex") (spans_in mutex_change turns t)
     ++ (waits_text (codes " reply") (spans_in reply_change turns t)
     ++ (refused_traps_text (refused_traps_in turns t)
-    ++ (life_text (spans_in life_change turns t) ++ newline)))))))))))))))
+    ++ (life_text (spans_in life_change turns t) ++ newline))))))))))))))))))
 
 -- each timed turn's actor with its answer
 abbrev pub actor_turns : List TimedTurn → List ActorTurn

@@ -25,7 +25,7 @@ pub use input::{BodyWord, HeaderWord, InputFault, InputRefusal, ScriptWord};
 pub use script::{Line, MutexTrap, PortTrap, ScriptTrap};
 pub use separators::Separators;
 pub use style::LineStyle;
-pub use timed::{Clock, Due, EarlyEnd, PastLives, Sleeper, Span, SpanChange, Spans};
+pub use timed::{Clock, Due, EarlyEnd, PastLives, Sleeper, Span, SpanChange, Spans, TICK_PARTS};
 pub use words::{
     BODY_WORDS, COMPENSATION_WORD, FIRST_WORD, HEADER_WORDS, LENDING_WORD, RUNS_WORD,
     SCHEDULE_WORD, SCRIPT_WORDS, WordRow,

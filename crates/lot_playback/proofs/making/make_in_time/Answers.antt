@@ -4,19 +4,21 @@ use Rattle.lot_machine.specs.declared.event.Event.{Event}
 use Rattle.lot_machine.specs.declared.reply.Reply.{Reply}
 use Rattle.lot_simulation.specs.declared.timed.Due.{Due}
 use Rattle.lot_simulation.specs.Timed.{TimedTurn, alarms_after, clocks_after, is_idle_draw, timed_room, turn_due}
-use Rattle.lot_simulation.specs.World.{Program}
+use Rattle.lot_machine.specs.State.{State, opening}
+use Rattle.lot_simulation.specs.World.{Program, World, system_turn}
 use Rattle.lot_simulation.specs.World.Answer.{Answered}
 use Rattle.lot_simulation.proofs.TimedRuns.{room-small}
 use Rattle.lot_engine.specs.Playing.{turn_in}
 use Rattle.lot_engine.specs.Seen.{Seen, after_turn, world_of}
 use Rattle.lot_playback.specs.declared.timekeeper.Timekeeper.{Timekeeper}
 use Rattle.lot_playback.specs.declared.turn.NextTurn.{NextTurn}
-use Rattle.lot_playback.specs.InTime.{AreAlarms, CanFollow, HasFollowed, HasRoomFor, IsDue, IsFollowed, alarms_in, due_turn, moment_in, next_turns, turns_done}
+use Rattle.lot_playback.specs.InTime.{AreAlarms, CanFollow, HasDues, HasFollowed, HasRoomFor, IsDue, IsFollowed, alarms_in, due_turn, moment_in, next_turns, turns_done}
+use Rattle.lot_playback.specs.Owed.{Answers}
 use Rattle.lot_playback.specs.declared.turn.Turn.{Turn}
 use Rattle.lot_playback.specs.Orders.{IsAtTime}
 use Rattle.lot_playback.specs.Stages.{IsNext, answer_in}
 use Rattle.lot_playback.proofs.ClockFacts.{time-due, time-made, time-more, time-there}
-use Rattle.lot_playback.proofs.FollowFacts.{answer-is, followed-more, one-next, within-room, world-more}
+use Rattle.lot_playback.proofs.FollowFacts.{answer-is, followed-more, one-next, room-few, turn-answers, within-room, world-more}
 use Rattle.lot_playback.proofs.making.make_in_time.Goals as goal
 
 module _ (seen : Seen) (timekeeper : Timekeeper) (there : IsAtTime seen timekeeper) (next : NextTurn) (is : IsNext (record { seen = seen; made = length seen.history }) next) (time : ℕ) (some : next.time ≡ Some time) (early : time < 2 ^ 32) where
@@ -35,19 +37,33 @@ module _ (seen : Seen) (timekeeper : Timekeeper) (there : IsAtTime seen timekeep
   next-is : next_turns program seen ≡ due_turn seen due ∷ []
   next-is = one-next program seen timekeeper there.followed due its.first room
 
+  -- the answer is the machine's
+  answers-then : (e : Event) (r : Reply) (now : Seen) → now ≡ after_turn seen next.actor → (turn_in seen next.actor).answer ≡ Answered e r → Answers (world_of seen).state e r (world_of now).state
+  answers-then e r now after answer =
+      let there = there.followed in
+      let turn = turn_due program (moment_in seen timekeeper) due in
+      let own : (system_turn program (world_of seen) next.actor).answer ≡ Answered e r = sym (ap (λ (p : Program). (system_turn p (world_of seen) next.actor).answer) there.program_is) ∙ answer in
+      subst (λ (w : World). Answers (world_of seen).state e r w.state) (sym (ap world_of after ∙ world-more program seen timekeeper there due its.first room)) (turn-answers program (world_of seen) next.actor e r own)
+
   followed-then : (e : Event) (r : Reply) (now : Seen) → now ≡ after_turn seen next.actor → (turn_in seen next.actor).answer ≡ Answered e r → (then_following : Timekeeper) → then_following.clocks.time ≡ time
       → then_following.clocks.processors.items ≡ clocks_after (world_of now).state timekeeper.clocks.processors.items (record { time = time; actor = next.actor }) (is_idle_draw (Answered e r))
       → alarms_in then_following.alarms.threads.items ≡ alarms_after (moment_in seen timekeeper) time next.actor → AreAlarms seen.setting.program.limits.processors then_following.alarms
       → ((done : List TimedTurn) (n : ℕ) (turn : TimedTurn) → turn.time ≡ time → turn.turn.answer ≡ Answered e r → turn.turn.world ≡ world_of now → HasFollowed done n timekeeper → HasFollowed (done ++ turn ∷ []) (n + 1) then_following)
+      → ((first before : State) (done : List TimedTurn) (n : ℕ) (turn : TimedTurn) → n < 2 ^ 24 → turn.time ≡ time → turn.turn.answer ≡ Answered e r → turn.turn.world ≡ world_of now → Answers before e r (world_of now).state → HasDues first done n before timekeeper
+      → HasDues first (done ++ turn ∷ []) (n + 1) (world_of now).state then_following)
       → ((p : Program) → HasRoomFor p timekeeper → HasRoomFor p then_following) → IsFollowed program now then_following
-  followed-then e r now after answer then_following at clocks alarms sleeping follows fits =
+  followed-then e r now after answer then_following at clocks alarms sleeping follows owes fits =
       let is_followed = there.followed in
       let turn = turn_due program (moment_in seen timekeeper) due in
       let clocks_there : then_following.clocks.processors.items ≡ clocks_after (world_of (after_turn seen next.actor)).state timekeeper.clocks.processors.items (record { time = time; actor = next.actor }) (is_idle_draw (Answered e r)) =
       clocks ∙ ap (λ (s : Seen). clocks_after (world_of s).state timekeeper.clocks.processors.items (record { time = time; actor = next.actor }) (is_idle_draw (Answered e r))) after in
       let more = follows (turns_done program seen) (length seen.history) turn refl (answer-is program seen timekeeper is_followed due its.first room e r answer then_following at clocks_there alarms)
       (sym (ap world_of after ∙ world-more program seen timekeeper is_followed due its.first room)) is_followed.followed in
-      subst (λ s. IsFollowed program s then_following) (sym after) (followed-more program seen timekeeper is_followed due its.first room e r answer then_following at clocks_there alarms more (fits program is_followed.room) sleeping)
+      let few : length seen.history < 2 ^ 24 = omega (arith, within-room program seen timekeeper is_followed, room-few) in
+      let owed = owes (opening program.limits) (world_of seen).state (turns_done program seen) (length seen.history) turn few refl (answer-is program seen timekeeper is_followed due its.first room e r answer then_following at clocks_there alarms)
+      (sym (ap world_of after ∙ world-more program seen timekeeper is_followed due its.first room)) (answers-then e r now after answer) is_followed.dues in
+      let owed_there = subst (λ s. HasDues (opening program.limits) (turns_done program seen ++ turn ∷ []) (length seen.history + 1) (world_of s).state then_following) after owed in
+      subst (λ s. IsFollowed program s then_following) (sym after) (followed-more program seen timekeeper is_followed due its.first room e r answer then_following at clocks_there alarms more owed_there (fits program is_followed.room) sleeping)
 
 pub unreachable-requires : goal.unreachable-requires
 unreachable-requires c = time-there c.args.system.now c.args.timekeeper.now c.requires.there c.args.next c.requires.next ⊥ c.in_default.is
@@ -68,6 +84,9 @@ follow-requires c =
       sleeping = subst (λ n. AreAlarms n timekeeper.alarms) (sym processors) followed.sleeping;
       can = subst (λ n. CanFollow c.args.next.actor n (length timekeeper.alarms.threads.items) c.make_due-sleeper.result) (sym processors) c.make_due-sleeper.ensures.can;
       followed = (turns_done seen.setting.program seen, length seen.history, omega (arith, within-room seen.setting.program seen timekeeper followed, room-small), followed.followed);
+      threads = (omega (arith, followed.room.ready, followed.bounds.of_threads.1, timekeeper.ready.threads.ok.0), omega (arith, followed.room.dues, followed.bounds.of_threads.1, timekeeper.dues.threads.ok.0));
+      dues = (opening seen.setting.program.limits, (world_of seen).state, turns_done seen.setting.program seen, length seen.history, omega (arith, within-room seen.setting.program seen timekeeper followed, room-few), followed.dues,
+          answers-then seen timekeeper c.requires.there c.args.next c.requires.next c.in-Some.time c.in-Some.is (search rules) c.make_due-sleeper.new.turn.event c.make_due-sleeper.new.turn.reply c.make_due-sleeper.new.system c.make_due-sleeper.ensures.made.0 c.make_due-sleeper.ensures.made.1);
     }
 
 pub returns : goal.returns
@@ -88,12 +107,15 @@ returns c =
     let alarms : alarms_in then_following.alarms.threads.items ≡ alarms_after (moment_in seen timekeeper) time c.args.next.actor =
     c.follow.ensures.alarms (moment_in seen timekeeper) refl refl (λ some few. c.make_due-sleeper.ensures.sleeper some (omega (arith, few, processors))) in
     let sleeping : AreAlarms seen.setting.program.limits.processors then_following.alarms = subst (λ n. AreAlarms n then_following.alarms) counted c.follow.ensures.sleeping in
-    let followed = followed-then seen timekeeper c.requires.there c.args.next c.requires.next time c.in-Some.is early e r now made.0 made.1 then_following c.follow.ensures.time c.follow.ensures.clocks alarms sleeping c.follow.ensures.followed c.follow.ensures.room in
+    let followed = followed-then seen timekeeper c.requires.there c.args.next c.requires.next time c.in-Some.is early e r now made.0 made.1 then_following c.follow.ensures.time c.follow.ensures.clocks alarms sleeping c.follow.ensures.followed c.follow.ensures.dues c.follow.ensures.room in
+    let same = c.follow.ensures.same in
+    let last = c.follow.new.system in
+    let followed_last = subst (λ s. IsFollowed seen.setting.program s then_following) (sym same) followed in
     let first = next-is seen timekeeper c.requires.there c.args.next c.requires.next time c.in-Some.is early in
     let turn = c.make_due-sleeper.new.turn in
     record {
-      there = time-more seen timekeeper c.requires.there due e r first made.1 now made.0 then_following followed;
-      made = time-made seen timekeeper c.requires.there due e r first made.1 now made.0 then_following followed turn
+      there = time-more seen timekeeper c.requires.there due e r first made.1 last (same ∙ made.0) then_following followed_last;
+      made = time-made seen timekeeper c.requires.there due e r first made.1 last (same ∙ made.0) then_following followed_last turn
           (record {
             time = ap (λ (t : Turn). t.time) c.make_due-sleeper.ensures.rest ∙ c.in-Some.is;
             actor = ap (λ (t : Turn). t.actor) c.make_due-sleeper.ensures.rest;

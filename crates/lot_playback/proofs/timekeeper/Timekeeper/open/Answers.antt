@@ -15,7 +15,7 @@ returns-clause-followed c = record {
   mutexes = c.in_ok-open-3.ensures.none mutex_change;
   replies = c.in_ok-open-4.ensures.none reply_change;
   lives = c.in_ok-open-5.ensures.none life_change;
-  refused_traps = c.in_ok-open-6.ensures.none;
+  refused_traps = c.in_ok-open-8.ensures.none;
   refused = refl;
   few = omega arith;
 }
@@ -38,6 +38,12 @@ open-requires-5 c = tt
 pub open-requires-6 : goal.open-requires-6
 open-requires-6 c = tt
 
+pub open-requires-7 : goal.open-requires-7
+open-requires-7 c = tt
+
+pub open-requires-8 : goal.open-requires-8
+open-requires-8 c = tt
+
 pub returns-in_err-open : goal.returns-in_err-open
 returns-in_err-open c =
     let failed = c.from_residual.ensures.0 in
@@ -48,6 +54,7 @@ returns-in_err-open c =
       sleeping = if-ok-none c.from_residual.result _ failed;
       room = if-ok-none c.from_residual.result _ failed;
       followed = if-ok-none c.from_residual.result _ failed;
+      dues = if-ok-none c.from_residual.result _ failed;
       legal = c.limits-limits.ensures.legal;
     }
 
@@ -61,6 +68,7 @@ returns-in_err-open-2 c =
       sleeping = if-ok-none c.from_residual-in_err-open-2.result _ failed;
       room = if-ok-none c.from_residual-in_err-open-2.result _ failed;
       followed = if-ok-none c.from_residual-in_err-open-2.result _ failed;
+      dues = if-ok-none c.from_residual-in_err-open-2.result _ failed;
       legal = c.limits-limits.ensures.legal;
     }
 
@@ -74,6 +82,7 @@ returns-in_err-open-3 c =
       sleeping = if-ok-none c.from_residual-in_err-open-3.result _ failed;
       room = if-ok-none c.from_residual-in_err-open-3.result _ failed;
       followed = if-ok-none c.from_residual-in_err-open-3.result _ failed;
+      dues = if-ok-none c.from_residual-in_err-open-3.result _ failed;
       legal = c.limits-limits.ensures.legal;
     }
 
@@ -87,6 +96,7 @@ returns-in_err-open-4 c =
       sleeping = if-ok-none c.from_residual-in_err-open-4.result _ failed;
       room = if-ok-none c.from_residual-in_err-open-4.result _ failed;
       followed = if-ok-none c.from_residual-in_err-open-4.result _ failed;
+      dues = if-ok-none c.from_residual-in_err-open-4.result _ failed;
       legal = c.limits-limits.ensures.legal;
     }
 
@@ -100,6 +110,7 @@ returns-in_err-open-5 c =
       sleeping = if-ok-none c.from_residual-in_err-open-5.result _ failed;
       room = if-ok-none c.from_residual-in_err-open-5.result _ failed;
       followed = if-ok-none c.from_residual-in_err-open-5.result _ failed;
+      dues = if-ok-none c.from_residual-in_err-open-5.result _ failed;
       legal = c.limits-limits.ensures.legal;
     }
 
@@ -113,6 +124,35 @@ returns-in_err-open-6 c =
       sleeping = if-ok-none c.from_residual-in_err-open-6.result _ failed;
       room = if-ok-none c.from_residual-in_err-open-6.result _ failed;
       followed = if-ok-none c.from_residual-in_err-open-6.result _ failed;
+      dues = if-ok-none c.from_residual-in_err-open-6.result _ failed;
+      legal = c.limits-limits.ensures.legal;
+    }
+
+pub returns-in_err-open-7 : goal.returns-in_err-open-7
+returns-in_err-open-7 c =
+    let failed = c.from_residual-in_err-open-7.ensures.0 in
+    record {
+      time = if-ok-none c.from_residual-in_err-open-7.result _ failed;
+      clocks = if-ok-none c.from_residual-in_err-open-7.result _ failed;
+      alarms = if-ok-none c.from_residual-in_err-open-7.result _ failed;
+      sleeping = if-ok-none c.from_residual-in_err-open-7.result _ failed;
+      room = if-ok-none c.from_residual-in_err-open-7.result _ failed;
+      followed = if-ok-none c.from_residual-in_err-open-7.result _ failed;
+      dues = if-ok-none c.from_residual-in_err-open-7.result _ failed;
+      legal = c.limits-limits.ensures.legal;
+    }
+
+pub returns-in_err-open-8 : goal.returns-in_err-open-8
+returns-in_err-open-8 c =
+    let failed = c.from_residual-in_err-open-8.ensures.0 in
+    record {
+      time = if-ok-none c.from_residual-in_err-open-8.result _ failed;
+      clocks = if-ok-none c.from_residual-in_err-open-8.result _ failed;
+      alarms = if-ok-none c.from_residual-in_err-open-8.result _ failed;
+      sleeping = if-ok-none c.from_residual-in_err-open-8.result _ failed;
+      room = if-ok-none c.from_residual-in_err-open-8.result _ failed;
+      followed = if-ok-none c.from_residual-in_err-open-8.result _ failed;
+      dues = if-ok-none c.from_residual-in_err-open-8.result _ failed;
       legal = c.limits-limits.ensures.legal;
     }
 
@@ -135,3 +175,6 @@ returns-clause-sleeping c =
     let opened = c.in_ok-open-2.ensures in
     let threads : c.limits-limits.result.threads ≡ c.args.program.now.limits.threads = ap (λ (s : Sizes). s.threads) c.limits-limits.ensures.limits in
     none-sleeping c.args.program.now.limits.processors c.in_ok-open-2.field-0 c.limits-limits.result.threads (omega (arith, threads, c.limits-limits.ensures.legal.limits.of_threads.1)) opened.none opened.highest opened.next
+
+pub returns-clause-dues : goal.returns-clause-dues
+returns-clause-dues c = record { ready = c.in_ok-open-6.ensures.ready c.args.program.now.limits; dues = c.in_ok-open-7.ensures.none c.args.program.now.limits }

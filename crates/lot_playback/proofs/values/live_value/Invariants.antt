@@ -4,7 +4,7 @@ use Rattle.std.specs.List.{range_with_len}
 use Rattle.lot_machine.specs.Lends.{is_live}
 use Rattle.lot_machine.specs.State.{live_of, value_of}
 use Rattle.lot_engine.specs.Seen.{world_of}
-use Rattle.lot_play.proofs.timed_report.live_value.Given as goal
+use Rattle.lot_playback.proofs.values.live_value.Given as goal
 
 -- the live threads passed so far are added up, and each is worth less than 2 ^ 64
 abbrev pub invariant-loop-place : goal.invariant-loop-place

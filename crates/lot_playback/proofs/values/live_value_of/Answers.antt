@@ -2,7 +2,7 @@ use Rattle.std.proofs.Common.{sym, ap}
 use Rattle.std.specs.Prelude.{if◌then◌else◌}
 use Rattle.lot_machine.specs.State.{value_of}
 use Rattle.lot_engine.specs.Seen.{world_of}
-use Rattle.lot_play.proofs.timed_report.live_value_of.Goals as goal
+use Rattle.lot_playback.proofs.values.live_value_of.Goals as goal
 
 pub returns-in_default-2-clause-value : goal.returns-in_default-2-clause-value
 returns-in_default-2-clause-value c =

@@ -2,8 +2,8 @@ use Rattle.std.proofs.Common.{◌≡◌, ◌+◌, ap, ◌∙◌, arith, refl}
 use Rattle.lot_machine.specs.State.{value_of}
 use Rattle.lot_simulation.specs.TimedReport.{live_part}
 use Rattle.lot_engine.specs.Seen.{Seen, world_of}
-use Rattle.lot_play.proofs.TimedReportFacts.{value-more}
-use Rattle.lot_play.proofs.timed_report.live_value.Goals as goal
+use Rattle.lot_playback.proofs.ValueFacts.{value-more}
+use Rattle.lot_playback.proofs.values.live_value.Goals as goal
 
 pub loop-place-preserved : goal.loop-place-preserved
 loop-place-preserved c =

@@ -1,0 +1,31 @@
+use Rattle.std.proofs.Common.{◌∙◌, sym}
+use Rattle.lot_simulation.specs.World.Answer.{Answered}
+use Rattle.lot_engine.specs.Seen.{world_of}
+use Rattle.lot_playback.proofs.DueFacts.{all-queued, dispatch-none, dispatch-one, few-at, few-forgotten}
+use Rattle.lot_playback.proofs.spans.SpanTable.queue.Goals as goal
+
+pub queue_all-requires-clause-few : goal.queue_all-requires-clause-few
+queue_all-requires-clause-few c =
+    few-forgotten (Answered c.args.event.now c.args.reply) c.args.self.now.threads.items c.forget_new.new.self.threads.items c.forget_new.ensures.count (c.forget_new.ensures.forgets c.args.event.now) c.requires.few
+
+
+pub queue_thread-requires : goal.queue_thread-requires
+queue_thread-requires c = few-at c.args.self.now.threads.items c.in-Some.thread c.requires.few
+
+pub returns-in-Some-clause-queued : goal.returns-in-Some-clause-queued
+returns-in-Some-clause-queued c =
+    let next = (world_of c.args.system.now).state in
+    dispatch-one c.args.time c.requires.answers.0 next c.args.event.now c.args.reply c.args.self.now.threads.items c.queue_thread.new.self.threads.items c.in-Some.thread
+    (c.is_dispatch.ensures.0 c.if-is_dispatch.true) c.requires.answers.1 c.requires.answers.2 (sym c.moved_thread.ensures ∙ c.in-Some.is) c.queue_thread.ensures.queued
+
+pub returns-in_default-clause-queued : goal.returns-in_default-clause-queued
+returns-in_default-clause-queued c =
+    let next = (world_of c.args.system.now).state in
+    dispatch-none c.args.time c.requires.answers.0 next c.args.event.now c.args.reply c.args.self.now.threads.items c.args.self.now.threads.items
+    (c.is_dispatch.ensures.0 c.if-is_dispatch.true) c.requires.answers.1 c.requires.answers.2 (sym c.moved_thread.ensures ∙ c.in_default.is)
+
+pub returns-clause-queued : goal.returns-clause-queued
+returns-clause-queued c =
+    let next = (world_of c.args.system.now).state in
+    all-queued c.args.time c.requires.answers.0 next c.args.event.now c.args.reply c.args.self.now.threads.items c.queue_all.new.self.threads.items c.forget_new.new.self.threads.items
+    c.forget_new.ensures.count c.queue_all.ensures.count (c.forget_new.ensures.forgets c.args.event.now) c.queue_all.ensures.queued

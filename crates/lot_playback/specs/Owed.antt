@@ -1,0 +1,115 @@
+-- The tables of what threads are due and of their waits to run, turn by turn.
+use Rattle.std.specs.Prelude.{◌≡◌, ◌⊎◌, ℕ, ◌+◌, ◌-◌, ◌*◌, ◌^◌, ◌<◌, ◌≤◌, ◌==◌, Bool, Option, Some, None, is_some, List, [], ◌∷◌, length, slice_index_or, if◌then◌else◌}
+use Rattle.lot_machine.specs.declared.event.Event.{Event}
+use Rattle.lot_machine.specs.declared.event.Event.TheVariants as event
+use Rattle.lot_machine.specs.declared.reply.Reply.{Reply}
+use Rattle.lot_machine.specs.declared.reply.Reply.TheVariants as reply
+use Rattle.lot_machine.specs.Facts.{live_value}
+use Rattle.lot_machine.specs.Numbered.{option_any}
+use Rattle.lot_machine.specs.State.{State, is_ready, status_of, value_of}
+use Rattle.lot_machine.specs.Step.{step}
+use Rattle.lot_simulation.specs.declared.timed.Spans.{Spans}
+use Rattle.lot_simulation.specs.Timed.{TimedTurn}
+use Rattle.lot_simulation.specs.TimedReport.{live_part, no_spans}
+use Rattle.lot_simulation.specs.World.{Answer}
+use Rattle.lot_playback.specs.declared.dues.DueTable.{DueTable}
+use Rattle.lot_playback.specs.declared.dues.ThreadDue.{ThreadDue}
+use Rattle.lot_simulation.specs.TimedReport.{due_in, makes, queued, ready_in}
+
+-- the event is answered so in this state, and leads to the other
+abbrev pub Answers : State → Event → Reply → State → Type 0
+Answers s e r after = step s e ≡ record { state = after; reply = r }
+
+-- the event is a draw, or the end of a quantum: no thread's value changes with it, and at most one thread's status
+abbrev pub IsDispatch : Event → Type 0
+IsDispatch e = ((p d : ℕ) × (e ≡ event.Draw p d)) ⊎ ((p : ℕ) × (e ≡ event.Expire p))
+
+-- the state after these turns, the first of which was made in this one
+abbrev pub state_after : State → List TimedTurn → State
+state_after s [] = s
+state_after s (done ∷ others) = state_after done.turn.world.state others
+
+-- whether this is the thread with the number
+abbrev pub is_thread : ℕ → Option ℕ → Bool
+is_thread t o = option_any (λ u. u == t) o
+
+-- the thread that began to run, or whose quantum ended, with this reply
+abbrev pub moved_thread : Reply → Option ℕ
+moved_thread (reply.Winner thread number total delivered) = Some thread
+moved_thread (reply.Expired thread ticks) = Some thread
+moved_thread other = None
+
+-- ---- waits to run
+
+-- whether the thread is Ready in this state
+abbrev pub is_ready_in : State → ℕ → Bool
+is_ready_in s t = option_any is_ready (status_of s.records t)
+
+-- each thread waits to run if and only if it is Ready in this state
+abbrev pub AreWaiting : State → List Spans → Type 0
+AreWaiting s waits = (place : ℕ) (d : Spans) → place < length waits → is_some (slice_index_or waits place d).since ≡ is_ready_in s (place + 1)
+
+-- a thread's waits before a turn with this answer: none if it makes the thread
+abbrev pub waits_before : Answer → ℕ → Spans → Spans
+waits_before answer t waits = if makes t answer then no_spans else waits
+
+-- each thread's waits to run are those after a turn at this time, with this answer, which led to this state
+pub record HaveQueued (time : ℕ) (answer : Answer) (s : State) (old new : List Spans) : Type 0 where
+  pub count : length new ≡ length old
+  pub each : (place : ℕ) (d : Spans) → place < length old → slice_index_or new place d ≡ queued time (waits_before answer (place + 1) (slice_index_or old place d)) (status_of s.records (place + 1))
+
+-- the thread's waits leave room for one more
+abbrev pub HasFew : List Spans → ℕ → Type 0
+HasFew waits t = (d : Spans) → 1 ≤ t → t ≤ length waits → ((slice_index_or waits (t - 1) d).count < 2 ^ 31) × ((slice_index_or waits (t - 1) d).total < 2 ^ 63)
+
+-- The waits of this thread, if it has a place, are those after a turn at this time that led to this state. The others
+-- are unchanged.
+pub record HaveQueuedOne (time : ℕ) (s : State) (t : ℕ) (old new : List Spans) : Type 0 where
+  pub count : length new ≡ length old
+  pub each : (place : ℕ) (d : Spans) → place < length old → slice_index_or new place d ≡ (if t == place + 1 then queued time (slice_index_or old place d) (status_of s.records t) else slice_index_or old place d)
+
+-- a thread's waits to run in these turns, which are within the range of n turns
+pub record IsReadyFor (done : List TimedTurn) (n t : ℕ) (waits : Spans) : Type 0 where
+  pub exact : waits ≡ ready_in done t
+  pub count : waits.count ≤ n
+  pub total : waits.total ≤ n * 2 ^ 32
+
+-- each thread's waits to run in these turns, which led to this state, starting with thread 1
+pub record AreReadyFor (done : List TimedTurn) (n : ℕ) (s : State) (waits : List Spans) : Type 0 where
+  pub each : (place : ℕ) (d : Spans) → place < length waits → IsReadyFor done n (place + 1) (slice_index_or waits place d)
+  pub now : AreWaiting s waits
+
+-- ---- what threads are due
+
+-- the thread is due these parts, when each base unit of value has been due so many
+pub record IsOwed (rate parts : ℕ) (due : ThreadDue) : Type 0 where
+  pub since : due.since ≤ rate
+  pub exact : due.parts + due.value * (rate - due.since) ≡ parts
+  pub few : parts < 2 ^ 122
+
+-- each thread is due these parts, when each base unit of value has been due so many
+abbrev pub AreOwed : ℕ → (ℕ → ℕ) → List ThreadDue → Type 0
+AreOwed rate parts dues = (place : ℕ) (d : ThreadDue) → place < length dues → IsOwed rate (parts (place + 1)) (slice_index_or dues place d)
+
+-- the parts that threads are due once this one is due nothing
+abbrev pub forgotten : ℕ → (ℕ → ℕ) → ℕ → ℕ
+forgotten thread parts t = if thread == t then 0 else parts t
+
+-- the parts that threads are due before a turn with this answer: a thread that it makes is due nothing
+abbrev pub parts_before : Answer → (ℕ → ℕ) → ℕ → ℕ
+parts_before answer parts t = if makes t answer then 0 else parts t
+
+-- a thread's place in the table after these turns, the first of which was made in the opening state, and which led to
+-- this state
+pub record IsDueThread (opening : State) (done : List TimedTurn) (n : ℕ) (s : State) (rate t : ℕ) (due : ThreadDue) : Type 0 where
+  pub value : due.value ≡ live_part s t (value_of s t)
+  pub owed : IsOwed rate (due_in opening done t) due
+  pub few : due_in opening done t ≤ n * 2 ^ 97
+
+-- the table after these turns, the first of which was made in the opening state, and which led to this state
+pub record AreDue (opening : State) (done : List TimedTurn) (n : ℕ) (s : State) (table : DueTable) : Type 0 where
+  pub state : state_after opening done ≡ s
+  pub values : table.live_value ≡ live_value s
+  pub small : table.live_value < 2 ^ 96
+  pub rate : table.rate ≤ n * 2 ^ 97
+  pub each : (place : ℕ) (d : ThreadDue) → place < length table.threads.items → IsDueThread opening done n s table.rate (place + 1) (slice_index_or table.threads.items place d)
