@@ -1,6 +1,7 @@
 pub mod EventFacts
 pub mod GatheringFacts
 pub mod RowFacts
+pub mod PartQuanta
 pub mod LineFacts
 pub mod WonFacts
 pub mod TurnFacts

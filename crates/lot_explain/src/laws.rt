@@ -18,7 +18,7 @@ ghost use Rattle.lot_explain.specs.Explained.{explained_schedule};
 ghost use Rattle.lot_explain.specs.Lots.{lot_lines, lots_of, total_of, won_in};
 ghost use Rattle.lot_explain.specs.MadeTurns.{explained_turns};
 ghost use Rattle.lot_explain.specs.Numbers.{HasNumber, number_in};
-ghost use Rattle.lot_explain.specs.Short.{HasShortName, turn_count};
+ghost use Rattle.lot_explain.specs.Short.{HasShortName, line_bytes, turn_count};
 ghost use Rattle.lot_explain.specs.declared.won.Won.{Won};
 
 /// The output of `explain` is the explanation of each of the program's turns, and then the report, with a schedule
@@ -29,8 +29,8 @@ pub fn explanations_are_those_of_the_turns()
 {}
 
 /// An explanation of a program's turns is longer than the output of `play` by at most 139 bytes for each pair of a
-/// turn and a possible thread, if sizes are within their bounds, names of threads have at most 16 bytes, and times
-/// have 32 bits. Every accepted input meets these.
+/// turn and a possible thread, and in time by at most 183, if sizes are within their bounds, names of threads have at
+/// most 16 bytes, and times have 32 bits. Every accepted input meets these.
 pub fn explanations_are_short()
     ensures scheduled { (program : Program) → IsWithinBounds program.limits → All HasShortName program.commands
         → length (explained_schedule program)
@@ -38,10 +38,11 @@ pub fn explanations_are_short()
     ensures in_time { (program : Program) → IsWithinBounds program.limits → All HasShortName program.commands
         → end_of program < 2 ^ 32
         → length (explained_in_time program)
-        ≤ length (timed_output program) + length (timed_turns program) * (program.limits.threads * 139) }
+        ≤ length (timed_output program) + length (timed_turns program) * (program.limits.threads * 183) }
     ensures read { (bytes : List ℕ) (program : Program) → program_in bytes ≡ Ok program
         → length (explained_output bytes)
-        ≤ length (output bytes) + turn_count program program.duration * (program.limits.threads * 139) }
+        ≤ length (output bytes)
+        + turn_count program program.duration * (program.limits.threads * line_bytes program.duration) }
 {}
 
 /// A lot's numbers begin with the total weight of the lots before it, and are as many as its own weight. The number
