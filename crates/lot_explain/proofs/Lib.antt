@@ -11,3 +11,5 @@ pub mod ShortLots
 pub mod ShortTurns
 pub mod ReadPrograms
 pub mod ShortTexts
+pub mod Reasons
+pub mod Lenders

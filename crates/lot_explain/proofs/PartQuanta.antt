@@ -1,5 +1,5 @@
 -- A thread is compensated only for less than a whole quantum, unless an event charged it more than one.
-use Rattle.std.proofs.Common.{◌≡◌, ℕ, zero, suc, ◌+◌, ◌-◌, ◌<◌, nat_le, nat_lt, Bool, true, false, cond, Option, Some, None, List, [], ◌∷◌, map, slice_index, unwrap_or, option_map, refl, sym, ◌∙◌, ap, subst, get_or}
+use Rattle.std.proofs.Common.{◌≡◌, ℕ, zero, suc, ◌+◌, ◌-◌, ◌<◌, nat_le, nat_lt, Bool, true, false, cond, Option, Some, None, List, [], ◌∷◌, map, slice_index, unwrap_or, option_map, refl, sym, ◌∙◌, ap, subst, arith, get_or}
 use Rattle.std.specs.Prelude.{All, IfSome}
 use Rattle.std.proofs.lemmas.Bool.{ltb-true}
 use Rattle.std.proofs.lemmas.List.Elements.{All-push, All-set}
@@ -29,9 +29,9 @@ use Rattle.lot_machine.specs.Step.{Effect, checked_effect, draw, event_effect, e
 use Rattle.lot_machine.specs.Traps.{after_trap, with_ticks}
 use Rattle.lot_machine.proofs.Tickets.{at_number-suc}
 
--- a thread that is compensated used less than a quantum
+-- a thread that is compensated used a part of a quantum
 abbrev pub IsPart : ℕ → Record → Type 0
-IsPart quantum r = IfSome r.compensation (λ used. used < quantum)
+IsPart quantum r = IfSome r.compensation (λ used. (0 < used) × (used < quantum))
 
 -- so did each of these
 abbrev pub AreParts : ℕ → List Record → Type 0
@@ -45,18 +45,18 @@ part-at quantum records (suc i) r parts is =
     subst (IsPart quantum) (get_or_from_slice_get records i r r place) (parts i r (slice_get_within records i r place))
 
 -- what a trap leaves of a compensation: the ticks used, if they are less than a quantum
-after-part : (after : After) (p used quantum : ℕ) (r : Record) → IsPart quantum r → IsPart quantum (after_trap after p used quantum r)
-after-part GoesOn p used quantum r part = at (nat_lt used quantum)
+after-part : (after : After) (p used quantum : ℕ) → 0 < used → (r : Record) → IsPart quantum r → IsPart quantum (after_trap after p used quantum r)
+after-part GoesOn p used quantum some r part = at (nat_lt used quantum)
   where
     at : (b : Bool) → IsPart quantum (cond b (record r { status = status.Running p used }) (record r { status = status.Ready; compensation = None }))
     at true = part
     at false = tt
-after-part (Leaves now) p used quantum r part = at (nat_lt used quantum) refl
+after-part (Leaves now) p used quantum some r part = at (nat_lt used quantum) refl
   where
-    at : (b : Bool) → nat_lt used quantum ≡ b → IfSome (cond b (Some used) None) (λ ticks. ticks < quantum)
-    at true less = ltb-true used quantum less
+    at : (b : Bool) → nat_lt used quantum ≡ b → IfSome (cond b (Some used) None) (λ ticks. (0 < ticks) × (ticks < quantum))
+    at true less = (some, ltb-true used quantum less)
     at false more = tt
-after-part Ends p used quantum r part = tt
+after-part Ends p used quantum some r part = tt
 
 -- a step that is refused changes nothing
 unless-parts : (quantum : ℕ) (s : State) (o : Option Refusal) (next : Step) → AreParts quantum s.records → AreParts quantum next.state.records → AreParts quantum (unless_refused s o next).state.records
@@ -185,4 +185,4 @@ step-parts s e on_time parts = unless-parts s.limits.quantum s (event_refusal s 
         let used = used_there s p + ran + 1 in
         let o = trap_refusal s t action in
         let effect = checked_effect s o (trap_effect s t action) in
-        change-parts quantum (λ r. with_ticks (ran + 1) (after_trap effect.after p used quantum r)) (after-part effect.after p used quantum) effect.state.records t (checked-parts quantum s t action o parts)
+        change-parts quantum (λ r. with_ticks (ran + 1) (after_trap effect.after p used quantum r)) (after-part effect.after p used quantum (omega arith)) effect.state.records t (checked-parts quantum s t action o parts)

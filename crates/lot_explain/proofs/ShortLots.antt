@@ -73,7 +73,7 @@ weighs s v why (t ∷ ts) =
 -- ---- who has a lot has no loan
 
 -- a thread that has a row has a record, by which its row is
-rows-record : (s : State) (t : ℕ) (row : ThreadRow) → thread_row s t ≡ Some row → (r : Record) × (at_number s.records t ≡ Some r) × (row_of_thread s t r ≡ row)
+pub rows-record : (s : State) (t : ℕ) (row : ThreadRow) → thread_row s t ≡ Some row → (r : Record) × (at_number s.records t ≡ Some r) × (row_of_thread s t r ≡ row)
 rows-record s t row = at (thread_name s t) (at_number s.records t)
   where
     at : (name : Option (List ℕ)) (o : Option Record) → option_and_then (λ name. option_map (row_of_thread s t) o) name ≡ Some row → (r : Record) × (o ≡ Some r) × (row_of_thread s t r ≡ row)
@@ -168,11 +168,11 @@ module _ (s : State) (short : HasShortNames s) where
   reason-short : (t : ℕ) → IfSome (compensation_of s t) IsShortReason
   reason-short t = at (at_number s.records t) refl
     where
-      of : (o : Option ℕ) → IfSome o (λ used. used < s.limits.quantum) → IfSome (option_map (λ used. record { value = value_of s t; quantum = s.limits.quantum; used = used }) o) IsShortReason
+      of : (o : Option ℕ) → IfSome o (λ used. (0 < used) × (used < s.limits.quantum)) → IfSome (option_map (λ used. record { value = value_of s t; quantum = s.limits.quantum; used = used }) o) IsShortReason
       of None part = tt
       of (Some used) part =
           let quantum = short.order.bounds.of_quantum.1 in
-          record { value = value-few t; quantum = quantum; used = omega (arith, part, quantum) }
+          record { value = value-few t; quantum = quantum; used = omega (arith, part.1, quantum) }
 
       at : (o : Option Record) → at_number s.records t ≡ o → IfSome (option_map (λ used. record { value = value_of s t; quantum = s.limits.quantum; used = used }) (option_and_then (λ (r : Record). r.compensation) o)) IsShortReason
       at None is = tt

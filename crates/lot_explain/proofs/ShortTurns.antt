@@ -177,7 +177,7 @@ event-on_time w p = at (thread_on w.state.records p) refl
     at None is = rw is tt
     at (Some t) is = rw is (slice-on_time p (number_of w p) (slice_on w p t))
 
-actor-on_time : (program : Program) (w : World) (actor : ℕ) → IsOnTime (actor_event program w actor)
+pub actor-on_time : (program : Program) (w : World) (actor : ℕ) → IsOnTime (actor_event program w actor)
 actor-on_time program w actor = at (nat_le actor program.limits.processors)
   where
     at : (b : Bool) → IsOnTime (cond b (processor_event w actor) (event.Wake (actor - program.limits.processors)))

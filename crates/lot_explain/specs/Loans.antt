@@ -1,13 +1,14 @@
 -- The loans at a lottery: what blocked threads lend, and to whom.
-use Rattle.std.specs.Prelude.{ℕ, ◌==◌, ◌||◌, Option, Some, None, is_none, List, [], ◌∷◌, if◌then◌else◌}
+use Rattle.std.specs.Prelude.{◌≡◌, ℕ, ◌<◌, ◌==◌, ◌||◌, Option, Some, None, is_none, List, [], ◌∷◌, if◌then◌else◌}
 use Rattle.std.specs.List.{flat_map}
 use Rattle.lot_machine.specs.declared.record.Status.{Status}
 use Rattle.lot_machine.specs.declared.record.Status.TheVariants.{Served, Waiting}
 use Rattle.lot_machine.specs.declared.row.ThreadRow.{ThreadRow}
+use Rattle.lot_machine.specs.Lends.{LendsTo}
 use Rattle.lot_machine.specs.Mutexes.{mutex_at}
 use Rattle.lot_machine.specs.Numbered.{numbers}
 use Rattle.lot_machine.specs.Rows.{thread_row}
-use Rattle.lot_machine.specs.State.{State}
+use Rattle.lot_machine.specs.State.{State, funding_of, value_of}
 use Rattle.lot_simulation.specs.declared.style.LineStyle.{LineStyle}
 use Rattle.lot_simulation.specs.declared.style.LineStyle.TheVariants.{Whole, Timed}
 use Rattle.lot_print.specs.declared.loans.Loan.{Loan}
@@ -37,6 +38,12 @@ loan_of s t = loan_in s t (thread_row s t)
 -- all loans, by ascending number of the thread that lends
 abbrev pub all_loans : State → List Loan
 all_loans s = flat_map (loan_of s) (numbers s.records)
+
+-- the thread lends its value, which isn't 0, to this one (4.6, 6.1)
+pub record IsLent (s : State) (loan : Loan) : Type 0 where
+  pub lends : LendsTo (funding_of s) loan.thread loan.to
+  pub value : loan.value ≡ value_of s loan.thread
+  pub some : 0 < loan.value
 
 -- the lines of loans, in timed style
 abbrev pub loan_lines : LineStyle → ℕ → ℕ → List Loan → List ℕ

@@ -1,21 +1,24 @@
 //! The lengths and the numbers of explanations: laws of the definitions, without executable code.
-ghost use Rattle.std.specs.Prelude.{◌≡◌, ◌≤◌, ◌<◌, ◌+◌, ◌*◌, ◌^◌, ℕ, All, List, ◌∷◌, ◌++◌, Ok, Some, length};
+ghost use Rattle.std.specs.Prelude.{◌≡◌, ◌≤◌, ◌<◌, ◌+◌, ◌*◌, ◌/◌, ◌^◌, ℕ, All, List, ◌∷◌, ◌++◌, None, Ok, Some, length};
 ghost use Rattle.lot_machine.specs.Bounds.{IsWithinBounds};
 ghost use Rattle.lot_machine.specs.declared.event.Event.{Event};
 ghost use Rattle.lot_machine.specs.declared.reply.Reply.{Reply};
+ghost use Rattle.lot_machine.specs.State.{State, value_of, weight_of};
 ghost use Rattle.lot_print.specs.Lots.{lot_line};
+ghost use Rattle.lot_print.specs.declared.lots.Compensation.{Compensation};
 ghost use Rattle.lot_print.specs.declared.lots.Lot.{Lot};
 ghost use Rattle.lot_simulation.specs.Grammar.{program_in};
 ghost use Rattle.lot_simulation.specs.Output.{output, scheduled_output, timed_output};
 ghost use Rattle.lot_simulation.specs.Timed.{end_of, timed_turns};
-ghost use Rattle.lot_simulation.specs.World.{Program, World, system_turn};
+ghost use Rattle.lot_simulation.specs.World.{Program, World, system_run, system_turn};
 ghost use Rattle.lot_simulation.specs.World.Answer.{Answered};
 ghost use Rattle.lot_simulation.specs.declared.style.LineStyle.{LineStyle};
 ghost use Rattle.lot_play.specs.Texts.{last_report};
 ghost use Rattle.lot_playback.specs.Turns.{program_turns};
 ghost use Rattle.lot_explain.specs.Explained.{explained_in_time, explained_output, explained_program};
 ghost use Rattle.lot_explain.specs.Explained.{explained_schedule};
-ghost use Rattle.lot_explain.specs.Lots.{lot_lines, lots_of, total_of, won_in};
+ghost use Rattle.lot_explain.specs.Loans.{IsLent, all_loans};
+ghost use Rattle.lot_explain.specs.Lots.{compensation_of, lot_lines, lots_of, total_of, won_in};
 ghost use Rattle.lot_explain.specs.MadeTurns.{explained_turns};
 ghost use Rattle.lot_explain.specs.Numbers.{HasNumber, number_in};
 ghost use Rattle.lot_explain.specs.Short.{HasShortName, line_bytes, turn_count};
@@ -43,6 +46,20 @@ pub fn explanations_are_short()
         → length (explained_output bytes)
         ≤ length (output bytes)
         + turn_count program program.duration * (program.limits.threads * line_bytes program.duration) }
+{}
+
+/// In each world that a program reaches a compensated thread's weight is its value times the quantum by the ticks that
+/// it used, rounded down. Any other thread's weight is its value.
+pub fn reasons_give_the_weights()
+    ensures compensated { (program : Program) (actors : List ℕ) (t : ℕ) (reason : Compensation)
+        → compensation_of (system_run program actors).state t ≡ Some reason
+        → weight_of (system_run program actors).state t ≡ reason.value * reason.quantum / reason.used }
+    ensures other { (s : State) (t : ℕ) → compensation_of s t ≡ None → weight_of s t ≡ value_of s t }
+{}
+
+/// Each loan is a lend of the machine: a thread lends all its value, which isn't 0, to the one that is named.
+pub fn loans_are_lends()
+    ensures { (s : State) → All (IsLent s) (all_loans s) }
 {}
 
 /// A lot's numbers begin with the total weight of the lots before it, and are as many as its own weight. The number
