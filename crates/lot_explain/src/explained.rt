@@ -134,15 +134,7 @@ fn put_explained<W: Write>(
         return write_ended(writer, page, heading);
     }
     warnings.note(system, turn);
-    put_turn(
-        system,
-        heading,
-        &turn.event,
-        turn.reply,
-        lots,
-        writer,
-        page,
-    )
+    put_turn(system, heading, &turn.event, turn.reply, lots, writer, page)
 }
 
 /// Puts the lines of a turn on the page, after the lots of its lottery and the loans at it, if a thread won it.
