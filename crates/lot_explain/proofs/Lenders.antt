@@ -1,5 +1,5 @@
 -- A loan is what the machine's thread lends.
-use Rattle.std.proofs.Common.{◌≡◌, ℕ, ◌<◌, ◌==◌, Bool, true, false, ◌||◌, cond, Option, Some, None, is_none, List, [], ◌∷◌, map, unwrap_or, option_and_then, option_map, refl, sym, ◌∙◌, ap, subst, arith}
+use Rattle.std.proofs.Common.{◌≡◌, ℕ, ◌==◌, Bool, true, false, ◌||◌, cond, Option, Some, None, is_none, List, [], ◌∷◌, unwrap_or, option_and_then, option_map, refl, sym, ◌∙◌, ap, arith}
 use Rattle.std.specs.Prelude.{All}
 use Rattle.std.specs.List.{flat_map}
 use Rattle.std.specs.Option.{option_flatten}
@@ -10,10 +10,10 @@ use Rattle.lot_machine.specs.declared.record.Status.{Status}
 use Rattle.lot_machine.specs.declared.record.Status.TheVariants.{Served, Waiting}
 use Rattle.lot_machine.specs.declared.row.ThreadRow.{ThreadRow}
 use Rattle.lot_machine.specs.Funding.{owner_of}
-use Rattle.lot_machine.specs.Lends.{LendsTo, borrower, borrower_of}
+use Rattle.lot_machine.specs.Lends.{borrower, borrower_of}
 use Rattle.lot_machine.specs.Mutexes.{mutex_at}
 use Rattle.lot_machine.specs.Numbered.{at_number, numbers}
-use Rattle.lot_machine.specs.Rows.{row_of_thread, thread_row}
+use Rattle.lot_machine.specs.Rows.{thread_row}
 use Rattle.lot_machine.specs.State.{State, Mutex, funding_of, lend_of, status_of, value_of}
 use Rattle.lot_machine.proofs.TrapCycles.{at_number-map, lend-at}
 use Rattle.lot_print.specs.declared.loans.Loan.{Loan}

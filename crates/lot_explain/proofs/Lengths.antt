@@ -18,7 +18,7 @@ use Rattle.lot_print.specs.declared.lots.Lot.{Lot}
 use Rattle.lot_print.specs.declared.lots.Lottery.{Lottery}
 use Rattle.lot_print.specs.declared.lots.Lottery.TheVariants.{OfProcessor, OfMutex}
 use Rattle.lot_print.specs.Loans.{loan_line}
-use Rattle.lot_print.specs.Lots.{lot_line, mark, part_word, scaled_text, weight_word, why_text}
+use Rattle.lot_print.specs.Lots.{lot_line, mark, part_word, weight_word, why_text}
 use Rattle.lot_explain.specs.declared.won.Won.{Won}
 use Rattle.lot_explain.specs.Loans.{loan_lines}
 use Rattle.lot_explain.specs.Lots.{lot_lines, total_of}

@@ -1,5 +1,5 @@
 -- A thread is compensated only for less than a whole quantum, unless an event charged it more than one.
-use Rattle.std.proofs.Common.{◌≡◌, ℕ, zero, suc, ◌+◌, ◌-◌, ◌<◌, nat_le, nat_lt, Bool, true, false, cond, Option, Some, None, List, [], ◌∷◌, map, slice_index, unwrap_or, option_map, refl, sym, ◌∙◌, ap, subst, arith, get_or}
+use Rattle.std.proofs.Common.{◌≡◌, ℕ, zero, suc, ◌+◌, ◌-◌, ◌<◌, nat_lt, Bool, true, false, cond, Option, Some, None, List, [], ◌∷◌, map, slice_index, unwrap_or, option_map, refl, sym, ◌∙◌, subst, arith}
 use Rattle.std.specs.Prelude.{All, IfSome}
 use Rattle.std.proofs.lemmas.Bool.{ltb-true}
 use Rattle.std.proofs.lemmas.List.Elements.{All-push, All-set}
@@ -23,9 +23,9 @@ use Rattle.lot_machine.specs.Lottery.{winner}
 use Rattle.lot_machine.specs.Mutexes.{lock, mutex_at, unlock}
 use Rattle.lot_machine.specs.Numbered.{at_number}
 use Rattle.lot_machine.specs.Places.{placed}
-use Rattle.lot_machine.specs.Ports.{call, first_client, port_at, receive, reply, serve}
+use Rattle.lot_machine.specs.Ports.{call, first_client, port_at, receive, reply}
 use Rattle.lot_machine.specs.State.{State, Port, QueuedCall, change_each, change_record, free_threads, ready_threads, value_of, weight_of}
-use Rattle.lot_machine.specs.Step.{Effect, checked_effect, draw, event_effect, event_refusal, step, thread_there, trap_effect, trap_refusal, used_there}
+use Rattle.lot_machine.specs.Step.{checked_effect, draw, event_effect, event_refusal, step, thread_there, trap_effect, trap_refusal, used_there}
 use Rattle.lot_machine.specs.Traps.{after_trap, with_ticks}
 use Rattle.lot_machine.proofs.Tickets.{at_number-suc}
 

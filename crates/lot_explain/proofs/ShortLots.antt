@@ -1,5 +1,5 @@
 -- The lots of a lottery and the loans at it: they are no more than there may be threads, their names are short, and the lots weigh less than 2 ^ 66 together.
-use Rattle.std.proofs.Common.{◌≡◌, ℕ, zero, suc, ◌+◌, ◌^◌, ◌<◌, ◌≤◌, eqb, Bool, true, false, Option, Some, None, List, [], ◌∷◌, ◌++◌, Contains, filter, length, length-append, map, sum_by, get_or, slice_get, refl, sym, ◌∙◌, ap, subst, arith, unwrap_or, option_and_then, option_map, is_none, cond, ◌||◌, ◌==◌, append_assoc}
+use Rattle.std.proofs.Common.{◌≡◌, ℕ, zero, suc, ◌+◌, ◌^◌, ◌<◌, ◌≤◌, eqb, Bool, true, false, Option, Some, None, List, [], ◌∷◌, Contains, filter, length, length-append, map, sum_by, get_or, slice_get, refl, sym, ◌∙◌, ap, subst, arith, unwrap_or, option_and_then, option_map, is_none, cond, ◌||◌, ◌==◌}
 use Rattle.std.specs.Prelude.{All, IfSome}
 use Rattle.std.specs.List.{flat_map, list_any}
 use Rattle.std.specs.Option.{option_flatten}
@@ -7,7 +7,7 @@ use Rattle.std.proofs.lemmas.Bool.{eqb-true, ne_eqb}
 use Rattle.std.proofs.lemmas.List.{length-map}
 use Rattle.std.proofs.lemmas.List.Elements.{All-nil, All-cons, All-append}
 use Rattle.std.proofs.lemmas.List.FromFn.{length-range_with_len}
-use Rattle.std.proofs.lemmas.List.Sums.{count_by-le-length, length-filter, sum-map, sum_by-cons}
+use Rattle.std.proofs.lemmas.List.Sums.{sum-map, sum_by-cons}
 use Rattle.std.proofs.lemmas.Map.Keys.{IsDistinct-from_apart}
 use Rattle.std.proofs.lemmas.Map.Steps.{length-le_from_distinct_below}
 use Rattle.std.proofs.lemmas.Map.Views.{Contains-from_any}
@@ -35,7 +35,7 @@ use Rattle.lot_explain.specs.declared.entrants.Entrants.TheVariants.{Nobody, Rea
 use Rattle.lot_explain.specs.Loans.{all_loans, lends_to, loan_in, loan_of, loan_to}
 use Rattle.lot_explain.specs.Lots.{compensation_of, draw_lots, loans_among, lot_of, lots_among, mutex_lots, ready_lot, total_of, waiter_lot}
 use Rattle.lot_explain.proofs.Lengths.{IsShortLoan, IsShortLot, IsShortReason}
-use Rattle.lot_explain.proofs.PartQuanta.{AreParts, IsPart, part-at}
+use Rattle.lot_explain.proofs.PartQuanta.{AreParts, part-at}
 
 -- a thread's name has at most 16 bytes
 abbrev pub IsShortThread : Thread → Type 0
