@@ -1,9 +1,8 @@
--- Lots that are gathered one by one.
+-- Lots and loans that are gathered one by one.
 use Rattle.std.proofs.Common.{◌≡◌, ℕ, suc, ◌+◌, Bool, true, false, List, [], ◌∷◌, ◌++◌, map, filter, refl, sym, ◌∙◌, ap, arith}
 use Rattle.std.specs.List.{flat_map, range_with_len}
 use Rattle.lot_machine.specs.Numbered.{option_any}
 use Rattle.lot_machine.specs.State.{State, is_ready, status_of}
-use Rattle.lot_print.specs.declared.lots.Lot.{Lot}
 use Rattle.lot_playback.proofs.TimeFacts.{range-push}
 use Rattle.lot_explain.specs.Gathering.{lot_if_ready}
 use Rattle.lot_explain.specs.Lots.{ready_lot}
@@ -19,9 +18,9 @@ ready-lots s (t ∷ ts) = at (option_any is_ready (status_of s.records t)) refl 
     at false is rest = rw is rest
 
 -- one number more is passed
-pub lots-more : (s now : State) (k : ℕ) (xs ys : List Lot) → now ≡ s → xs ≡ flat_map (lot_if_ready s) (range_with_len 1 k) → ys ≡ xs ++ lot_if_ready now (k + 1) → ys ≡ flat_map (lot_if_ready s) (range_with_len 1 (k + 1))
-lots-more s now k xs ys same is next =
+pub each-more : {A : Type 0} (f : State → ℕ → List A) (s now : State) (k : ℕ) (xs ys : List A) → now ≡ s → xs ≡ flat_map (f s) (range_with_len 1 k) → ys ≡ xs ++ f now (k + 1) → ys ≡ flat_map (f s) (range_with_len 1 (k + 1))
+each-more f s now k xs ys same is next =
     let e : k + 1 ≡ suc k = omega arith in
-    let f : k + 1 ≡ 1 + k = omega arith in
-    next ∙ ap (λ zs. zs ++ lot_if_ready now (k + 1)) is ∙ ap (λ x. flat_map (lot_if_ready s) (range_with_len 1 k) ++ lot_if_ready x (k + 1)) same
-    ∙ ap (λ n. flat_map (lot_if_ready s) (range_with_len 1 k) ++ lot_if_ready s n) f ∙ sym (range-push (lot_if_ready s) 1 k) ∙ ap (λ n. flat_map (lot_if_ready s) (range_with_len 1 n)) (sym e)
+    let g : k + 1 ≡ 1 + k = omega arith in
+    next ∙ ap (λ zs. zs ++ f now (k + 1)) is ∙ ap (λ x. flat_map (f s) (range_with_len 1 k) ++ f x (k + 1)) same
+    ∙ ap (λ n. flat_map (f s) (range_with_len 1 k) ++ f s n) g ∙ sym (range-push (f s) 1 k) ∙ ap (λ n. flat_map (f s) (range_with_len 1 n)) (sym e)

@@ -1,6 +1,7 @@
--- How long the lines of lots are at most.
-use Rattle.std.proofs.Common.{◌≡◌, ℕ, ◌+◌, ◌*◌, ◌/◌, ◌%◌, ◌^◌, ◌<◌, ◌≤◌, ◌==◌, Bool, true, false, cond, List, [], ◌∷◌, ◌++◌, codes, length, refl, arith, length-append}
-use Rattle.std.specs.Prelude.{All}
+-- How long the lines of lots and of loans are at most.
+use Rattle.std.proofs.Common.{◌≡◌, ℕ, ◌+◌, ◌*◌, ◌/◌, ◌%◌, ◌^◌, ◌<◌, ◌≤◌, ◌==◌, Bool, true, false, cond, Option, Some, None, List, [], ◌∷◌, ◌++◌, codes, length, refl, arith, length-append}
+use Rattle.std.specs.Prelude.{All, IfSome}
+use Rattle.std.specs.List.{flat_map}
 use Rattle.std.specs.Fmt.{decimal}
 use Rattle.std.proofs.Math.Nat.{div-le_self}
 use Rattle.std.proofs.lemmas.Bool.{eqb-true}
@@ -11,11 +12,15 @@ use Rattle.lot_machine.specs.Bounds.{IsUnit}
 use Rattle.lot_simulation.specs.declared.style.LineStyle.{LineStyle}
 use Rattle.lot_simulation.specs.declared.style.LineStyle.TheVariants.{Whole, Timed}
 use Rattle.lot_simulation.specs.Texts.{behind_point, drawn_value, front, newline, quotient_text, value_text}
+use Rattle.lot_print.specs.declared.loans.Loan.{Loan}
+use Rattle.lot_print.specs.declared.lots.Compensation.{Compensation}
 use Rattle.lot_print.specs.declared.lots.Lot.{Lot}
 use Rattle.lot_print.specs.declared.lots.Lottery.{Lottery}
 use Rattle.lot_print.specs.declared.lots.Lottery.TheVariants.{OfProcessor, OfMutex}
-use Rattle.lot_print.specs.Lots.{lot_line, mark, part_word, weight_word}
+use Rattle.lot_print.specs.Loans.{loan_line}
+use Rattle.lot_print.specs.Lots.{lot_line, mark, part_word, weight_word, why_text}
 use Rattle.lot_explain.specs.declared.won.Won.{Won}
+use Rattle.lot_explain.specs.Loans.{loan_lines}
 use Rattle.lot_explain.specs.Lots.{lot_lines, total_of}
 
 -- a list that is joined of two is no longer than their bounds add up to
@@ -109,14 +114,59 @@ mark-short : (b : Bool) → length (mark b) ≤ 5
 mark-short true = omega arith
 mark-short false = omega arith
 
--- the thread is one of those that there may be, and its name is short
+-- the numbers of a reason: a value, a quantum, and less ticks than the most that a quantum may have
+pub record IsShortReason (reason : Compensation) : Type 0 where
+  pub value : reason.value < 2 ^ 66
+  pub quantum : reason.quantum ≤ 1000
+  pub used : reason.used < 1000
+
+-- the thread is one of those that there may be, and its name and its reason are short
 pub record IsShortLot (lot : Lot) : Type 0 where
   pub thread : lot.thread ≤ 4096
   pub name : length lot.name ≤ 16
+  pub reason : IfSome lot.compensation IsShortReason
+
+-- so are those of a loan, and it is worth no more than all lots
+pub record IsShortLoan (loan : Loan) : Type 0 where
+  pub thread : loan.thread ≤ 4096
+  pub name : length loan.name ≤ 16
+  pub value : loan.value < 2 ^ 66
+  pub to : loan.to ≤ 4096
+
+-- the most bytes of a reason in a line of this style
+abbrev pub why_most : LineStyle → ℕ
+why_most Whole = 0
+why_most (Timed time) = 44
+
+-- the most bytes of a line in it
+abbrev pub line_most : LineStyle → ℕ
+line_most Whole = 139
+line_most (Timed time) = 183
+
+line_most-is : (style : LineStyle) → line_most style ≡ why_most style + 139
+line_most-is Whole = omega arith
+line_most-is (Timed time) = omega arith
+
+-- a reason is a value, and two numbers of at most four and three digits
+why-short : (style : LineStyle) (unit : ℕ) → IsUnit unit → (o : Option Compensation) → IfSome o IsShortReason → length (why_text style unit o) ≤ why_most style
+why-short Whole unit is o short = omega arith
+why-short (Timed time) unit is None short = omega arith
+why-short (Timed time) unit is (Some reason) short =
+    let quantum = length-decimal-le_wide 4 reason.quantum (omega arith) (omega (arith, short.quantum)) (omega (arith, short.quantum)) in
+    let used = length-decimal-le_wide 3 reason.used (omega arith) (omega (arith, short.used)) (omega (arith, short.used)) in
+    let value = value-short (Timed time) unit reason.value is short.value in
+    let part = codes " / " ++ decimal reason.used in
+    let whole = decimal reason.quantum ++ part in
+    let scale = codes " x " ++ whole in
+    let after_slash = both 3 3 (codes " / ") (decimal reason.used) (omega arith) used in
+    let after_quantum = both 4 6 (decimal reason.quantum) part quantum after_slash in
+    let after_times = both 3 10 (codes " x ") whole (omega arith) after_quantum in
+    let after_value = both 22 13 (value_text (Timed time) unit reason.value) scale value after_times in
+    both 9 35 (codes " = value ") (value_text (Timed time) unit reason.value ++ scale) (omega arith) after_value
 
 module _ (style : LineStyle) (unit actor : ℕ) (timely : HasShortTime style) (is : IsUnit unit) (few : actor ≤ 64) where
-  -- the line of a lot has at most 139 bytes: what it is made of adds up to no more
-  line-short : (lottery : Lottery) (winner first : ℕ) (lot : Lot) → IsShortLot lot → first + lot.weight < 2 ^ 66 → length (lot_line style unit actor lottery winner first lot) ≤ 139
+  -- the line of a lot has at most so many bytes: what it is made of adds up to no more
+  line-short : (lottery : Lottery) (winner first : ℕ) (lot : Lot) → IsShortLot lot → first + lot.weight < 2 ^ 66 → length (lot_line style unit actor lottery winner first lot) ≤ line_most style
   line-short lottery winner first lot short small =
       let actor_text = length-decimal-le_wide 2 actor (omega arith) (omega (arith, few)) (omega (arith, few)) in
       let thread = length-decimal-le_wide 4 lot.thread (omega arith) (omega (arith, short.thread)) (omega (arith, short.thread)) in
@@ -126,7 +176,8 @@ module _ (style : LineStyle) (unit actor : ℕ) (timely : HasShortTime style) (i
       let end = mark (lot.thread == winner) ++ newline in
       let to = drawn_value style unit (first + lot.weight) ++ end in
       let numbers = drawn_value style unit first ++ (codes " below " ++ to) in
-      let value = value_text style unit lot.weight ++ (codes " from " ++ numbers) in
+      let why = why_text style unit lot.compensation in
+      let value = value_text style unit lot.weight ++ (why ++ (codes " from " ++ numbers)) in
       let name = lot.name ++ (weight_word lottery ++ value) in
       let rest = decimal lot.thread ++ (codes " " ++ name) in
       let after_end = both 5 1 (mark (lot.thread == winner)) newline (mark-short (lot.thread == winner)) (omega arith) in
@@ -134,21 +185,63 @@ module _ (style : LineStyle) (unit actor : ℕ) (timely : HasShortTime style) (i
       let after_below = both 7 28 (codes " below ") to (omega arith) after_to in
       let after_numbers = both 22 35 (drawn_value style unit first) (codes " below " ++ to) from after_below in
       let after_from = both 6 57 (codes " from ") numbers (omega arith) after_numbers in
-      let after_value = both 22 63 (value_text style unit lot.weight) (codes " from " ++ numbers) weight after_from in
-      let after_weight = both 8 85 (weight_word lottery) value (weight-short lottery) after_value in
-      let after_name = both 16 93 lot.name (weight_word lottery ++ value) short.name after_weight in
-      let after_blank = both 1 109 (codes " ") name (omega arith) after_name in
-      let after_thread = both 4 110 (decimal lot.thread) (codes " " ++ name) thread after_blank in
-      let after_part = both 12 114 (part_word lottery) rest (part-short lottery) after_thread in
-      let after_actor = both 2 126 (decimal actor) (part_word lottery ++ rest) actor_text after_part in
-      both 11 128 (front style) (decimal actor ++ (part_word lottery ++ rest)) (front-short style timely) after_actor
+      let after_why = both (why_most style) 63 why (codes " from " ++ numbers) (why-short style unit is lot.compensation short.reason) after_from in
+      let after_value = both 22 _ (value_text style unit lot.weight) (why ++ (codes " from " ++ numbers)) weight after_why in
+      let after_weight = both 8 _ (weight_word lottery) value (weight-short lottery) after_value in
+      let after_name = both 16 _ lot.name (weight_word lottery ++ value) short.name after_weight in
+      let after_blank = both 1 _ (codes " ") name (omega arith) after_name in
+      let after_thread = both 4 _ (decimal lot.thread) (codes " " ++ name) thread after_blank in
+      let after_part = both 12 _ (part_word lottery) rest (part-short lottery) after_thread in
+      let after_actor = both 2 _ (decimal actor) (part_word lottery ++ rest) actor_text after_part in
+      omega (arith, both 11 _ (front style) (decimal actor ++ (part_word lottery ++ rest)) (front-short style timely) after_actor, line_most-is style)
 
   -- the lines of lots that weigh less than 2 ^ 66 together
-  pub lines-short : (won : Won) (first : ℕ) (lots : List Lot) → All IsShortLot lots → first + total_of lots < 2 ^ 66 → length (lot_lines style unit actor won first lots) ≤ length lots * 139
+  pub lines-short : (won : Won) (first : ℕ) (lots : List Lot) → All IsShortLot lots → first + total_of lots < 2 ^ 66 → length (lot_lines style unit actor won first lots) ≤ length lots * line_most style
   lines-short won first [] short small = omega arith
   lines-short won first (lot ∷ lots) short small =
       let total = sum_by-cons (λ (x : Lot). x.weight) lot lots in
       let head = line-short won.lottery won.winner first lot (All-head IsShortLot lot lots short) (omega (arith, small, total)) in
       let tail = lines-short won (first + lot.weight) lots (All-tail IsShortLot lot lots short) (omega (arith, small, total)) in
-      let joined = both 139 (length lots * 139) (lot_line style unit actor won.lottery won.winner first lot) (lot_lines style unit actor won (first + lot.weight) lots) head tail in
+      let joined = both (line_most style) (length lots * line_most style) (lot_line style unit actor won.lottery won.winner first lot) (lot_lines style unit actor won (first + lot.weight) lots) head tail in
       omega (arith, joined)
+
+module _ (time unit actor : ℕ) (timely : time < 2 ^ 32) (is : IsUnit unit) (few : actor ≤ 64) where
+  -- the line of a loan has at most 92 bytes
+  loan-short : (loan : Loan) → IsShortLoan loan → length (loan_line (Timed time) unit actor loan) ≤ 92
+  loan-short loan short =
+      let actor_text = length-decimal-le_wide 2 actor (omega arith) (omega (arith, few)) (omega (arith, few)) in
+      let thread = length-decimal-le_wide 4 loan.thread (omega arith) (omega (arith, short.thread)) (omega (arith, short.thread)) in
+      let to_text = length-decimal-le_wide 4 loan.to (omega arith) (omega (arith, short.to)) (omega (arith, short.to)) in
+      let value_short = value-short (Timed time) unit loan.value is short.value in
+      let borrower = codes " to thread " ++ (decimal loan.to ++ newline) in
+      let value = codes " value " ++ (value_text (Timed time) unit loan.value ++ borrower) in
+      let name = codes " " ++ (loan.name ++ value) in
+      let rest = codes " lent thread " ++ (decimal loan.thread ++ name) in
+      let after_to = both 4 1 (decimal loan.to) newline to_text (omega arith) in
+      let after_value = both 11 5 (codes " to thread ") (decimal loan.to ++ newline) (omega arith) after_to in
+      let after_word = both 22 16 (value_text (Timed time) unit loan.value) borrower value_short after_value in
+      let after_name = both 7 38 (codes " value ") (value_text (Timed time) unit loan.value ++ borrower) (omega arith) after_word in
+      let after_blank = both 16 45 loan.name value short.name after_name in
+      let after_thread = both 1 61 (codes " ") (loan.name ++ value) (omega arith) after_blank in
+      let after_lent = both 4 62 (decimal loan.thread) name thread after_thread in
+      let after_actor = both 13 66 (codes " lent thread ") (decimal loan.thread ++ name) (omega arith) after_lent in
+      let after_front = both 2 79 (decimal actor) rest actor_text after_actor in
+      both 11 81 (front (Timed time)) (decimal actor ++ rest) (front-short (Timed time) timely) after_front
+
+  timed-short : (loans : List Loan) → All IsShortLoan loans → length (flat_map (loan_line (Timed time) unit actor) loans) ≤ length loans * 183
+  timed-short [] short = omega arith
+  timed-short (loan ∷ loans) short =
+      let head = loan-short loan (All-head IsShortLoan loan loans short) in
+      let tail = timed-short loans (All-tail IsShortLoan loan loans short) in
+      omega (arith, both 92 (length loans * 183) (loan_line (Timed time) unit actor loan) (flat_map (loan_line (Timed time) unit actor) loans) head tail)
+
+-- the lines of loans
+pub loans-short : (style : LineStyle) (unit actor : ℕ) → HasShortTime style → IsUnit unit → actor ≤ 64 → (loans : List Loan) → All IsShortLoan loans
+    → length (loan_lines style unit actor loans) ≤ length loans * line_most style
+loans-short Whole unit actor timely is few loans short = omega arith
+loans-short (Timed time) unit actor timely is few loans short = timed-short time unit actor timely is few loans short
+
+-- the lines of both are no more than both together
+pub both-short : (style : LineStyle) (lots loans : List ℕ) (m n : ℕ) → length lots ≤ m * line_most style → length loans ≤ n * line_most style → length (lots ++ loans) ≤ (m + n) * line_most style
+both-short Whole lots loans m n one two = omega (arith, length-append lots loans, one, two)
+both-short (Timed time) lots loans m n one two = omega (arith, length-append lots loans, one, two)

@@ -1,6 +1,7 @@
 pub mod EventFacts
 pub mod GatheringFacts
 pub mod RowFacts
+pub mod PartQuanta
 pub mod LineFacts
 pub mod WonFacts
 pub mod TurnFacts
@@ -10,3 +11,5 @@ pub mod ShortLots
 pub mod ShortTurns
 pub mod ReadPrograms
 pub mod ShortTexts
+pub mod Reasons
+pub mod Lenders

@@ -1,6 +1,8 @@
--- Lines of lots that are written one by one.
+-- Lines of lots and of loans that are written one by one.
 use Rattle.std.proofs.Common.{◌≡◌, ℕ, ◌+◌, ◌<◌, Option, List, [], ◌∷◌, ◌++◌, length, get_or, take, drop, sum_by, refl, sym, ◌∙◌, ap, subst, arith, append-nil, append_assoc}
+use Rattle.std.specs.List.{flat_map}
 use Rattle.std.specs.Io.KnownBytes.{Appends}
+use Rattle.std.proofs.lemmas.Grind.{flat_map-append}
 use Rattle.std.proofs.lemmas.List.{take-append-drop, take_more}
 use Rattle.std.proofs.lemmas.List.Sums.{sum_by-append, sum_by-cons}
 use Rattle.lot_simulation.specs.declared.style.LineStyle.{LineStyle}
@@ -51,3 +53,24 @@ module _ (style : LineStyle) (unit actor : ℕ) (won : Won) where
         sym (lines-both 0 (take (n + 1) lots) (drop (n + 1) lots)) ∙ ap (lot_lines style unit actor won 0) (take-append-drop (n + 1) lots) in
         let here = subst (Begins old new) (sym lines-here) (begins-after old mid new (lot_lines style unit actor won 0 (take n lots)) (lot_line style unit actor won.lottery won.winner first x) one two) in
         subst (Begins old new) whole (begins-front old new (lot_lines style unit actor won 0 (take (n + 1) lots)) following here)
+
+-- ---- texts of each
+
+module _ {A : Type 0} (text : A → List ℕ) (xs : List A) (n : ℕ) (d x : A) (below : n < length xs) (is : x ≡ get_or xs n d) (old mid new : Option (List ℕ)) (one : Appends old mid (flat_map text (take n xs))) where
+  texts-here : flat_map text (take (n + 1) xs) ≡ flat_map text (take n xs) ++ text x
+  texts-here =
+      ap (flat_map text) (take_more xs n d below ∙ ap (λ y. take n xs ++ y ∷ []) (sym is))
+      ∙ flat_map-append text (take n xs) (x ∷ []) ∙ ap (λ ts. flat_map text (take n xs) ++ ts) (append-nil (text x))
+
+  -- one text more is written
+  pub texts-more : Appends mid new (text x) → Appends old new (flat_map text (take (n + 1) xs))
+  texts-more two = subst (Appends old new) (sym texts-here) (appends-both old mid new (flat_map text (take n xs)) (text x) one two)
+
+  -- a beginning of the next text is one of all
+  pub texts-stop : Begins mid new (text x) → Begins old new (flat_map text xs)
+  texts-stop two =
+      let front = flat_map text (take (n + 1) xs) in
+      let following = flat_map text (drop (n + 1) xs) in
+      let whole : front ++ following ≡ flat_map text xs = sym (flat_map-append text (take (n + 1) xs) (drop (n + 1) xs)) ∙ ap (flat_map text) (take-append-drop (n + 1) xs) in
+      let here = subst (Begins old new) (sym texts-here) (begins-after old mid new (flat_map text (take n xs)) (text x) one two) in
+      subst (Begins old new) whole (begins-front old new front following here)

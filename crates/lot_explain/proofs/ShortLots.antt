@@ -1,34 +1,41 @@
--- The lots of a lottery: they are no more than there may be threads, their names are short, and they weigh less than 2 ^ 66 together.
-use Rattle.std.proofs.Common.{◌≡◌, ℕ, zero, suc, ◌+◌, ◌^◌, ◌<◌, ◌≤◌, eqb, Bool, true, false, Option, Some, None, List, [], ◌∷◌, Contains, length, map, sum_by, get_or, slice_get, refl, sym, ◌∙◌, ap, subst, arith, unwrap_or, option_map}
+-- The lots of a lottery and the loans at it: they are no more than there may be threads, their names are short, and the lots weigh less than 2 ^ 66 together.
+use Rattle.std.proofs.Common.{◌≡◌, ℕ, zero, suc, ◌+◌, ◌^◌, ◌<◌, ◌≤◌, eqb, Bool, true, false, Option, Some, None, List, [], ◌∷◌, Contains, filter, length, length-append, map, sum_by, get_or, slice_get, refl, sym, ◌∙◌, ap, subst, arith, unwrap_or, option_and_then, option_map, is_none, cond, ◌||◌, ◌==◌}
 use Rattle.std.specs.Prelude.{All, IfSome}
-use Rattle.std.specs.List.{list_any}
+use Rattle.std.specs.List.{flat_map, list_any}
 use Rattle.std.specs.Option.{option_flatten}
 use Rattle.std.proofs.lemmas.Bool.{eqb-true, ne_eqb}
 use Rattle.std.proofs.lemmas.List.{length-map}
-use Rattle.std.proofs.lemmas.List.Elements.{All-nil, All-cons}
+use Rattle.std.proofs.lemmas.List.Elements.{All-nil, All-cons, All-append}
 use Rattle.std.proofs.lemmas.List.FromFn.{length-range_with_len}
-use Rattle.std.proofs.lemmas.List.Sums.{count_by-le-length, length-filter, sum-map, sum_by-cons}
+use Rattle.std.proofs.lemmas.List.Sums.{sum-map, sum_by-cons}
 use Rattle.std.proofs.lemmas.Map.Keys.{IsDistinct-from_apart}
 use Rattle.std.proofs.lemmas.Map.Steps.{length-le_from_distinct_below}
 use Rattle.std.proofs.lemmas.Map.Views.{Contains-from_any}
 use Rattle.std.proofs.lemmas.Option.{slice_get-get_or, slice_get_within, get_or_from_slice_get}
+use Rattle.lot_machine.specs.declared.record.Record.{Record}
 use Rattle.lot_machine.specs.declared.record.Status.{Status}
 use Rattle.lot_machine.specs.declared.record.Status.TheVariants as status
 use Rattle.lot_machine.specs.declared.record.Thread.{Thread}
+use Rattle.lot_machine.specs.declared.row.ThreadRow.{ThreadRow}
 use Rattle.lot_machine.specs.Numbered.{at_number, numbers, option_any}
 use Rattle.lot_machine.specs.Order.{IsInOrder}
-use Rattle.lot_machine.specs.Rows.{thread_name}
-use Rattle.lot_machine.specs.State.{State, Mutex, is_ready, ready_threads, status_of, value_of, weight_of}
+use Rattle.lot_machine.specs.Rows.{row_of_thread, thread_name, thread_row}
+use Rattle.lot_machine.specs.State.{State, Mutex, funding_of, is_ready, live_of, ready_threads, status_of, value_of, weight_of}
 use Rattle.lot_machine.proofs.Idle.{filter-passes, is-ready}
+use Rattle.lot_machine.proofs.NodeBounds.{thread-bounded}
 use Rattle.lot_machine.proofs.OrderKept.{order-sound}
 use Rattle.lot_machine.proofs.RecordsKept.{numbered}
-use Rattle.lot_machine.proofs.Tickets.{at_number-suc}
+use Rattle.lot_machine.proofs.Tickets.{at_number-suc, some-injective}
 use Rattle.lot_machine.proofs.WaitersWorth.{waiters-worth}
+use Rattle.lot_print.specs.declared.loans.Loan.{Loan}
+use Rattle.lot_print.specs.declared.lots.Compensation.{Compensation}
 use Rattle.lot_print.specs.declared.lots.Lot.{Lot}
 use Rattle.lot_explain.specs.declared.entrants.Entrants.{Entrants}
 use Rattle.lot_explain.specs.declared.entrants.Entrants.TheVariants.{Nobody, Ready, Waiters}
-use Rattle.lot_explain.specs.Lots.{draw_lots, lot_of, lots_among, mutex_lots, ready_lot, total_of, waiter_lot}
-use Rattle.lot_explain.proofs.Lengths.{IsShortLot}
+use Rattle.lot_explain.specs.Loans.{all_loans, lends_to, loan_in, loan_of, loan_to}
+use Rattle.lot_explain.specs.Lots.{compensation_of, draw_lots, loans_among, lot_of, lots_among, mutex_lots, ready_lot, total_of, waiter_lot}
+use Rattle.lot_explain.proofs.Lengths.{IsShortLoan, IsShortLot, IsShortReason}
+use Rattle.lot_explain.proofs.PartQuanta.{AreParts, part-at}
 
 -- a thread's name has at most 16 bytes
 abbrev pub IsShortThread : Thread → Type 0
@@ -38,16 +45,18 @@ IsShortThread thread = length thread.name ≤ 16
 abbrev pub IsShortPlace : Option Thread → Type 0
 IsShortPlace place = IfSome place IsShortThread
 
--- a state that is in order, has no more threads than there may be, and has short names
+-- a state that is in order, has no more threads than there may be, compensates only for less than a quantum, and has short names
 pub record HasShortNames (s : State) : Type 0 where
   pub order : IsInOrder s
   pub room : length s.records ≤ s.limits.threads
   pub names : All IsShortPlace s.threads
+  pub parts : AreParts s.limits.quantum s.records
 
--- lots that are no more than there may be threads, each with a short name, and that weigh less than 2 ^ 66 together
-pub record AreShort (s : State) (lots : List Lot) : Type 0 where
-  pub few : length lots ≤ s.limits.threads
+-- lots and loans that are no more together than there may be threads, each of them short, and lots that weigh less than 2 ^ 66 together
+pub record AreShort (s : State) (lots : List Lot) (loans : List Loan) : Type 0 where
+  pub few : length lots + length loans ≤ s.limits.threads
   pub each : All IsShortLot lots
+  pub each_loan : All IsShortLoan loans
   pub total : total_of lots < 2 ^ 66
 
 -- each of these is one of the state's threads
@@ -55,11 +64,61 @@ abbrev AreThere : State → List ℕ → Type 0
 AreThere s ts = (place t : ℕ) → slice_get ts place ≡ Some t → (now : Status) × (status_of s.records t ≡ Some now)
 
 -- the lots of threads weigh together what the threads weigh
-weighs : (s : State) (v : ℕ → ℕ) (ts : List ℕ) → total_of (map (λ t. lot_of s t (v t)) ts) ≡ sum_by v ts
-weighs s v [] = refl
-weighs s v (t ∷ ts) =
+weighs : (s : State) (v : ℕ → ℕ) (why : ℕ → Option Compensation) (ts : List ℕ) → total_of (map (λ t. lot_of s t (v t) (why t)) ts) ≡ sum_by v ts
+weighs s v why [] = refl
+weighs s v why (t ∷ ts) =
     let weigh : Lot → ℕ = λ lot. lot.weight in
-    omega (arith, sum_by-cons v t ts, weighs s v ts, sum_by-cons weigh (lot_of s t (v t)) (map (λ u. lot_of s u (v u)) ts))
+    omega (arith, sum_by-cons v t ts, weighs s v why ts, sum_by-cons weigh (lot_of s t (v t) (why t)) (map (λ u. lot_of s u (v u) (why u)) ts))
+
+-- ---- who has a lot has no loan
+
+-- a thread that has a row has a record, by which its row is
+pub rows-record : (s : State) (t : ℕ) (row : ThreadRow) → thread_row s t ≡ Some row → (r : Record) × (at_number s.records t ≡ Some r) × (row_of_thread s t r ≡ row)
+rows-record s t row = at (thread_name s t) (at_number s.records t)
+  where
+    at : (name : Option (List ℕ)) (o : Option Record) → option_and_then (λ name. option_map (row_of_thread s t) o) name ≡ Some row → (r : Record) × (o ≡ Some r) × (row_of_thread s t r ≡ row)
+    at None o is = cc
+    at (Some name) None is = cc
+    at (Some name) (Some r) is = (r, refl, some-injective (row_of_thread s t r) row is)
+
+-- one that is Ready lends nothing, and any other at most once
+loan-few : (s : State) (t : ℕ) → cond (option_any is_ready (status_of s.records t)) 1 0 + length (loan_of s t) ≤ 1
+loan-few s t = at (thread_row s t) refl
+  where
+    to-few : (row : ThreadRow) (o : Option ℕ) → length (loan_to s t row o) ≤ 1
+    to-few row None = omega arith
+    to-few row (Some to) = by ((row.value == 0) || is_none (thread_row s to))
+      where
+        by : (b : Bool) → length {A = Loan} (cond b [] (record { thread = t; name = row.name; value = row.value; to = to } ∷ [])) ≤ 1
+        by true = omega arith
+        by false = omega arith
+
+    ready-none : (row : ThreadRow) (now : Status) → cond (is_ready now) 1 0 + length (loan_to s t row (lends_to s now)) ≤ 1
+    ready-none row status.Ready = omega arith
+    ready-none row (status.Served server) = omega (arith, to-few row (Some server))
+    ready-none row (status.Waiting m) = omega (arith, to-few row (lends_to s (status.Waiting m)))
+    ready-none row other = omega arith
+
+    at : (o : Option ThreadRow) → thread_row s t ≡ o → cond (option_any is_ready (status_of s.records t)) 1 0 + length (loan_in s t o) ≤ 1
+    at None is = by (option_any is_ready (status_of s.records t))
+      where
+        by : (b : Bool) → cond b 1 0 + 0 ≤ 1
+        by true = omega arith
+        by false = omega arith
+    at (Some row) is =
+        let (r, there, same) = rows-record s t row is in
+        let now : status_of s.records t ≡ Some row.status = ap (option_map (λ (x : Record). x.status)) there ∙ ap (λ (x : ThreadRow). Some x.status) same in
+        rw now (ready-none row row.status)
+
+-- so lots and loans are no more together than threads
+entries-few : (s : State) (ts : List ℕ) → length (filter (λ t. option_any is_ready (status_of s.records t)) ts) + length (flat_map (loan_of s) ts) ≤ length ts
+entries-few s [] = omega arith
+entries-few s (t ∷ ts) = at (option_any is_ready (status_of s.records t)) refl (entries-few s ts)
+  where
+    at : (b : Bool) → option_any is_ready (status_of s.records t) ≡ b → length (filter (λ u. option_any is_ready (status_of s.records u)) ts) + length (flat_map (loan_of s) ts) ≤ length ts
+        → length (filter (λ u. option_any is_ready (status_of s.records u)) (t ∷ ts)) + length (flat_map (loan_of s) (t ∷ ts)) ≤ length (t ∷ ts)
+    at true is rest = let one = rw is at (loan-few s t) in rw is (omega (arith, one, rest, length-append (loan_of s t) (flat_map (loan_of s) ts)))
+    at false is rest = let one = rw is at (loan-few s t) in rw is (omega (arith, one, rest, length-append (loan_of s t) (flat_map (loan_of s) ts)))
 
 -- Numbers from 1 up to n, none of which stands twice, are at most n: with 0 they are different numbers below n + 1.
 once-few : (n : ℕ) (ts : List ℕ) → ((place other t : ℕ) → slice_get ts place ≡ Some t → slice_get ts other ≡ Some t → place ≡ other)
@@ -99,34 +158,93 @@ module _ (s : State) (short : HasShortNames s) where
               let place = sym (at_number-suc s.threads i) ∙ there in
               subst IsShortPlace (get_or_from_slice_get s.threads i (Some thread) (Some thread) place) (short.names i (Some thread) (slice_get_within s.threads i (Some thread) place))
 
+  -- a thread is worth no more than base's active tickets
+  value-few : (t : ℕ) → value_of s t < 2 ^ 66
+  value-few t =
+      let bounded = thread-bounded (funding_of s) short.order.no_cycle short.order.funds_there s.limits.unit (live_of s) t in
+      omega (arith, bounded, (order-sound s short.order).bounded.base)
+
+  -- a reason has a value, the quantum, and less ticks
+  reason-short : (t : ℕ) → IfSome (compensation_of s t) IsShortReason
+  reason-short t = at (at_number s.records t) refl
+    where
+      of : (o : Option ℕ) → IfSome o (λ used. (0 < used) × (used < s.limits.quantum)) → IfSome (option_map (λ used. record { value = value_of s t; quantum = s.limits.quantum; used = used }) o) IsShortReason
+      of None part = tt
+      of (Some used) part =
+          let quantum = short.order.bounds.of_quantum.1 in
+          record { value = value-few t; quantum = quantum; used = omega (arith, part.1, quantum) }
+
+      at : (o : Option Record) → at_number s.records t ≡ o → IfSome (option_map (λ used. record { value = value_of s t; quantum = s.limits.quantum; used = used }) (option_and_then (λ (r : Record). r.compensation) o)) IsShortReason
+      at None is = tt
+      at (Some r) is = of r.compensation (part-at s.limits.quantum s.records t r short.parts is)
+
   -- the lots of threads that are there have short names
-  each-short : (v : ℕ → ℕ) (ts : List ℕ) → AreThere s ts → All IsShortLot (map (λ t. lot_of s t (v t)) ts)
-  each-short v [] there = All-nil IsShortLot
-  each-short v (t ∷ ts) there =
+  each-short : (v : ℕ → ℕ) (why : ℕ → Option Compensation) → ((t : ℕ) → IfSome (why t) IsShortReason) → (ts : List ℕ) → AreThere s ts → All IsShortLot (map (λ t. lot_of s t (v t) (why t)) ts)
+  each-short v why reasons [] there = All-nil IsShortLot
+  each-short v why reasons (t ∷ ts) there =
       let first = there 0 t refl in
       let within = numbered s.records t first.0 first.1 in
-      All-cons IsShortLot (lot_of s t (v t)) (map (λ u. lot_of s u (v u)) ts)
-      (record { thread = omega (arith, within.1, short.room, short.order.bounds.of_threads.1); name = name-short t })
-      (each-short v ts (λ place u at. there (suc place) u at))
+      All-cons IsShortLot (lot_of s t (v t) (why t)) (map (λ u. lot_of s u (v u) (why u)) ts)
+      (record { thread = omega (arith, within.1, short.room, short.order.bounds.of_threads.1); name = name-short t; reason = reasons t })
+      (each-short v why reasons ts (λ place u at. there (suc place) u at))
 
-  -- those of a draw: the Ready threads are some of all
-  draw-short : AreShort s (draw_lots s)
+  -- a thread with a row is one of those that there may be
+  row-few : (t : ℕ) (row : ThreadRow) → thread_row s t ≡ Some row → t ≤ 4096
+  row-few t row is =
+      let (r, there, same) = rows-record s t row is in
+      omega (arith, (numbered s.records t r.status (ap (option_map (λ (x : Record). x.status)) there)).1, short.room, short.order.bounds.of_threads.1)
+
+  -- so are the two of a loan
+  loan-in-short : (t : ℕ) (o : Option ThreadRow) → thread_row s t ≡ o → All IsShortLoan (loan_in s t o)
+  loan-in-short t None is = All-nil IsShortLoan
+  loan-in-short t (Some row) is = to-short (lends_to s row.status)
+    where
+      to-short : (o : Option ℕ) → All IsShortLoan (loan_to s t row o)
+      to-short None = All-nil IsShortLoan
+      to-short (Some to) = by (row.value == 0) (thread_row s to) refl
+        where
+          loan : Loan
+          loan = record { thread = t; name = row.name; value = row.value; to = to }
+
+          short-loan : (borrower : ThreadRow) → thread_row s to ≡ Some borrower → IsShortLoan loan
+          short-loan borrower there =
+              let (r, _, same) = rows-record s t row is in
+              record {
+                thread = row-few t row is;
+                name = subst (λ (x : ThreadRow). length x.name ≤ 16) same (name-short t);
+                value = subst (λ (x : ThreadRow). x.value < 2 ^ 66) same (value-few t);
+                to = row-few to borrower there;
+              }
+
+          by : (b : Bool) (o : Option ThreadRow) → thread_row s to ≡ o → All IsShortLoan (cond (b || is_none o) [] (loan ∷ []))
+          by true o there = All-nil IsShortLoan
+          by false None there = All-nil IsShortLoan
+          by false (Some borrower) there = All-cons IsShortLoan loan [] (short-loan borrower there) (All-nil IsShortLoan)
+
+  -- and of each loan
+  loans-each : (ts : List ℕ) → All IsShortLoan (flat_map (loan_of s) ts)
+  loans-each [] = All-nil IsShortLoan
+  loans-each (t ∷ ts) = All-append IsShortLoan (loan_of s t) (flat_map (loan_of s) ts) (loan-in-short t (thread_row s t) refl) (loans-each ts)
+
+  -- those of a draw: the Ready threads and those that lend are some of all
+  draw-short : AreShort s (draw_lots s) (all_loans s)
   draw-short =
       let ready = ready_threads s.records in
       let test : ℕ → Bool = λ t. option_any is_ready (status_of s.records t) in
       let sound = order-sound s short.order in
       record {
-        few = omega (arith, length-map ready (ready_lot s), length-filter test (numbers s.records), count_by-le-length test (numbers s.records), length-range_with_len 1 (length s.records), short.room);
-        each = each-short (weight_of s) ready (λ place t at. (status.Ready, is-ready (status_of s.records t) (filter-passes test (numbers s.records) place t at)));
-        total = omega (arith, weighs s (weight_of s) ready, sum-map (weight_of s) ready, sound.bounded.weights);
+        few = omega (arith, length-map ready (ready_lot s), entries-few s (numbers s.records), length-range_with_len 1 (length s.records), short.room);
+        each_loan = loans-each (numbers s.records);
+        each = each-short (weight_of s) (compensation_of s) reason-short ready (λ place t at. (status.Ready, is-ready (status_of s.records t) (filter-passes test (numbers s.records) place t at)));
+        total = omega (arith, weighs s (weight_of s) (compensation_of s) ready, sum-map (weight_of s) ready, sound.bounded.weights);
       }
 
   -- those of the lottery of a mutex: who waits for it stands there once
-  waiters-short : (m : ℕ) → AreShort s (mutex_lots s m)
+  waiters-short : (m : ℕ) → AreShort s (mutex_lots s m) []
   waiters-short m = from (at_number s.mutexes m) refl
     where
-      from : (o : Option Mutex) → at_number s.mutexes m ≡ o → AreShort s (map (waiter_lot s) (unwrap_or {T = Mutex} o (record { owner = None; waiters = [] })).waiters)
-      from None is = record { few = omega arith; each = All-nil IsShortLot; total = omega arith }
+      from : (o : Option Mutex) → at_number s.mutexes m ≡ o → AreShort s (map (waiter_lot s) (unwrap_or {T = Mutex} o (record { owner = None; waiters = [] })).waiters) []
+      from None is = record { few = omega arith; each = All-nil IsShortLot; each_loan = All-nil IsShortLoan; total = omega arith }
       from (Some mutex) is =
           let queue = short.order.queues.waiters m mutex is in
           let sound = order-sound s short.order in
@@ -134,12 +252,13 @@ module _ (s : State) (short : HasShortNames s) where
           let few = once-few (length s.records) mutex.waiters queue.once (λ place t at. numbered s.records t (status.Waiting m) (queue.each place t at)) in
           record {
             few = omega (arith, length-map mutex.waiters (waiter_lot s), few, short.room);
-            each = each-short (value_of s) mutex.waiters (λ place t at. (status.Waiting m, queue.each place t at));
-            total = omega (arith, weighs s (value_of s) mutex.waiters, worth, sound.bounded.base);
+            each_loan = All-nil IsShortLoan;
+            each = each-short (value_of s) (λ t. None) (λ t. tt) mutex.waiters (λ place t at. (status.Waiting m, queue.each place t at));
+            total = omega (arith, weighs s (value_of s) (λ t. None) mutex.waiters, worth, sound.bounded.base);
           }
 
   -- and those of whoever takes part
-  pub among-short : (who : Entrants) → AreShort s (lots_among s who)
-  among-short Nobody = record { few = omega arith; each = All-nil IsShortLot; total = omega arith }
+  pub among-short : (who : Entrants) → AreShort s (lots_among s who) (loans_among s who)
+  among-short Nobody = record { few = omega arith; each = All-nil IsShortLot; each_loan = All-nil IsShortLoan; total = omega arith }
   among-short Ready = draw-short
   among-short (Waiters m) = waiters-short m

@@ -15,7 +15,7 @@ use Rattle.lot_simulation.specs.Timed.{Moment, TimedTurn, all_due, due_first, ea
 use Rattle.lot_simulation.specs.TimedReport.{timed_report}
 use Rattle.lot_simulation.specs.World.{Program, World, opening_world, system_run, system_turn}
 use Rattle.lot_explain.specs.Explained.{explained_in_time, explained_output, explained_program, explained_schedule, explained_texts, explained_times, lots_text}
-use Rattle.lot_explain.specs.Short.{HasShortName, turn_count}
+use Rattle.lot_explain.specs.Short.{HasShortName, line_bytes, turn_count}
 use Rattle.lot_explain.proofs.ReadPrograms.{IsReadProgram, program-read}
 use Rattle.lot_explain.proofs.ShortTurns.{IsShort, opening-short, turn-keeps, turn-short}
 
@@ -59,7 +59,7 @@ within-end end (Some x) due e = at (nat_lt end x.time) refl e
 
 -- turns, the first of which is made in this world, are explained in few bytes more than are written of them
 abbrev AreShortTimes : Program → World → List TimedTurn → Type 0
-AreShortTimes program w turns = length (explained_times w turns) ≤ length (flat_map timed_text turns) + length turns * (program.limits.threads * 139)
+AreShortTimes program w turns = length (explained_times w turns) ≤ length (flat_map timed_text turns) + length turns * (program.limits.threads * 183)
 
 -- the turns from a moment on
 times-short : (program : Program) → end_of program < 2 ^ 32 → (room : ℕ) (m : Moment) → IsShort program.limits m.world → AreShortTimes program m.world (turns_from program room m)
@@ -75,26 +75,26 @@ times-short program small (suc room) m short = at (λ next. times-short program 
         let next = moment_after m done in
         let others = turns_from program room next in
         let time : due.time < 2 ^ 32 = omega (arith, within-end (end_of program) (earliest (all_due program m)) due is, small) in
-        more-short (program.limits.threads * 139) (length others) (lots_text (Timed due.time) (printed_actor turn.world.state due.actor) m.world.state turn.answer) (turn_text (Timed due.time) due.actor turn) (explained_times turn.world others)
+        more-short (program.limits.threads * 183) (length others) (lots_text (Timed due.time) (printed_actor turn.world.state due.actor) m.world.state turn.answer) (turn_text (Timed due.time) due.actor turn) (explained_times turn.world others)
         (flat_map timed_text others) (turn-short (Timed due.time) program m.world due.actor (printed_actor turn.world.state due.actor) (min-le_left due.actor (turn.world.state.limits.processors + 1)) time short) (later next (turn-keeps program m.world due.actor short))
 
 -- and all turns in the order of time, with the report
 pub in_time-short : (program : Program) → IsWithinBounds program.limits → All HasShortName program.commands → end_of program < 2 ^ 32
-    → length (explained_in_time program) ≤ length (timed_output program) + length (timed_turns program) * (program.limits.threads * 139)
+    → length (explained_in_time program) ≤ length (timed_output program) + length (timed_turns program) * (program.limits.threads * 183)
 in_time-short program bounds names small =
     let turns = timed_turns program in
-    after-short (length turns * (program.limits.threads * 139)) (explained_times (opening_world program) turns) (flat_map timed_text turns) (timed_report program)
+    after-short (length turns * (program.limits.threads * 183)) (explained_times (opening_world program) turns) (flat_map timed_text turns) (timed_report program)
     (times-short program small timed_room (opening_moment program) (opening-short program bounds names))
 
 -- ---- every input
 
 -- a program that is read
 program-short : (program : Program) → IsReadProgram program → (duration : Option ℕ)
-    → length (explained_program program duration) ≤ length (played_output program duration) + turn_count program duration * (program.limits.threads * 139)
+    → length (explained_program program duration) ≤ length (played_output program duration) + turn_count program duration * (program.limits.threads * line_bytes duration)
 program-short program is None = schedule-short program is.bounds is.names
 program-short program is (Some duration) = in_time-short program is.bounds is.names is.time
 
 -- and the bytes that it is read from
 pub output-short : (bytes : List ℕ) (program : Program) → program_in bytes ≡ Ok program
-    → length (explained_output bytes) ≤ length (output bytes) + turn_count program program.duration * (program.limits.threads * 139)
+    → length (explained_output bytes) ≤ length (output bytes) + turn_count program program.duration * (program.limits.threads * line_bytes program.duration)
 output-short bytes program is = rw is (program-short program (program-read bytes program is) program.duration)

@@ -1,5 +1,5 @@
--- A turn writes few lines of lots, and leaves names short.
-use Rattle.std.proofs.Common.{◌≡◌, ℕ, ◌+◌, ◌-◌, ◌*◌, ◌^◌, ◌≤◌, ◌==◌, nat_lt, nat_le, Bool, true, false, not, ◌&&◌, ◌||◌, cond, Option, Some, None, is_some, is_none, unwrap_or, List, [], ◌∷◌, ◌++◌, length, refl, sym, ◌∙◌, ap, subst, arith}
+-- A turn writes few lines of lots and loans, compensates only for less than a quantum, and leaves names short.
+use Rattle.std.proofs.Common.{◌≡◌, ℕ, ◌+◌, ◌-◌, ◌*◌, ◌^◌, ◌≤◌, ◌==◌, nat_lt, nat_le, Bool, true, false, not, ◌&&◌, ◌||◌, cond, Option, Some, None, is_some, is_none, unwrap_or, List, [], ◌∷◌, length, refl, sym, ◌∙◌, ap, subst, arith}
 use Rattle.std.specs.Prelude.{All}
 use Rattle.std.proofs.lemmas.Bool.{leb-false, ltb-false, or_parts}
 use Rattle.std.proofs.lemmas.List.{length-append, length-set}
@@ -33,19 +33,22 @@ use Rattle.lot_simulation.specs.Script.{Slice}
 use Rattle.lot_simulation.specs.World.{Program, World, number_of, slice_on, event_of_slice, actor_event, processor_event, console_turn, opening_world, processor_turn, system_turn}
 use Rattle.lot_explain.specs.declared.won.Won.{Won}
 use Rattle.lot_explain.specs.Explained.{lots_text}
-use Rattle.lot_explain.specs.Lots.{entrants_in, lots_of, won_in, won_lines}
+use Rattle.lot_explain.specs.Loans.{loan_lines}
+use Rattle.lot_explain.specs.Lots.{entrants_in, loans_of, lot_lines, lots_of, won_in, won_lines}
 use Rattle.lot_explain.specs.Short.{HasShortName}
-use Rattle.lot_explain.proofs.Lengths.{HasShortTime, lines-short}
+use Rattle.lot_explain.proofs.Lengths.{HasShortTime, both-short, line_most, lines-short, loans-short}
+use Rattle.lot_explain.proofs.PartQuanta.{AreParts, IsOnTime, IsPart, command-parts, step-parts}
 use Rattle.lot_explain.proofs.ShortLots.{IsShortThread, IsShortPlace, HasShortNames, among-short}
 
--- What each world keeps: its state is in order, its limits are the program's, no more threads were made than may be, and their names are
--- short, as are those in the commands that are left.
+-- What each world keeps: its state is in order, its limits are the program's, no more threads were made than may be, those that are
+-- compensated used less than a quantum, and their names are short, as are those in the commands that are left.
 pub record IsShort (sizes : Sizes) (w : World) : Type 0 where
   pub order : IsInOrder w.state
   pub limits : w.state.limits ≡ sizes
   pub records : length w.state.records ≡ length w.state.threads
   pub room : length w.state.threads ≤ sizes.threads
   pub names : All IsShortPlace w.state.threads
+  pub parts : AreParts sizes.quantum w.state.records
   pub commands : All HasShortName w.commands
 
 -- ---- an event of a processor
@@ -87,18 +90,21 @@ none-won (event.Trap p ran other) refusal = refl
 
 module _ (style : LineStyle) (timely : HasShortTime style) (s : State) (short : HasShortNames s) where
   -- the lines of lots are no more than there may be threads, if somebody has won
-  won-short : (actor : ℕ) → actor ≤ 64 → (e : Event) (won : Option Won) → length (won_lines style s.limits.unit actor (lots_of s e) won) ≤ s.limits.threads * 139
+  won-short : (actor : ℕ) → actor ≤ 64 → (e : Event) (won : Option Won) → length (won_lines style s.limits.unit actor (lots_of s e) (loans_of s e) won) ≤ s.limits.threads * line_most style
   won-short actor few e None = omega arith
   won-short actor few e (Some won) =
-      let lots = among-short s short (entrants_in e) in
-      let lines = lines-short style s.limits.unit actor timely short.order.bounds.of_unit few won 0 (lots_of s e) lots.each (omega (arith, lots.total)) in
-      omega (arith, lines, mul-le-mul_right 139 lots.few)
+      let entries = among-short s short (entrants_in e) in
+      let unit = s.limits.unit in
+      let lots = lines-short style unit actor timely short.order.bounds.of_unit few won 0 (lots_of s e) entries.each (omega (arith, entries.total)) in
+      let loans = loans-short style unit actor timely short.order.bounds.of_unit few (loans_of s e) entries.each_loan in
+      let lines = both-short style (lot_lines style unit actor won 0 (lots_of s e)) (loan_lines style unit actor (loans_of s e)) (length (lots_of s e)) (length (loans_of s e)) lots loans in
+      omega (arith, lines, mul-le-mul_right (line_most style) entries.few)
 
   -- so are those of a lottery that an event holds: if it isn't refused, its processor is there
-  event-short : (actor shown : ℕ) (e : Event) → processor_of e ≡ Some actor → shown ≤ actor → length (won_lines style s.limits.unit shown (lots_of s e) (won_in e (step s e).reply)) ≤ s.limits.threads * 139
+  event-short : (actor shown : ℕ) (e : Event) → processor_of e ≡ Some actor → shown ≤ actor → length (won_lines style s.limits.unit shown (lots_of s e) (loans_of s e) (won_in e (step s e).reply)) ≤ s.limits.threads * line_most style
   event-short actor shown e on low = at (event_refusal s e) refl
     where
-      at : (o : Option Refusal) → event_refusal s e ≡ o → length (won_lines style s.limits.unit shown (lots_of s e) (won_in e (unless_refused s o (event_effect s e)).reply)) ≤ s.limits.threads * 139
+      at : (o : Option Refusal) → event_refusal s e ≡ o → length (won_lines style s.limits.unit shown (lots_of s e) (loans_of s e) (won_in e (unless_refused s o (event_effect s e)).reply)) ≤ s.limits.threads * line_most style
       at None passes = won-short shown (omega (arith, low, processor-few s e actor on passes, short.order.bounds.of_processors.1)) e (won_in e (event_effect s e).reply)
       at (Some refusal) fails = rw (none-won e refusal) (omega arith)
 
@@ -156,13 +162,40 @@ event-on w p = at (thread_on w.state.records p) refl
     at None is = rw is refl
     at (Some t) is = rw is (slice-on p (number_of w p) (slice_on w p t))
 
+-- what a processor or the timer does next ends no quantum late
+slice-on_time : (p d : ℕ) (s : Slice) → IsOnTime (event_of_slice p d s)
+slice-on_time p d s = at s.trap refl
+  where
+    at : (o : Option ScriptTrap) → s.trap ≡ o → IsOnTime (event_of_slice p d s)
+    at None is = rw is tt
+    at (Some trap) is = rw is tt
+
+event-on_time : (w : World) (p : ℕ) → IsOnTime (processor_event w p)
+event-on_time w p = at (thread_on w.state.records p) refl
+  where
+    at : (o : Option ℕ) → thread_on w.state.records p ≡ o → IsOnTime (processor_event w p)
+    at None is = rw is tt
+    at (Some t) is = rw is (slice-on_time p (number_of w p) (slice_on w p t))
+
+pub actor-on_time : (program : Program) (w : World) (actor : ℕ) → IsOnTime (actor_event program w actor)
+actor-on_time program w actor = at (nat_le actor program.limits.processors)
+  where
+    at : (b : Bool) → IsOnTime (cond b (processor_event w actor) (event.Wake (actor - program.limits.processors)))
+    at true = event-on_time w actor
+    at false = tt
+
 -- so the world's state has short names
 short-names : (limits : Sizes) (w : World) → IsShort limits w → HasShortNames w.state
-short-names limits w short = record { order = short.order; room = omega (arith, short.records, short.room, ap (λ (l : Sizes). l.threads) short.limits); names = short.names }
+short-names limits w short = record {
+  order = short.order;
+  room = omega (arith, short.records, short.room, ap (λ (l : Sizes). l.threads) short.limits);
+  names = short.names;
+  parts = subst (λ (l : Sizes). AreParts l.quantum w.state.records) (sym short.limits) short.parts;
+}
 
 -- a turn of a processor or of the timer keeps them
-processor-keeps : (limits : Sizes) (w : World) (p : ℕ) (e : Event) → HasSizesOf w.state (step w.state e).state → IsShort limits w → IsShort limits (processor_turn w p e).world
-processor-keeps limits w p e sizes short =
+processor-keeps : (limits : Sizes) (w : World) (p : ℕ) (e : Event) → IsOnTime e → HasSizesOf w.state (step w.state e).state → IsShort limits w → IsShort limits (processor_turn w p e).world
+processor-keeps limits w p e on_time sizes short =
     let count = ap (length {A = Option Thread}) sizes.2 in
     record {
       order = step-order w.state e short.order;
@@ -170,6 +203,7 @@ processor-keeps limits w p e sizes short =
       records = omega (arith, sizes.1, count, short.records);
       room = omega (arith, count, short.room);
       names = subst (All IsShortPlace) (sym sizes.2) short.names;
+      parts = subst (λ (l : Sizes). AreParts l.quantum (step w.state e).state.records) short.limits (step-parts w.state e on_time (short-names limits w short).parts);
       commands = short.commands;
     }
 
@@ -186,6 +220,7 @@ console-keeps program w (c ∷ cs) left short =
       records = omega (arith, grown.1.1, grown.1.2, short.records);
       room = omega (arith, made.1, same);
       names = made.0;
+      parts = command-parts program.limits.quantum w.state c short.parts;
       commands = All-tail HasShortName c cs left;
     }
 
@@ -199,7 +234,7 @@ turn-keeps program w actor short = at (actor == 0)
 
     at : (b : Bool) → IsShort program.limits (cond b (console_turn program w w.commands) (processor_turn w actor (actor_event program w actor))).world
     at true = console-keeps program w w.commands short.commands short
-    at false = processor-keeps program.limits w actor (actor_event program w actor) (makes (nat_le actor program.limits.processors)) short
+    at false = processor-keeps program.limits w actor (actor_event program w actor) (actor-on_time program w actor) (makes (nat_le actor program.limits.processors)) short
 
 -- the console holds no lottery
 console-short : (program : Program) (w : World) (commands : List Command) (style : LineStyle) (actor : ℕ) → length (lots_text style actor w.state (console_turn program w commands).answer) ≤ 0
@@ -208,14 +243,14 @@ console-short program w (c ∷ cs) style actor = omega arith
 
 -- the lines of the lots of a turn's lottery are no more than there may be threads
 pub turn-short : (style : LineStyle) (program : Program) (w : World) (actor shown : ℕ) → shown ≤ actor → HasShortTime style → IsShort program.limits w
-    → length (lots_text style shown w.state (system_turn program w actor).answer) ≤ program.limits.threads * 139
+    → length (lots_text style shown w.state (system_turn program w actor).answer) ≤ program.limits.threads * line_most style
 turn-short style program w actor shown low timely short = at (actor == 0) (nat_le actor program.limits.processors)
   where
-    at : (b c : Bool) → length (lots_text style shown w.state (cond b (console_turn program w w.commands) (processor_turn w actor (cond c (processor_event w actor) (event.Wake (actor - program.limits.processors))))).answer) ≤ program.limits.threads * 139
+    at : (b c : Bool) → length (lots_text style shown w.state (cond b (console_turn program w w.commands) (processor_turn w actor (cond c (processor_event w actor) (event.Wake (actor - program.limits.processors))))).answer) ≤ program.limits.threads * line_most style
     at true c = omega (arith, console-short program w w.commands style shown)
     at false false = omega arith
     at false true =
-        subst (λ n. length (lots_text style shown w.state (processor_turn w actor (processor_event w actor)).answer) ≤ n * 139) (ap (λ (l : Sizes). l.threads) short.limits)
+        subst (λ n. length (lots_text style shown w.state (processor_turn w actor (processor_event w actor)).answer) ≤ n * line_most style) (ap (λ (l : Sizes). l.threads) short.limits)
         (event-short style timely w.state (short-names program.limits w short) actor shown (processor_event w actor) (event-on w actor) low)
 
 -- at the start there are no threads
@@ -226,5 +261,6 @@ opening-short program bounds commands = record {
   records = refl;
   room = omega arith;
   names = All-nil IsShortPlace;
+  parts = All-nil (IsPart program.limits.quantum);
   commands = commands;
 }

@@ -12,6 +12,7 @@ use Rattle.lot_machine.proofs.StepSizes.{step-limits}
 use Rattle.lot_io.specs.declared.fault.IoFault.{IoFault}
 use Rattle.lot_io.specs.Writing.{Begins, IsPut, Put}
 use Rattle.lot_io.proofs.WritingFacts.{begins-front}
+use Rattle.lot_print.specs.declared.loans.Loan.{Loan}
 use Rattle.lot_print.specs.declared.lots.Lot.{Lot}
 use Rattle.lot_print.proofs.PageFacts.{puts-both, puts-stop}
 use Rattle.lot_simulation.specs.declared.style.LineStyle.{LineStyle}
@@ -26,7 +27,8 @@ use Rattle.lot_play.specs.Texts.{style_at}
 use Rattle.lot_playback.specs.Turns.{MadeTurn}
 use Rattle.lot_playback.proofs.MadeFacts.{world-one_more}
 use Rattle.lot_explain.specs.Explained.{lots_text}
-use Rattle.lot_explain.specs.Lots.{lots_of, total_of, won_in, won_lines}
+use Rattle.lot_explain.specs.Gathering.{Gathered}
+use Rattle.lot_explain.specs.Lots.{loans_of, lots_of, total_of, won_in, won_lines}
 use Rattle.lot_explain.specs.MadeTurns.{HasLots, IsExplained, explained_made}
 use Rattle.lot_explain.proofs.WonFacts.{won-total}
 
@@ -57,10 +59,11 @@ turn-limits program w actor = at (actor == 0)
 
 module _ (made : MadeTurn) (m : LineStyle) (a : ℕ) (of_m : m ≡ style_at made.time) (of_a : a ≡ printed_actor made.turn.world.state made.actor) where
   -- of one that goes
-  answered-is : (u : ℕ) (lots : List Lot) (s : State) (e : Event) (r : Reply) → u ≡ made.before.state.limits.unit → lots ≡ lots_of made.before.state e → s ≡ made.turn.world.state → made.turn.answer ≡ Answered e r
-      → won_lines m u a lots (won_in e r) ++ (front m ++ (decimal a ++ (codes " " ++ reply_text m s e r))) ≡ explained_made made
-  answered-is u lots s e r of_u of_lots of_s is =
-      rw (of_m, of_a, of_u, of_lots, of_s)
+  answered-is : (u : ℕ) (lots : List Lot) (loans : List Loan) (s : State) (e : Event) (r : Reply) → u ≡ made.before.state.limits.unit → lots ≡ lots_of made.before.state e → loans ≡ loans_of made.before.state e
+      → s ≡ made.turn.world.state → made.turn.answer ≡ Answered e r
+      → won_lines m u a lots loans (won_in e r) ++ (front m ++ (decimal a ++ (codes " " ++ reply_text m s e r))) ≡ explained_made made
+  answered-is u lots loans s e r of_u of_lots of_loans of_s is =
+      rw (of_m, of_a, of_u, of_lots, of_loans, of_s)
       (ap (λ (x : Answer). lots_text (style_at made.time) (printed_actor made.turn.world.state made.actor) made.before.state x ++ (front (style_at made.time) ++ (decimal (printed_actor made.turn.world.state made.actor) ++ (codes " " ++ answer_text (style_at made.time) made.turn.world.state x)))) (sym is))
 
   -- and of one without a command
@@ -71,7 +74,7 @@ module _ (made : MadeTurn) (m : LineStyle) (a : ℕ) (of_m : m ≡ style_at made
 
 -- ---- a turn that the system has made
 
-pub just-explained : (program : Program) (seen : Seen) (turn : ATurn) (lots : List Lot) (turns : List MadeTurn) (made : MadeTurn) → HasJustMade program turns made turn seen → HasLots program made.before made.actor lots → IsExplained seen turn lots made
+pub just-explained : (program : Program) (seen : Seen) (turn : ATurn) (lots : Gathered) (turns : List MadeTurn) (made : MadeTurn) → HasJustMade program turns made turn seen → HasLots program made.before made.actor lots → IsExplained seen turn lots made
 just-explained program seen turn lots turns made just gathered =
     let same = sym just.has.program_is in
     record {
@@ -81,7 +84,7 @@ just-explained program seen turn lots turns made just gathered =
       gathered = subst (λ (p : Program). HasLots p made.before made.actor lots) same gathered;
     }
 
-module _ (seen : Seen) (turn : ATurn) (lots : List Lot) (made : MadeTurn) (is : IsExplained seen turn lots made) where
+module _ (seen : Seen) (turn : ATurn) (lots : Gathered) (made : MadeTurn) (is : IsExplained seen turn lots made) where
   abbrev program : Program
   program = seen.setting.program
 
@@ -105,20 +108,20 @@ module _ (seen : Seen) (turn : ATurn) (lots : List Lot) (made : MadeTurn) (is : 
     system-answer : (system_turn program made.before made.actor).answer ≡ Answered turn.event r
     system-answer = ap (λ (t : Turn). t.answer) (sym is.turn_is) ∙ answer-is
 
-    lots-are : lots ≡ lots_of made.before.state turn.event
-    lots-are = is.gathered turn.event r system-answer
+    gathered-are : (lots.lots ≡ lots_of made.before.state turn.event) × (lots.loans ≡ loans_of made.before.state turn.event)
+    gathered-are = is.gathered turn.event r system-answer
 
     -- if a lottery was won, its number is out of the total weight of these lots
-    pub total-is : (xs : List Lot) → xs ≡ lots → IfSome (won_in turn.event r) (λ won. won.total ≡ total_of xs)
-    total-is xs same =
-        subst (λ (ys : List Lot). IfSome (won_in turn.event r) (λ won. won.total ≡ total_of ys)) (sym (same ∙ lots-are))
+    pub total-is : IfSome (won_in turn.event r) (λ won. won.total ≡ total_of lots.lots)
+    total-is =
+        subst (λ (xs : List Lot). IfSome (won_in turn.event r) (λ won. won.total ≡ total_of xs)) (sym gathered-are.0)
         (won-total program made.before made.actor turn.event r system-answer)
 
-    pub answered-text : (m : LineStyle) (a u : ℕ) (xs : List Lot) → m ≡ style_at turn.time → a ≡ printed_actor (world_of seen).state turn.actor → u ≡ (world_of seen).state.limits.unit → xs ≡ lots
-        → won_lines m u a xs (won_in turn.event r) ++ (front m ++ (decimal a ++ (codes " " ++ reply_text m (world_of seen).state turn.event r))) ≡ explained_made made
-    answered-text m a u xs of_m of_a of_u of_xs =
-        answered-is made m a (of_m ∙ ap style_at is.reports.time) (of_a ∙ shown-is) u xs (world_of seen).state turn.event r
-        (of_u ∙ unit-is) (of_xs ∙ lots-are) (ap (λ (w : World). w.state) is.world) answer-is
+    pub answered-text : (m : LineStyle) (a u : ℕ) → m ≡ style_at turn.time → a ≡ printed_actor (world_of seen).state turn.actor → u ≡ (world_of seen).state.limits.unit
+        → won_lines m u a lots.lots lots.loans (won_in turn.event r) ++ (front m ++ (decimal a ++ (codes " " ++ reply_text m (world_of seen).state turn.event r))) ≡ explained_made made
+    answered-text m a u of_m of_a of_u =
+        answered-is made m a (of_m ∙ ap style_at is.reports.time) (of_a ∙ shown-is) u lots.lots lots.loans (world_of seen).state turn.event r
+        (of_u ∙ unit-is) gathered-are.0 gathered-are.1 (ap (λ (w : World). w.state) is.world) answer-is
 
   pub ended-text : turn.has_ended ≡ true → (m : LineStyle) (a : ℕ) → m ≡ style_at turn.time → a ≡ printed_actor (world_of seen).state turn.actor → front m ++ (decimal a ++ (codes " " ++ (refused 41 (codes "Ended") ++ newline))) ≡ explained_made made
   ended-text ended m a of_m of_a =

@@ -18,12 +18,13 @@ use Rattle.lot_machine.specs.Mutexes.{mutex_at, unlock}
 use Rattle.lot_machine.specs.State.{State, ready_threads, value_of, weight_of}
 use Rattle.lot_machine.specs.Step.{checked_effect, draw, ends_quantum, event_effect, event_refusal, step, thread_there, trap_effect, trap_refusal, used_there}
 use Rattle.lot_machine.proofs.Draws.{winner-is}
+use Rattle.lot_print.specs.declared.lots.Compensation.{Compensation}
 use Rattle.lot_print.specs.declared.lots.Lot.{Lot}
 use Rattle.lot_simulation.specs.World.{Program, World, console_turn, actor_event, system_turn}
 use Rattle.lot_simulation.specs.World.Answer.{Answered}
 use Rattle.lot_explain.specs.declared.won.Won.{Won}
 use Rattle.lot_explain.specs.Numbers.{HasNumber, number_in}
-use Rattle.lot_explain.specs.Lots.{draw_lots, lot_of, lots_of, mutex_lots, total_of, won_in}
+use Rattle.lot_explain.specs.Lots.{compensation_of, draw_lots, lot_of, lots_of, mutex_lots, total_of, won_in}
 
 -- a lot of the thread has the number, and no lot of another does
 abbrev pub IsOnly : List Lot → ℕ → ℕ → Type 0
@@ -34,11 +35,11 @@ abbrev HasWon : List Lot → Event → Reply → Type 0
 HasWon lots e r = IfSome (won_in e r) (λ w. (w.total ≡ total_of lots) × IfSome (number_in r) (IsOnly lots w.winner))
 
 -- the lots of threads weigh together what the threads weigh
-weighs : (s : State) (v : ℕ → ℕ) (ts : List ℕ) → sum (map v ts) ≡ total_of (map (λ t. lot_of s t (v t)) ts)
-weighs s v [] = refl
-weighs s v (t ∷ ts) =
+weighs : (s : State) (v : ℕ → ℕ) (why : ℕ → Option Compensation) (ts : List ℕ) → sum (map v ts) ≡ total_of (map (λ t. lot_of s t (v t) (why t)) ts)
+weighs s v why [] = refl
+weighs s v why (t ∷ ts) =
     let weigh : Lot → ℕ = λ lot. lot.weight in
-    omega (arith, sum-map v (t ∷ ts), sum_by-cons v t ts, sum-map v ts, weighs s v ts, sum_by-cons weigh (lot_of s t (v t)) (map (λ u. lot_of s u (v u)) ts))
+    omega (arith, sum-map v (t ∷ ts), sum_by-cons v t ts, sum-map v ts, weighs s v why ts, sum_by-cons weigh (lot_of s t (v t) (why t)) (map (λ u. lot_of s u (v u) (why u)) ts))
 
 -- what a number was drawn from
 winner-total : (ws : List ℕ) (d : ℕ) (w : Drawn) → winner ws d ≡ Some w → w.total ≡ sum ws
@@ -59,9 +60,9 @@ winner-place ws d w = at (sum ws == 0)
 
 -- ---- whose number it is
 
-module _ (s : State) (v : ℕ → ℕ) where
+module _ (s : State) (v : ℕ → ℕ) (why : ℕ → Option Compensation) where
   abbrev lots_for : List ℕ → List Lot
-  lots_for ts = map (λ t. lot_of s t (v t)) ts
+  lots_for ts = map (λ t. lot_of s t (v t) (why t)) ts
 
   -- If the numbers of these lots begin with this one, the lot that has a number is that of the first thread whose running sum is above it.
   thread-above : (first n : ℕ) (ts : List ℕ) (before : List Lot) (lot : Lot) (after : List Lot) → lots_for ts ≡ before ++ lot ∷ after
@@ -69,12 +70,12 @@ module _ (s : State) (v : ℕ → ℕ) where
   thread-above first n [] [] lot after place low high = cc
   thread-above first n [] (b ∷ before) lot after place low high = cc
   thread-above first n (t ∷ ts) [] lot after place low high =
-      let same : lot_of s t (v t) ≡ lot = cc in
+      let same : lot_of s t (v t) (why t) ≡ lot = cc in
       let none : total_of [] ≡ 0 = refl in
       let above : nat_lt n (first + v t) ≡ true = lt-ltb n (first + v t) (omega (arith, high, none, ap (λ (x : Lot). x.weight) same)) in
       rw above (sym (ap (λ (x : Lot). x.thread) same))
   thread-above first n (t ∷ ts) (b ∷ before) lot after place low high =
-      let same : lot_of s t (v t) ≡ b = cc in
+      let same : lot_of s t (v t) (why t) ≡ b = cc in
       let rest : lots_for ts ≡ before ++ lot ∷ after = cc in
       let more = sum_by-cons (λ (x : Lot). x.weight) b before in
       let weighs = ap (λ (x : Lot). x.weight) same in
@@ -95,7 +96,7 @@ module _ (s : State) (v : ℕ → ℕ) where
   lot-above first n (t ∷ ts) low high = at (nat_lt n (first + v t)) refl (lot-above (first + v t) n ts)
     where
       here : Lot
-      here = lot_of s t (v t)
+      here = lot_of s t (v t) (why t)
 
       at : (b : Bool) → nat_lt n (first + v t) ≡ b → (first + v t ≤ n → n < first + v t + sum (map v ts) → HasFrom (first + v t) (lots_for ts) n) → HasFrom first (lots_for (t ∷ ts)) n
       at true is later =
@@ -136,7 +137,7 @@ drawn-won s p d = at (winner weights d) refl
 
     at : (o : Option Drawn) → winner weights d ≡ o → HasWon (draw_lots s) (event.Draw p d) (draw s p d).reply
     at None is = rw is tt
-    at (Some w) is = rw is (winner-total weights d w is ∙ weighs s (weight_of s) (ready_threads s.records), only-winner s (weight_of s) (ready_threads s.records) d w is)
+    at (Some w) is = rw is (winner-total weights d w is ∙ weighs s (weight_of s) (compensation_of s) (ready_threads s.records), only-winner s (weight_of s) (compensation_of s) (ready_threads s.records) d w is)
 
 refused-draw : (s : State) (p d : ℕ) (o : Option Refusal) (next : Step) → HasWon (draw_lots s) (event.Draw p d) next.reply → HasWon (draw_lots s) (event.Draw p d) (unless_refused s o next).reply
 refused-draw s p d None next is = is
@@ -154,7 +155,7 @@ module _ (s : State) (p ran m d : ℕ) where
     where
       at : (o : Option Drawn) → winner (map (value_of s) (w ∷ ws)) d ≡ o → IsWon (reply.Trapped t ticks (unlock s.records s.mutexes (value_of s) m d).outcome ends)
       at None won = rw (is, won) tt
-      at (Some x) won = rw (is, won) (winner-total (map (value_of s) (w ∷ ws)) d x won ∙ weighs s (value_of s) (w ∷ ws), only-winner s (value_of s) (w ∷ ws) d x won)
+      at (Some x) won = rw (is, won) (winner-total (map (value_of s) (w ∷ ws)) d x won ∙ weighs s (value_of s) (λ t. None) (w ∷ ws), only-winner s (value_of s) (λ t. None) (w ∷ ws) d x won)
 
   checked-won : (o : Option TrapRefusal) (t u ticks : ℕ) (ends : Bool) → IsWon (reply.Trapped t ticks (checked_effect s o (trap_effect s u (action.Unlock m d))).outcome ends)
   checked-won None t u ticks ends = unlocked-won (mutex_at s.mutexes m).waiters refl t ticks ends

@@ -12,12 +12,12 @@ use Rattle.lot_simulation.specs.Timed.{TimedTurn, timed_turns}
 use Rattle.lot_simulation.specs.TimedReport.{timed_report}
 use Rattle.lot_simulation.specs.World.{Program, World, Answer, Turn, opening_world, system_turn, system_run}
 use Rattle.lot_simulation.specs.World.Answer.{Answered, Ended}
-use Rattle.lot_explain.specs.Lots.{lots_of, won_in, won_lines}
+use Rattle.lot_explain.specs.Lots.{loans_of, lots_of, won_in, won_lines}
 
--- the lines of the lots of a turn's lottery, given the state before the turn and its result; none if no thread won
--- one
+-- the lines of the lots of a turn's lottery and of the loans at it, given the state before the turn and its result;
+-- none if no thread won one
 abbrev pub lots_text : LineStyle → ℕ → State → Answer → List ℕ
-lots_text style actor s (Answered e r) = won_lines style s.limits.unit actor (lots_of s e) (won_in e r)
+lots_text style actor s (Answered e r) = won_lines style s.limits.unit actor (lots_of s e) (loans_of s e) (won_in e r)
 lots_text style actor s Ended = []
 
 -- the lots of a turn's lottery, and then the turn's lines, given the world before it

@@ -1,3 +1,4 @@
+pub mod Loans
 pub mod Lots
 pub mod Numbers
 pub mod Explained

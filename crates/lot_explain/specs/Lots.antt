@@ -1,5 +1,5 @@
 -- The lots of a lottery: its entrants, with their weights and their numbers.
-use Rattle.std.specs.Prelude.{ℕ, ◌+◌, Option, Some, None, List, [], ◌∷◌, ◌++◌, map, sum_by, unwrap_or}
+use Rattle.std.specs.Prelude.{ℕ, ◌+◌, Option, Some, None, List, [], ◌∷◌, ◌++◌, map, sum_by, option_and_then, option_map, unwrap_or}
 use Rattle.lot_machine.specs.declared.action.Action.TheVariants as action
 use Rattle.lot_machine.specs.declared.event.Event.{Event}
 use Rattle.lot_machine.specs.declared.event.Event.TheVariants as event
@@ -7,25 +7,33 @@ use Rattle.lot_machine.specs.declared.reply.Outcome.TheVariants.{Passed}
 use Rattle.lot_machine.specs.declared.reply.Reply.{Reply}
 use Rattle.lot_machine.specs.declared.reply.Reply.TheVariants as reply
 use Rattle.lot_machine.specs.Mutexes.{mutex_at}
+use Rattle.lot_machine.specs.Numbered.{at_number}
 use Rattle.lot_machine.specs.Rows.{thread_name}
 use Rattle.lot_machine.specs.State.{State, ready_threads, value_of, weight_of}
 use Rattle.lot_simulation.specs.declared.style.LineStyle.{LineStyle}
+use Rattle.lot_print.specs.declared.loans.Loan.{Loan}
+use Rattle.lot_print.specs.declared.lots.Compensation.{Compensation}
 use Rattle.lot_print.specs.declared.lots.Lot.{Lot}
 use Rattle.lot_print.specs.declared.lots.Lottery.TheVariants.{OfProcessor, OfMutex}
 use Rattle.lot_print.specs.Lots.{lot_line}
 use Rattle.lot_explain.specs.declared.entrants.Entrants.{Entrants}
 use Rattle.lot_explain.specs.declared.entrants.Entrants.TheVariants.{Nobody, Ready, Waiters}
 use Rattle.lot_explain.specs.declared.won.Won.{Won}
+use Rattle.lot_explain.specs.Loans.{all_loans, loan_lines}
 
 -- ---- entrants
 
--- the lot of a thread, by its name, with this weight
-abbrev pub lot_of : State → ℕ → ℕ → Lot
-lot_of s t weight = record { thread = t; name = unwrap_or (thread_name s t) []; weight = weight }
+-- the lot of a thread, by its name, with this weight and this reason
+abbrev pub lot_of : State → ℕ → ℕ → Option Compensation → Lot
+lot_of s t weight compensation = record { thread = t; name = unwrap_or (thread_name s t) []; weight = weight; compensation = compensation }
+
+-- a compensated thread's value, and the quantum and the ticks used that scale it to its weight (3.4, 4.5)
+abbrev pub compensation_of : State → ℕ → Option Compensation
+compensation_of s t = option_map (λ used. record { value = value_of s t; quantum = s.limits.quantum; used = used }) (option_and_then (λ r. r.compensation) (at_number s.records t))
 
 -- the lot of a Ready thread in a draw, with its weight (3.4, 4.5)
 abbrev pub ready_lot : State → ℕ → Lot
-ready_lot s t = lot_of s t (weight_of s t)
+ready_lot s t = lot_of s t (weight_of s t) (compensation_of s t)
 
 -- the lots of a draw: those of the Ready threads, in ascending order (4.2)
 abbrev pub draw_lots : State → List Lot
@@ -33,7 +41,7 @@ draw_lots s = map (ready_lot s) (ready_threads s.records)
 
 -- the lot of a waiter in the lottery of its mutex, with its value as the weight (6.1)
 abbrev pub waiter_lot : State → ℕ → Lot
-waiter_lot s t = lot_of s t (value_of s t)
+waiter_lot s t = lot_of s t (value_of s t) None
 
 -- the lots of the lottery of a mutex: those of its waiters, the one that has waited longest first (6.1)
 abbrev pub mutex_lots : State → ℕ → List Lot
@@ -56,6 +64,15 @@ lots_among s (Waiters m) = mutex_lots s m
 abbrev pub lots_of : State → Event → List Lot
 lots_of s e = lots_among s (entrants_in e)
 
+-- The loans at the lottery of these entrants: all of them at a draw, where they are part of what the borrowers weigh.
+abbrev pub loans_among : State → Entrants → List Loan
+loans_among s Ready = all_loans s
+loans_among s other = []
+
+-- the loans at the lottery that an event may hold, given the state before it
+abbrev pub loans_of : State → Event → List Loan
+loans_of s e = loans_among s (entrants_in e)
+
 -- the total weight of these lots
 abbrev pub total_of : List Lot → ℕ
 total_of lots = sum_by (λ lot. lot.weight) lots
@@ -77,7 +94,7 @@ abbrev pub lot_lines : LineStyle → ℕ → ℕ → Won → ℕ → List Lot �
 lot_lines style unit actor won first [] = []
 lot_lines style unit actor won first (lot ∷ lots) = lot_line style unit actor won.lottery won.winner first lot ++ lot_lines style unit actor won (first + lot.weight) lots
 
--- the lines of the lots of a won lottery, whose numbers begin with 0
-abbrev pub won_lines : LineStyle → ℕ → ℕ → List Lot → Option Won → List ℕ
-won_lines style unit actor lots None = []
-won_lines style unit actor lots (Some won) = lot_lines style unit actor won 0 lots
+-- the lines of the lots of a won lottery, whose numbers begin with 0, and then those of the loans at it
+abbrev pub won_lines : LineStyle → ℕ → ℕ → List Lot → List Loan → Option Won → List ℕ
+won_lines style unit actor lots loans None = []
+won_lines style unit actor lots loans (Some won) = lot_lines style unit actor won 0 lots ++ loan_lines style unit actor loans

@@ -3,7 +3,6 @@ use Rattle.std.specs.Prelude.{◌≡◌, ℕ, List}
 use Rattle.std.specs.List.{flat_map}
 use Rattle.lot_machine.specs.declared.event.Event.{Event}
 use Rattle.lot_machine.specs.declared.reply.Reply.{Reply}
-use Rattle.lot_print.specs.declared.lots.Lot.{Lot}
 use Rattle.lot_simulation.specs.World.{Program, World, system_turn}
 use Rattle.lot_simulation.specs.World.Answer.{Answered}
 use Rattle.lot_engine.specs.Seen.{Seen, world_of}
@@ -12,7 +11,8 @@ use Rattle.lot_playback.specs.Stages.{Reports}
 use Rattle.lot_play.specs.Texts.{style_at}
 use Rattle.lot_playback.specs.Turns.{MadeTurn}
 use Rattle.lot_explain.specs.Explained.{explained_text}
-use Rattle.lot_explain.specs.Lots.{lots_of}
+use Rattle.lot_explain.specs.Gathering.{Gathered}
+use Rattle.lot_explain.specs.Lots.{loans_of, lots_of}
 
 -- the lots of a turn's lottery, and then the turn's lines
 abbrev pub explained_made : MadeTurn → List ℕ
@@ -22,12 +22,13 @@ explained_made made = explained_text (style_at made.time) made.actor made.before
 abbrev pub explained_turns : List MadeTurn → List ℕ
 explained_turns turns = flat_map explained_made turns
 
--- these are the lots of the lottery that the actor's turn in this world may hold
-abbrev pub HasLots : Program → World → ℕ → List Lot → Type 0
-HasLots program w actor lots = (event : Event) (reply : Reply) → (system_turn program w actor).answer ≡ Answered event reply → lots ≡ lots_of w.state event
+-- what is gathered are the lots of the lottery that the actor's turn in this world may hold, and the loans at it
+abbrev pub HasLots : Program → World → ℕ → Gathered → Type 0
+HasLots program w actor gathered = (event : Event) (reply : Reply) → (system_turn program w actor).answer ≡ Answered event reply
+    → (gathered.lots ≡ lots_of w.state event) × (gathered.loans ≡ loans_of w.state event)
 
--- the system has made this turn, the stored turn reports it, and these are the lots of its lottery
-pub record IsExplained (seen : Seen) (turn : Turn) (lots : List Lot) (made : MadeTurn) : Type 0 where
+-- the system has made this turn, the stored turn reports it, and its lottery's lots and loans are gathered
+pub record IsExplained (seen : Seen) (turn : Turn) (lots : Gathered) (made : MadeTurn) : Type 0 where
   pub turn_is : made.turn ≡ system_turn seen.setting.program made.before made.actor
   pub reports : Reports turn made
   pub world : world_of seen ≡ made.turn.world

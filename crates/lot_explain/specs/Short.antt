@@ -11,6 +11,11 @@ HasShortName (MakeThread name script) = length name ≤ 16
 HasShortName (MakeFunded amount currency name script) = length name ≤ 16
 HasShortName other = ⊤
 
+-- the most bytes of a line that explains: it has the time and the reason only if the program has a duration
+abbrev pub line_bytes : Option ℕ → ℕ
+line_bytes None = 139
+line_bytes (Some duration) = 183
+
 -- the number of turns played: those of the schedule, or the timed turns if the program has a duration
 abbrev pub turn_count : Program → Option ℕ → ℕ
 turn_count program None = length program.schedule

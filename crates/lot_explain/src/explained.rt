@@ -17,14 +17,15 @@ use lot_io::{IoFault, Watched};
 use lot_machine::{Event, Reply};
 use lot_play::{Warnings, heading, play_through, printed_actor, put_answer, style_of};
 use lot_playback::{Observer, Playback, Turn};
-use lot_print::{Heading, Lot, Page, write_ended};
+use lot_print::{Heading, Page, write_ended};
 use lot_text::Program;
 use std::io::Write;
 
-/// Writes the lots of each won lottery and a line for each turn, page by page, and records the warnings.
+/// Writes the lots of each won lottery, with the loans at it, and a line for each turn, page by page, and records the
+/// warnings.
 #[derive(Drop)]
 struct Explained<'a, W> {
-    /// The lots of the lottery that the next turn may hold.
+    /// The lots of the lottery that the next turn may hold, and the loans at it.
     lots: &'a mut Lots,
     page: Page,
     warnings: &'a mut Warnings,
@@ -45,7 +46,7 @@ impl<'a, W: Write> Observer for Explained<'a, W> {
         × (now.writer.now.failed ≡ false)
         × IsPut (W.contents first.writer.now.inner) (W.contents now.writer.now.inner) [] now.page
         (explained_turns turns)
-        × HasLots program world actor now.lots.now.lots };
+        × HasLots program world actor now.lots.now };
 
     ghost stopped = { λ program turns first now fault. (now.writer.ghost_name ≡ first.writer.ghost_name)
         × (fault ≡ faults.Write) × (now.writer.now.failed ≡ true)
@@ -111,7 +112,8 @@ pub(crate) fn explain_turns<W: Write>(
     explained.write_out()
 }
 
-/// Puts the lines of a turn on the page, after the lots of its lottery, if a thread won it, and records its warning.
+/// Puts the lines of a turn on the page, after the lots of its lottery and the loans at it, if a thread won it, and
+/// records its warning.
 fn put_explained<W: Write>(
     system: &mut System,
     turn: &Turn,
@@ -120,10 +122,10 @@ fn put_explained<W: Write>(
     writer: &mut Watched<W>,
     page: &mut Page,
 ) -> Result<(), IoFault>
-    requires made { (made : MadeTurn) × IsExplained system.old turn.now lots.now.lots made }
+    requires made { (made : MadeTurn) × IsExplained system.old turn.now lots.now made }
     requires working { writer.old.failed ≡ false }
     ensures same { system.new ≡ system.old }
-    ensures text { (made : MadeTurn) → IsExplained system.old turn.now lots.now.lots made
+    ensures text { (made : MadeTurn) → IsExplained system.old turn.now lots.now made
         → Puts W.contents writer.old writer.new page.old page.new result (explained_made made) }
 {
     let actor = printed_actor(system, turn.actor);
@@ -132,33 +134,25 @@ fn put_explained<W: Write>(
         return write_ended(writer, page, heading);
     }
     warnings.note(system, turn);
-    put_turn(
-        system,
-        heading,
-        &turn.event,
-        turn.reply,
-        lots.as_slice(),
-        writer,
-        page,
-    )
+    put_turn(system, heading, &turn.event, turn.reply, lots, writer, page)
 }
 
-/// Puts the lines of a turn on the page, after the lots of its lottery, if a thread won it.
+/// Puts the lines of a turn on the page, after the lots of its lottery and the loans at it, if a thread won it.
 fn put_turn<W: Write>(
     system: &mut System,
     heading: Heading,
     event: &Event,
     reply: Reply,
-    lots: &[Lot],
+    lots: &Lots,
     writer: &mut Watched<W>,
     page: &mut Page,
 ) -> Result<(), IoFault>
     requires working { writer.old.failed ≡ false }
     requires unit { 0 < heading.unit }
-    requires total { IfSome (won_in event.now reply) (λ won. won.total ≡ total_of lots.now) }
+    requires total { IfSome (won_in event.now reply) (λ won. won.total ≡ total_of lots.now.lots) }
     ensures same { system.new ≡ system.old }
     ensures text { Puts W.contents writer.old writer.new page.old page.new result
-        (won_lines heading.style heading.unit heading.actor lots.now (won_in event.now reply)
+        (won_lines heading.style heading.unit heading.actor lots.now.lots lots.now.loans (won_in event.now reply)
         ++ (front heading.style ++ (decimal heading.actor
         ++ (codes " " ++ reply_text heading.style (world_of system.old).state event.now reply)))) }
 {

@@ -1,25 +1,29 @@
-//! Gathering the lots of a lottery before it is held.
+//! Gathering the lots of a lottery, and the loans at it, before it is held.
 ghost use Rattle.std.specs.Prelude.{◌≡◌, ◌+◌, ◌<◌, ◌≤◌, ◌∷◌, ◌++◌, [], All, IfOk, length, map, vec_len, vec_capacity};
 ghost use Rattle.lot_machine.specs.declared.event.Event.{Event as AnEvent};
 ghost use Rattle.lot_machine.specs.declared.reply.Reply.{Reply as AReply};
+ghost use Rattle.lot_machine.specs.State.{value_of};
 ghost use Rattle.lot_simulation.specs.World.Answer.{Answered};
 ghost use Rattle.lot_engine.specs.Playing.{turn_in};
 ghost use Rattle.lot_engine.specs.Seen.{HasRow, world_of};
 ghost use Rattle.lot_explain.specs.Gathering.{lot_if_ready};
-ghost use Rattle.lot_explain.specs.Lots.{draw_lots, lots_of, waiter_lot};
+ghost use Rattle.lot_explain.specs.Lots as spec;
+ghost use Rattle.lot_explain.specs.Lots.{draw_lots, loans_of, lots_of, waiter_lot};
 
 use crate::entrants::{Entrants, next_entrants};
+use crate::loans::push_all_loans;
 use lot_engine::System;
-use lot_machine::Status;
-use lot_print::Lot;
+use lot_machine::{Status, ThreadRow};
+use lot_print::{Compensation, Loan, Lot};
 use lot_text::Program;
 use std::alloc::{AllocError, Global};
 use std::marker::Model;
 
-/// The lots of a lottery, with room for those of all threads.
+/// The lots of a lottery and the loans at it, with room for those of all threads.
 #[derive(Drop)]
 pub(crate) struct Lots {
     lots: Vec<Lot>,
+    loans: Vec<Loan>,
     /// The waiters of the mutex.
     waiters: Vec<u32>,
     /// The largest number of threads.
@@ -32,21 +36,23 @@ impl Model for Lots {
 
     ghost Value = { Gathered };
 
-    ghost view = { λ l. record { lots = l.lots.items; room = l.room } };
+    ghost view = { λ l. record { lots = l.lots.items; loans = l.loans.items; room = l.room } };
 
     ghost invariant = { λ l. record {
       lots_room : l.room ≤ vec_capacity l.lots;
+      loans_room : l.room ≤ vec_capacity l.loans;
       waiters_room : l.room ≤ vec_capacity l.waiters;
     } };
 }
 
 impl Lots {
-    /// Room for the lots of this many threads, and none yet. It allocates all the memory that will ever be used.
+    /// Room for the lots and loans of this many threads, and none yet. It allocates all the memory that will ever be used.
     pub(crate) fn open(alloc: Global, threads: u32) -> Result<Lots, AllocError>
-        ensures { IfOk result (λ lots. lots ≡ record { lots = []; room = threads }) }
+        ensures { IfOk result (λ lots. lots ≡ record { lots = []; loans = []; room = threads }) }
     {
         Ok(Lots {
             lots: Vec::with_capacity(alloc, threads as usize)?,
+            loans: Vec::with_capacity(alloc, threads as usize)?,
             waiters: Vec::with_capacity(alloc, threads as usize)?,
             room: threads,
         })
@@ -59,7 +65,14 @@ impl Lots {
         &self.lots
     }
 
-    /// Gathers the lots of the lottery that the actor's next turn may hold. It allocates no memory.
+    /// The loans gathered last.
+    pub(crate) fn loans(&self) -> &[Loan]
+        ensures { result.now ≡ self.now.loans }
+    {
+        &self.loans
+    }
+
+    /// Gathers the lots of the lottery that the actor's next turn may hold, and the loans at it. It allocates no memory.
     pub(crate) fn gather(&mut self, program: &Program, system: &mut System, actor: u32)
         requires program { system.old.setting.program ≡ program.now }
         requires room { self.old.room ≡ program.now.limits.threads }
@@ -67,11 +80,17 @@ impl Lots {
         ensures room { self.new.room ≡ self.old.room }
         ensures lots { (event : AnEvent) (reply : AReply) → (turn_in system.old actor).answer ≡ Answered event reply
             → self.new.lots ≡ lots_of (world_of system.old).state event }
+        ensures loans { (event : AnEvent) (reply : AReply) → (turn_in system.old actor).answer ≡ Answered event reply
+            → self.new.loans ≡ loans_of (world_of system.old).state event }
     {
         self.lots.clear();
+        self.loans.clear();
         match next_entrants(program, system, actor) {
             Entrants::Nobody => (),
-            Entrants::Ready => push_all_ready(&mut self.lots, system),
+            Entrants::Ready => {
+                push_all_ready(&mut self.lots, system);
+                push_all_loans(&mut self.loans, system);
+            }
             Entrants::Waiters(mutex) => {
                 system.list_waiters(mutex, &mut self.waiters);
                 push_waiters(&mut self.lots, system, &self.waiters);
@@ -105,11 +124,28 @@ fn push_if_ready(lots: &mut Vec<Lot>, system: &mut System, thread: u32)
         return;
     };
     if row.status == Status::Ready {
+        let compensation = compensation_of(system, thread, &row);
         lots.push_reserved(Lot {
             thread,
             name: row.name,
             weight: row.weight,
+            compensation,
         });
+    }
+}
+
+/// What scales the value of the thread with this row to its weight, if it is compensated.
+fn compensation_of(system: &System, thread: u32, row: &ThreadRow) -> Option<Compensation>
+    requires { row.now.value ≡ value_of (world_of system.now).state thread }
+    ensures { result ≡ spec.compensation_of (world_of system.now).state thread }
+{
+    match system.compensation(thread) {
+        None => None,
+        Some(used) => Some(Compensation {
+            value: row.value,
+            quantum: system.limits().quantum,
+            used,
+        }),
     }
 }
 
@@ -140,5 +176,6 @@ fn push_waiter(lots: &mut Vec<Lot>, system: &mut System, thread: u32)
         thread,
         name: row.name,
         weight: u128::from(row.value),
+        compensation: None,
     });
 }

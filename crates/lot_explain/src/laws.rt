@@ -1,24 +1,27 @@
 //! The lengths and the numbers of explanations: laws of the definitions, without executable code.
-ghost use Rattle.std.specs.Prelude.{◌≡◌, ◌≤◌, ◌<◌, ◌+◌, ◌*◌, ◌^◌, ℕ, All, List, ◌∷◌, ◌++◌, Ok, Some, length};
+ghost use Rattle.std.specs.Prelude.{◌≡◌, ◌≤◌, ◌<◌, ◌+◌, ◌*◌, ◌/◌, ◌^◌, ℕ, All, List, ◌∷◌, ◌++◌, None, Ok, Some, length};
 ghost use Rattle.lot_machine.specs.Bounds.{IsWithinBounds};
 ghost use Rattle.lot_machine.specs.declared.event.Event.{Event};
 ghost use Rattle.lot_machine.specs.declared.reply.Reply.{Reply};
+ghost use Rattle.lot_machine.specs.State.{State, value_of, weight_of};
 ghost use Rattle.lot_print.specs.Lots.{lot_line};
+ghost use Rattle.lot_print.specs.declared.lots.Compensation.{Compensation};
 ghost use Rattle.lot_print.specs.declared.lots.Lot.{Lot};
 ghost use Rattle.lot_simulation.specs.Grammar.{program_in};
 ghost use Rattle.lot_simulation.specs.Output.{output, scheduled_output, timed_output};
 ghost use Rattle.lot_simulation.specs.Timed.{end_of, timed_turns};
-ghost use Rattle.lot_simulation.specs.World.{Program, World, system_turn};
+ghost use Rattle.lot_simulation.specs.World.{Program, World, system_run, system_turn};
 ghost use Rattle.lot_simulation.specs.World.Answer.{Answered};
 ghost use Rattle.lot_simulation.specs.declared.style.LineStyle.{LineStyle};
 ghost use Rattle.lot_play.specs.Texts.{last_report};
 ghost use Rattle.lot_playback.specs.Turns.{program_turns};
 ghost use Rattle.lot_explain.specs.Explained.{explained_in_time, explained_output, explained_program};
 ghost use Rattle.lot_explain.specs.Explained.{explained_schedule};
-ghost use Rattle.lot_explain.specs.Lots.{lot_lines, lots_of, total_of, won_in};
+ghost use Rattle.lot_explain.specs.Loans.{IsLent, all_loans};
+ghost use Rattle.lot_explain.specs.Lots.{compensation_of, lot_lines, lots_of, total_of, won_in};
 ghost use Rattle.lot_explain.specs.MadeTurns.{explained_turns};
 ghost use Rattle.lot_explain.specs.Numbers.{HasNumber, number_in};
-ghost use Rattle.lot_explain.specs.Short.{HasShortName, turn_count};
+ghost use Rattle.lot_explain.specs.Short.{HasShortName, line_bytes, turn_count};
 ghost use Rattle.lot_explain.specs.declared.won.Won.{Won};
 
 /// The output of `explain` is the explanation of each of the program's turns, and then the report, with a schedule
@@ -29,8 +32,8 @@ pub fn explanations_are_those_of_the_turns()
 {}
 
 /// An explanation of a program's turns is longer than the output of `play` by at most 139 bytes for each pair of a
-/// turn and a possible thread, if sizes are within their bounds, names of threads have at most 16 bytes, and times
-/// have 32 bits. Every accepted input meets these.
+/// turn and a possible thread, and in time by at most 183, if sizes are within their bounds, names of threads have at
+/// most 16 bytes, and times have 32 bits. Every accepted input meets these.
 pub fn explanations_are_short()
     ensures scheduled { (program : Program) → IsWithinBounds program.limits → All HasShortName program.commands
         → length (explained_schedule program)
@@ -38,10 +41,25 @@ pub fn explanations_are_short()
     ensures in_time { (program : Program) → IsWithinBounds program.limits → All HasShortName program.commands
         → end_of program < 2 ^ 32
         → length (explained_in_time program)
-        ≤ length (timed_output program) + length (timed_turns program) * (program.limits.threads * 139) }
+        ≤ length (timed_output program) + length (timed_turns program) * (program.limits.threads * 183) }
     ensures read { (bytes : List ℕ) (program : Program) → program_in bytes ≡ Ok program
         → length (explained_output bytes)
-        ≤ length (output bytes) + turn_count program program.duration * (program.limits.threads * 139) }
+        ≤ length (output bytes)
+        + turn_count program program.duration * (program.limits.threads * line_bytes program.duration) }
+{}
+
+/// In each world that a program reaches a compensated thread's weight is its value times the quantum by the ticks that
+/// it used, rounded down. Any other thread's weight is its value.
+pub fn reasons_give_the_weights()
+    ensures compensated { (program : Program) (actors : List ℕ) (t : ℕ) (reason : Compensation)
+        → compensation_of (system_run program actors).state t ≡ Some reason
+        → weight_of (system_run program actors).state t ≡ reason.value * reason.quantum / reason.used }
+    ensures other { (s : State) (t : ℕ) → compensation_of s t ≡ None → weight_of s t ≡ value_of s t }
+{}
+
+/// Each loan is a lend of the machine: a thread lends all its value, which isn't 0, to the one that is named.
+pub fn loans_are_lends()
+    ensures { (s : State) → All (IsLent s) (all_loans s) }
 {}
 
 /// A lot's numbers begin with the total weight of the lots before it, and are as many as its own weight. The number

@@ -74,7 +74,8 @@ pub fn refused_inputs()
         ≡ refused_on_line (codes "2 51 BadLine") }
 {}
 
-/// A timed input: each line begins with its time, and numbers have digits after the point.
+/// A timed input: each line begins with its time, numbers have digits after the point, and a compensated thread's line
+/// has the reason of its weight (4.5).
 #[tactic(auto, unfolding(crate::specs::OnLiterals::texts_on_literals, lot_simulation::specs::Timed::timed_room))]
 pub fn in_time()
     ensures { explained_output (text (codes "lottery 3" ∷ codes "quantum 9" ∷ codes "for 12" ∷ codes "seed 5"
@@ -84,7 +85,7 @@ pub fn in_time()
         ∷ codes "0 1 lot thread 2 b weight 1 from 1 below 2 wins" ∷ codes "0 1 draw 1.082 of 2 thread 2"
         ∷ codes "9 1 thread 2 ticks 9 expire" ∷ codes "9 1 lot thread 1 a weight 1 from 0 below 1 wins"
         ∷ codes "9 1 lot thread 2 b weight 1 from 1 below 2" ∷ codes "9 1 draw 0.82 of 2 thread 1"
-        ∷ codes "12 1 thread 1 ticks 3 yield" ∷ codes "12 1 lot thread 1 a weight 3 from 0 below 3"
+        ∷ codes "12 1 thread 1 ticks 3 yield" ∷ codes "12 1 lot thread 1 a weight 3 = value 1 x 9 / 3 from 0 below 3"
         ∷ codes "12 1 lot thread 2 b weight 1 from 3 below 4 wins" ∷ codes "12 1 draw 3.257 of 4 thread 2"
         ∷ codes "report" ∷ codes "thread 1 a quanta 1 ticks 3 share 25% value 50%"
         ∷ codes "thread 2 b quanta 2 ticks 9 share 75% value 50%"
@@ -109,4 +110,45 @@ pub fn behind_the_point()
         ∷ codes "thread 3 c quanta 0 ticks 0 share 0% value 33.333%"
         ∷ codes "processor 1 quanta 1 idle 0 ticks 0 unused 0"
         ∷ codes "total turns 7 quanta 1 ticks 0 refused 0 left 0" ∷ []) }
+{}
+
+/// A client that is served lends its value to its server (4.6). A compensated server weighs more by what it is lent too.
+#[tactic(auto, unfolding(crate::specs::OnLiterals::texts_on_literals, lot_simulation::specs::Timed::timed_room))]
+pub fn serving()
+    ensures { explained_output (text (codes "lottery 3" ∷ codes "quantum 9" ∷ codes "for 3" ∷ codes "seed 4"
+        ∷ codes "port p" ∷ codes "script serve" ∷ codes "receive p" ∷ codes "compute 4" ∷ codes "reply"
+        ∷ codes "endscript" ∷ codes "script ask" ∷ codes "compute 1" ∷ codes "call p" ∷ codes "endscript"
+        ∷ codes "fundx 1 base s serve" ∷ codes "fundx 3 base c ask" ∷ []))
+        ≡ text (codes "0 0 funded 1 1" ∷ codes "0 0 funded 2 2"
+        ∷ codes "0 1 lot thread 1 s weight 1 from 0 below 1 wins"
+        ∷ codes "0 1 lot thread 2 c weight 3 from 1 below 4" ∷ codes "0 1 draw 0.062 of 4 thread 1"
+        ∷ codes "1 1 thread 1 ticks 1 receive 1 waits" ∷ codes "1 1 lot thread 2 c weight 3 from 0 below 3 wins"
+        ∷ codes "1 1 draw 2.433 of 3 thread 2" ∷ codes "3 1 thread 2 ticks 2 call 1 served by 1"
+        ∷ codes "3 1 lot thread 1 s weight 36 = value 4 x 9 / 1 from 0 below 36 wins"
+        ∷ codes "3 1 lent thread 2 c value 3 to thread 1" ∷ codes "3 1 draw 33.019 of 36 thread 1 got 0"
+        ∷ codes "report" ∷ codes "thread 1 s quanta 2 ticks 1 share 33.333% value 100%"
+        ∷ codes "thread 2 c quanta 1 ticks 2 share 66.666% value 0%"
+        ∷ codes "processor 1 quanta 3 idle 0 ticks 3 unused 0"
+        ∷ codes "total turns 7 quanta 3 ticks 3 refused 0 left 0" ∷ []) }
+{}
+
+/// A thread that waits for a mutex lends its value to the owner (6.1).
+#[tactic(auto, unfolding(crate::specs::OnLiterals::texts_on_literals, lot_simulation::specs::Timed::timed_room))]
+pub fn waiting()
+    ensures { explained_output (text (codes "lottery 3" ∷ codes "quantum 9" ∷ codes "for 4" ∷ codes "seed 3"
+        ∷ codes "mutex m" ∷ codes "script hold" ∷ codes "lock m" ∷ codes "compute 1" ∷ codes "yield"
+        ∷ codes "endscript" ∷ codes "fundx 3 base a hold" ∷ codes "fundx 2 base b hold" ∷ []))
+        ≡ text (codes "0 0 funded 1 1" ∷ codes "0 0 funded 2 2"
+        ∷ codes "0 1 lot thread 1 a weight 3 from 0 below 3 wins"
+        ∷ codes "0 1 lot thread 2 b weight 2 from 3 below 5" ∷ codes "0 1 draw 2.054 of 5 thread 1"
+        ∷ codes "1 1 thread 1 ticks 1 lock 1 taken" ∷ codes "3 1 thread 1 ticks 2 yield"
+        ∷ codes "3 1 lot thread 1 a weight 9 = value 3 x 9 / 3 from 0 below 9"
+        ∷ codes "3 1 lot thread 2 b weight 2 from 9 below 11 wins" ∷ codes "3 1 draw 9.097 of 11 thread 2"
+        ∷ codes "4 1 thread 2 ticks 1 lock 1 waits"
+        ∷ codes "4 1 lot thread 1 a weight 15 = value 5 x 9 / 3 from 0 below 15 wins"
+        ∷ codes "4 1 lent thread 2 b value 2 to thread 1" ∷ codes "4 1 draw 14.746 of 15 thread 1" ∷ codes "report"
+        ∷ codes "thread 1 a quanta 2 ticks 3 share 75% value 100%"
+        ∷ codes "thread 2 b quanta 1 ticks 1 share 25% value 0%"
+        ∷ codes "processor 1 quanta 3 idle 0 ticks 4 unused 0"
+        ∷ codes "total turns 8 quanta 3 ticks 4 refused 0 left 0" ∷ []) }
 {}

@@ -2,5 +2,6 @@ pub mod Listings
 pub mod Readback
 pub mod Totals
 pub mod Lots
+pub mod Loans
 pub mod Figures
 pub mod TableRows

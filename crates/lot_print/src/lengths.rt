@@ -96,6 +96,9 @@ const THREAD_ROW: usize = FRONT
     + COUNTS
     + 1;
 
+/// Why an entrant weighs what it does.
+const REASON: usize = b" = value ".len() + QUOTIENT + b" x ".len() + NUMBER + b" / ".len() + NUMBER;
+
 /// An entrant of a lottery.
 const LOT: usize = FRONT
     + NUMBER
@@ -105,13 +108,30 @@ const LOT: usize = FRONT
     + NAME
     + b" weight ".len()
     + QUOTIENT
+    + REASON
     + b" from ".len()
     + QUOTIENT
     + b" below ".len()
     + QUOTIENT
     + b" wins\n".len();
 
-/// The longest line of a listing, of a lottery or of the report.
+/// The longest line of an entrant.
+pub(crate) const LOT_ROW: usize = 320;
+
+/// A blocked thread and whom it lends to.
+const LOAN: usize = FRONT
+    + NUMBER
+    + b" lent thread ".len()
+    + NUMBER
+    + 1
+    + NAME
+    + b" value ".len()
+    + QUOTIENT
+    + b" to thread ".len()
+    + NUMBER
+    + 1;
+
+/// The longest line of a listing, of a lender or of the report.
 pub(crate) const ROW: usize = 256;
 
 /// The number and the length of a thread's waits.
@@ -180,7 +200,9 @@ pub(crate) const SCHEDULE_LINE: usize = SCHEDULE_WORD.len() + ACTORS * (1 + ACTO
 
 const _: () = prove!(TURN == 192 && TURN <= PAGE);
 
-const _: () = prove!(TICKET_ROW <= ROW && CURRENCY_ROW <= ROW && THREAD_ROW <= ROW && LOT <= ROW);
+const _: () = prove!(TICKET_ROW <= ROW && CURRENCY_ROW <= ROW && THREAD_ROW <= ROW && LOAN <= ROW);
+
+const _: () = prove!(LOT <= LOT_ROW);
 
 const _: () = prove!(TIMED_THREAD <= TIMED_ROW);
 

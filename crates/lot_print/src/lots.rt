@@ -2,14 +2,19 @@
 ghost use Rattle.std.specs.Prelude.{◌≡◌, ◌<◌, ◌≤◌, ◌+◌, ◌^◌, ◌++◌, codes, false, length};
 ghost use Rattle.std.specs.Fmt.{decimal};
 ghost use Rattle.lot_simulation.specs.Texts.{drawn_value, newline, value_text};
-ghost use Rattle.lot_print.specs.Lots.{lot_line, mark, part_word, weight_word};
+ghost use Rattle.lot_print.specs.Lots.{lot_line, mark, part_word, scaled_text, weight_word, why_text};
 ghost use Rattle.lot_io.specs.Writing.{Writes};
 
 use crate::Heading;
-use crate::line::RowLine;
+use crate::lengths::LOT_ROW;
+use crate::line::Line;
 use lot_io::{IoFault, Watched};
 use lot_machine::Name;
+use lot_simulation::LineStyle;
 use std::io::Write;
+
+/// The line of a lot.
+type LotLine = Line<LOT_ROW>;
 
 /// The kind of a lottery, by its holder.
 #[derive(Clone, Copy, Debug, PartialEq, Eq)]
@@ -20,6 +25,17 @@ pub enum Lottery {
     OfMutex,
 }
 
+/// Why a thread weighs more than its value: it used only a part of the quantum that it won last.
+#[derive(Clone, Copy, Debug, PartialEq, Eq)]
+pub struct Compensation {
+    /// The thread's value.
+    pub value: u64,
+    /// The ticks of a quantum.
+    pub quantum: u32,
+    /// The ticks that it used.
+    pub used: u32,
+}
+
 /// A thread's entry in a lottery.
 #[derive(Debug, PartialEq, Eq, Drop)]
 pub struct Lot {
@@ -27,10 +43,12 @@ pub struct Lot {
     pub name: Name,
     /// Its weight in the lottery.
     pub weight: u128,
+    /// Why it isn't the thread's value; `None` if it is.
+    pub compensation: Option<Compensation>,
 }
 
-/// Writes the line of a lot in a lottery with this winner: its weight, and its range of numbers, of which this is the
-/// first. The line precedes that of the actor's turn.
+/// Writes the line of a lot in a lottery with this winner: its weight, in timed style with the reason, and its range of
+/// numbers, of which this is the first. The line precedes that of the actor's turn.
 pub fn write_lot<W: Write>(
     writer: &mut Watched<W>,
     heading: Heading,
@@ -49,23 +67,24 @@ pub fn write_lot<W: Write>(
 }
 
 /// The line of a lot.
-fn lot_text(heading: Heading, lottery: Lottery, winner: u32, first: u128, lot: &Lot) -> RowLine
+fn lot_text(heading: Heading, lottery: Lottery, winner: u32, first: u128, lot: &Lot) -> LotLine
     requires unit { 0 < heading.unit }
     requires fits { first + lot.now.weight < 2 ^ 128 }
     ensures { result ≡ lot_line heading.style heading.unit heading.actor lottery winner first lot.now }
 {
-    let mut line = RowLine::new();
+    let mut line = LotLine::new();
     line.push_front(heading.style);
     line.push_field("", heading.actor);
     push_part(&mut line, lottery, lot);
     push_weight(&mut line, heading, lottery, lot.weight);
+    push_why(&mut line, heading, lot.compensation);
     push_numbers(&mut line, heading, first, first + lot.weight);
     push_mark(&mut line, lot.thread == winner);
     line
 }
 
 /// Appends the entrant.
-fn push_part(line: &mut RowLine, lottery: Lottery, lot: &Lot)
+fn push_part(line: &mut LotLine, lottery: Lottery, lot: &Lot)
     requires { length line.old ≤ 21 }
     ensures text { line.new ≡ line.old
         ++ (part_word lottery ++ (decimal lot.now.thread ++ (codes " " ++ lot.now.name))) }
@@ -81,7 +100,7 @@ fn push_part(line: &mut RowLine, lottery: Lottery, lot: &Lot)
 }
 
 /// Appends its weight in the lottery.
-fn push_weight(line: &mut RowLine, heading: Heading, lottery: Lottery, weight: u128)
+fn push_weight(line: &mut LotLine, heading: Heading, lottery: Lottery, weight: u128)
     requires room { length line.old ≤ 60 }
     requires unit { 0 < heading.unit }
     ensures text { line.new ≡ line.old ++ (weight_word lottery ++ value_text heading.style heading.unit weight) }
@@ -94,9 +113,42 @@ fn push_weight(line: &mut RowLine, heading: Heading, lottery: Lottery, weight: u
     line.push_value(word, heading.style, heading.unit, weight);
 }
 
-/// Appends its first number, and the bound below which its numbers are.
-fn push_numbers(line: &mut RowLine, heading: Heading, first: u128, below: u128)
+/// Appends why it weighs so, in timed style.
+fn push_why(line: &mut LotLine, heading: Heading, compensation: Option<Compensation>)
     requires room { length line.old ≤ 111 }
+    requires unit { 0 < heading.unit }
+    ensures text { line.new ≡ line.old ++ why_text heading.style heading.unit compensation }
+    ensures len { length line.new ≤ length line.old + 78 }
+{
+    match heading.style {
+        LineStyle::Whole => (),
+        LineStyle::Timed(_) => match compensation {
+            None => (),
+            Some(reason) => push_scaled(line, heading, reason),
+        },
+    }
+}
+
+/// Appends the value, and the quantum and its part by which it is scaled.
+fn push_scaled(line: &mut LotLine, heading: Heading, reason: Compensation)
+    requires room { length line.old ≤ 111 }
+    requires unit { 0 < heading.unit }
+    ensures text { line.new ≡ line.old ++ scaled_text heading.style heading.unit reason }
+    ensures len { length line.new ≤ length line.old + 78 }
+{
+    line.push_value(
+        " = value ",
+        heading.style,
+        heading.unit,
+        u128::from(reason.value),
+    );
+    line.push_field(" x ", reason.quantum);
+    line.push_field(" / ", reason.used);
+}
+
+/// Appends its first number, and the bound below which its numbers are.
+fn push_numbers(line: &mut LotLine, heading: Heading, first: u128, below: u128)
+    requires room { length line.old ≤ 189 }
     requires unit { 0 < heading.unit }
     ensures text { line.new ≡ line.old
         ++ (codes " from " ++ (drawn_value heading.style heading.unit first
@@ -108,8 +160,8 @@ fn push_numbers(line: &mut RowLine, heading: Heading, first: u128, below: u128)
 }
 
 /// Appends the mark on the winner's line, and the line's end.
-fn push_mark(line: &mut RowLine, wins: bool)
-    requires { length line.old ≤ 210 }
+fn push_mark(line: &mut LotLine, wins: bool)
+    requires { length line.old ≤ 288 }
     ensures { line.new ≡ line.old ++ (mark wins ++ newline) }
 {
     line.push_text(if wins { " wins\n" } else { "\n" });

@@ -3,7 +3,7 @@ use Rattle.std.specs.List.{flat_map, range_with_len}
 use Rattle.lot_machine.specs.Numbered.{numbers}
 use Rattle.lot_engine.specs.Seen.{Seen, world_of}
 use Rattle.lot_explain.specs.Gathering.{lot_if_ready}
-use Rattle.lot_explain.proofs.GatheringFacts.{lots-more, ready-lots}
+use Rattle.lot_explain.proofs.GatheringFacts.{each-more, ready-lots}
 use Rattle.lot_explain.proofs.gathering.push_all_ready.Goals as goal
 
 pub loop-place-preserved : goal.loop-place-preserved
@@ -16,7 +16,7 @@ loop-place-preserved c =
       system = told.same ∙ i.system;
       capacity = told.room ∙ i.capacity;
       few = omega (arith, told.few, i.few);
-      lots = lots-more s (world_of c.loop-place.system).state c.loop-place.place c.loop-place.lots.items c.push_if_ready.new.lots.items same i.lots told.lots;
+      lots = each-more lot_if_ready s (world_of c.loop-place.system).state c.loop-place.place c.loop-place.lots.items c.push_if_ready.new.lots.items same i.lots told.lots;
     }
 
 pub returns-clause-lots : goal.returns-clause-lots

@@ -80,7 +80,7 @@ const EXPLAINED_IN_TIME: &str = "0 0 funded 1 1
 9 1 lot thread 2 b weight 1 from 1 below 2
 9 1 draw 0.82 of 2 thread 1
 12 1 thread 1 ticks 3 yield
-12 1 lot thread 1 a weight 3 from 0 below 3
+12 1 lot thread 1 a weight 3 = value 1 x 9 / 3 from 0 below 3
 12 1 lot thread 2 b weight 1 from 3 below 4 wins
 12 1 draw 3.257 of 4 thread 2
 report
@@ -231,7 +231,7 @@ const EXPLAINED_SLEEPER: &str = "0 0 funded 1 1
 2 1 draw 0.726 of 1 thread 2
 5 2 wake thread 1
 12 1 thread 2 ticks 10 expire
-12 1 lot thread 1 a weight 5 from 0 below 5 wins
+12 1 lot thread 1 a weight 5 = value 1 x 10 / 2 from 0 below 5 wins
 12 1 lot thread 2 b weight 1 from 5 below 6
 12 1 draw 2.515 of 6 thread 1
 13 1 thread 1 ticks 1 sleep
@@ -242,6 +242,84 @@ thread 1 a quanta 2 ticks 3 share 23.076% value 0%
 thread 2 b quanta 2 ticks 10 share 76.923% value 100%
 processor 1 quanta 4 idle 0 ticks 13 unused 0
 total turns 10 quanta 4 ticks 13 refused 0 left 0
+";
+
+/// A server waits for a mutex while it serves a client, so what the client lends it goes on to the owner. Another thread
+/// waits for the mutex too, until its only ticket funds it no longer.
+const LENDERS: &str = "lottery 3
+quantum 10
+for 34
+seed 6
+port p
+mutex m
+script own
+lock m compute 1000
+endscript
+script serve
+receive p lock m reply
+endscript
+script ask
+compute 1 call p
+endscript
+script want
+lock m
+endscript
+fundx 5 base o own
+fundx 1 base s serve
+fundx 3 base c ask
+fundx 2 base z want
+at 25
+unfund 4
+";
+
+/// Its explanation, computed by a small model of the rules. The call in the port's queue lends to nobody, and a thread
+/// that is worth nothing is left out.
+const EXPLAINED_LENDERS: &str = "0 0 funded 1 1
+0 0 funded 2 2
+0 0 funded 3 3
+0 0 funded 4 4
+0 1 lot thread 1 o weight 5 from 0 below 5
+0 1 lot thread 2 s weight 1 from 5 below 6
+0 1 lot thread 3 c weight 3 from 6 below 9 wins
+0 1 lot thread 4 z weight 2 from 9 below 11
+0 1 draw 7.089 of 11 thread 3
+2 1 thread 3 ticks 2 call 1 queued
+2 1 lot thread 1 o weight 5 from 0 below 5 wins
+2 1 lot thread 2 s weight 1 from 5 below 6
+2 1 lot thread 4 z weight 2 from 6 below 8
+2 1 draw 4.16 of 8 thread 1
+3 1 thread 1 ticks 1 lock 1 taken
+12 1 thread 1 ticks 9 expire
+12 1 lot thread 1 o weight 5 from 0 below 5
+12 1 lot thread 2 s weight 1 from 5 below 6 wins
+12 1 lot thread 4 z weight 2 from 6 below 8
+12 1 draw 5.492 of 8 thread 2
+13 1 thread 2 ticks 1 receive 1 client 3 got 0
+14 1 thread 2 ticks 1 lock 1 waits
+14 1 lot thread 1 o weight 9 from 0 below 9
+14 1 lot thread 4 z weight 2 from 9 below 11 wins
+14 1 lent thread 2 s value 4 to thread 1
+14 1 lent thread 3 c value 3 to thread 2
+14 1 draw 10.117 of 11 thread 4
+15 1 thread 4 ticks 1 lock 1 waits
+15 1 lot thread 1 o weight 11 from 0 below 11 wins
+15 1 lent thread 2 s value 4 to thread 1
+15 1 lent thread 3 c value 3 to thread 2
+15 1 lent thread 4 z value 2 to thread 1
+15 1 draw 0.003 of 11 thread 1
+25 0 done
+25 1 thread 1 ticks 10 expire
+25 1 lot thread 1 o weight 9 from 0 below 9 wins
+25 1 lent thread 2 s value 4 to thread 1
+25 1 lent thread 3 c value 3 to thread 2
+25 1 draw 4.804 of 9 thread 1
+report
+thread 1 o quanta 3 ticks 20 share 80% value 100%
+thread 2 s quanta 1 ticks 2 share 8% value 0%
+thread 3 c quanta 1 ticks 2 share 8% value 0%
+thread 4 z quanta 1 ticks 1 share 4% value 0%
+processor 1 quanta 6 idle 0 ticks 25 unused 0
+total turns 18 quanta 6 ticks 25 refused 0 left 0
 ";
 
 /// Explains the input, and compares the outcome and the output.
@@ -258,6 +336,7 @@ fn explains_inputs(rt: HostRuntime) {
     check(&rt, alloc, OTHER_AMOUNTS, Played::Done, EXPLAINED_AMOUNTS);
     check(&rt, alloc, REMOVAL, Played::Done, EXPLAINED_REMOVAL);
     check(&rt, alloc, SLEEPER, Played::Done, EXPLAINED_SLEEPER);
+    check(&rt, alloc, LENDERS, Played::Done, EXPLAINED_LENDERS);
     let refused = "refused line 1 50 BadHeader\n";
     check(&rt, alloc, "lottery 9\n", Played::Refused, refused);
 }

@@ -6,7 +6,7 @@ use Rattle.lot_explain.proofs.explained.ExplainedObserver.after.Goals as goal
 pub put_explained-requires-clause-made : goal.put_explained-requires-clause-made
 put_explained-requires-clause-made g c =
     let a = c.requires.awaits in
-    (a.1, just-explained c.args.program.now c.args.system.now c.args.turn.now c.args.self.now.lots.now.lots a.0 a.1 a.3 a.4.4)
+    (a.1, just-explained c.args.program.now c.args.system.now c.args.turn.now c.args.self.now.lots.now a.0 a.1 a.3 a.4.4)
 
 pub put_explained-requires-clause-working : goal.put_explained-requires-clause-working
 put_explained-requires-clause-working g c = c.requires.awaits.4.2
@@ -16,7 +16,7 @@ returns-clause-ok g c =
     let contents = g.W.Write.contents in
     let mid = contents c.args.self.now.writer.now.inner in
     let new = contents c.put_explained.new.writer.inner in
-    let lots = c.args.self.now.lots.now.lots in
+    let lots = c.args.self.now.lots.now in
     put-ok explained_made mid new c.args.self.now.page c.put_explained.new.page c.put_explained.new.writer.failed (λ made. IsExplained c.args.system.now c.args.turn.now lots made) c.put_explained.result c.put_explained.ensures.text
     (λ here turns made first just awaits.
     let is = here made (just-explained c.args.program.now c.args.system.now c.args.turn.now lots turns made just awaits.4) in
@@ -27,7 +27,7 @@ returns-clause-err g c =
     let contents = g.W.Write.contents in
     let mid = contents c.args.self.now.writer.now.inner in
     let new = contents c.put_explained.new.writer.inner in
-    let lots = c.args.self.now.lots.now.lots in
+    let lots = c.args.self.now.lots.now in
     put-err explained_made mid new c.args.self.now.page c.put_explained.new.page c.put_explained.new.writer.failed (λ made. IsExplained c.args.system.now c.args.turn.now lots made) c.put_explained.result c.put_explained.ensures.text
     (λ fault here turns made first just awaits.
     let is = here made (just-explained c.args.program.now c.args.system.now c.args.turn.now lots turns made just awaits.4) in

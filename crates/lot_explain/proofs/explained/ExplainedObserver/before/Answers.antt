@@ -14,5 +14,7 @@ returns-clause-awaits g c turns first made observed =
       c.gather.ensures.room ∙ observed.1,
       observed.2,
       observed.3,
-      λ event reply is. c.gather.ensures.lots event reply (ap (λ (p : Program). (system_turn p (world_of seen) actor).answer) c.requires.program ∙ is),
+      λ event reply is.
+          let answered = ap (λ (p : Program). (system_turn p (world_of seen) actor).answer) c.requires.program ∙ is in
+          (c.gather.ensures.lots event reply answered, c.gather.ensures.loans event reply answered),
     )

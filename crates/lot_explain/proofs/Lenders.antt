@@ -1,0 +1,69 @@
+-- A loan is what the machine's thread lends.
+use Rattle.std.proofs.Common.{◌≡◌, ℕ, ◌==◌, Bool, true, false, ◌||◌, cond, Option, Some, None, is_none, List, [], ◌∷◌, unwrap_or, option_and_then, option_map, refl, sym, ◌∙◌, ap, arith}
+use Rattle.std.specs.Prelude.{All}
+use Rattle.std.specs.List.{flat_map}
+use Rattle.std.specs.Option.{option_flatten}
+use Rattle.std.proofs.lemmas.Bool.{eqb-false, or_parts}
+use Rattle.std.proofs.lemmas.List.Elements.{All-nil, All-cons, All-append}
+use Rattle.lot_machine.specs.declared.record.Record.{Record}
+use Rattle.lot_machine.specs.declared.record.Status.{Status}
+use Rattle.lot_machine.specs.declared.record.Status.TheVariants.{Served, Waiting}
+use Rattle.lot_machine.specs.declared.row.ThreadRow.{ThreadRow}
+use Rattle.lot_machine.specs.Funding.{owner_of}
+use Rattle.lot_machine.specs.Lends.{borrower, borrower_of}
+use Rattle.lot_machine.specs.Mutexes.{mutex_at}
+use Rattle.lot_machine.specs.Numbered.{at_number, numbers}
+use Rattle.lot_machine.specs.Rows.{thread_row}
+use Rattle.lot_machine.specs.State.{State, Mutex, funding_of, lend_of, status_of, value_of}
+use Rattle.lot_machine.proofs.TrapCycles.{at_number-map, lend-at}
+use Rattle.lot_print.specs.declared.loans.Loan.{Loan}
+use Rattle.lot_explain.specs.Loans.{IsLent, all_loans, lends_to, loan_in, loan_of, loan_to}
+use Rattle.lot_explain.proofs.ShortLots.{rows-record}
+
+module _ (s : State) where
+  -- a mutex's owner, by either name
+  owner-is : (m : ℕ) → owner_of (funding_of s) m ≡ (mutex_at s.mutexes m).owner
+  owner-is m = ap option_flatten (at_number-map (λ (x : Mutex). x.owner) s.mutexes m) ∙ at (at_number s.mutexes m)
+    where
+      at : (o : Option Mutex) → option_flatten (option_map (λ (x : Mutex). x.owner) o) ≡ (unwrap_or {T = Mutex} o (record { owner = None; waiters = [] })).owner
+      at None = refl
+      at (Some mutex) = refl
+
+  borrower-is : (now : Status) → borrower (funding_of s) (lend_of now) ≡ lends_to s now
+  borrower-is (Served server) = refl
+  borrower-is (Waiting m) = owner-is m
+  borrower-is other = refl
+
+  -- a thread with a row
+  row-lent : (t : ℕ) (o : Option ThreadRow) → thread_row s t ≡ o → All (IsLent s) (loan_in s t o)
+  row-lent t None is = All-nil (IsLent s)
+  row-lent t (Some row) is = to-lent (lends_to s row.status) refl
+    where
+      status-is : status_of s.records t ≡ Some row.status
+      status-is = let (r, there, same) = rows-record s t row is in ap (option_map (λ (x : Record). x.status)) there ∙ ap (λ (x : ThreadRow). Some x.status) same
+
+      value-is : row.value ≡ value_of s t
+      value-is = let (r, there, same) = rows-record s t row is in sym (ap (λ (x : ThreadRow). x.value) same)
+
+      lends : borrower_of (funding_of s) t ≡ lends_to s row.status
+      lends = ap (option_and_then (borrower (funding_of s))) (lend-at s.records t row.status status-is) ∙ borrower-is row.status
+
+      to-lent : (o : Option ℕ) → lends_to s row.status ≡ o → All (IsLent s) (loan_to s t row o)
+      to-lent None to_is = All-nil (IsLent s)
+      to-lent (Some to) to_is = by ((row.value == 0) || is_none (thread_row s to)) refl
+        where
+          loan : Loan
+          loan = record { thread = t; name = row.name; value = row.value; to = to }
+
+          by : (b : Bool) → ((row.value == 0) || is_none (thread_row s to)) ≡ b → All (IsLent s) (cond b [] (loan ∷ []))
+          by true worthless = All-nil (IsLent s)
+          by false worth =
+              let some = eqb-false row.value 0 (or_parts (row.value == 0) (is_none (thread_row s to)) worth).0 in
+              All-cons (IsLent s) loan [] (record { lends = lends ∙ to_is; value = value-is; some = omega (arith, some) }) (All-nil (IsLent s))
+
+  loans-lent : (ts : List ℕ) → All (IsLent s) (flat_map (loan_of s) ts)
+  loans-lent [] = All-nil (IsLent s)
+  loans-lent (t ∷ ts) = All-append (IsLent s) (loan_of s t) (flat_map (loan_of s) ts) (row-lent t (thread_row s t) refl) (loans-lent ts)
+
+  pub all-lent : All (IsLent s) (all_loans s)
+  all-lent = loans-lent (numbers s.records)

@@ -1,0 +1,15 @@
+use Rattle.std.proofs.Common.{◌≡◌, ◌≤◌}
+use Rattle.std.specs.List.{flat_map, range_with_len}
+use Rattle.std.specs.Prelude.{vec_capacity, vec_len}
+use Rattle.lot_engine.specs.Seen.{world_of}
+use Rattle.lot_explain.specs.Loans.{loan_of}
+use Rattle.lot_explain.proofs.loans.push_all_loans.Given as goal
+
+-- the loans of the threads passed so far are there
+abbrev pub invariant-loop-place : goal.invariant-loop-place
+invariant-loop-place l = record {
+  system : l.system ≡ l.initial.system;
+  capacity : vec_capacity l.loans ≡ vec_capacity l.initial.loans;
+  few : vec_len l.loans ≤ l.place;
+  loans : l.loans.items ≡ flat_map (loan_of (world_of l.initial.system).state) (range_with_len 1 l.place);
+}
