@@ -14,7 +14,7 @@ use Rattle.lot_curves.specs.Curves.{command_times, curves_of, names_in, schedule
 use Rattle.lot_curves.specs.OwnTimes.{ended_after}
 use Rattle.lot_curves.specs.Stretches.{stretch_of}
 use Rattle.lot_playback.specs.Turns.{MadeTurn, counted_turn, counted_turns, program_turns, scheduled_turn, scheduled_turns, turn_in_time, turns_by, turns_in_time, world_after_turns}
-use Rattle.lot_chart.specs.Noted.{command_time, commands_in, curves_after, own_stretch, stretches_in}
+use Rattle.lot_chart.specs.Noted.{commands_in, curves_after, own_stretch, stretches_in}
 
 -- ---- a schedule
 

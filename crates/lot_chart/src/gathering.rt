@@ -55,7 +55,8 @@ impl<'a> Observer for Stretches<'a> {
         let stretch = Stretch::new(end_of(system, turn), turn.reply);
         self.warnings.note(system, turn);
         self.stretches.push(stretch)?;
-        push_command(&mut self.commands, turn)
+        push_command(&mut self.commands, turn)?;
+        Ok(())
     }
 }
 
