@@ -1,3 +1,4 @@
+pub mod FirstMarks
 pub mod Lengths
 pub mod Parts
 pub mod Places

@@ -1,5 +1,5 @@
 -- The curves of a program are those of its turns.
-use Rattle.std.proofs.Common.{◌≡◌, ℕ, zero, suc, ◌==◌, false, Option, None, Some, List, [], ◌∷◌, ◌++◌, map, refl, sym, ◌∙◌, ap, arith, ne_eqb, append-nil, append_assoc}
+use Rattle.std.proofs.Common.{◌≡◌, ℕ, zero, suc, ◌==◌, Bool, true, false, cond, filter, Option, None, Some, List, [], ◌∷◌, ◌++◌, map, refl, sym, ◌∙◌, ap, arith, ne_eqb, append-nil, append_assoc}
 use Rattle.std.proofs.lemmas.Grind.{flat_map-append}
 use Rattle.lot_machine.specs.declared.command.Command.{Command}
 use Rattle.lot_machine.specs.declared.event.Event.{Event}
@@ -10,11 +10,11 @@ use Rattle.lot_simulation.specs.World.{Program, World, Answer, Turn, console_tur
 use Rattle.lot_simulation.specs.World.Answer.{Answered, Ended}
 use Rattle.lot_simulation.proofs.TimedRuns.{timed-world}
 use Rattle.lot_curves.specs.declared.stretch.Stretch.{Stretch}
-use Rattle.lot_curves.specs.Curves.{curves_of, names_in, scheduled_curves, stretches_made, timed_curves, timed_stretches}
+use Rattle.lot_curves.specs.Curves.{command_times, curves_of, names_in, scheduled_curves, stretches_made, timed_curves, timed_stretches}
 use Rattle.lot_curves.specs.OwnTimes.{ended_after}
 use Rattle.lot_curves.specs.Stretches.{stretch_of}
 use Rattle.lot_playback.specs.Turns.{MadeTurn, counted_turn, counted_turns, program_turns, scheduled_turn, scheduled_turns, turn_in_time, turns_by, turns_in_time, world_after_turns}
-use Rattle.lot_chart.specs.Noted.{curves_after, own_stretch, stretches_in}
+use Rattle.lot_chart.specs.Noted.{commands_in, curves_after, own_stretch, stretches_in}
 
 -- ---- a schedule
 
@@ -108,6 +108,10 @@ module _ (program : Program) where
   world-scheduled w [] = refl
   world-scheduled w (a ∷ actors) = world-scheduled (system_turn program w a).world actors
 
+  commands-scheduled : (w : World) (actors : List ℕ) → [] ≡ commands_in (scheduled_turns program w actors)
+  commands-scheduled w [] = refl
+  commands-scheduled w (a ∷ actors) = commands-scheduled (system_turn program w a).world actors
+
 -- ---- the order of time
 
 -- the stretch of a turn in the order of time
@@ -117,6 +121,18 @@ timed_stretch done = stretch_of (record { time = done.time; answer = done.turn.a
 stretches-timed : (before : List MadeTurn) (w : World) (turns : List TimedTurn) → map timed_stretch turns ≡ stretches_in before (turns_in_time w turns)
 stretches-timed before w [] = refl
 stretches-timed before w (t ∷ turns) = ap (λ (ss : List Stretch). timed_stretch t ∷ ss) (stretches-timed (before ++ turn_in_time w t ∷ []) t.turn.world turns)
+
+commands-timed : (w : World) (turns : List TimedTurn) → map (λ (done : TimedTurn). done.time) (filter (λ done. done.actor == 0) turns) ≡ commands_in (turns_in_time w turns)
+commands-timed w [] = refl
+commands-timed w (t ∷ turns) = at (t.actor == 0) (commands-timed t.turn.world turns)
+  where
+    others : List TimedTurn
+    others = filter (λ done. done.actor == 0) turns
+
+    at : (b : Bool) → map (λ (done : TimedTurn). done.time) others ≡ commands_in (turns_in_time t.turn.world turns)
+        → map (λ (done : TimedTurn). done.time) (cond b (t ∷ others) others) ≡ cond b (t.time ∷ []) [] ++ commands_in (turns_in_time t.turn.world turns)
+    at true rest = ap (λ ts. t.time ∷ ts) rest
+    at false rest = rest
 
 world-timed : (m : Moment) (turns : List TimedTurn) → (moment_after_all m turns).world ≡ world_after_turns m.world (turns_in_time m.world turns)
 world-timed m [] = refl
@@ -132,11 +148,13 @@ curves-are program None is =
     let stretches : stretches_made program (system_run program program.schedule).history ≡ stretches_in [] (program_turns program) =
     ap (λ (ts : List ActorTurn). map stretch_of (ended_after [] ts)) (counted-is program) ∙ stretches-scheduled program [] (opening_world program) program.schedule ∙ ap (stretches_in []) turns in
     let curves : curves_of program ≡ scheduled_curves program = rw is refl in
-    curves ∙ (λ i. record { names = names_in (world i).state; stretches = stretches i; origin = 0; window = None })
+    let commands : [] ≡ commands_in (program_turns program) = commands-scheduled program (opening_world program) program.schedule ∙ ap commands_in turns in
+    curves ∙ (λ i. record { names = names_in (world i).state; stretches = stretches i; origin = 0; window = None; commands = commands i })
 curves-are program (Some duration) is =
     let turns : turns_by program (Some duration) ≡ program_turns program = ap (turns_by program) (sym is) in
     let world : system_run program (timed_schedule program) ≡ world_after_turns (opening_world program) (program_turns program) =
     sym (timed-world program) ∙ world-timed (opening_moment program) (timed_turns program) ∙ ap (world_after_turns (opening_world program)) turns in
     let stretches : timed_stretches program ≡ stretches_in [] (program_turns program) = stretches-timed [] (opening_world program) (timed_turns program) ∙ ap (stretches_in []) turns in
     let curves : curves_of program ≡ timed_curves program = rw is refl in
-    curves ∙ (λ i. record { names = names_in (world i).state; stretches = stretches i; origin = 0; window = None })
+    let commands : command_times program ≡ commands_in (program_turns program) = commands-timed (opening_world program) (timed_turns program) ∙ ap commands_in turns in
+    curves ∙ (λ i. record { names = names_in (world i).state; stretches = stretches i; origin = 0; window = None; commands = commands i })

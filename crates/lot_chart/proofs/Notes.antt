@@ -1,4 +1,5 @@
 -- Stretches that are noted turn by turn.
+use Rattle.std.proofs.lemmas.Grind.{flat_map-append}
 use Rattle.std.proofs.Common.{◌≡◌, ℕ, suc, ◌+◌, ◌*◌, ◌^◌, ◌<◌, ◌≤◌, true, false, Option, Some, None, List, [], ◌∷◌, ◌++◌, length, map, refl, sym, ◌∙◌, ap, arith, append_assoc, append-nil, length-append, lit<}
 use Rattle.lot_machine.specs.declared.event.Event.{Event}
 use Rattle.lot_machine.specs.declared.reply.Reply.{Reply}
@@ -17,7 +18,7 @@ use Rattle.lot_engine.specs.Seen.{Seen, world_of}
 use Rattle.lot_playback.specs.declared.turn.Turn.{Turn as ATurn}
 use Rattle.lot_playback.specs.Stages.{HasJustMade, HasMade, answer_in}
 use Rattle.lot_playback.specs.Turns.{MadeTurn, counted_turn, counted_turns, program_turns, scheduled_turns, turns_by, turns_in_time}
-use Rattle.lot_chart.specs.Noted.{curves_after, end_in, own_stretch, stretches_at, stretches_in, stretches_of_turn}
+use Rattle.lot_chart.specs.Noted.{command_time, commands_in, curves_after, end_in, own_stretch, stretches_at, stretches_in, stretches_of_turn}
 use Rattle.lot_chart.proofs.NotedFacts.{curves-are}
 
 -- ---- how many turns there are
@@ -53,6 +54,12 @@ counted-few (t ∷ turns) = from t.turn.answer (counted-few turns)
     from : (x : Answer) → length (counted_turns turns) ≤ length turns → length (counted_turn t.actor x ++ counted_turns turns) ≤ suc (length turns)
     from (Answered e r) few = omega (arith, few)
     from Ended few = omega (arith, few)
+
+-- ---- the commands of one turn more
+
+commands-one_more : (turns : List MadeTurn) (made : MadeTurn) → commands_in (turns ++ made ∷ []) ≡ commands_in turns ++ command_time made.time made.actor
+commands-one_more turns made =
+    flat_map-append (λ (m : MadeTurn). command_time m.time m.actor) turns (made ∷ []) ∙ ap (λ ts. commands_in turns ++ ts) (append-nil (command_time made.time made.actor))
 
 -- ---- the stretches of one turn more
 
@@ -96,6 +103,16 @@ module _ (program : Program) (turns : List MadeTurn) (made : MadeTurn) (turn : A
       ap (λ (t : Option ℕ). stretches_at t turns made) (just.ended answer) ∙ ap (λ (x : Answer). map (own_stretch (counted_turns all)) (counted_turn made.actor x)) answer in
       noted ∙ sym (append-nil (stretches_in [] turns)) ∙ ap (λ (ss : List Stretch). stretches_in [] turns ++ ss) (sym here) ∙ sym (stretches-one_more [] turns made)
 
+  pub commands-noted : (items after : List ℕ) → items ≡ commands_in turns → after ≡ items ++ command_time turn.time turn.actor → after ≡ commands_in (turns ++ made ∷ [])
+  commands-noted items after noted pushed =
+      pushed ∙ ap (λ ts. ts ++ command_time turn.time turn.actor) noted ∙ ap (λ (t : Option ℕ). commands_in turns ++ command_time t turn.actor) just.reports.time
+      ∙ ap (λ a. commands_in turns ++ command_time made.time a) just.reports.actor ∙ sym (commands-one_more turns made)
+
+  pub ended-commands : turn.has_ended ≡ true → (items : List ℕ) → items ≡ commands_in turns → items ≡ commands_in (turns ++ made ∷ [])
+  ended-commands ended items noted =
+      let answer : made.turn.answer ≡ Ended = just.reports.answer ∙ ap (λ b. answer_in b turn.event turn.reply) ended in
+      noted ∙ sym (append-nil (commands_in turns)) ∙ ap (λ (t : Option ℕ). commands_in turns ++ command_time t made.actor) (sym (just.ended answer)) ∙ sym (commands-one_more turns made)
+
   history-few : length seen.history ≤ length turns + 1
   history-few = omega (arith, turns_made-length program seen.history, ap length just.has.counted, counted-few all, length-append turns (made ∷ []))
 
@@ -107,10 +124,12 @@ module _ (program : Program) (turns : List MadeTurn) (made : MadeTurn) (turn : A
 
 -- ---- what was gathered
 
-pub gathered : {seen : Seen} (program : Program) (system : Seen) (names : List (List ℕ)) (stretches : List Stretch) → system ≡ seen → HasMade program (program_turns program) seen
-    → names ≡ names_in (world_of system).state → stretches ≡ stretches_in [] (program_turns program) → record { names = names; stretches = stretches; origin = 0; window = None } ≡ curves_of program
-gathered program system names stretches same has named noted =
+pub gathered : {seen : Seen} (program : Program) (system : Seen) (names : List (List ℕ)) (stretches : List Stretch) (commands : List ℕ) → system ≡ seen → HasMade program (program_turns program) seen
+    → names ≡ names_in (world_of system).state → stretches ≡ stretches_in [] (program_turns program) → commands ≡ commands_in (program_turns program)
+    → record { names = names; stretches = stretches; origin = 0; window = None; commands = commands } ≡ curves_of program
+gathered program system names stretches commands same has named noted told =
     let world = ap world_of same ∙ has.world in
     let threads = named ∙ ap (λ (w : World). names_in w.state) world in
-    let both : record { names = names; stretches = stretches; origin = 0; window = None } ≡ curves_after program (program_turns program) = λ i. record { names = threads i; stretches = noted i; origin = 0; window = None } in
+    let both : record { names = names; stretches = stretches; origin = 0; window = None; commands = commands } ≡ curves_after program (program_turns program) =
+    λ i. record { names = threads i; stretches = noted i; origin = 0; window = None; commands = told i } in
     both ∙ sym (curves-are program program.duration refl)

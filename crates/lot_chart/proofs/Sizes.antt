@@ -16,9 +16,10 @@ use Rattle.lot_curves.specs.Stretches.{last_end}
 use Rattle.lot_curves.specs.Windows.{had_in}
 use Rattle.lot_chart.specs.declared.lines.Line.{Line}
 use Rattle.lot_chart.specs.Axes.{axis_step, lead, mark_count, marks, steps, time_mark_count, time_marks}
-use Rattle.lot_chart.specs.Charts.{across, axes, chart, colour, curve, drawn_of, frame, head, height_mark, heights_label, highest, label, leader, lines_in, longest_name, name_of, name_text, picture, point, points, sample_point, strokes, time_mark, top_at, tops, total, width_for}
+use Rattle.lot_chart.specs.Charts.{across, axes, chart, colour, column_mark, command_mark, command_marks, curve, drawn_of, frame, head, height_mark, heights_label, highest, label, leader, lines_in, longest_name, name_of, name_text, picture, point, points, sample_point, strokes, time_mark, top_at, tops, total, width_for}
 use Rattle.lot_chart.specs.Escapes.{escaped, escaped_byte}
 use Rattle.lot_chart.specs.Lines.{height_of, lines_after, most_in, place_of}
+use Rattle.lot_chart.specs.Marks.{first_in, marked, stands_in}
 use Rattle.lot_chart.specs.Shares.{share_of, tenths}
 use Rattle.lot_chart.specs.Standings.{selection}
 use Rattle.lot_chart.specs.declared.standings.Standing.{Standing}
@@ -139,11 +140,54 @@ frame-short window narrow =
     let lines = codes "<path d='M100 60V460H770' fill='none' stroke='#222222'/>\n<text x='435' y='512' text-anchor='middle'>time, in ticks</text>\n<text transform='translate(14 260) rotate(-90)' text-anchor='middle'>" in
     both 192 73 lines (heights_label window ++ codes "</text>\n") (omega arith) (both 65 8 (heights_label window) (codes "</text>\n") (heights_label-short window narrow) (omega arith))
 
-axes-short : (curves : Curves) (most : ℕ) → curves.origin < 2 ^ 56 → unwrap_or curves.window 0 < 2 ^ 32 → length (axes curves most) ≤ 1621
-axes-short curves most early narrow =
+-- ---- the marks of commands
+
+command-mark-short : (curves : Curves) (time : ℕ) → time < 2 ^ 32 → length (command_mark curves time) ≤ 108
+command-mark-short curves time small =
+    let place = across (last_end curves.stretches) (time - curves.origin) in
+    let number = length-decimal-le 10 time (omega arith) (omega (arith, small)) (omega (arith, small)) in
+    both 10 98 (codes "<path d='M") (tenths place ++ (codes " 60V460' stroke='#bbbbbb' stroke-dasharray='3 3'><title>command at " ++ (decimal time ++ codes "</title></path>\n"))) (omega arith)
+    (both 5 93 (tenths place) (codes " 60V460' stroke='#bbbbbb' stroke-dasharray='3 3'><title>command at " ++ (decimal time ++ codes "</title></path>\n")) (tenths-short place (omega arith))
+    (both 67 26 (codes " 60V460' stroke='#bbbbbb' stroke-dasharray='3 3'><title>command at ") (decimal time ++ codes "</title></path>\n") (omega arith)
+    (both 10 16 (decimal time) (codes "</title></path>\n") number (omega arith))))
+
+All-tail : {X : Type 0} (P : X → Type 0) (x : X) (xs : List X) → All P (x ∷ xs) → All P xs
+All-tail P x xs all k d below = all (suc k) d (omega (arith, below))
+
+-- a column's mark, if one for each of these times has at most so many bytes
+column-mark-short : (curves : Curves) (n : ℕ) (times : List ℕ) (column : ℕ) → All (λ time. length (command_mark curves time) ≤ n) times → length (column_mark curves (first_in curves times column)) ≤ n
+column-mark-short curves n [] column all = omega arith
+column-mark-short curves n (t ∷ times) column all =
+    at (stands_in curves column t) (column-mark-short curves n times column (All-tail (λ time. length (command_mark curves time) ≤ n) t times all))
+  where
+    at : (b : Bool) → length (column_mark curves (first_in curves times column)) ≤ n → length (column_mark curves (cond b (Some t) (first_in curves times column))) ≤ n
+    at true rest = all 0 t (omega arith)
+    at false rest = rest
+
+marks-few : (curves : Curves) (n : ℕ) → All (λ time. length (command_mark curves time) ≤ n) curves.commands → length (command_marks curves) ≤ 671 * n
+unfolding marked
+marks-few curves n all =
+    let first = first_in curves curves.commands in
+    let many = length-map-range_with_len first 0 671 in
+    let each : All (λ (o : Option ℕ). length (column_mark curves o) ≤ n) (marked curves) =
+    λ k d below. subst (λ (o : Option ℕ). length (column_mark curves o) ≤ n) (sym (get_or-map-range_with_len first 0 671 k k d (omega (arith, many, below)) (omega arith))) (column-mark-short curves n curves.commands k all) in
+    subst (λ m. length (command_marks curves) ≤ m * n) many (all-short (column_mark curves) n (marked curves) each)
+
+marks-short_each : (curves : Curves) → All (λ time. time < 2 ^ 32) curves.commands → length (command_marks curves) ≤ 72468
+marks-short_each curves small = omega (arith, marks-few curves 108 (λ k d below. command-mark-short curves (get_or curves.commands k d) (small k d below)))
+
+marks-none : (curves : Curves) → curves.commands ≡ [] → length (command_marks curves) ≤ 0
+marks-none curves none = omega (arith, marks-few curves 0 (subst (λ (ts : List ℕ). All (λ time. length (command_mark curves time) ≤ 0) ts) (sym none) (All-nil (λ time. length (command_mark curves time) ≤ 0))))
+
+-- the axes, if the marks of commands have at most so many bytes
+axes-short : (curves : Curves) (most n : ℕ) → curves.origin < 2 ^ 56 → unwrap_or curves.window 0 < 2 ^ 32 → length (command_marks curves) ≤ n → length (axes curves most) ≤ 1621 + n
+axes-short curves most n early narrow few =
     let times = flat_map (time_mark curves) (time_marks curves.origin (last_end curves.stretches)) in
+    let commands = command_marks curves in
     let top = highest curves.window most in
-    both 666 955 (flat_map (height_mark top) (marks top)) (times ++ frame curves.window) (heights-short top) (both 690 265 times (frame curves.window) (times-short curves early) (frame-short curves.window narrow))
+    let end : length (commands ++ frame curves.window) ≤ n + 265 = both n 265 commands (frame curves.window) few (frame-short curves.window narrow) in
+    let two : length (times ++ (commands ++ frame curves.window)) ≤ 690 + (n + 265) = both 690 (n + 265) times (commands ++ frame curves.window) (times-short curves early) end in
+    omega (arith, both 666 (690 + (n + 265)) (flat_map (height_mark top) (marks top)) (times ++ (commands ++ frame curves.window)) (heights-short top) two)
 
 -- ---- the lines
 
@@ -271,9 +315,10 @@ head-short width title narrow =
     let ten = both 47 (4 + (28 + (4 + (115 + (5 * t + (22 + (4 + (68 + (5 * t + 8))))))))) first (decimal width ++ (second ++ (decimal width ++ (third ++ named)))) (omega arith) nine in
     omega (arith, ten)
 
-pub chart-short : (title : List ℕ) (curves : Curves) → All (λ (name : List ℕ). length name ≤ 16) curves.names → curves.origin < 2 ^ 56 → unwrap_or curves.window 0 < 2 ^ 32 → length (chart title curves) ≤ 34000 + 10 * length title
+chart-short : (title : List ℕ) (curves : Curves) (n : ℕ) → All (λ (name : List ℕ). length name ≤ 16) curves.names → curves.origin < 2 ^ 56 → unwrap_or curves.window 0 < 2 ^ 32 → length (command_marks curves) ≤ n
+    → length (chart title curves) ≤ 34000 + n + 10 * length title
 unfolding picture
-chart-short title curves short early narrow =
+chart-short title curves n short early narrow marks =
     let shown = (selection curves).shown in
     let others = (selection curves).others in
     let most = most_in shown in
@@ -290,7 +335,15 @@ chart-short title curves short early narrow =
     let four = both 5 2119 (codes "</g>\n") (flat_map (label curves.names (total curves)) lines ++ codes "</svg>\n") (omega arith) end in
     let three = both 29688 2124 (flat_map (curve curves others heads) lines) (codes "</g>\n" ++ (flat_map (label curves.names (total curves)) lines ++ codes "</svg>\n")) curved four in
     let two = both 57 31812 (codes "<g fill='none' stroke-width='2' stroke-linejoin='round'>\n") (flat_map (curve curves others heads) lines ++ (codes "</g>\n" ++ (flat_map (label curves.names (total curves)) lines ++ codes "</svg>\n"))) (omega arith) three in
-    let one = both 1621 31869 (axes curves most) (codes "<g fill='none' stroke-width='2' stroke-linejoin='round'>\n" ++ (flat_map (curve curves others heads) lines ++ (codes "</g>\n" ++ (flat_map (label curves.names (total curves)) lines ++ codes "</svg>\n")))) (axes-short curves most early narrow) two in
+    let one = both (1621 + n) 31869 (axes curves most) (codes "<g fill='none' stroke-width='2' stroke-linejoin='round'>\n" ++ (flat_map (curve curves others heads) lines ++ (codes "</g>\n" ++ (flat_map (label curves.names (total curves)) lines ++ codes "</svg>\n")))) (axes-short curves most n early narrow marks) two in
     let width = width_for (longest_name curves.names lines) (length title) in
-    let whole = both (300 + 10 * length title) 33490 (head width title) (axes curves most ++ (codes "<g fill='none' stroke-width='2' stroke-linejoin='round'>\n" ++ (flat_map (curve curves others heads) lines ++ (codes "</g>\n" ++ (flat_map (label curves.names (total curves)) lines ++ codes "</svg>\n"))))) (head-short width title (omega arith)) one in
+    let whole = both (300 + 10 * length title) (1621 + n + 31869) (head width title) (axes curves most ++ (codes "<g fill='none' stroke-width='2' stroke-linejoin='round'>\n" ++ (flat_map (curve curves others heads) lines ++ (codes "</g>\n" ++ (flat_map (label curves.names (total curves)) lines ++ codes "</svg>\n"))))) (head-short width title (omega arith)) one in
     omega (arith, whole)
+
+pub chart-plain : (title : List ℕ) (curves : Curves) → curves.commands ≡ [] → All (λ (name : List ℕ). length name ≤ 16) curves.names → curves.origin < 2 ^ 56 → unwrap_or curves.window 0 < 2 ^ 32
+    → length (chart title curves) ≤ 34000 + 10 * length title
+chart-plain title curves none short early narrow = omega (arith, chart-short title curves 0 short early narrow (marks-none curves none))
+
+pub chart-marked : (title : List ℕ) (curves : Curves) → All (λ time. time < 2 ^ 32) curves.commands → All (λ (name : List ℕ). length name ≤ 16) curves.names → curves.origin < 2 ^ 56 → unwrap_or curves.window 0 < 2 ^ 32
+    → length (chart title curves) ≤ 107000 + 10 * length title
+chart-marked title curves small short early narrow = omega (arith, chart-short title curves 72468 short early narrow (marks-short_each curves small))

@@ -1,6 +1,6 @@
 -- Curves as a picture, which is an SVG. Lengths are in tenths of its unit; the plot extends horizontally from 1000 to
 -- 7700, and vertically from 600 to 4600.
-use Rattle.std.specs.Prelude.{ℕ, ◌+◌, ◌*◌, ◌%◌, min, max, ◌==◌, nat_le, Option, Some, None, List, [], ◌++◌, codes, fold, length, map, slice_index, unwrap_or, if◌then◌else◌}
+use Rattle.std.specs.Prelude.{ℕ, ◌+◌, ◌-◌, ◌*◌, ◌%◌, min, max, ◌==◌, nat_le, Option, Some, None, List, [], ◌++◌, codes, fold, length, map, slice_index, unwrap_or, if◌then◌else◌}
 use Rattle.std.specs.List.{flat_map, range_with_len}
 use Rattle.std.specs.Fmt.{decimal}
 use Rattle.lot_machine.specs.Numbered.{at_number}
@@ -13,6 +13,7 @@ use Rattle.lot_chart.specs.declared.lines.Line.{Line}
 use Rattle.lot_chart.specs.Axes.{marks, time_marks}
 use Rattle.lot_chart.specs.Escapes.{escaped}
 use Rattle.lot_chart.specs.Lines.{scaled, height_of, lines_of, most_in}
+use Rattle.lot_chart.specs.Marks.{marked}
 use Rattle.lot_chart.specs.Shares.{share_of, tenths, whole_at}
 use Rattle.lot_chart.specs.Standings.{Selected, selection}
 
@@ -43,6 +44,21 @@ time_mark curves tick =
     codes "<path d='M" ++ (tenths (across (last_end curves.stretches) tick) ++ (codes " 460v5' stroke='#222222'/>\n<text x='"
     ++ (tenths (across (last_end curves.stretches) tick) ++ (codes "' y='480' text-anchor='middle'>" ++ (decimal (curves.origin + tick) ++ codes "</text>\n")))))
 
+-- the mark at the time of a command, a thin line from the top of the plot to its bottom, with a text for the pointer
+abbrev pub command_mark : Curves → ℕ → List ℕ
+command_mark curves time =
+    codes "<path d='M" ++ (tenths (across (last_end curves.stretches) (time - curves.origin))
+    ++ (codes " 60V460' stroke='#bbbbbb' stroke-dasharray='3 3'><title>command at " ++ (decimal time ++ codes "</title></path>\n")))
+
+-- the mark of a column, if a command stands there
+abbrev pub column_mark : Curves → Option ℕ → List ℕ
+column_mark curves None = []
+column_mark curves (Some time) = command_mark curves time
+
+-- the marks at the times of commands, one for each column in which a command stands
+abbrev pub command_marks : Curves → List ℕ
+command_marks curves = flat_map (column_mark curves) (marked curves)
+
 -- the number at the top of the axis of heights: the most ticks of a line, or with a window 100 percent
 abbrev pub highest : Option ℕ → ℕ → ℕ
 highest None most = most
@@ -60,11 +76,11 @@ frame window =
     codes "<path d='M100 60V460H770' fill='none' stroke='#222222'/>\n<text x='435' y='512' text-anchor='middle'>time, in ticks</text>\n<text transform='translate(14 260) rotate(-90)' text-anchor='middle'>"
     ++ (heights_label window ++ codes "</text>\n")
 
--- both axes with their marks, given the most ticks of a line
+-- both axes with their marks, and the marks of commands, given the most ticks of a line
 abbrev pub axes : Curves → ℕ → List ℕ
 axes curves most =
     flat_map (height_mark (highest curves.window most)) (marks (highest curves.window most))
-    ++ (flat_map (time_mark curves) (time_marks curves.origin (last_end curves.stretches)) ++ frame curves.window)
+    ++ (flat_map (time_mark curves) (time_marks curves.origin (last_end curves.stretches)) ++ (command_marks curves ++ frame curves.window))
 
 -- ---- the lines
 

@@ -10,6 +10,8 @@ pub mod Ranking
 pub mod Lines
 -- The marks of axes.
 pub mod Axes
+-- The marks at the times of commands.
+pub mod Marks
 -- Text within XML.
 pub mod Escapes
 -- Curves as a picture.

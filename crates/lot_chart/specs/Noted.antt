@@ -1,5 +1,6 @@
 -- The stretches of a program's turns.
-use Rattle.std.specs.Prelude.{ℕ, Option, Some, None, List, [], ◌∷◌, ◌++◌, map}
+use Rattle.std.specs.Prelude.{ℕ, ◌==◌, Option, Some, None, List, [], ◌∷◌, ◌++◌, map, if◌then◌else◌}
+use Rattle.std.specs.List.{flat_map}
 use Rattle.lot_simulation.specs.Report.{ActorTurn, ticks_in, total_of, turns_made, turns_of}
 use Rattle.lot_simulation.specs.World.{Program, opening_world}
 use Rattle.lot_curves.specs.declared.stretch.Stretch.{Stretch}
@@ -27,6 +28,15 @@ abbrev pub stretches_in : List MadeTurn → List MadeTurn → List Stretch
 stretches_in before [] = []
 stretches_in before (made ∷ turns) = stretches_of_turn before made ++ stretches_in (before ++ made ∷ []) turns
 
+-- the time of a turn of this actor, if it has one and the actor is the console
+abbrev pub command_time : Option ℕ → ℕ → List ℕ
+command_time None actor = []
+command_time (Some time) actor = if actor == 0 then time ∷ [] else []
+
+-- the times of the commands among these turns
+abbrev pub commands_in : List MadeTurn → List ℕ
+commands_in turns = flat_map (λ made. command_time made.time made.actor) turns
+
 -- the curves of these turns of the program
 abbrev pub curves_after : Program → List MadeTurn → Curves
 curves_after program turns = record {
@@ -34,6 +44,7 @@ curves_after program turns = record {
   stretches = stretches_in [] turns;
   origin = 0;
   window = None;
+  commands = commands_in turns;
 }
 
 -- the time at which this actor's last turn in a system ended: this time, or, without one, the actor's own time

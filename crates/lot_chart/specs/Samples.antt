@@ -25,6 +25,17 @@ seven_tick_curves = record {
       ∷ record { thread = 2; end = 4; ticks = 0; draws = 1 } ∷ record { thread = 2; end = 7; ticks = 3; draws = 0 } ∷ [];
   origin = 0;
   window = None;
+  commands = [];
+}
+
+-- thread a runs to tick 7000; commands are made at the beginning, near it, in the middle, at the end and after it
+abbrev pub commanded_curves : Curves
+commanded_curves = record {
+  names = codes "a" ∷ [];
+  stretches = record { thread = 1; end = 7000; ticks = 7000; draws = 0 } ∷ [];
+  origin = 0;
+  window = None;
+  commands = 0 ∷ 11 ∷ 12 ∷ 20 ∷ 3500 ∷ 3500 ∷ 7000 ∷ 7001 ∷ [];
 }
 
 -- the picture of `three_ticks` with the title `a < b`

@@ -2,8 +2,9 @@
 ghost use Rattle.std.specs.Prelude.{◌≡◌, ◌+◌, ◌<◌, ◌≤◌, ◌^◌, ◌++◌, IfOk, OnOk, Some, length};
 ghost use Rattle.std.specs.List.{flat_map};
 ghost use Rattle.lot_chart.specs.Charts as definitions;
-ghost use Rattle.lot_chart.specs.Charts.{axes, curve, drawn_of, frame, head, height_mark, heights_label, label};
-ghost use Rattle.lot_chart.specs.Charts.{leader, name_text, picture, point, points, time_mark};
+ghost use Rattle.lot_chart.specs.Charts.{axes, column_mark, command_mark, command_marks, curve, drawn_of, frame, head};
+ghost use Rattle.lot_chart.specs.Charts.{height_mark, heights_label, label, leader, name_text, picture, point, points};
+ghost use Rattle.lot_chart.specs.Charts.{time_mark};
 ghost use Rattle.lot_chart.specs.Axes.{marks, time_marks};
 ghost use Rattle.lot_curves.specs.Curves.{sample_count};
 ghost use Rattle.lot_curves.specs.Stretches.{last_end};
@@ -11,6 +12,7 @@ ghost use Rattle.lot_curves.specs.Stretches.{last_end};
 use crate::axes::{axis_step, lead, mark_count, time_mark_count};
 use crate::escapes::push_escaped;
 use crate::lines::{height_of, lines_of, most_in, scaled};
+use crate::marks::marked;
 use crate::shares::{share_of, whole_at};
 use crate::standings::{select, stretches_of_thread};
 use crate::text::Text;
@@ -79,7 +81,7 @@ fn push_picture(
     let names = curves.names();
     let width = width_for(longest_name(names, lines), title.len());
     push_head(text, width, title)?;
-    push_axes(text, curves, most)?;
+    push_axes(alloc, text, curves, most)?;
     text.push("<g fill='none' stroke-width='2' stroke-linejoin='round'>\n")?;
     let tops = tops_of(alloc, curves, most)?;
     push_curves(alloc, text, curves, others, tops.as_slice(), lines)?;
@@ -129,12 +131,13 @@ fn push_head(text: &mut Text, width: u64, title: &[u8]) -> Result<(), AllocError
     Ok(())
 }
 
-/// Adds the axes.
-fn push_axes(text: &mut Text, curves: &Curves, most: u64) -> Result<(), AllocError>
+/// Adds the axes, and the marks of commands.
+fn push_axes(alloc: Global, text: &mut Text, curves: &Curves, most: u64) -> Result<(), AllocError>
     ensures { OnOk result (text.new ≡ text.old ++ axes curves.now most) }
 {
     push_height_marks(text, highest(curves, most))?;
     push_time_marks(text, curves)?;
+    push_command_marks(alloc, text, curves)?;
     push_frame(text, curves.window())?;
     Ok(())
 }
@@ -233,6 +236,44 @@ fn push_time_mark(text: &mut Text, curves: &Curves, tick: u64) -> Result<(), All
     text.push("' y='480' text-anchor='middle'>")?;
     text.push_number(curves.origin() + tick)?;
     text.push("</text>\n")?;
+    Ok(())
+}
+
+/// Adds the marks at the times of commands.
+fn push_command_marks(alloc: Global, text: &mut Text, curves: &Curves) -> Result<(), AllocError>
+    ensures { OnOk result (text.new ≡ text.old ++ command_marks curves.now) }
+{
+    let marks = marked(alloc, curves)?;
+    for mark in marks.as_slice() {
+        push_column_mark(text, curves, *mark)?;
+    }
+    Ok(())
+}
+
+/// Adds the mark of a column, if a command stands there.
+fn push_column_mark(
+    text: &mut Text,
+    curves: &Curves,
+    command: Option<u32>,
+) -> Result<(), AllocError>
+    ensures { OnOk result (text.new ≡ text.old ++ column_mark curves.now command) }
+{
+    match command {
+        None => Ok(()),
+        Some(time) => push_command_mark(text, curves, u64::from(time)),
+    }
+}
+
+/// Adds the mark at the time of a command.
+fn push_command_mark(text: &mut Text, curves: &Curves, time: u64) -> Result<(), AllocError>
+    ensures { OnOk result (text.new ≡ text.old ++ command_mark curves.now time) }
+{
+    let tick = time.saturating_sub(curves.origin());
+    text.push("<path d='M")?;
+    text.push_tenths(across(curves.last(), tick))?;
+    text.push(" 60V460' stroke='#bbbbbb' stroke-dasharray='3 3'><title>command at ")?;
+    text.push_number(time)?;
+    text.push("</title></path>\n")?;
     Ok(())
 }
 

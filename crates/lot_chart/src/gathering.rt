@@ -1,5 +1,5 @@
 //! Making the turns of a program for its curves.
-ghost use Rattle.std.specs.Prelude.{◌≡◌, ◌+◌, ◌*◌, ◌^◌, ◌<◌, ◌≤◌, [], None, IfOk, OnOk, ⊤, length, vec_len};
+ghost use Rattle.std.specs.Prelude.{◌≡◌, ◌+◌, ◌++◌, ◌*◌, ◌^◌, ◌<◌, ◌≤◌, [], None, IfOk, OnOk, ⊤, length, vec_len};
 ghost use Rattle.std.specs.Fmt.{decimal};
 ghost use Rattle.lot_machine.specs.Bounds.{IsBetween};
 ghost use Rattle.lot_curves.specs.Curves.{curves_of, name_in, names_in};
@@ -7,7 +7,7 @@ ghost use Rattle.lot_curves.specs.Stretches.{last_end};
 ghost use Rattle.lot_engine.specs.Seen.{world_of};
 ghost use Rattle.lot_playback.specs.Stages.{HasMade};
 ghost use Rattle.lot_playback.specs.Turns.{program_turns};
-ghost use Rattle.lot_chart.specs.Noted.{end_in, stretches_in};
+ghost use Rattle.lot_chart.specs.Noted.{command_time, commands_in, end_in, stretches_in};
 
 use itoa::Buffer;
 use lot_curves::{Curves, Stretch};
@@ -18,10 +18,11 @@ use lot_playback::{Observer, Playback, Turn};
 use lot_text::Program;
 use std::alloc::{AllocError, Global};
 
-/// Records the stretch of each turn, and its warning.
+/// Records the stretch of each turn, and its warning; and the times of the console's commands.
 #[derive(Drop)]
 struct Stretches<'a> {
     stretches: Vec<Stretch>,
+    commands: Vec<u32>,
     warnings: &'a mut Warnings,
 }
 
@@ -30,11 +31,13 @@ impl<'a> Observer for Stretches<'a> {
 
     ghost observed = { λ program turns first now. (now.stretches.items ≡ stretches_in [] turns)
         × (vec_len now.stretches ≤ length turns)
-        × (last_end now.stretches.items ≤ (length turns + 1) * 2 ^ 32) };
+        × (last_end now.stretches.items ≤ (length turns + 1) * 2 ^ 32)
+        × (now.commands.items ≡ commands_in turns) };
 
     ghost awaits = { λ program turns world actor first now. (now.stretches.items ≡ stretches_in [] turns)
         × (vec_len now.stretches ≤ length turns)
-        × (last_end now.stretches.items ≤ (length turns + 1) * 2 ^ 32) };
+        × (last_end now.stretches.items ≤ (length turns + 1) * 2 ^ 32)
+        × (now.commands.items ≡ commands_in turns) };
 
     ghost stopped = { λ program turns first now fault. ⊤ };
 
@@ -52,8 +55,21 @@ impl<'a> Observer for Stretches<'a> {
         let stretch = Stretch::new(end_of(system, turn), turn.reply);
         self.warnings.note(system, turn);
         self.stretches.push(stretch)?;
+        push_command(&mut self.commands, turn)?;
         Ok(())
     }
+}
+
+/// Adds the turn's time, if it has one and is the console's.
+fn push_command(commands: &mut Vec<u32>, turn: &Turn) -> Result<(), AllocError>
+    ensures { OnOk result (commands.new.items ≡ commands.old.items ++ command_time turn.now.time turn.now.actor) }
+{
+    if let Some(time) = turn.time
+        && turn.actor == 0
+    {
+        commands.push(time)?;
+    }
+    Ok(())
 }
 
 /// The time at which the system's last turn ended: its own time, or, if it has none, its actor's own time.
@@ -78,36 +94,42 @@ pub fn gather(
     ensures { IfOk result (λ curves. curves ≡ curves_of program.now) }
 {
     let mut playback = Playback::open(alloc, program)?;
-    let stretches = note_turns(alloc, program, &mut playback, warnings)?;
+    let (stretches, commands) = note_turns(alloc, program, &mut playback, warnings)?;
     let (mut system, order) = playback.into_parts();
     note_last(program, &mut system, &order, warnings);
     let names = names_of(alloc, &mut system)?;
-    Ok(Curves::new(names, stretches))
+    Ok(Curves::new(names, stretches, commands))
 }
 
-/// Makes the program's turns, and records the stretch of each, and its warning.
+/// Makes the program's turns, and records the stretch of each, and its warning; and the times of the commands.
 fn note_turns(
     alloc: Global,
     program: &Program,
     playback: &mut Playback,
     warnings: &mut Warnings,
-) -> Result<Vec<Stretch>, AllocError>
+) -> Result<(Vec<Stretch>, Vec<u32>), AllocError>
     requires none { playback.old.made ≡ 0 }
     requires made { HasMade program.now [] playback.old.seen }
     ensures made { OnOk result (HasMade program.now (program_turns program.now) playback.new.seen) }
-    ensures noted { IfOk result (λ stretches. stretches.items ≡ stretches_in [] (program_turns program.now)) }
-    ensures few { IfOk result (λ stretches. vec_len stretches < 2 ^ 32) }
-    ensures early { IfOk result (λ stretches. last_end stretches.items < 2 ^ 56) }
+    ensures noted { IfOk result (λ noted. noted.0.items ≡ stretches_in [] (program_turns program.now)) }
+    ensures commands { IfOk result (λ noted. noted.1.items ≡ commands_in (program_turns program.now)) }
+    ensures few { IfOk result (λ noted. vec_len noted.0 < 2 ^ 32) }
+    ensures early { IfOk result (λ noted. last_end noted.0.items < 2 ^ 56) }
 {
     let schedule = program.schedule();
     let room = Vec::with_capacity(alloc, schedule.len())?;
     let mut noted = Stretches {
         stretches: room,
+        commands: Vec::new(alloc),
         warnings,
     };
     play_through(program, playback, &mut noted)?;
-    let Stretches { stretches, .. } = noted;
-    Ok(stretches)
+    let Stretches {
+        stretches,
+        commands,
+        ..
+    } = noted;
+    Ok((stretches, commands))
 }
 
 /// The columns' names, in ascending order of number: each is that of the last thread with the number.

@@ -1,7 +1,7 @@
 //! Bounds and order of pictures and tables, the curves of turns, and their ends: laws of the definitions, without
 //! executable code.
 ghost use Rattle.std.specs.Prelude.{◌≡◌, ◌==◌, ◌≤◌, ◌<◌, ◌+◌, ◌-◌, ◌*◌, ◌^◌, ℕ, [], ◌∷◌, false};
-ghost use Rattle.std.specs.Prelude.{All, AllPairs, List, filter, length, map, slice_index, Some, unwrap_or};
+ghost use Rattle.std.specs.Prelude.{All, AllPairs, Contains, List, true, filter, length, map, slice_get, slice_index, Some, unwrap_or};
 ghost use Rattle.lot_machine.specs.Bounds.{IsBetween, IsWithinBounds};
 ghost use Rattle.lot_curves.specs.declared.stretch.Measure.{Measure as Measured};
 ghost use Rattle.lot_curves.specs.Curves as curves;
@@ -9,6 +9,7 @@ ghost use Rattle.lot_curves.specs.Stretches.{last_end, had_at, stretches_of};
 ghost use Rattle.lot_chart.specs.declared.standings.Standing.{Standing as StandingRecord};
 ghost use Rattle.lot_chart.specs.Charts.{chart};
 ghost use Rattle.lot_chart.specs.Lines.{lines_of};
+ghost use Rattle.lot_chart.specs.Marks.{column_of, is_within, marked, stands_in};
 ghost use Rattle.lot_chart.specs.Ranking.{IsBefore};
 ghost use Rattle.lot_chart.specs.Standings.{ranked, selection};
 ghost use Rattle.lot_chart.specs.Tables.{table};
@@ -40,12 +41,27 @@ pub fn names_do_not_overlap()
         → All (λ line. line.place ≤ 4600) (lines_of most shown) }
 {}
 
-/// A picture of threads whose names have at most 16 bytes, as all names do, has at most 34000 bytes plus ten for each
-/// byte of its title. Any `Curves` meets the other premises too: it begins before 2 ^ 56, and its window is a `u32`.
+/// Each mark is at the time of a command that stands in its column, after the left edge and not after the right one; and
+/// each command in the picture stands in a column with a mark.
+pub fn marks_are_of_commands()
+    ensures commands { (curves : curves.Curves) (column time : ℕ)
+        → slice_get (marked curves) column ≡ Some (Some time)
+        → Contains curves.commands time × (stands_in curves column time ≡ true) }
+    ensures all { (curves : curves.Curves) (time : ℕ) → Contains curves.commands time
+        → is_within curves time ≡ true
+        → (earlier : ℕ) × (slice_get (marked curves) (column_of curves time) ≡ Some (Some earlier)) }
+{}
+
+/// A picture of threads whose names have at most 16 bytes, as all names do, has at most 107000 bytes plus ten for each
+/// byte of its title, however many commands there are, and at most 34000 plus these ten if there are none. Any `Curves`
+/// meets the other premises too: it begins before 2 ^ 56, and its window and the times of its commands are `u32`.
 pub fn pictures_are_short()
-    ensures { (title : List ℕ) (curves : curves.Curves) → All (λ name. length name ≤ 16) curves.names
-        → curves.origin < 2 ^ 56 → unwrap_or curves.window 0 < 2 ^ 32
-        → length (chart title curves) ≤ 34000 + 10 * length title }
+    ensures marked { (title : List ℕ) (curves : curves.Curves) → All (λ time. time < 2 ^ 32) curves.commands
+        → All (λ name. length name ≤ 16) curves.names → curves.origin < 2 ^ 56
+        → unwrap_or curves.window 0 < 2 ^ 32 → length (chart title curves) ≤ 107000 + 10 * length title }
+    ensures plain { (title : List ℕ) (curves : curves.Curves) → curves.commands ≡ []
+        → All (λ name. length name ≤ 16) curves.names → curves.origin < 2 ^ 56
+        → unwrap_or curves.window 0 < 2 ^ 32 → length (chart title curves) ≤ 34000 + 10 * length title }
 {}
 
 /// A table of threads whose names have at most 16 bytes, as all names do, has at most 4226 bytes plus 4238 for each

@@ -9,6 +9,7 @@ mod escapes;
 mod gathering;
 pub mod laws;
 mod lines;
+mod marks;
 pub mod rows;
 mod shares;
 mod showing;

@@ -5,8 +5,8 @@ ghost use Rattle.lot_curves.specs.Curves.{windowed};
 ghost use Rattle.lot_curves.specs.Intervals.{curves_within};
 ghost use Rattle.lot_simulation.specs.Samples.{text};
 ghost use Rattle.lot_chart.specs.Axes.{time_marks};
-ghost use Rattle.lot_chart.specs.Charts.{chart};
-ghost use Rattle.lot_chart.specs.Samples.{seven_tick_curves, three_tick_curves, three_tick_picture};
+ghost use Rattle.lot_chart.specs.Charts.{chart, command_marks};
+ghost use Rattle.lot_chart.specs.Samples.{commanded_curves, seven_tick_curves, three_tick_curves, three_tick_picture};
 ghost use Rattle.lot_chart.specs.Samples.{three_tick_window_picture};
 ghost use Rattle.lot_chart.specs.Shown.{shares_output};
 ghost use Rattle.lot_chart.specs.Tables.{table};
@@ -52,10 +52,28 @@ pub fn windows()
 {}
 
 /// The run as a picture, with a title that needs escapes; and its shares of the last two ticks.
-#[tactic(auto, unfolding(lot_simulation::specs::OnLiterals::texts_on_literals, crate::specs::Charts::picture))]
+#[tactic(auto, unfolding(lot_simulation::specs::OnLiterals::texts_on_literals, crate::specs::Charts::picture, crate::specs::Marks::marked))]
 pub fn pictures()
     ensures whole { chart (codes "a < b") three_tick_curves ≡ three_tick_picture }
     ensures window { chart (codes "a < b") (windowed (Some 2) three_tick_curves) ≡ three_tick_window_picture }
+{}
+
+/// A column is about ten ticks wide. The commands at 11, 12 and 20 stand in one and share a mark, and so do the two at
+/// 3500. The one at tick 0, on the left edge, and the one after the last tick have none. From tick 11 to 3511 a column is
+/// half as wide, and the command at 11 is on the left edge.
+#[tactic(auto, unfolding(lot_simulation::specs::OnLiterals::texts_on_literals, crate::specs::Marks::marked))]
+pub fn marks()
+    ensures whole { command_marks commanded_curves
+        ≡ text (codes "<path d='M101.0 60V460' stroke='#bbbbbb' stroke-dasharray='3 3'><title>command at 11</title></path>"
+        ∷ codes "<path d='M435.0 60V460' stroke='#bbbbbb' stroke-dasharray='3 3'><title>command at 3500</title></path>"
+        ∷ codes "<path d='M770.0 60V460' stroke='#bbbbbb' stroke-dasharray='3 3'><title>command at 7000</title></path>"
+        ∷ []) }
+    ensures interval { command_marks (curves_within (Some (record { from = 11; to = Some 3511 })) commanded_curves)
+        ≡ text (codes "<path d='M100.1 60V460' stroke='#bbbbbb' stroke-dasharray='3 3'><title>command at 12</title></path>"
+        ∷ codes "<path d='M101.7 60V460' stroke='#bbbbbb' stroke-dasharray='3 3'><title>command at 20</title></path>"
+        ∷ codes "<path d='M767.8 60V460' stroke='#bbbbbb' stroke-dasharray='3 3'><title>command at 3500</title></path>"
+        ∷ []) }
+    ensures none { command_marks three_tick_curves ≡ [] }
 {}
 
 /// Thread 1 ends at tick 2. At tick 3 it is removed, and thread 3 gets its name. The removed thread keeps its column,

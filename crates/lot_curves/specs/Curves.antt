@@ -1,5 +1,5 @@
 -- Each thread's ticks or draws at each sample.
-use Rattle.std.specs.Prelude.{ℕ, ◌+◌, ◌*◌, ◌/◌, min, max, Option, Some, None, List, [], map, unwrap_or, if◌then◌else◌}
+use Rattle.std.specs.Prelude.{ℕ, ◌+◌, ◌*◌, ◌/◌, ◌==◌, min, max, Option, Some, None, List, [], filter, map, unwrap_or, if◌then◌else◌}
 use Rattle.std.specs.Fmt.{decimal}
 use Rattle.std.specs.List.{range_with_len}
 use Rattle.lot_machine.specs.Commands.{is_no_name}
@@ -17,12 +17,14 @@ use Rattle.lot_curves.specs.Windows.{had_in}
 -- The names of the columns, one for each number of a thread in ascending order, and the stretches of the turns. If
 -- numbers are given again, a column counts the turns of each thread that had its number. The stretches count their ticks
 -- from the origin, the tick at which the curves begin. With a window, the curves show at each tick what is in the
--- window that ends there, and otherwise all up to it.
+-- window that ends there, and otherwise all up to it. The times of the console's commands count from tick 0; turns of a
+-- schedule have none.
 pub record Curves : Type 0 where
   pub names : List (List ℕ)
   pub stretches : List Stretch
   pub origin : ℕ
   pub window : Option ℕ
+  pub commands : List ℕ
 
 -- a thread's name, or its number if it has no name
 abbrev pub name_or_number : List ℕ → ℕ → List ℕ
@@ -44,6 +46,10 @@ stretches_made program history = map stretch_of (own_turns program history)
 abbrev pub timed_stretches : Program → List Stretch
 timed_stretches program = map (λ done. stretch_of (record { time = done.time; answer = done.turn.answer })) (timed_turns program)
 
+-- the times at which the console makes the timed program's commands
+abbrev pub command_times : Program → List ℕ
+command_times program = map (λ done. done.time) (filter (λ done. done.actor == 0) (timed_turns program))
+
 -- The curves in a world, with the stretches of the program's run with its history. A column has the name of the last
 -- thread with its number, and the stretches of all of them.
 abbrev pub curves_in : Program → World → Curves
@@ -52,6 +58,7 @@ curves_in program w = record {
   stretches = stretches_made program w.history;
   origin = 0;
   window = None;
+  commands = [];
 }
 
 -- the curves of the program's schedule
@@ -65,6 +72,7 @@ timed_curves program = record {
   stretches = timed_stretches program;
   origin = 0;
   window = None;
+  commands = command_times program;
 }
 
 -- the curves of the program: those of its timed turns if it has a duration, and otherwise those of its schedule

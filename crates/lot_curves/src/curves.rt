@@ -25,6 +25,8 @@ pub struct Curves {
     last: u64,
     /// The number of last ticks that are shown at each tick, or none for all.
     window: Option<u32>,
+    /// The times of the console's commands, which count from tick 0.
+    commands: Vec<u32>,
 }
 
 impl Model for Curves {
@@ -39,6 +41,7 @@ impl Model for Curves {
       stretches = c.stretches.items;
       origin = c.origin;
       window = c.window;
+      commands = c.commands.items;
     } };
 
     ghost invariant = { λ c. record {
@@ -50,12 +53,19 @@ impl Model for Curves {
 }
 
 impl Curves {
-    /// The curves of columns with these names, from the stretches of the turns. They begin at tick 0, without a window.
-    pub fn new(names: Vec<Name>, stretches: Vec<Stretch>) -> Curves
+    /// The curves of columns with these names, from the stretches of the turns and the times of the console's commands.
+    /// They begin at tick 0, without a window.
+    pub fn new(names: Vec<Name>, stretches: Vec<Stretch>, commands: Vec<u32>) -> Curves
         requires threads { vec_len names < 2 ^ 32 }
         requires turns { vec_len stretches < 2 ^ 32 }
         requires early { last_end stretches.items < 2 ^ 56 }
-        ensures { result ≡ record { names = names.items; stretches = stretches.items; origin = 0; window = None } }
+        ensures { result ≡ record {
+          names = names.items;
+          stretches = stretches.items;
+          origin = 0;
+          window = None;
+          commands = commands.items;
+        } }
     {
         let last = last_of(stretches.as_slice());
         Curves {
@@ -64,6 +74,7 @@ impl Curves {
             origin: 0,
             last,
             window: None,
+            commands,
         }
     }
 
@@ -92,6 +103,7 @@ impl Curves {
             origin,
             last,
             window,
+            commands,
         } = self;
         cut(stretches.as_mut_slice(), from, to);
         Curves {
@@ -100,6 +112,7 @@ impl Curves {
             origin: origin + from,
             last: last.min(to).saturating_sub(from),
             window,
+            commands,
         }
     }
 
@@ -143,6 +156,13 @@ impl Curves {
         ensures { result ≡ self.now.window }
     {
         self.window
+    }
+
+    /// The times of the console's commands, which count from tick 0 also if the curves begin later.
+    pub fn commands(&self) -> &[u32]
+        ensures { result.now ≡ self.now.commands }
+    {
+        self.commands.as_slice()
     }
 
     /// The end of the last turn.

@@ -10,4 +10,4 @@ note_last-requires-clause-program c =
 pub returns : goal.returns
 returns c =
     c.new.ensures
-    ∙ gathered c.args.program.now c.note_last.new.system c.in_ok-names.names.items c.in_ok-stretches.stretches.items (c.note_last.ensures.same ∙ c.into_parts-system.ensures.system) c.in_ok-stretches.ensures.made c.in_ok-names.ensures.names c.in_ok-stretches.ensures.noted
+    ∙ gathered c.args.program.now c.note_last.new.system c.in_ok-names.names.items c.in_ok-stretches.stretches.items c.in_ok-stretches.commands.items (c.note_last.ensures.same ∙ c.into_parts-system.ensures.system) c.in_ok-stretches.ensures.made c.in_ok-names.ensures.names c.in_ok-stretches.ensures.noted c.in_ok-stretches.ensures.commands

@@ -1,5 +1,8 @@
-use Rattle.lot_chart.proofs.Sizes.{chart-short}
+use Rattle.lot_chart.proofs.Sizes.{chart-marked, chart-plain}
 use Rattle.lot_chart.proofs.laws.pictures_are_short.Goals as goal
 
-pub returns : goal.returns
-returns c = chart-short
+pub returns-clause-marked : goal.returns-clause-marked
+returns-clause-marked c = chart-marked
+
+pub returns-clause-plain : goal.returns-clause-plain
+returns-clause-plain c = chart-plain

@@ -34,7 +34,7 @@ fn three_ticks(alloc: Global) -> Result<Curves, Fail> {
     for (end, reply) in [(0u32, won(1)), (2, ran(1, 2)), (2, won(2)), (3, ran(2, 1))] {
         stretches.push(Stretch::new(u64::from(end), reply))?;
     }
-    Ok(Curves::new(names, stretches))
+    Ok(Curves::new(names, stretches, Vec::new(alloc)))
 }
 
 /// Thread a runs for a tick, thread b for two, and so on, each from tick 0 on.
@@ -51,7 +51,7 @@ fn thirteen_threads(alloc: Global) -> Result<Curves, Fail> {
         let reply = Reply::Expired { thread, ticks };
         stretches.push(Stretch::new(u64::from(ticks), reply))?;
     }
-    Ok(Curves::new(names, stretches))
+    Ok(Curves::new(names, stretches, Vec::new(alloc)))
 }
 
 /// Compares the table of the curves.
@@ -85,8 +85,9 @@ fn tables_with_a_window(rt: HostRuntime) -> Result<(), Fail> {
 
 #[test]
 fn tables_of_nothing(rt: HostRuntime) {
-    let none = Curves::new(Vec::new(rt.alloc()), Vec::new(rt.alloc()));
-    check_table(&rt, rt.alloc(), &none, Measure::Ticks, "tick\n0\n");
+    let alloc = rt.alloc();
+    let none = Curves::new(Vec::new(alloc), Vec::new(alloc), Vec::new(alloc));
+    check_table(&rt, alloc, &none, Measure::Ticks, "tick\n0\n");
 }
 
 /// Draws the curves, and looks for these parts of the picture.

@@ -34,7 +34,7 @@ fn two_threads(alloc: Global) -> Result<Curves, Fail>
     ] {
         stretches.push(Stretch::new(u64::from(end), reply))?;
     }
-    Ok(Curves::new(names, stretches))
+    Ok(Curves::new(names, stretches, Vec::new(alloc)))
 }
 
 /// The two threads' numbers at this tick.

@@ -109,3 +109,16 @@ fn pictures_with_removed(rt: HostRuntime) {
         check_same_at(&rt, &part, &picture.as_str().contains(part), &true);
     }
 }
+
+/// The three commands at tick 3 of 5 share a mark, the only one: the command at tick 0 has none. The frame follows. The
+/// commands of a schedule have no marks.
+#[test]
+fn pictures_with_commands(rt: HostRuntime) {
+    let (_, picture) = drawn(&rt, rt.alloc(), REMOVED);
+    let marks = "<text x='770.0' y='480' text-anchor='middle'>5</text>\n\
+        <path d='M502.0 60V460' stroke='#bbbbbb' stroke-dasharray='3 3'><title>command at 3</title></path>\n\
+        <path d='M100 60V460H770'";
+    check_same(&rt, &picture.as_str().contains(marks), &true);
+    let (_, picture) = drawn(&rt, rt.alloc(), SCHEDULED);
+    check_same(&rt, &picture.as_str().contains("command at"), &false);
+}

@@ -1,7 +1,7 @@
 use Rattle.std.proofs.Common.{[], ◌∷◌, ◌∙◌, ap, sym, arith, length-append}
 use Rattle.lot_curves.specs.declared.stretch.Stretch.{Stretch}
 use Rattle.lot_simulation.specs.World.{Program}
-use Rattle.lot_chart.proofs.Notes.{answered-noted, early-noted, ended-noted}
+use Rattle.lot_chart.proofs.Notes.{answered-noted, commands-noted, early-noted, ended-commands, ended-noted}
 use Rattle.lot_chart.proofs.gathering.StretchesObserver.after.Goals as goal
 
 pub end_of-requires : goal.end_of-requires
@@ -16,6 +16,7 @@ returns-then-turn-clause-ok c turns made first just noted =
       ended-noted c.args.program.now turns made c.args.turn.now c.args.system.now just c.if-turn.true c.args.self.now.stretches.items noted.0,
       omega (arith, noted.1, longer),
       omega (arith, noted.2, longer),
+      ended-commands c.args.program.now turns made c.args.turn.now c.args.system.now just c.if-turn.true c.args.self.now.commands.items noted.3,
     )
 
 pub returns-clause-ok : goal.returns-clause-ok
@@ -27,4 +28,5 @@ returns-clause-ok c turns made first just noted =
       answered-noted c.args.program.now turns made c.args.turn.now c.args.system.now just c.if-turn.false c.end_of.result c.end_of.ensures.end items after c.new-stretch.result stretch noted.0 pushed.items,
       omega (arith, pushed.len, noted.1, length-append turns (made ∷ [])),
       early-noted c.args.program.now turns made c.args.turn.now c.args.system.now just c.end_of.result items after c.new-stretch.result c.end_of.ensures.early (ap (λ (s : Stretch). s.end) stretch) noted.2 pushed.items,
+      commands-noted c.args.program.now turns made c.args.turn.now c.args.system.now just c.args.self.now.commands.items c.push_command.new.commands.items noted.3 c.in_ok-push_command.ensures,
     )
