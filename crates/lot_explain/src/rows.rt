@@ -87,8 +87,9 @@ pub fn in_time()
         ∷ codes "9 1 lot thread 2 b weight 1 from 1 below 2" ∷ codes "9 1 draw 0.82 of 2 thread 1"
         ∷ codes "12 1 thread 1 ticks 3 yield" ∷ codes "12 1 lot thread 1 a weight 3 = value 1 x 9 / 3 from 0 below 3"
         ∷ codes "12 1 lot thread 2 b weight 1 from 3 below 4 wins" ∷ codes "12 1 draw 3.257 of 4 thread 2"
-        ∷ codes "report" ∷ codes "thread 1 a quanta 1 ticks 3 share 25% value 50%"
-        ∷ codes "thread 2 b quanta 2 ticks 9 share 75% value 50%"
+        ∷ codes "report"
+        ∷ codes "thread 1 a quanta 1 ticks 3 share 25% due 50% value 50% ready waits 1 mean 9 longest 9"
+        ∷ codes "thread 2 b quanta 2 ticks 9 share 75% due 50% value 50% ready waits 2 mean 1.5 longest 3"
         ∷ codes "processor 1 quanta 3 idle 0 ticks 12 unused 0"
         ∷ codes "total turns 7 quanta 3 ticks 12 refused 0 left 0" ∷ []) }
 {}
@@ -105,9 +106,9 @@ pub fn behind_the_point()
         ∷ codes "0 1 lot thread 2 b weight 33.332 from 33.332 below 66.664"
         ∷ codes "0 1 lot thread 3 c weight 33.332 from 66.664 below 99.996"
         ∷ codes "0 1 draw 5.503 of 99.996 thread 1" ∷ codes "report"
-        ∷ codes "thread 1 a quanta 1 ticks 0 share 0% value 33.333%"
-        ∷ codes "thread 2 b quanta 0 ticks 0 share 0% value 33.333%"
-        ∷ codes "thread 3 c quanta 0 ticks 0 share 0% value 33.333%"
+        ∷ codes "thread 1 a quanta 1 ticks 0 share 0% due 0% value 33.333% ready waits 1 mean 0 longest 0"
+        ∷ codes "thread 2 b quanta 0 ticks 0 share 0% due 0% value 33.333%"
+        ∷ codes "thread 3 c quanta 0 ticks 0 share 0% due 0% value 33.333%"
         ∷ codes "processor 1 quanta 1 idle 0 ticks 0 unused 0"
         ∷ codes "total turns 7 quanta 1 ticks 0 refused 0 left 0" ∷ []) }
 {}

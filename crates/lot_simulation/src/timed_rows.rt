@@ -23,8 +23,8 @@ pub fn two_spinners()
         ∷ codes "100 1 thread 2 ticks 100 expire" ∷ codes "100 1 draw 13.281 of 15 thread 2"
         ∷ codes "200 1 thread 2 ticks 100 expire" ∷ codes "200 1 draw 13.921 of 15 thread 2"
         ∷ codes "300 1 thread 2 ticks 100 expire" ∷ codes "300 1 draw 1.363 of 15 thread 1" ∷ codes "report"
-        ∷ codes "thread 1 a quanta 1 ticks 0 share 0% value 66.666%"
-        ∷ codes "thread 2 b quanta 3 ticks 300 share 100% value 33.333%"
+        ∷ codes "thread 1 a quanta 1 ticks 0 share 0% due 66.666% value 66.666% ready waits 1 mean 300 longest 300"
+        ∷ codes "thread 2 b quanta 3 ticks 300 share 100% due 33.333% value 33.333% ready waits 3 mean 0 longest 0"
         ∷ codes "processor 1 quanta 4 idle 0 ticks 300 unused 0"
         ∷ codes "total turns 9 quanta 4 ticks 300 refused 0 left 0" ∷ []) }
 {}
@@ -38,8 +38,8 @@ pub fn commands_in_time()
         ≡ text (codes "0 0 funded 1 1" ∷ codes "0 1 draw 7.992 of 10 thread 1"
         ∷ codes "100 1 thread 1 ticks 100 expire" ∷ codes "100 1 draw 3.281 of 10 thread 1" ∷ codes "150 0 funded 2 2"
         ∷ codes "200 1 thread 1 ticks 100 expire" ∷ codes "200 1 draw 23.921 of 40 thread 2" ∷ codes "report"
-        ∷ codes "thread 1 a quanta 2 ticks 200 share 100% value 25%"
-        ∷ codes "thread 2 b quanta 1 ticks 0 share 0% value 75% made 150"
+        ∷ codes "thread 1 a quanta 2 ticks 200 share 100% due 62.5% value 25% ready waits 2 mean 0 longest 0"
+        ∷ codes "thread 2 b quanta 1 ticks 0 share 0% due 37.5% value 75% ready waits 1 mean 50 longest 50 made 150"
         ∷ codes "processor 1 quanta 3 idle 0 ticks 200 unused 0"
         ∷ codes "total turns 7 quanta 3 ticks 200 refused 0 left 1" ∷ []) }
 {}
@@ -53,7 +53,7 @@ pub fn console_first()
         ≡ text (codes "0 0 funded 1 1" ∷ codes "0 1 draw 9.035 of 10 thread 1" ∷ codes "100 0 lsthr 1"
         ∷ codes "100 thread 1 a running 1 used 0 value 10 weight 10 quanta 1 ticks 0"
         ∷ codes "100 1 thread 1 ticks 100 expire" ∷ codes "100 1 draw 1.386 of 10 thread 1" ∷ codes "report"
-        ∷ codes "thread 1 a quanta 2 ticks 100 share 100% value 100%"
+        ∷ codes "thread 1 a quanta 2 ticks 100 share 100% due 100% value 100% ready waits 2 mean 0 longest 0"
         ∷ codes "processor 1 quanta 2 idle 0 ticks 100 unused 0"
         ∷ codes "total turns 5 quanta 2 ticks 100 refused 0 left 0" ∷ []) }
 {}
@@ -66,7 +66,8 @@ pub fn one_time()
         ≡ text (codes "0 0 funded 1 1" ∷ codes "0 1 draw 7.992 of 10 thread 1" ∷ codes "0 2 idle"
         ∷ codes "10 1 thread 1 ticks 10 expire" ∷ codes "10 1 draw 3.281 of 10 thread 1" ∷ codes "10 2 idle"
         ∷ codes "13 1 thread 1 ticks 3 exit" ∷ codes "13 1 idle" ∷ codes "13 2 idle" ∷ codes "report"
-        ∷ codes "thread 1 a quanta 2 ticks 13 share 100% value 0% made 0 ended 13"
+        ∷ (codes "thread 1 a quanta 2 ticks 13 share 100% due 99.999% value 0%"
+            ++ codes " ready waits 2 mean 0 longest 0 made 0 ended 13")
         ∷ codes "processor 1 quanta 2 idle 1 ticks 13 unused 12"
         ∷ codes "processor 2 quanta 0 idle 3 ticks 0 unused 25"
         ∷ codes "total turns 9 quanta 2 ticks 13 refused 0 left 0 ended 1 mean 13 longest 13" ∷ []) }
@@ -84,8 +85,10 @@ pub fn waits_for_replies()
         ∷ codes "3 1 thread 1 ticks 1 receive 1 client 2 got 41" ∷ codes "7 1 thread 1 ticks 4 reply client 2"
         ∷ codes "8 1 thread 1 ticks 1 exit" ∷ codes "8 1 draw 13.921 of 15 thread 2 got 41"
         ∷ codes "9 1 thread 2 ticks 1 exit" ∷ codes "9 1 idle" ∷ codes "report"
-        ∷ codes "thread 1 s quanta 1 ticks 6 share 66.666% value 0% made 0 ended 8"
-        ∷ codes "thread 2 c quanta 2 ticks 3 share 33.333% value 0% reply waits 1 mean 5 longest 5 made 0 ended 9"
+        ∷ (codes "thread 1 s quanta 1 ticks 6 share 66.666% due 76.388% value 0%"
+            ++ codes " ready waits 1 mean 2 longest 2 made 0 ended 8")
+        ∷ (codes "thread 2 c quanta 2 ticks 3 share 33.333% due 23.611% value 0%"
+            ++ codes " ready waits 2 mean 0.5 longest 1 reply waits 1 mean 5 longest 5 made 0 ended 9")
         ∷ codes "processor 1 quanta 3 idle 1 ticks 9 unused 31"
         ∷ codes "total turns 11 quanta 3 ticks 9 refused 0 left 0 ended 2 mean 8.5 longest 9" ∷ []) }
 {}
@@ -106,9 +109,11 @@ pub fn serving()
         ∷ codes "7 1 thread 2 ticks 1 call 1 served by 1" ∷ codes "7 1 draw 1.828 of 15 thread 1 got 0"
         ∷ codes "9 1 thread 1 ticks 2 reply client 2 receive 1 waits" ∷ codes "9 1 draw 22.316 of 30 thread 2 got 0"
         ∷ codes "10 1 thread 2 ticks 1 exit" ∷ codes "10 1 idle" ∷ codes "report"
-        ∷ codes "thread 1 s quanta 3 ticks 5 share 55.555% value 0%"
-        ∷ codes "thread 2 a quanta 2 ticks 2 share 22.222% value 0% reply waits 1 mean 2 longest 2 made 2 ended 10"
-        ∷ codes "thread 3 b quanta 2 ticks 2 share 22.222% value 0% reply waits 1 mean 2 longest 2 made 2 ended 6"
+        ∷ codes "thread 1 s quanta 3 ticks 5 share 55.555% due 42.222% value 0% ready waits 3 mean 0 longest 0"
+        ∷ (codes "thread 2 a quanta 2 ticks 2 share 22.222% due 48.888% value 0%"
+            ++ codes " ready waits 2 mean 2 longest 4 reply waits 1 mean 2 longest 2 made 2 ended 10")
+        ∷ (codes "thread 3 b quanta 2 ticks 2 share 22.222% due 8.888% value 0%"
+            ++ codes " ready waits 2 mean 0 longest 0 reply waits 1 mean 2 longest 2 made 2 ended 6")
         ∷ codes "processor 1 quanta 7 idle 2 ticks 9 unused 51"
         ∷ codes "total turns 20 quanta 7 ticks 9 refused 0 left 0 ended 2 mean 6 longest 8" ∷ []) }
 {}
@@ -132,9 +137,12 @@ pub fn waits_for_mutexes()
         ∷ codes "16 1 thread 3 ticks 3 yield" ∷ codes "16 1 draw 2.316 of 2.5 thread 3"
         ∷ codes "17 1 thread 3 ticks 1 unlock 1 free" ∷ codes "18 1 thread 3 ticks 1 exit" ∷ codes "18 1 idle"
         ∷ codes "report"
-        ∷ codes "thread 1 a quanta 3 ticks 6 share 33.333% value 0% mutex waits 1 mean 1 longest 1 made 0 ended 12"
-        ∷ codes "thread 2 b quanta 3 ticks 6 share 33.333% value 0% made 0 ended 7"
-        ∷ codes "thread 3 c quanta 2 ticks 6 share 33.333% value 0% made 0 ended 18"
+        ∷ (codes "thread 1 a quanta 3 ticks 6 share 33.333% due 37.499% value 0%"
+            ++ codes " ready waits 3 mean 1.666 longest 4 mutex waits 1 mean 1 longest 1 made 0 ended 12")
+        ∷ (codes "thread 2 b quanta 3 ticks 6 share 33.333% due 15.74% value 0%"
+            ++ codes " ready waits 3 mean 0.333 longest 1 made 0 ended 7")
+        ∷ (codes "thread 3 c quanta 2 ticks 6 share 33.333% due 46.759% value 0%"
+            ++ codes " ready waits 2 mean 6 longest 12 made 0 ended 18")
         ∷ codes "processor 1 quanta 8 idle 1 ticks 18 unused 42"
         ∷ codes "total turns 24 quanta 8 ticks 18 refused 0 left 0 ended 3 mean 12.333 longest 18" ∷ []) }
 {}
@@ -153,9 +161,9 @@ pub fn behind_the_point()
         ∷ codes "0 thread 2 b ready value 33.332 weight 33.332 quanta 0 ticks 0"
         ∷ codes "0 thread 3 c ready value 33.332 weight 33.332 quanta 0 ticks 0"
         ∷ codes "0 1 draw 5.503 of 99.996 thread 1" ∷ codes "report"
-        ∷ codes "thread 1 a quanta 1 ticks 0 share 0% value 33.333%"
-        ∷ codes "thread 2 b quanta 0 ticks 0 share 0% value 33.333%"
-        ∷ codes "thread 3 c quanta 0 ticks 0 share 0% value 33.333%"
+        ∷ codes "thread 1 a quanta 1 ticks 0 share 0% due 0% value 33.333% ready waits 1 mean 0 longest 0"
+        ∷ codes "thread 2 b quanta 0 ticks 0 share 0% due 0% value 33.333%"
+        ∷ codes "thread 3 c quanta 0 ticks 0 share 0% due 0% value 33.333%"
         ∷ codes "processor 1 quanta 1 idle 0 ticks 0 unused 0"
         ∷ codes "total turns 9 quanta 1 ticks 0 refused 0 left 0" ∷ []) }
 {}
@@ -178,9 +186,9 @@ pub fn amounts_in_time()
         ∷ codes "150 thread 3 c ready value 5 weight 5 quanta 0 ticks 0" ∷ codes "200 1 thread 1 ticks 100 expire"
         ∷ codes "200 1 draw 7.484 of 15 thread 2" ∷ codes "250 0 done" ∷ codes "300 1 thread 2 ticks 100 expire"
         ∷ codes "300 1 draw 6.195 of 10 thread 3" ∷ codes "report"
-        ∷ codes "thread 1 a quanta 1 ticks 100 share 33.333% value 10%"
-        ∷ codes "thread 2 b quanta 2 ticks 200 share 66.666% value 40%"
-        ∷ codes "thread 3 c quanta 1 ticks 0 share 0% value 50%"
+        ∷ codes "thread 1 a quanta 1 ticks 100 share 33.333% due 18.888% value 10% ready waits 1 mean 100 longest 100"
+        ∷ codes "thread 2 b quanta 2 ticks 200 share 66.666% due 42.222% value 40% ready waits 2 mean 50 longest 100"
+        ∷ codes "thread 3 c quanta 1 ticks 0 share 0% due 38.888% value 50% ready waits 1 mean 300 longest 300"
         ∷ codes "processor 1 quanta 4 idle 0 ticks 300 unused 0"
         ∷ codes "total turns 18 quanta 4 ticks 300 refused 2 left 0" ∷ []) }
 {}
@@ -205,8 +213,9 @@ pub fn threads_removed()
         ∷ codes "15 1 draw 3.921 of 4 thread 3" ∷ codes "20 1 thread 3 ticks 5 exit"
         ∷ codes "20 1 draw 0.363 of 1 thread 2" ∷ codes "30 1 thread 2 ticks 10 expire"
         ∷ codes "30 1 draw 0.738 of 1 thread 2" ∷ codes "report"
-        ∷ codes "thread 2 b quanta 3 ticks 20 share 66.666% value 100%"
-        ∷ codes "thread 3 a quanta 1 ticks 5 share 16.666% value 0% made 8 ended 20"
+        ∷ codes "thread 2 b quanta 3 ticks 20 share 66.666% due 50% value 100% ready waits 3 mean 3.333 longest 5"
+        ∷ (codes "thread 3 a quanta 1 ticks 5 share 16.666% due 37.5% value 0%"
+            ++ codes " ready waits 1 mean 7 longest 7 made 8 ended 20")
         ∷ codes "processor 1 quanta 5 idle 0 ticks 30 unused 0"
         ∷ codes "total turns 23 quanta 5 ticks 30 refused 6 left 0 ended 2 mean 8.5 longest 12" ∷ []) }
 {}
@@ -228,9 +237,9 @@ pub fn threads_kept()
         ∷ codes "6 1 thread 3 ticks 1 receive 1 client 2 got 0" ∷ codes "7 1 thread 3 ticks 1 exit" ∷ codes "7 1 idle"
         ∷ codes "8 0 done" ∷ codes "8 0 refused 7 InUse" ∷ codes "8 0 done" ∷ codes "8 0 refused 7 InUse"
         ∷ codes "8 0 refused 16 Alive" ∷ codes "8 1 idle" ∷ codes "report"
-        ∷ codes "thread 1 o quanta 1 ticks 2 share 40% value 0% made 0 ended 2"
-        ∷ codes "thread 2 c quanta 1 ticks 1 share 20% value 0% made 3"
-        ∷ codes "thread 3 s quanta 1 ticks 2 share 40% value 0% made 5 ended 7"
+        ∷ codes "thread 1 o quanta 1 ticks 2 share 40% due 40% value 0% ready waits 1 mean 0 longest 0 made 0 ended 2"
+        ∷ codes "thread 2 c quanta 1 ticks 1 share 20% due 20% value 0% ready waits 1 mean 0 longest 0 made 3"
+        ∷ codes "thread 3 s quanta 1 ticks 2 share 40% due 40% value 0% ready waits 1 mean 0 longest 0 made 5 ended 7"
         ∷ codes "processor 1 quanta 3 idle 4 ticks 5 unused 3"
         ∷ codes "total turns 20 quanta 3 ticks 5 refused 3 left 0 ended 2 mean 2 longest 2" ∷ []) }
 {}
@@ -252,7 +261,7 @@ pub fn waits_for_good()
         ∷ codes "script cli" ∷ codes "call p" ∷ codes "endscript" ∷ codes "fundx 1 base c cli" ∷ []))
         ≡ text (codes "0 0 funded 1 1" ∷ codes "0 1 draw 0.992 of 1 thread 1"
         ∷ codes "1 1 thread 1 ticks 1 call 1 queued" ∷ codes "1 1 idle" ∷ codes "report"
-        ∷ codes "thread 1 c quanta 1 ticks 1 share 100% value 0%"
+        ∷ codes "thread 1 c quanta 1 ticks 1 share 100% due 100% value 0% ready waits 1 mean 0 longest 0"
         ∷ codes "processor 1 quanta 1 idle 1 ticks 1 unused 49"
         ∷ codes "total turns 4 quanta 1 ticks 1 refused 0 left 0" ∷ []) }
 {}
@@ -269,8 +278,8 @@ pub fn compensation()
         ∷ codes "12 thread 1 a running 1 used 0 value 1 weight 1 quanta 1 ticks 0"
         ∷ codes "12 thread 2 b ready value 1 weight 1 quanta 1 ticks 9" ∷ codes "12 1 thread 1 ticks 3 yield"
         ∷ codes "12 1 draw 3.257 of 4 thread 2" ∷ codes "report"
-        ∷ codes "thread 1 a quanta 1 ticks 3 share 25% value 50%"
-        ∷ codes "thread 2 b quanta 2 ticks 9 share 75% value 50%"
+        ∷ codes "thread 1 a quanta 1 ticks 3 share 25% due 50% value 50% ready waits 1 mean 9 longest 9"
+        ∷ codes "thread 2 b quanta 2 ticks 9 share 75% due 50% value 50% ready waits 2 mean 1.5 longest 3"
         ∷ codes "processor 1 quanta 3 idle 0 ticks 12 unused 0"
         ∷ codes "total turns 8 quanta 3 ticks 12 refused 0 left 0" ∷ []) }
 {}
@@ -385,8 +394,10 @@ pub fn sleepers()
         ∷ codes "11 3 wake thread 2" ∷ codes "11 1 draw 0.238 of 9.996 thread 1"
         ∷ codes "11 2 draw 0.421 of 3.332 thread 2" ∷ codes "15 1 thread 1 ticks 4 exit" ∷ codes "15 1 idle"
         ∷ codes "15 2 thread 2 ticks 4 exit" ∷ codes "15 1 idle" ∷ codes "15 2 idle" ∷ codes "report"
-        ∷ codes "thread 1 a quanta 2 ticks 7 share 50% value 0% made 0 ended 15"
-        ∷ codes "thread 2 b quanta 2 ticks 7 share 50% value 0% made 0 ended 15"
+        ∷ (codes "thread 1 a quanta 2 ticks 7 share 50% due 54.761% value 0%"
+            ++ codes " ready waits 2 mean 0 longest 0 made 0 ended 15")
+        ∷ (codes "thread 2 b quanta 2 ticks 7 share 50% due 45.238% value 0%"
+            ++ codes " ready waits 2 mean 0 longest 0 made 0 ended 15")
         ∷ codes "processor 1 quanta 2 idle 4 ticks 7 unused 18"
         ∷ codes "processor 2 quanta 2 idle 2 ticks 7 unused 18"
         ∷ codes "total turns 18 quanta 4 ticks 14 refused 0 left 0 ended 2 mean 15 longest 15" ∷ []) }
@@ -404,8 +415,11 @@ pub fn wakes_at_a_command()
         ∷ codes "10 1 draw 7.921 of 8 thread 2" ∷ codes "20 1 thread 2 ticks 10 expire"
         ∷ codes "20 1 draw 4.363 of 8 thread 1" ∷ codes "21 1 thread 1 ticks 1 exit"
         ∷ codes "21 1 draw 2.738 of 3 thread 2" ∷ codes "28 1 thread 2 ticks 7 exit" ∷ codes "28 1 idle"
-        ∷ codes "report" ∷ codes "thread 1 a quanta 2 ticks 5 share 22.727% value 0% made 0 ended 21"
-        ∷ codes "thread 2 b quanta 2 ticks 17 share 77.272% value 0% made 10 ended 28"
+        ∷ codes "report"
+        ∷ (codes "thread 1 a quanta 2 ticks 5 share 22.727% due 38.181% value 0%"
+            ++ codes " ready waits 2 mean 5 longest 10 made 0 ended 21")
+        ∷ (codes "thread 2 b quanta 2 ticks 17 share 77.272% due 61.818% value 0%"
+            ++ codes " ready waits 2 mean 0.5 longest 1 made 10 ended 28")
         ∷ codes "processor 1 quanta 4 idle 2 ticks 22 unused 8"
         ∷ codes "total turns 13 quanta 4 ticks 22 refused 0 left 0 ended 2 mean 19.5 longest 21" ∷ []) }
 {}
@@ -415,10 +429,10 @@ pub fn wakes_at_a_command()
 pub fn sleeps_past_the_end()
     ensures { output (text (codes "lottery 3" ∷ codes "quantum 10" ∷ codes "for 30" ∷ codes "script nap"
         ∷ codes "sleep 5 sleep 24 endscript" ∷ codes "fundx 1 base a nap" ∷ []))
-        ≡ text (codes "0 0 funded 1 1" ∷ codes "0 1 draw 0.992 of 1 thread 1"
-        ∷ codes "1 1 thread 1 ticks 1 sleep" ∷ codes "1 1 idle" ∷ codes "6 2 wake thread 1"
-        ∷ codes "6 1 draw 3.921 of 10 thread 1" ∷ codes "7 1 thread 1 ticks 1 sleep" ∷ codes "7 1 idle"
-        ∷ codes "report" ∷ codes "thread 1 a quanta 2 ticks 2 share 100% value 0%"
+        ≡ text (codes "0 0 funded 1 1" ∷ codes "0 1 draw 0.992 of 1 thread 1" ∷ codes "1 1 thread 1 ticks 1 sleep"
+        ∷ codes "1 1 idle" ∷ codes "6 2 wake thread 1" ∷ codes "6 1 draw 3.921 of 10 thread 1"
+        ∷ codes "7 1 thread 1 ticks 1 sleep" ∷ codes "7 1 idle" ∷ codes "report"
+        ∷ codes "thread 1 a quanta 2 ticks 2 share 100% due 100% value 0% ready waits 2 mean 0 longest 0"
         ∷ codes "processor 1 quanta 2 idle 2 ticks 2 unused 28"
         ∷ codes "total turns 8 quanta 2 ticks 2 refused 0 left 0" ∷ []) }
 {}
@@ -436,8 +450,8 @@ pub fn killed_in_a_slice()
         ∷ codes "4 thread 2 b ready value 1 weight 1 quanta 0 ticks 0" ∷ codes "4 1 draw 0.281 of 1 thread 2"
         ∷ codes "14 1 thread 2 ticks 10 expire" ∷ codes "14 1 draw 0.921 of 1 thread 2"
         ∷ codes "24 1 thread 2 ticks 10 expire" ∷ codes "24 1 draw 0.363 of 1 thread 2" ∷ codes "report"
-        ∷ codes "thread 1 a quanta 1 ticks 0 share 0% value 0% made 0 ended 4"
-        ∷ codes "thread 2 b quanta 3 ticks 20 share 100% value 100%"
+        ∷ codes "thread 1 a quanta 1 ticks 0 share 0% due 0% value 0% ready waits 1 mean 0 longest 0 made 0 ended 4"
+        ∷ codes "thread 2 b quanta 3 ticks 20 share 100% due 100% value 100% ready waits 3 mean 1.333 longest 4"
         ∷ codes "processor 1 quanta 4 idle 0 ticks 20 unused 4"
         ∷ codes "total turns 12 quanta 4 ticks 20 refused 2 left 0 ended 1 mean 4 longest 4" ∷ []) }
 {}
@@ -455,9 +469,10 @@ pub fn killed_beside_another()
         ∷ codes "6 2 draw 1.878 of 3 thread 1" ∷ codes "10 1 thread 2 ticks 10 expire"
         ∷ codes "10 1 draw 1.281 of 2 thread 2" ∷ codes "13 0 done" ∷ codes "13 1 idle"
         ∷ codes "16 2 thread 1 ticks 10 expire" ∷ codes "16 1 draw 1.363 of 3 thread 1" ∷ codes "16 2 idle"
-        ∷ codes "report" ∷ codes "thread 1 a quanta 2 ticks 10 share 50% value 100%"
-        ∷ codes "thread 2 b quanta 2 ticks 10 share 50% value 0% made 0 ended 13"
-        ∷ codes "thread 3 c quanta 1 ticks 0 share 0% value 0% made 0 ended 6"
+        ∷ codes "report"
+        ∷ codes "thread 1 a quanta 2 ticks 10 share 50% due 79.999% value 100% ready waits 2 mean 3 longest 6"
+        ∷ codes "thread 2 b quanta 2 ticks 10 share 50% due 20% value 0% ready waits 2 mean 0 longest 0 made 0 ended 13"
+        ∷ codes "thread 3 c quanta 1 ticks 0 share 0% due 0% value 0% ready waits 1 mean 0 longest 0 made 0 ended 6"
         ∷ codes "processor 1 quanta 3 idle 1 ticks 10 unused 6"
         ∷ codes "processor 2 quanta 2 idle 1 ticks 10 unused 15"
         ∷ codes "total turns 14 quanta 5 ticks 20 refused 0 left 0 ended 2 mean 9.5 longest 13" ∷ []) }
@@ -473,8 +488,11 @@ pub fn killed_sleeper()
         ∷ codes "1 1 idle" ∷ codes "3 0 done" ∷ codes "3 0 funded 2 2" ∷ codes "3 1 draw 0.921 of 1 thread 2"
         ∷ codes "6 2 refused 24 NotAsleep" ∷ codes "13 1 thread 2 ticks 10 expire"
         ∷ codes "13 1 draw 0.363 of 1 thread 2" ∷ codes "16 1 thread 2 ticks 3 exit" ∷ codes "16 1 idle"
-        ∷ codes "report" ∷ codes "thread 1 a quanta 1 ticks 1 share 7.142% value 0% made 0 ended 3"
-        ∷ codes "thread 2 b quanta 2 ticks 13 share 92.857% value 0% made 3 ended 16"
+        ∷ codes "report"
+        ∷ (codes "thread 1 a quanta 1 ticks 1 share 7.142% due 7.142% value 0%"
+            ++ codes " ready waits 1 mean 0 longest 0 made 0 ended 3")
+        ∷ (codes "thread 2 b quanta 2 ticks 13 share 92.857% due 92.857% value 0%"
+            ++ codes " ready waits 2 mean 0 longest 0 made 3 ended 16")
         ∷ codes "processor 1 quanta 3 idle 2 ticks 14 unused 6"
         ∷ codes "total turns 12 quanta 3 ticks 14 refused 1 left 0 ended 2 mean 8 longest 13" ∷ []) }
 {}
@@ -491,8 +509,11 @@ pub fn killed_server()
         ∷ codes "1 1 thread 1 ticks 1 receive 1 waits" ∷ codes "1 1 draw 0.281 of 1 thread 2"
         ∷ codes "3 1 thread 2 ticks 2 call 1 served by 1" ∷ codes "3 1 draw 13.921 of 30 thread 1 got 7"
         ∷ codes "4 0 done" ∷ codes "4 1 draw 1.363 of 5 thread 2" ∷ codes "5 1 thread 2 ticks 1 exit"
-        ∷ codes "5 1 idle" ∷ codes "report" ∷ codes "thread 1 s quanta 2 ticks 1 share 25% value 0% made 0 ended 4"
-        ∷ codes "thread 2 c quanta 2 ticks 3 share 75% value 0% made 0 ended 5"
+        ∷ codes "5 1 idle" ∷ codes "report"
+        ∷ (codes "thread 1 s quanta 2 ticks 1 share 25% due 16.666% value 0%"
+            ++ codes " ready waits 2 mean 0 longest 0 made 0 ended 4")
+        ∷ (codes "thread 2 c quanta 2 ticks 3 share 75% due 83.333% value 0%"
+            ++ codes " ready waits 2 mean 0.5 longest 1 made 0 ended 5")
         ∷ codes "processor 1 quanta 4 idle 1 ticks 4 unused 26"
         ∷ codes "total turns 11 quanta 4 ticks 4 refused 0 left 0 ended 2 mean 4.5 longest 5" ∷ []) }
 {}
@@ -509,8 +530,11 @@ pub fn killed_owner()
         ∷ codes "5 1 draw 3.281 of 10 thread 2" ∷ codes "5 2 idle" ∷ codes "15 1 thread 2 ticks 10 expire"
         ∷ codes "15 1 draw 0.921 of 1 thread 2" ∷ codes "15 2 idle" ∷ codes "18 1 thread 2 ticks 3 unlock 1 free"
         ∷ codes "18 2 idle" ∷ codes "19 1 thread 2 ticks 1 exit" ∷ codes "19 1 idle" ∷ codes "19 2 idle"
-        ∷ codes "report" ∷ codes "thread 1 a quanta 1 ticks 1 share 6.25% value 0% made 0 ended 5"
-        ∷ codes "thread 2 b quanta 3 ticks 15 share 93.75% value 0% made 0 ended 19"
+        ∷ codes "report"
+        ∷ (codes "thread 1 a quanta 1 ticks 1 share 6.25% due 8.333% value 0%"
+            ++ codes " ready waits 1 mean 0 longest 0 made 0 ended 5")
+        ∷ (codes "thread 2 b quanta 3 ticks 15 share 93.75% due 91.666% value 0%"
+            ++ codes " ready waits 3 mean 0 longest 0 made 0 ended 19")
         ∷ codes "processor 1 quanta 3 idle 1 ticks 15 unused 5"
         ∷ codes "processor 2 quanta 1 idle 5 ticks 1 unused 19"
         ∷ codes "total turns 18 quanta 4 ticks 16 refused 0 left 0 ended 2 mean 12 longest 19" ∷ []) }
@@ -532,8 +556,9 @@ pub fn numbers_again()
         ∷ codes "15 1 thread 2 ticks 10 expire" ∷ codes "15 1 draw 3.921 of 4 thread 2"
         ∷ codes "25 1 thread 2 ticks 10 expire" ∷ codes "25 1 draw 0.363 of 4 thread 1"
         ∷ codes "30 1 thread 1 ticks 5 exit" ∷ codes "30 1 draw 0.738 of 1 thread 2" ∷ codes "report"
-        ∷ codes "thread 1 c quanta 1 ticks 5 share 16.666% value 0% made 8 ended 30"
-        ∷ codes "thread 2 b quanta 3 ticks 20 share 66.666% value 100%"
+        ∷ (codes "thread 1 c quanta 1 ticks 5 share 16.666% due 62.5% value 0%"
+            ++ codes " ready waits 1 mean 17 longest 17 made 8 ended 30")
+        ∷ codes "thread 2 b quanta 3 ticks 20 share 66.666% due 25% value 100% ready waits 3 mean 3.333 longest 5"
         ∷ codes "processor 1 quanta 5 idle 0 ticks 30 unused 0"
         ∷ codes "total turns 17 quanta 5 ticks 30 refused 1 left 0 ended 2 mean 13.5 longest 22" ∷ []) }
 {}
@@ -558,8 +583,9 @@ pub fn begins_anew()
         ∷ codes "20 1 thread 2 ticks 1 unlock 1 free" ∷ codes "21 1 thread 2 ticks 1 exit"
         ∷ codes "21 1 draw 0.316 of 1 thread 1" ∷ codes "31 1 thread 1 ticks 10 expire"
         ∷ codes "31 1 draw 0.929 of 1 thread 1" ∷ codes "report"
-        ∷ codes "thread 1 h quanta 5 ticks 25 share 80.645% value 100%"
-        ∷ codes "thread 2 v quanta 1 ticks 3 share 9.677% value 0% made 14 ended 21"
+        ∷ codes "thread 1 h quanta 5 ticks 25 share 80.645% due 44.838% value 100% ready waits 5 mean 1.2 longest 3"
+        ∷ (codes "thread 2 v quanta 1 ticks 3 share 9.677% due 37.741% value 0%"
+            ++ codes " ready waits 1 mean 4 longest 4 made 14 ended 21")
         ∷ codes "processor 1 quanta 8 idle 0 ticks 31 unused 0"
         ∷ codes "total turns 25 quanta 8 ticks 31 refused 0 left 0 ended 2 mean 7 longest 7" ∷ []) }
 {}
@@ -578,8 +604,11 @@ pub fn refused_traps()
         ∷ codes "5 1 thread 1 ticks 1 exit" ∷ codes "5 1 idle" ∷ codes "8 0 refused 12 DeadThread"
         ∷ codes "8 0 funded 2 2" ∷ codes "8 1 draw 0.738 of 1 thread 2" ∷ codes "9 1 thread 2 ticks 1 lock 1 taken"
         ∷ codes "10 1 thread 2 ticks 1 unlock 1 free" ∷ codes "11 1 thread 2 ticks 1 exit" ∷ codes "11 1 idle"
-        ∷ codes "report" ∷ codes "thread 1 a quanta 1 ticks 5 share 62.5% value 0% refused 2 made 0 ended 5"
-        ∷ codes "thread 2 b quanta 1 ticks 3 share 37.5% value 0% made 8 ended 11"
+        ∷ codes "report"
+        ∷ (codes "thread 1 a quanta 1 ticks 5 share 62.5% due 62.5% value 0%"
+            ++ codes " ready waits 1 mean 0 longest 0 refused 2 made 0 ended 5")
+        ∷ (codes "thread 2 b quanta 1 ticks 3 share 37.5% due 37.5% value 0%"
+            ++ codes " ready waits 1 mean 0 longest 0 made 8 ended 11")
         ∷ codes "processor 1 quanta 2 idle 2 ticks 8 unused 4"
         ∷ codes "total turns 15 quanta 2 ticks 8 refused 1 left 0 ended 2 mean 4 longest 5" ∷ []) }
 {}
@@ -595,7 +624,8 @@ pub fn refused_traps_anew()
         ∷ codes "2 1 idle" ∷ codes "5 0 done" ∷ codes "5 0 done" ∷ codes "5 0 done" ∷ codes "5 0 funded 1 1"
         ∷ codes "5 1 draw 0.921 of 1 thread 1" ∷ codes "6 1 thread 1 ticks 1 refused 32 NothingToReply"
         ∷ codes "7 1 thread 1 ticks 1 exit" ∷ codes "7 1 idle" ∷ codes "report"
-        ∷ codes "thread 1 b quanta 1 ticks 2 share 50% value 0% refused 1 made 5 ended 7"
+        ∷ (codes "thread 1 b quanta 1 ticks 2 share 50% due 50% value 0%"
+            ++ codes " ready waits 1 mean 0 longest 0 refused 1 made 5 ended 7")
         ∷ codes "processor 1 quanta 2 idle 2 ticks 4 unused 6"
         ∷ codes "total turns 13 quanta 2 ticks 4 refused 0 left 0 ended 2 mean 2 longest 2" ∷ []) }
 {}
@@ -608,11 +638,10 @@ pub fn ends_early()
         ∷ codes "compute 1000" ∷ codes "endscript" ∷ codes "fundx 10 base a spin" ∷ codes "fundx 5 base b spin" ∷ []))
         ≡ text (codes "0 0 funded 1 1" ∷ codes "0 0 funded 2 2" ∷ codes "0 1 draw 12.992 of 15 thread 2"
         ∷ codes "100 1 thread 2 ticks 100 expire" ∷ codes "report"
-        ∷ codes "thread 1 a quanta 0 ticks 0 share 0% value 66.666%"
-        ∷ codes "thread 2 b quanta 1 ticks 100 share 100% value 33.333%"
+        ∷ codes "thread 1 a quanta 0 ticks 0 share 0% due 66.666% value 66.666%"
+        ∷ codes "thread 2 b quanta 1 ticks 100 share 100% due 33.333% value 33.333% ready waits 1 mean 0 longest 0"
         ∷ codes "processor 1 quanta 1 idle 0 ticks 100 unused 0"
-        ∷ codes "total turns 4 quanta 1 ticks 100 refused 0 left 0"
-        ∷ codes "ended at 100 of 300: 4 turns made" ∷ []) }
+        ∷ codes "total turns 4 quanta 1 ticks 100 refused 0 left 0" ∷ codes "ended at 100 of 300: 4 turns made" ∷ []) }
     ensures no_room { few_turns 0 (text (codes "lottery 3" ∷ codes "for 10" ∷ []))
         ≡ text (codes "report" ∷ codes "processor 1 quanta 0 idle 0 ticks 0 unused 0"
         ∷ codes "total turns 0 quanta 0 ticks 0 refused 0 left 0" ∷ codes "ended at 0 of 10: 0 turns made" ∷ []) }

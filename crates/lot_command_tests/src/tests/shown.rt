@@ -57,11 +57,13 @@ thread 2 b plays 2 quanta mean 0 least 0 most 0 ticks mean 0 least 0 most 0 \
 share mean 0% least 0% most 0%
 ";
 
-/// The report of `TIMED` as a table. Nobody waits: there are no waits, no mean of them, and no longest one.
-const TABLE: &str = "thread,name,quanta,ticks,share_percent,value_percent,\
-mutex_waits,mutex_mean,mutex_longest,reply_waits,reply_mean,reply_longest,refused,made,ended
-1,a,3,4,100,100,0,,,0,,,0,0,
-2,b,0,0,0,0,0,,,0,,,0,0,
+/// The report of `TIMED` as a table. Thread `a` wins as soon as it is ready, so it waits for 0 ticks each time; `b`
+/// weighs nothing, and its only wait doesn't end. Of no waits there is no mean, and no longest one.
+const TABLE: &str = "thread,name,quanta,ticks,share_percent,due_percent,value_percent,\
+ready_waits,ready_mean,ready_longest,mutex_waits,mutex_mean,mutex_longest,\
+reply_waits,reply_mean,reply_longest,refused,made,ended
+1,a,3,4,100,100,100,3,0,0,0,,,0,,,0,0,
+2,b,0,0,0,0,0,0,,,0,,,0,,,0,0,
 ";
 
 /// The report over two plays of `TIMED` as a table.

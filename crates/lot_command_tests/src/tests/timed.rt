@@ -34,8 +34,8 @@ fundx 5 base b spin
 300 1 thread 2 ticks 100 expire
 300 1 draw 1.363 of 15 thread 1
 report
-thread 1 a quanta 1 ticks 0 share 0% value 66.666%
-thread 2 b quanta 3 ticks 300 share 100% value 33.333%
+thread 1 a quanta 1 ticks 0 share 0% due 66.666% value 66.666% ready waits 1 mean 300 longest 300
+thread 2 b quanta 3 ticks 300 share 100% due 33.333% value 33.333% ready waits 3 mean 0 longest 0
 processor 1 quanta 4 idle 0 ticks 300 unused 0
 total turns 9 quanta 4 ticks 300 refused 0 left 0
 ",
@@ -62,8 +62,8 @@ unfund 1
 200 1 thread 1 ticks 100 expire
 200 1 draw 23.921 of 40 thread 2
 report
-thread 1 a quanta 2 ticks 200 share 100% value 25%
-thread 2 b quanta 1 ticks 0 share 0% value 75% made 150
+thread 1 a quanta 2 ticks 200 share 100% due 62.5% value 25% ready waits 2 mean 0 longest 0
+thread 2 b quanta 1 ticks 0 share 0% due 37.5% value 75% ready waits 1 mean 50 longest 50 made 150
 processor 1 quanta 3 idle 0 ticks 200 unused 0
 total turns 7 quanta 3 ticks 200 refused 0 left 1
 ",
@@ -88,7 +88,7 @@ lsthr
 100 1 thread 1 ticks 100 expire
 100 1 draw 1.386 of 10 thread 1
 report
-thread 1 a quanta 2 ticks 100 share 100% value 100%
+thread 1 a quanta 2 ticks 100 share 100% due 100% value 100% ready waits 2 mean 0 longest 0
 processor 1 quanta 2 idle 0 ticks 100 unused 0
 total turns 5 quanta 2 ticks 100 refused 0 left 0
 ",
@@ -115,7 +115,7 @@ fundx 10 base a spin
 13 1 idle
 13 2 idle
 report
-thread 1 a quanta 2 ticks 13 share 100% value 0% made 0 ended 13
+thread 1 a quanta 2 ticks 13 share 100% due 99.999% value 0% ready waits 2 mean 0 longest 0 made 0 ended 13
 processor 1 quanta 2 idle 1 ticks 13 unused 12
 processor 2 quanta 0 idle 3 ticks 0 unused 25
 total turns 9 quanta 2 ticks 13 refused 0 left 0 ended 1 mean 13 longest 13
@@ -152,8 +152,9 @@ fundx 3 base c cli
 9 1 thread 2 ticks 1 exit
 9 1 idle
 report
-thread 1 s quanta 1 ticks 6 share 66.666% value 0% made 0 ended 8
-thread 2 c quanta 2 ticks 3 share 33.333% value 0% reply waits 1 mean 5 longest 5 made 0 ended 9
+thread 1 s quanta 1 ticks 6 share 66.666% due 76.388% value 0% ready waits 1 mean 2 longest 2 made 0 ended 8
+thread 2 c quanta 2 ticks 3 share 33.333% due 23.611% value 0% \
+ready waits 2 mean 0.5 longest 1 reply waits 1 mean 5 longest 5 made 0 ended 9
 processor 1 quanta 3 idle 1 ticks 9 unused 31
 total turns 11 quanta 3 ticks 9 refused 0 left 0 ended 2 mean 8.5 longest 9
 ",
@@ -201,9 +202,11 @@ fundx 2 base b cli
 10 1 thread 2 ticks 1 exit
 10 1 idle
 report
-thread 1 s quanta 3 ticks 5 share 55.555% value 0%
-thread 2 a quanta 2 ticks 2 share 22.222% value 0% reply waits 1 mean 2 longest 2 made 2 ended 10
-thread 3 b quanta 2 ticks 2 share 22.222% value 0% reply waits 1 mean 2 longest 2 made 2 ended 6
+thread 1 s quanta 3 ticks 5 share 55.555% due 42.222% value 0% ready waits 3 mean 0 longest 0
+thread 2 a quanta 2 ticks 2 share 22.222% due 48.888% value 0% \
+ready waits 2 mean 2 longest 4 reply waits 1 mean 2 longest 2 made 2 ended 10
+thread 3 b quanta 2 ticks 2 share 22.222% due 8.888% value 0% \
+ready waits 2 mean 0 longest 0 reply waits 1 mean 2 longest 2 made 2 ended 6
 processor 1 quanta 7 idle 2 ticks 9 unused 51
 total turns 20 quanta 7 ticks 9 refused 0 left 0 ended 2 mean 6 longest 8
 ",
@@ -250,9 +253,10 @@ fundx 1 base c one
 18 1 thread 3 ticks 1 exit
 18 1 idle
 report
-thread 1 a quanta 3 ticks 6 share 33.333% value 0% mutex waits 1 mean 1 longest 1 made 0 ended 12
-thread 2 b quanta 3 ticks 6 share 33.333% value 0% made 0 ended 7
-thread 3 c quanta 2 ticks 6 share 33.333% value 0% made 0 ended 18
+thread 1 a quanta 3 ticks 6 share 33.333% due 37.499% value 0% \
+ready waits 3 mean 1.666 longest 4 mutex waits 1 mean 1 longest 1 made 0 ended 12
+thread 2 b quanta 3 ticks 6 share 33.333% due 15.74% value 0% ready waits 3 mean 0.333 longest 1 made 0 ended 7
+thread 3 c quanta 2 ticks 6 share 33.333% due 46.759% value 0% ready waits 2 mean 6 longest 12 made 0 ended 18
 processor 1 quanta 8 idle 1 ticks 18 unused 42
 total turns 24 quanta 8 ticks 18 refused 0 left 0 ended 3 mean 12.333 longest 18
 ",
@@ -289,9 +293,9 @@ lsthr
 0 thread 3 c ready value 33.332 weight 33.332 quanta 0 ticks 0
 0 1 draw 5.503 of 99.996 thread 1
 report
-thread 1 a quanta 1 ticks 0 share 0% value 33.333%
-thread 2 b quanta 0 ticks 0 share 0% value 33.333%
-thread 3 c quanta 0 ticks 0 share 0% value 33.333%
+thread 1 a quanta 1 ticks 0 share 0% due 0% value 33.333% ready waits 1 mean 0 longest 0
+thread 2 b quanta 0 ticks 0 share 0% due 0% value 33.333%
+thread 3 c quanta 0 ticks 0 share 0% due 0% value 33.333%
 processor 1 quanta 1 idle 0 ticks 0 unused 0
 total turns 9 quanta 1 ticks 0 refused 0 left 0
 ",
@@ -331,7 +335,7 @@ fundx 1 base c cli
 1 1 thread 1 ticks 1 call 1 queued
 1 1 idle
 report
-thread 1 c quanta 1 ticks 1 share 100% value 0%
+thread 1 c quanta 1 ticks 1 share 100% due 100% value 0% ready waits 1 mean 0 longest 0
 processor 1 quanta 1 idle 1 ticks 1 unused 49
 total turns 4 quanta 1 ticks 1 refused 0 left 0
 ",
@@ -366,8 +370,8 @@ lsthr
 12 1 thread 1 ticks 3 yield
 12 1 draw 3.257 of 4 thread 2
 report
-thread 1 a quanta 1 ticks 3 share 25% value 50%
-thread 2 b quanta 2 ticks 9 share 75% value 50%
+thread 1 a quanta 1 ticks 3 share 25% due 50% value 50% ready waits 1 mean 9 longest 9
+thread 2 b quanta 2 ticks 9 share 75% due 50% value 50% ready waits 2 mean 1.5 longest 3
 processor 1 quanta 3 idle 0 ticks 12 unused 0
 total turns 8 quanta 3 ticks 12 refused 0 left 0
 ",
@@ -411,8 +415,8 @@ fundx 1 base b short
 30 1 draw 0.902 of 3.332 thread 1
 30 2 idle
 report
-thread 1 a quanta 3 ticks 8 share 61.538% value 100%
-thread 2 b quanta 2 ticks 5 share 38.461% value 0%
+thread 1 a quanta 3 ticks 8 share 61.538% due 80.769% value 100% ready waits 3 mean 0 longest 0
+thread 2 b quanta 2 ticks 5 share 38.461% due 19.23% value 0% ready waits 2 mean 0 longest 0
 processor 1 quanta 3 idle 4 ticks 5 unused 25
 processor 2 quanta 2 idle 3 ticks 8 unused 22
 total turns 21 quanta 5 ticks 13 refused 0 left 0
@@ -440,7 +444,7 @@ lsthr
 20 2 wake thread 1
 20 1 draw 1.921 of 2 thread 1
 report
-thread 1 a quanta 2 ticks 5 share 100% value 100%
+thread 1 a quanta 2 ticks 5 share 100% due 100% value 100% ready waits 2 mean 0 longest 0
 processor 1 quanta 2 idle 1 ticks 5 unused 15
 total turns 7 quanta 2 ticks 5 refused 0 left 0
 ",
@@ -504,9 +508,10 @@ lsthr
 36 1 thread 1 ticks 1 exit
 36 1 idle
 report
-thread 1 a quanta 3 ticks 4 share 12.121% value 0% made 0 ended 36
-thread 2 b quanta 2 ticks 3 share 9.09% value 0% mutex waits 1 mean 30 longest 30 made 2 ended 35
-thread 3 c quanta 3 ticks 26 share 78.787% value 0% made 6 ended 32
+thread 1 a quanta 3 ticks 4 share 12.121% due 48.484% value 0% ready waits 3 mean 4 longest 10 made 0 ended 36
+thread 2 b quanta 2 ticks 3 share 9.09% due 9.09% value 0% \
+ready waits 2 mean 0 longest 0 mutex waits 1 mean 30 longest 30 made 2 ended 35
+thread 3 c quanta 3 ticks 26 share 78.787% due 42.424% value 0% ready waits 3 mean 0 longest 0 made 6 ended 32
 processor 1 quanta 8 idle 2 ticks 33 unused 27
 total turns 26 quanta 8 ticks 33 refused 0 left 0 ended 3 mean 31.666 longest 36
 ",
@@ -587,8 +592,8 @@ lsthr
 56 1 thread 2 ticks 10 expire
 56 1 draw 0.929 of 1 thread 2
 report
-thread 1 d quanta 2 ticks 2 share 3.703% value 0% made 21 ended 46
-thread 2 c quanta 6 ticks 50 share 92.592% value 100% made 3
+thread 1 d quanta 2 ticks 2 share 3.703% due 33.95% value 0% ready waits 2 mean 1.5 longest 3 made 21 ended 46
+thread 2 c quanta 6 ticks 50 share 92.592% due 62.962% value 100% ready waits 6 mean 0.5 longest 1 made 3
 processor 1 quanta 10 idle 1 ticks 54 unused 2
 total turns 37 quanta 10 ticks 54 refused 2 left 0 ended 3 mean 15.333 longest 25
 ",

@@ -936,14 +936,22 @@ fn check_shares(rt: &impl Abort, alloc: Global, shares: ThreadShares, wanted: &s
     check(rt, writer, ended, fields);
 }
 
-// 2 of 3 ticks are 66.666%; 5 waits of 12 ticks in all are 2.4 on average. 18446744073709551615 / 4294967295 is
-// 4294967297.
+// 2 of 3 ticks are 66.666%, and 1729382256910270464 is half of 3 * 2^60. 3 waits of 7 ticks in all are 2.333 on
+// average, 5 of 12 are 2.4, and 18446744073709551615 / 4294967295 is 4294967297.
 #[test]
 fn prints_timed_totals(rt: HostRuntime) {
     let shares = ThreadShares {
         all_ticks: 3,
+        due: 1729382256910270464,
         live_value: 1,
         all_values: 8,
+        ready: Spans {
+            count: 3,
+            total: 7,
+            longest: 5,
+            last: None,
+            since: None,
+        },
         mutexes: Spans {
             count: 5,
             total: 12,
@@ -955,32 +963,39 @@ fn prints_timed_totals(rt: HostRuntime) {
         refused_traps: 0,
         lives: begun(0),
     };
-    let wanted =
-        "thread 1 thread2 quanta 4 ticks 2 share 66.666% value 12.5% mutex waits 5 mean 2.4 longest 4\n";
-    let fields = "1,thread2,4,2,66.666,12.5,5,2.4,4,0,,,0,0,\n";
+    let wanted = "thread 1 thread2 quanta 4 ticks 2 share 66.666% due 50% value 12.5% \
+        ready waits 3 mean 2.333 longest 5 mutex waits 5 mean 2.4 longest 4\n";
+    let fields = "1,thread2,4,2,66.666,50,12.5,3,2.333,5,5,2.4,4,0,,,0,0,\n";
     check_shares(&rt, rt.alloc(), shares, wanted, fields);
     let shares = ThreadShares {
         all_ticks: 0,
+        due: 0,
         live_value: 0,
         all_values: 0,
+        ready: LONG,
         mutexes: NO_SPANS,
         replies: LONG,
         refused_traps: 12,
         lives: lived(7, u32::MAX),
     };
-    let wanted = "thread 1 thread2 quanta 4 ticks 2 share 0% value 0% \
+    let wanted = "thread 1 thread2 quanta 4 ticks 2 share 0% due 0% value 0% \
+        ready waits 4294967295 mean 4294967297 longest 4294967295 \
         reply waits 4294967295 mean 4294967297 longest 4294967295 refused 12 made 7 ended 4294967295\n";
-    let fields = "1,thread2,4,2,0,0,0,,,4294967295,4294967297,4294967295,12,7,4294967295\n";
+    let fields = "1,thread2,4,2,0,0,0,4294967295,4294967297,4294967295,0,,,\
+        4294967295,4294967297,4294967295,12,7,4294967295\n";
     check_shares(&rt, rt.alloc(), shares, wanted, fields);
 }
 
-// The thread that had the number before has ended; this one hasn't.
+// The thread that had the number before has ended; this one hasn't. 768614336404564650 is a third of 2 * 2^60, rounded
+// down.
 #[test]
 fn prints_lives(rt: HostRuntime) {
     let shares = ThreadShares {
         all_ticks: 2,
+        due: 768614336404564650,
         live_value: 0,
         all_values: 0,
+        ready: NO_SPANS,
         mutexes: NO_SPANS,
         replies: NO_SPANS,
         refused_traps: 0,
@@ -989,25 +1004,25 @@ fn prints_lives(rt: HostRuntime) {
             ..lived(0, 30)
         },
     };
-    let wanted = "thread 1 thread2 quanta 4 ticks 2 share 100% value 0% made 31\n";
+    let wanted = "thread 1 thread2 quanta 4 ticks 2 share 100% due 33.333% value 0% made 31\n";
     check_shares(
         &rt,
         rt.alloc(),
         shares,
         wanted,
-        "1,thread2,4,2,100,0,0,,,0,,,0,31,\n",
+        "1,thread2,4,2,100,33.333,0,0,,,0,,,0,,,0,31,\n",
     );
     let shares = ThreadShares {
         lives: NO_SPANS,
         ..shares
     };
-    let wanted = "thread 1 thread2 quanta 4 ticks 2 share 100% value 0%\n";
+    let wanted = "thread 1 thread2 quanta 4 ticks 2 share 100% due 33.333% value 0%\n";
     check_shares(
         &rt,
         rt.alloc(),
         shares,
         wanted,
-        "1,thread2,4,2,100,0,0,,,0,,,0,,\n",
+        "1,thread2,4,2,100,33.333,0,0,,,0,,,0,,,0,,\n",
     );
 }
 
@@ -1017,8 +1032,8 @@ fn prints_headers(rt: HostRuntime) {
         (Columns::Totals, "thread,name,quanta,ticks\n"),
         (
             Columns::TimedTotals,
-            "thread,name,quanta,ticks,share_percent,value_percent,mutex_waits,mutex_mean,mutex_longest,\
-             reply_waits,reply_mean,reply_longest,refused,made,ended\n",
+            "thread,name,quanta,ticks,share_percent,due_percent,value_percent,ready_waits,ready_mean,ready_longest,\
+             mutex_waits,mutex_mean,mutex_longest,reply_waits,reply_mean,reply_longest,refused,made,ended\n",
         ),
         (
             Columns::Figures,
