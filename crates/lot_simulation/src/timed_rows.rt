@@ -66,7 +66,7 @@ pub fn one_time()
         ≡ text (codes "0 0 funded 1 1" ∷ codes "0 1 draw 7.992 of 10 thread 1" ∷ codes "0 2 idle"
         ∷ codes "10 1 thread 1 ticks 10 expire" ∷ codes "10 1 draw 3.281 of 10 thread 1" ∷ codes "10 2 idle"
         ∷ codes "13 1 thread 1 ticks 3 exit" ∷ codes "13 1 idle" ∷ codes "13 2 idle" ∷ codes "report"
-        ∷ (codes "thread 1 a quanta 2 ticks 13 share 100% due 99.999% value 0%"
+        ∷ (codes "thread 1 a quanta 2 ticks 13 share 100% due 100% value 0%"
             ++ codes " ready waits 2 mean 0 longest 0 made 0 ended 13")
         ∷ codes "processor 1 quanta 2 idle 1 ticks 13 unused 12"
         ∷ codes "processor 2 quanta 0 idle 3 ticks 0 unused 25"
@@ -137,7 +137,7 @@ pub fn waits_for_mutexes()
         ∷ codes "16 1 thread 3 ticks 3 yield" ∷ codes "16 1 draw 2.316 of 2.5 thread 3"
         ∷ codes "17 1 thread 3 ticks 1 unlock 1 free" ∷ codes "18 1 thread 3 ticks 1 exit" ∷ codes "18 1 idle"
         ∷ codes "report"
-        ∷ (codes "thread 1 a quanta 3 ticks 6 share 33.333% due 37.499% value 0%"
+        ∷ (codes "thread 1 a quanta 3 ticks 6 share 33.333% due 37.5% value 0%"
             ++ codes " ready waits 3 mean 1.666 longest 4 mutex waits 1 mean 1 longest 1 made 0 ended 12")
         ∷ (codes "thread 2 b quanta 3 ticks 6 share 33.333% due 15.74% value 0%"
             ++ codes " ready waits 3 mean 0.333 longest 1 made 0 ended 7")
@@ -470,7 +470,7 @@ pub fn killed_beside_another()
         ∷ codes "10 1 draw 1.281 of 2 thread 2" ∷ codes "13 0 done" ∷ codes "13 1 idle"
         ∷ codes "16 2 thread 1 ticks 10 expire" ∷ codes "16 1 draw 1.363 of 3 thread 1" ∷ codes "16 2 idle"
         ∷ codes "report"
-        ∷ codes "thread 1 a quanta 2 ticks 10 share 50% due 79.999% value 100% ready waits 2 mean 3 longest 6"
+        ∷ codes "thread 1 a quanta 2 ticks 10 share 50% due 80% value 100% ready waits 2 mean 3 longest 6"
         ∷ codes "thread 2 b quanta 2 ticks 10 share 50% due 20% value 0% ready waits 2 mean 0 longest 0 made 0 ended 13"
         ∷ codes "thread 3 c quanta 1 ticks 0 share 0% due 0% value 0% ready waits 1 mean 0 longest 0 made 0 ended 6"
         ∷ codes "processor 1 quanta 3 idle 1 ticks 10 unused 6"

@@ -115,7 +115,7 @@ fundx 10 base a spin
 13 1 idle
 13 2 idle
 report
-thread 1 a quanta 2 ticks 13 share 100% due 99.999% value 0% ready waits 2 mean 0 longest 0 made 0 ended 13
+thread 1 a quanta 2 ticks 13 share 100% due 100% value 0% ready waits 2 mean 0 longest 0 made 0 ended 13
 processor 1 quanta 2 idle 1 ticks 13 unused 12
 processor 2 quanta 0 idle 3 ticks 0 unused 25
 total turns 9 quanta 2 ticks 13 refused 0 left 0 ended 1 mean 13 longest 13
@@ -253,7 +253,7 @@ fundx 1 base c one
 18 1 thread 3 ticks 1 exit
 18 1 idle
 report
-thread 1 a quanta 3 ticks 6 share 33.333% due 37.499% value 0% \
+thread 1 a quanta 3 ticks 6 share 33.333% due 37.5% value 0% \
 ready waits 3 mean 1.666 longest 4 mutex waits 1 mean 1 longest 1 made 0 ended 12
 thread 2 b quanta 3 ticks 6 share 33.333% due 15.74% value 0% ready waits 3 mean 0.333 longest 1 made 0 ended 7
 thread 3 c quanta 2 ticks 6 share 33.333% due 46.759% value 0% ready waits 2 mean 6 longest 12 made 0 ended 18
