@@ -121,14 +121,15 @@ pub fn serving()
         ∷ codes "endscript" ∷ codes "script ask" ∷ codes "compute 1" ∷ codes "call p" ∷ codes "endscript"
         ∷ codes "fundx 1 base s serve" ∷ codes "fundx 3 base c ask" ∷ []))
         ≡ text (codes "0 0 funded 1 1" ∷ codes "0 0 funded 2 2"
-        ∷ codes "0 1 lot thread 1 s weight 1 from 0 below 1 wins"
-        ∷ codes "0 1 lot thread 2 c weight 3 from 1 below 4" ∷ codes "0 1 draw 0.062 of 4 thread 1"
-        ∷ codes "1 1 thread 1 ticks 1 receive 1 waits" ∷ codes "1 1 lot thread 2 c weight 3 from 0 below 3 wins"
-        ∷ codes "1 1 draw 2.433 of 3 thread 2" ∷ codes "3 1 thread 2 ticks 2 call 1 served by 1"
+        ∷ codes "0 1 lot thread 1 s weight 1 from 0 below 1 wins" ∷ codes "0 1 lot thread 2 c weight 3 from 1 below 4"
+        ∷ codes "0 1 draw 0.062 of 4 thread 1" ∷ codes "1 1 thread 1 ticks 1 receive 1 waits"
+        ∷ codes "1 1 lot thread 2 c weight 3 from 0 below 3 wins" ∷ codes "1 1 draw 2.433 of 3 thread 2"
+        ∷ codes "3 1 thread 2 ticks 2 call 1 served by 1"
         ∷ codes "3 1 lot thread 1 s weight 36 = value 4 x 9 / 1 from 0 below 36 wins"
         ∷ codes "3 1 lent thread 2 c value 3 to thread 1" ∷ codes "3 1 draw 33.019 of 36 thread 1 got 0"
-        ∷ codes "report" ∷ codes "thread 1 s quanta 2 ticks 1 share 33.333% value 100%"
-        ∷ codes "thread 2 c quanta 1 ticks 2 share 66.666% value 0%"
+        ∷ codes "report"
+        ∷ codes "thread 1 s quanta 2 ticks 1 share 33.333% due 8.333% value 100% ready waits 2 mean 0 longest 0"
+        ∷ codes "thread 2 c quanta 1 ticks 2 share 66.666% due 91.666% value 0% ready waits 1 mean 1 longest 1"
         ∷ codes "processor 1 quanta 3 idle 0 ticks 3 unused 0"
         ∷ codes "total turns 7 quanta 3 ticks 3 refused 0 left 0" ∷ []) }
 {}
@@ -140,16 +141,15 @@ pub fn waiting()
         ∷ codes "mutex m" ∷ codes "script hold" ∷ codes "lock m" ∷ codes "compute 1" ∷ codes "yield"
         ∷ codes "endscript" ∷ codes "fundx 3 base a hold" ∷ codes "fundx 2 base b hold" ∷ []))
         ≡ text (codes "0 0 funded 1 1" ∷ codes "0 0 funded 2 2"
-        ∷ codes "0 1 lot thread 1 a weight 3 from 0 below 3 wins"
-        ∷ codes "0 1 lot thread 2 b weight 2 from 3 below 5" ∷ codes "0 1 draw 2.054 of 5 thread 1"
-        ∷ codes "1 1 thread 1 ticks 1 lock 1 taken" ∷ codes "3 1 thread 1 ticks 2 yield"
-        ∷ codes "3 1 lot thread 1 a weight 9 = value 3 x 9 / 3 from 0 below 9"
+        ∷ codes "0 1 lot thread 1 a weight 3 from 0 below 3 wins" ∷ codes "0 1 lot thread 2 b weight 2 from 3 below 5"
+        ∷ codes "0 1 draw 2.054 of 5 thread 1" ∷ codes "1 1 thread 1 ticks 1 lock 1 taken"
+        ∷ codes "3 1 thread 1 ticks 2 yield" ∷ codes "3 1 lot thread 1 a weight 9 = value 3 x 9 / 3 from 0 below 9"
         ∷ codes "3 1 lot thread 2 b weight 2 from 9 below 11 wins" ∷ codes "3 1 draw 9.097 of 11 thread 2"
         ∷ codes "4 1 thread 2 ticks 1 lock 1 waits"
         ∷ codes "4 1 lot thread 1 a weight 15 = value 5 x 9 / 3 from 0 below 15 wins"
         ∷ codes "4 1 lent thread 2 b value 2 to thread 1" ∷ codes "4 1 draw 14.746 of 15 thread 1" ∷ codes "report"
-        ∷ codes "thread 1 a quanta 2 ticks 3 share 75% value 100%"
-        ∷ codes "thread 2 b quanta 1 ticks 1 share 25% value 0%"
+        ∷ codes "thread 1 a quanta 2 ticks 3 share 75% due 60% value 100% ready waits 2 mean 0.5 longest 1"
+        ∷ codes "thread 2 b quanta 1 ticks 1 share 25% due 40% value 0% ready waits 1 mean 3 longest 3"
         ∷ codes "processor 1 quanta 3 idle 0 ticks 4 unused 0"
         ∷ codes "total turns 8 quanta 3 ticks 4 refused 0 left 0" ∷ []) }
 {}

@@ -314,10 +314,10 @@ const EXPLAINED_LENDERS: &str = "0 0 funded 1 1
 25 1 lent thread 3 c value 3 to thread 2
 25 1 draw 4.804 of 9 thread 1
 report
-thread 1 o quanta 3 ticks 20 share 80% value 100%
-thread 2 s quanta 1 ticks 2 share 8% value 0%
-thread 3 c quanta 1 ticks 2 share 8% value 0%
-thread 4 z quanta 1 ticks 1 share 4% value 0%
+thread 1 o quanta 3 ticks 20 share 80% due 76.227% value 100% ready waits 3 mean 1.666 longest 3
+thread 2 s quanta 1 ticks 2 share 8% due 7.681% value 0% ready waits 1 mean 12 longest 12
+thread 3 c quanta 1 ticks 2 share 8% due 2.181% value 0% ready waits 1 mean 0 longest 0
+thread 4 z quanta 1 ticks 1 share 4% due 13.909% value 0% ready waits 1 mean 14 longest 14
 processor 1 quanta 6 idle 0 ticks 25 unused 0
 total turns 18 quanta 6 ticks 25 refused 0 left 0
 ";
