@@ -358,6 +358,7 @@ fundx 1 base a s
 ";
     let report = "
 report
+thread 1 a quanta 8000000 ticks 7999999 share 100% due 100% value 100% ready waits 8000000 mean 0 longest 0
 processor 1 quanta 8000000 idle 0 ticks 7999999 unused 0
 total turns 16000000 quanta 8000000 ticks 7999999 refused 0 left 0
 ended at 7999999 of 9000000: 16000000 turns made
