@@ -575,8 +575,7 @@ impl System {
 
     /// The counters of all turns so far.
     pub fn total(&self) -> Counts
-        ensures counts { result ≡ counted (turns_made self.now.setting.program self.now.history) }
-        ensures small { result.ticks ≤ length self.now.history * 2 ^ 32 }
+        ensures { result ≡ counted (turns_made self.now.setting.program self.now.history) }
     {
         self.total
     }

@@ -138,10 +138,10 @@ row-value s t row (Some name) None is = absurd (cc)
 row-value s t row (Some name) (Some r) is = let e : row_of_thread s t r ≡ row = cc in sym (ap (λ (x : ThreadRow). x.value) e)
 
 -- what the report tells of a thread, by what was asked of the system
-pub shares-are : (s : State) (turns : List TimedTurn) (t all due live values : ℕ) (ready mutexes replies lives : Spans) (refused : ℕ) → all ≡ total_of ticks_in (actor_turns turns) → due ≡ due_in (opening s.limits) turns t → live ≡ live_part s t (value_of s t)
+pub shares-are : (s : State) (turns : List TimedTurn) (t all due lasted live values : ℕ) (ready mutexes replies lives : Spans) (refused : ℕ) → all ≡ total_of ticks_in (actor_turns turns) → due ≡ due_in (opening s.limits) turns t → lasted ≡ live_time (opening s.limits) turns → live ≡ live_part s t (value_of s t)
     → values ≡ live_value s → ready ≡ ready_in turns t → mutexes ≡ spans_in mutex_change turns t → replies ≡ spans_in reply_change turns t → refused ≡ refused_traps_in turns t → lives ≡ spans_in life_change turns t
-    → record { all_ticks = all; due = due; live_value = live; all_values = values; ready = ready; mutexes = mutexes; replies = replies; refused_traps = refused; lives = lives } ≡ shares_in s turns t
-shares-are s turns t all due live values ready mutexes replies lives refused ticks owed own whole to_run for_mutex for_reply traps lived = rw (ticks, owed, own, whole, to_run, for_mutex, for_reply, traps, lived) (refl {a = shares_in s turns t})
+    → record { all_ticks = all; due = due; live_time = lasted; live_value = live; all_values = values; ready = ready; mutexes = mutexes; replies = replies; refused_traps = refused; lives = lives } ≡ shares_in s turns t
+shares-are s turns t all due lasted live values ready mutexes replies lives refused ticks owed long own whole to_run for_mutex for_reply traps lived = rw (ticks, owed, long, own, whole, to_run, for_mutex, for_reply, traps, lived) (refl {a = shares_in s turns t})
 
 -- the ticks of all turns
 pub ticks-are : (seen last : Seen) (timekeeper : Timekeeper) (c : Counts) → IsAtEnd seen timekeeper → last ≡ seen → c ≡ counted (turns_made last.setting.program last.history)

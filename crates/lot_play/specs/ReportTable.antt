@@ -8,7 +8,7 @@ use Rattle.lot_machine.specs.State.{State, opening, value_of}
 use Rattle.lot_simulation.specs.Report.{thread_total, ticks_in, total_of}
 use Rattle.lot_simulation.specs.Texts.{lines_for}
 use Rattle.lot_simulation.specs.Timed.{TimedTurn, timed_turns}
-use Rattle.lot_simulation.specs.TimedReport.{actor_turns, due_in, life_change, live_part, mutex_change, ready_in, refused_traps_in, reply_change}
+use Rattle.lot_simulation.specs.TimedReport.{actor_turns, due_in, life_change, live_part, live_time, mutex_change, ready_in, refused_traps_in, reply_change}
 use Rattle.lot_simulation.specs.TimedReport.{timed_thread_total, spans_in}
 use Rattle.lot_simulation.specs.World.{Program}
 use Rattle.lot_print.specs.declared.table_rows.Columns.TheVariants.{TimedTotals, Totals}
@@ -31,6 +31,7 @@ abbrev pub shares_in : State → List TimedTurn → ℕ → ThreadShares
 shares_in s turns t = record {
   all_ticks = total_of ticks_in (actor_turns turns);
   due = due_in (opening s.limits) turns t;
+  live_time = live_time (opening s.limits) turns;
   live_value = live_part s t (value_of s t);
   all_values = facts.live_value s;
   ready = ready_in turns t;

@@ -174,7 +174,7 @@ fn shares_of(
     ensures same { system.new ≡ system.old }
     ensures shares { result
         ≡ shares_in (world_of system.old).state (timed_turns system.old.setting.program) thread }
-    ensures ticks { result.all_ticks < 2 ^ 57 }
+    ensures live { result.live_time < 2 ^ 57 }
     ensures due { result.due < 2 ^ 121 }
     ensures values { result.all_values ≡ all_values }
 {
@@ -182,6 +182,7 @@ fn shares_of(
     ThreadShares {
         all_ticks: system.total().ticks,
         due: timekeeper.dues.of(thread),
+        live_time: timekeeper.dues.live_time,
         live_value,
         all_values,
         ready: timekeeper.ready.of(thread),

@@ -23,23 +23,30 @@ use Rattle.lot_machine.proofs.Sums.{sum-filter}
 use Rattle.lot_machine.proofs.Tickets.{at_number-suc, some-injective}
 use Rattle.lot_machine.proofs.TrapCycles.{at_number-map}
 use Rattle.lot_simulation.specs.declared.timed.Spans.{Spans}
-use Rattle.lot_simulation.specs.Report.{count_in, ticks_in}
 use Rattle.lot_simulation.specs.Timed.{TimedTurn}
 use Rattle.lot_simulation.specs.TimedReport.{live_part, no_spans, span_begun, span_ended}
 use Rattle.lot_simulation.specs.World.{Answer}
 use Rattle.lot_simulation.specs.World.Answer.{Answered}
 use Rattle.lot_playback.specs.declared.dues.DueTable.{DueTable}
 use Rattle.lot_playback.specs.declared.dues.ThreadDue.{ThreadDue}
-use Rattle.lot_simulation.specs.TimedReport.{due_after, due_from, due_in, due_part, due_rate, makes, queued, ready_after, ready_in, tick_parts}
+use Rattle.lot_simulation.specs.TimedReport.{due_after, due_from, due_in, due_part, due_rate, live_from, live_ticks, live_time, makes, queued, ready_after, ready_in, tick_parts}
 use Rattle.lot_playback.proofs.DispatchFacts.{none-made, part-kept, status-kept, values-kept}
 use Rattle.lot_playback.specs.InTime.{AreFew}
-use Rattle.lot_playback.specs.Owed.{Answers, AreDue, AreOwed, AreReadyFor, AreWaiting, HasFew, HaveQueued, HaveQueuedOne, IsDispatch, IsDueThread, IsOwed, IsReadyFor, forgotten, is_thread, moved_thread, parts_before, state_after, waits_before}
+use Rattle.lot_playback.specs.Owed.{Answers, AreDue, AreOwed, AreReadyFor, AreWaiting, HasFew, HaveQueued, HaveQueuedOne, IsDispatch, IsDueThread, IsOwed, IsReadyFor, forgotten, is_thread, moved_thread, parts_before, state_after, time_after, waits_before}
 
 -- ---- one turn more
 
-pub due-more : (first : State) (t due : ℕ) (done : List TimedTurn) (turn : TimedTurn) → due_from first t due (done ++ turn ∷ []) ≡ due_after (state_after first done) t (due_from first t due done) turn.turn.answer
-due-more first t due [] turn = refl
-due-more first t due (d ∷ done) turn = due-more d.turn.world.state t (due_after first t due d.turn.answer) done turn
+pub due-more : (first : State) (time t due : ℕ) (done : List TimedTurn) (turn : TimedTurn) → due_from first time t due (done ++ turn ∷ []) ≡ due_after (state_after first done) (turn.time - time_after time done) t (due_from first time t due done) turn.turn.answer
+due-more first time t due [] turn = refl
+due-more first time t due (d ∷ done) turn = due-more d.turn.world.state d.time t (due_after first (d.time - time) t due d.turn.answer) done turn
+
+pub live-more : (first : State) (time all : ℕ) (done : List TimedTurn) (turn : TimedTurn) → live_from first time all (done ++ turn ∷ []) ≡ live_from first time all done + live_ticks (state_after first done) (turn.time - time_after time done)
+live-more first time all [] turn = refl
+live-more first time all (d ∷ done) turn = live-more d.turn.world.state d.time (all + live_ticks first (d.time - time)) done turn
+
+pub time-more : (time : ℕ) (done : List TimedTurn) (turn : TimedTurn) → time_after time (done ++ turn ∷ []) ≡ turn.time
+time-more time [] turn = refl
+time-more time (d ∷ done) turn = time-more d.time done turn
 
 pub state-more : (first : State) (done : List TimedTurn) (turn : TimedTurn) → state_after first (done ++ turn ∷ []) ≡ turn.turn.world.state
 state-more first [] turn = refl
@@ -415,9 +422,23 @@ part-within s t = by (is_live (live_of s) t) refl
         let own : all (get_or (numbers s.records) (t - 1) 0) ≡ value_of s t = ap all place ∙ ap (λ b. cond b (value_of s t) 0) is in
         omega (arith, part, own, whole)
 
--- a rate from the numbers that the table keeps
-pub rate-is : (s : State) (value ticks rate : ℕ) (r : Reply) → value ≡ live_value s → ticks ≡ ticks_in r → rate ≡ (if value == 0 then 0 else (ticks * tick_parts + (value - 1)) / value) → rate ≡ due_rate s (ticks_in r)
-rate-is s value ticks rate r values used is = is ∙ (λ i. if values i == 0 then 0 else (used i * tick_parts + (values i - 1)) / values i)
+-- a rate, and the ticks that count, from the numbers that the table keeps
+pub rate-none : (s : State) (value ticks : ℕ) → value ≡ live_value s → value ≡ 0 → (due_rate s ticks ≡ 0) × (live_ticks s ticks ≡ 0)
+rate-none s value ticks values none =
+    let no : (live_value s == 0) ≡ true = eq-eqb (live_value s) 0 (sym values ∙ none) in
+    (ap (λ b. if b then 0 else (ticks * tick_parts + (live_value s - 1)) / live_value s) no, ap (λ b. if b then 0 else ticks) no)
+
+pub rate-some : (s : State) (value ticks rate : ℕ) → value ≡ live_value s → value ≢ 0 → rate ≡ (ticks * tick_parts + (value - 1)) / value → (rate ≡ due_rate s ticks) × (live_ticks s ticks ≡ ticks)
+rate-some s value ticks rate values some is =
+    let yes : (live_value s == 0) ≡ false = ne_eqb (live_value s) 0 (λ none. some (values ∙ none)) in
+    (is ∙ ap (λ v. (ticks * tick_parts + (v - 1)) / v) values ∙ sym (ap (λ b. if b then 0 else (ticks * tick_parts + (live_value s - 1)) / live_value s) yes), ap (λ b. if b then 0 else ticks) yes)
+
+live-few : (s : State) (ticks : ℕ) → live_ticks s ticks ≤ ticks
+live-few s ticks = by (live_value s == 0)
+  where
+    by : (b : Bool) → (if b then 0 else ticks) ≤ ticks
+    by true = omega arith
+    by false = omega arith
 
 -- a turn's rate, times all values, is little more than the parts of its ticks
 rate-within : (s : State) (ticks : ℕ) → ticks < 2 ^ 32 → live_value s < 2 ^ 96 → live_value s * due_rate s ticks ≤ 2 ^ 97
@@ -440,35 +461,48 @@ rate-few s ticks few small = by (live_value s == 0) refl
 
 -- ---- a turn more
 
-module _ (first s : State) (done : List TimedTurn) (n : ℕ) (r : Reply) (old : DueTable) (room : n < 2 ^ 24) (ticks : ticks_in r < 2 ^ 32) (was : AreDue first done n s old) where
+module _ (first s : State) (done : List TimedTurn) (n : ℕ) (ticks : ℕ) (old : DueTable) (room : n < 2 ^ 24) (short : ticks < 2 ^ 32) (was : AreDue first done n s old) where
   small : live_value s < 2 ^ 96
   small = omega (arith, was.small, was.values)
 
   -- the parts due after the turn, if it makes no thread
   abbrev pub then_due : ℕ → ℕ
-  then_due t = due_in first done t + due_part s t (ticks_in r)
+  then_due t = due_in first done t + due_part s t ticks
 
-  part-more : (t : ℕ) → due_part s t (ticks_in r) ≤ 2 ^ 97
-  part-more t = part-few s t (ticks_in r) ticks small
+  part-more : (t : ℕ) → due_part s t ticks ≤ 2 ^ 97
+  part-more t = part-few s t ticks short small
 
   -- each thread in the table is due so much at the new rate
-  pub owed-then : AreOwed (old.rate + due_rate s (ticks_in r)) then_due old.threads.items
+  pub owed-then : AreOwed (old.rate + due_rate s ticks) then_due old.threads.items
   owed-then place d below =
       let w = was.each place d below in
       let due = slice_index_or old.threads.items place d in
-      let product : due.value * due_rate s (ticks_in r) ≡ due_part s (place + 1) (ticks_in r) = ap (λ v. v * due_rate s (ticks_in r)) w.value in
-      let more = owed-more old.rate (due_rate s (ticks_in r)) (due_in first done (place + 1)) due w.owed (omega (arith, product, part-more (place + 1), w.few, room)) in
-      subst (λ k. IsOwed (old.rate + due_rate s (ticks_in r)) (due_in first done (place + 1) + k) due) product more
+      let product : due.value * due_rate s ticks ≡ due_part s (place + 1) ticks = ap (λ v. v * due_rate s ticks) w.value in
+      let more = owed-more old.rate (due_rate s ticks) (due_in first done (place + 1)) due w.owed (omega (arith, product, part-more (place + 1), w.few, room)) in
+      subst (λ k. IsOwed (old.rate + due_rate s ticks) (due_in first done (place + 1) + k) due) product more
 
-  module _ (next : State) (turn : TimedTurn) (e : Event) (new : DueTable) (answered : turn.turn.answer ≡ Answered e r) (led : turn.turn.world.state ≡ next) (rate : new.rate ≡ old.rate + due_rate s (ticks_in r)) where
+  module _ (next : State) (turn : TimedTurn) (e : Event) (r : Reply) (new : DueTable) (lasted : turn.time - old.time ≡ ticks) (answered : turn.turn.answer ≡ Answered e r) (led : turn.turn.world.state ≡ next) (time : new.time ≡ turn.time)
+      (lived : new.live_time ≡ old.live_time + live_ticks s ticks) (rate : new.rate ≡ old.rate + due_rate s ticks) where
+    lasted_since : turn.time - time_after 0 done ≡ ticks
+    lasted_since = ap (λ k. turn.time - k) (sym was.time) ∙ lasted
+
+    time-now : new.time ≡ time_after 0 (done ++ turn ∷ [])
+    time-now = time ∙ sym (time-more 0 done turn)
+
+    live-now : new.live_time ≡ live_time first (done ++ turn ∷ [])
+    live-now = lived ∙ ap (λ k. k + live_ticks s ticks) was.live_time ∙ sym (live-more first 0 0 done turn ∙ (λ i. live_time first done + live_ticks (was.state i) (lasted_since i)))
+
+    short-now : new.live_time ≤ (n + 1) * 2 ^ 32
+    short-now = omega (arith, lived, was.short, live-few s ticks, short)
+
     due-now : (t : ℕ) → due_in first (done ++ turn ∷ []) t ≡ (if makes t (Answered e r) then 0 else then_due t)
-    due-now t = due-more first t 0 done turn ∙ (λ i. due_after (was.state i) t (due_in first done t) (answered i))
+    due-now t = due-more first 0 t 0 done turn ∙ (λ i. due_after (was.state i) (lasted_since i) t (due_in first done t) (answered i))
 
     state-now : state_after first (done ++ turn ∷ []) ≡ next
     state-now = state-more first done turn ∙ led
 
     rate-now : new.rate ≤ (n + 1) * 2 ^ 97
-    rate-now = omega (arith, rate, was.rate, rate-few s (ticks_in r) ticks small)
+    rate-now = omega (arith, rate, was.rate, rate-few s ticks short small)
 
     few-now : (place : ℕ) (d : ThreadDue) → place < length old.threads.items → due_in first (done ++ turn ∷ []) (place + 1) ≤ (n + 1) * 2 ^ 97
     few-now place d below = by (makes (place + 1) (Answered e r)) refl
@@ -479,7 +513,7 @@ module _ (first s : State) (done : List TimedTurn) (n : ℕ) (r : Reply) (old : 
 
     -- after a draw, and after a quantum has ended, values stay
     pub dues-kept : IsDispatch e → Answers s e r next → new.threads.items ≡ old.threads.items → new.live_value ≡ old.live_value → AreDue first (done ++ turn ∷ []) (n + 1) next new
-    dues-kept dispatch answers same value = record { state = state-now; values = value ∙ was.values ∙ sym (values-kept s e dispatch r next answers); small = omega (arith, value, was.small); rate = rate-now; each = each }
+    dues-kept dispatch answers same value = record { state = state-now; time = time-now; live_time = live-now; short = short-now; values = value ∙ was.values ∙ sym (values-kept s e dispatch r next answers); small = omega (arith, value, was.small); rate = rate-now; each = each }
       where
         none : (t : ℕ) → then_due t ≡ due_in first (done ++ turn ∷ []) t
         none t = sym (due-now t ∙ ap (λ b. if b then 0 else then_due t) (none-made s e dispatch r next answers t))
@@ -488,7 +522,7 @@ module _ (first s : State) (done : List TimedTurn) (n : ℕ) (r : Reply) (old : 
         each place d below =
             let there : place < length old.threads.items = omega (arith, below, ap length same) in
             let w = was.each place d there in
-            let owed = subst (λ k. IsOwed (old.rate + due_rate s (ticks_in r)) k (slice_index_or old.threads.items place d)) (none (place + 1)) (owed-then place d there) in
+            let owed = subst (λ k. IsOwed (old.rate + due_rate s ticks) k (slice_index_or old.threads.items place d)) (none (place + 1)) (owed-then place d there) in
             subst (λ (ds : List ThreadDue). IsDueThread first (done ++ turn ∷ []) (n + 1) next new.rate (place + 1) (slice_index_or ds place d)) (sym same)
             (record {
               value = w.value ∙ sym (part-kept s e dispatch r next answers (place + 1));
@@ -500,7 +534,7 @@ module _ (first s : State) (done : List TimedTurn) (n : ℕ) (r : Reply) (old : 
     pub dues-changed : new.live_value ≡ live_value next → new.live_value < 2 ^ 96 → length new.threads.items ≡ length old.threads.items
         → ((place : ℕ) (d : ThreadDue) → place < length old.threads.items → (slice_index_or new.threads.items place d).value ≡ live_part next (place + 1) (value_of next (place + 1)))
         → AreOwed new.rate (parts_before (Answered e r) then_due) new.threads.items → AreDue first (done ++ turn ∷ []) (n + 1) next new
-    dues-changed value few count values owed = record { state = state-now; values = value; small = few; rate = rate-now; each = each }
+    dues-changed value few count values owed = record { state = state-now; time = time-now; live_time = live-now; short = short-now; values = value; small = few; rate = rate-now; each = each }
       where
         each : (place : ℕ) (d : ThreadDue) → place < length new.threads.items → IsDueThread first (done ++ turn ∷ []) (n + 1) next new.rate (place + 1) (slice_index_or new.threads.items place d)
         each place d below =

@@ -14,7 +14,7 @@ use Rattle.lot_simulation.specs.TimedReport.{live_part, no_spans}
 use Rattle.lot_simulation.specs.World.{Answer}
 use Rattle.lot_playback.specs.declared.dues.DueTable.{DueTable}
 use Rattle.lot_playback.specs.declared.dues.ThreadDue.{ThreadDue}
-use Rattle.lot_simulation.specs.TimedReport.{due_in, makes, queued, ready_in}
+use Rattle.lot_simulation.specs.TimedReport.{due_in, live_time, makes, queued, ready_in}
 
 -- the event is answered so in this state, and leads to the other
 abbrev pub Answers : State → Event → Reply → State → Type 0
@@ -38,6 +38,11 @@ abbrev pub moved_thread : Reply → Option ℕ
 moved_thread (reply.Winner thread number total delivered) = Some thread
 moved_thread (reply.Expired thread ticks) = Some thread
 moved_thread other = None
+
+-- the time of the last of these turns, or this one without any
+abbrev pub time_after : ℕ → List TimedTurn → ℕ
+time_after time [] = time
+time_after time (done ∷ others) = time_after done.time others
 
 -- ---- waits to run
 
@@ -109,6 +114,9 @@ pub record IsDueThread (opening : State) (done : List TimedTurn) (n : ℕ) (s : 
 -- the table after these turns, the first of which was made in the opening state, and which led to this state
 pub record AreDue (opening : State) (done : List TimedTurn) (n : ℕ) (s : State) (table : DueTable) : Type 0 where
   pub state : state_after opening done ≡ s
+  pub time : table.time ≡ time_after 0 done
+  pub live_time : table.live_time ≡ live_time opening done
+  pub short : table.live_time ≤ n * 2 ^ 32
   pub values : table.live_value ≡ live_value s
   pub small : table.live_value < 2 ^ 96
   pub rate : table.rate ≤ n * 2 ^ 97

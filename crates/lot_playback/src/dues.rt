@@ -6,7 +6,6 @@ ghost use Rattle.lot_machine.specs.Facts as facts;
 ghost use Rattle.lot_machine.specs.State.{State, opening, value_of};
 ghost use Rattle.lot_machine.specs.declared.event.Event.{Event as EventRecord};
 ghost use Rattle.lot_machine.specs.declared.sizes.Sizes.{Sizes};
-ghost use Rattle.lot_simulation.specs.Report as reports;
 ghost use Rattle.lot_simulation.specs.Timed.{TimedTurn};
 ghost use Rattle.lot_simulation.specs.TimedReport.{live_part};
 ghost use Rattle.lot_simulation.specs.World.Answer.{Answered};
@@ -48,6 +47,10 @@ pub struct DueTable {
     pub live_value: u128,
     /// The parts that each base unit of value has been due so far.
     pub rate: u128,
+    /// The time of the last turn.
+    pub time: u32,
+    /// The ticks in which live threads were worth anything.
+    pub live_time: u64,
 }
 
 impl DueTable {
@@ -60,6 +63,8 @@ impl DueTable {
             threads: vec![in alloc; NOTHING; threads as usize]?,
             live_value: 0,
             rate: 0,
+            time: 0,
+            live_time: 0,
         })
     }
 
@@ -75,19 +80,19 @@ impl DueTable {
         parts_of(self.threads[thread as usize - 1], self.rate)
     }
 
-    /// Records a turn with this event and reply, which led to this system.
-    pub(crate) fn follow(&mut self, system: &mut System, event: &Event, reply: Reply)
+    /// Records a turn at this time, with this event and reply, which led to this system.
+    pub(crate) fn follow(&mut self, system: &mut System, time: u32, event: &Event, reply: Reply)
         requires count { vec_len self.old.threads ≤ 4096 }
         requires few { (first s : State) × (done : List TimedTurn) × (n : ℕ) × (n < 2 ^ 24)
             × AreDue first done n s self.old × Answers s event.now reply (world_of system.old).state }
         ensures same { system.new ≡ system.old }
         ensures count { vec_len self.new.threads ≡ vec_len self.old.threads }
         ensures due { (first s : State) (done : List TimedTurn) (n : ℕ) (turn : TimedTurn) → n < 2 ^ 24
-            → turn.turn.answer ≡ Answered event.now reply → turn.turn.world ≡ world_of system.old
+            → turn.time ≡ time → turn.turn.answer ≡ Answered event.now reply → turn.turn.world ≡ world_of system.old
             → Answers s event.now reply (world_of system.old).state → AreDue first done n s self.old
             → AreDue first (done ++ turn ∷ []) (n + 1) (world_of system.old).state self.new }
     {
-        self.rate += rate_of(self.live_value, ticks_in(reply));
+        self.pass(time);
         if is_dispatch(event) {
             return;
         }
@@ -95,9 +100,30 @@ impl DueTable {
         self.revalue(system);
     }
 
+    /// Lets time pass up to this: the live threads share it.
+    fn pass(&mut self, time: u32)
+        requires few { (first s : State) × (done : List TimedTurn) × (n : ℕ) × (n < 2 ^ 24)
+            × AreDue first done n s self.old }
+        ensures rate { (s : State) → self.old.live_value ≡ facts.live_value s
+            → self.new.rate ≡ self.old.rate + dues.due_rate s (time - self.old.time) }
+        ensures live { (s : State) → self.old.live_value ≡ facts.live_value s
+            → self.new.live_time ≡ self.old.live_time + dues.live_ticks s (time - self.old.time) }
+        ensures time { self.new.time ≡ time }
+        ensures threads { self.new.threads.items ≡ self.old.threads.items }
+        ensures values { self.new.live_value ≡ self.old.live_value }
+    {
+        let ticks = time.saturating_sub(self.time);
+        self.time = time;
+        if self.live_value == 0 {
+            return;
+        }
+        self.rate += rate_of(self.live_value, ticks);
+        self.live_time += u64::from(ticks);
+    }
+
     /// Makes a new thread due nothing, if the reply says that one was made.
     fn forget_new(&mut self, reply: Reply)
-        ensures rate { self.new.rate ≡ self.old.rate }
+        ensures rest { self.new ≡ record self.old { threads = self.new.threads } }
         ensures owed { (e : EventRecord) (parts : ℕ → ℕ) → AreOwed self.old.rate parts self.old.threads.items
             → AreOwed self.old.rate (owed.parts_before (Answered e reply) parts) self.new.threads.items }
         ensures count { vec_len self.new.threads ≡ vec_len self.old.threads }
@@ -109,7 +135,7 @@ impl DueTable {
 
     /// Makes the thread with this number due nothing, whoever had it before.
     fn forget(&mut self, thread: u32)
-        ensures rate { self.new.rate ≡ self.old.rate }
+        ensures rest { self.new ≡ record self.old { threads = self.new.threads } }
         ensures owed { (parts : ℕ → ℕ) → AreOwed self.old.rate parts self.old.threads.items
             → AreOwed self.old.rate (owed.forgotten thread parts) self.new.threads.items }
         ensures count { vec_len self.new.threads ≡ vec_len self.old.threads }
@@ -125,7 +151,7 @@ impl DueTable {
         requires count { vec_len self.old.threads ≤ 4096 }
         requires owed { (parts : ℕ → ℕ) × AreOwed self.old.rate parts self.old.threads.items }
         ensures same { system.new ≡ system.old }
-        ensures rate { self.new.rate ≡ self.old.rate }
+        ensures rest { self.new ≡ record self.old { threads = self.new.threads; live_value = self.new.live_value } }
         ensures live { self.new.live_value ≡ facts.live_value (world_of system.old).state }
         ensures small { self.new.live_value < 2 ^ 96 }
         ensures count { vec_len self.new.threads ≡ vec_len self.old.threads }
@@ -155,27 +181,13 @@ fn parts_of(due: ThreadDue, rate: u128) -> u128
     due.parts + u128::from(due.value) * (rate - due.since)
 }
 
-/// The parts that each base unit of this live value is due when so many ticks are used.
+/// The parts that each base unit of this live value, which isn't 0, is due in so many ticks.
 fn rate_of(live_value: u128, ticks: u32) -> u128
-    requires { live_value < 2 ^ 96 }
-    ensures rate { result
-        ≡ (if live_value == 0 then 0 else (ticks * dues.tick_parts + (live_value - 1)) / live_value) }
+    requires { (0 < live_value) × (live_value < 2 ^ 96) }
+    ensures rate { result ≡ (ticks * dues.tick_parts + (live_value - 1)) / live_value }
     ensures few { result ≤ 2 ^ 97 }
 {
-    if live_value == 0 {
-        return 0;
-    }
     (u128::from(ticks) * TICK_PARTS + (live_value - 1)) / live_value
-}
-
-/// The ticks reported by an expiry or a trap.
-fn ticks_in(reply: Reply) -> u32
-    ensures { result ≡ reports.ticks_in reply }
-{
-    match reply {
-        Reply::Expired { ticks, .. } | Reply::Trapped { ticks, .. } => ticks,
-        _ => 0,
-    }
 }
 
 /// Whether the event is a draw or the end of a quantum.

@@ -128,7 +128,7 @@ impl Timekeeper {
         ensures room { (program : ProgramRecord) → HasRoomFor program self.old → HasRoomFor program self.new }
     {
         self.ready.queue(system, time, event, reply);
-        self.dues.follow(system, event, reply);
+        self.dues.follow(system, time, event, reply);
         let processors = self.clocks.processors.len() as u32;
         self.clocks.follow(system, time, actor, reply);
         self.alarms.follow(time, actor, processors, sleeper);

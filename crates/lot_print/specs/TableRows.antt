@@ -68,12 +68,12 @@ life_fields lives = fields lives.since lives.last
     fields None (Some life) = next_field (decimal life.from) ++ next_field (decimal life.to)
     fields None None = next_field [] ++ next_field []
 
--- A thread's row in the table of a timed program: also its share of all ticks, what it was due of them, its share of the
--- live value, its waits to run, for mutexes and for replies, the number of its refused traps, and when it was made and ended.
+-- A thread's row in the table of a timed program: also its share of all ticks, what it was due, its share of the live
+-- value, its waits to run, for mutexes and for replies, the number of its refused traps, and when it was made and ended.
 abbrev pub timed_thread_record : ℕ → ThreadRow → ThreadShares → List ℕ
 timed_thread_record t row shares =
     thread_fields t row ++ (next_field (percent_field row.ticks shares.all_ticks)
-    ++ (next_field (percent_field shares.due (shares.all_ticks * tick_parts))
+    ++ (next_field (percent_field shares.due (shares.live_time * tick_parts))
     ++ (next_field (percent_field shares.live_value shares.all_values)
     ++ (waits_fields shares.ready ++ (waits_fields shares.mutexes ++ (waits_fields shares.replies
     ++ (next_field (decimal shares.refused_traps) ++ (life_fields shares.lives ++ newline))))))))

@@ -25,7 +25,7 @@ abbrev pub timed_thread_line : ℕ → ThreadRow → ThreadShares → List ℕ
 timed_thread_line n row shares =
     codes "thread " ++ (decimal n ++ (codes " " ++ (row.name ++ (codes " quanta " ++ (decimal row.quanta
     ++ (codes " ticks " ++ (decimal row.ticks ++ (codes " share " ++ (percent_text row.ticks shares.all_ticks
-    ++ (codes " due " ++ (percent_text shares.due (shares.all_ticks * tick_parts)
+    ++ (codes " due " ++ (percent_text shares.due (shares.live_time * tick_parts)
     ++ (codes " value " ++ (percent_text shares.live_value shares.all_values
     ++ (waits_text (codes " ready") shares.ready ++ (waits_text (codes " mutex") shares.mutexes
     ++ (waits_text (codes " reply") shares.replies ++ (refused_traps_text shares.refused_traps

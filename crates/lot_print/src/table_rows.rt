@@ -84,7 +84,7 @@ pub fn write_timed_thread_record<W: Write>(
     shares: ThreadShares,
 ) -> Result<(), IoFault>
     requires working { writer.old.failed ≡ false }
-    requires ticks { shares.all_ticks < 2 ^ 57 }
+    requires live { shares.live_time < 2 ^ 57 }
     requires due { shares.due < 2 ^ 121 }
     requires values { shares.all_values < 2 ^ 96 }
     ensures { Writes W.contents writer.old writer.new result (timed_thread_record number row.now shares) }
@@ -94,7 +94,7 @@ pub fn write_timed_thread_record<W: Write>(
 
 /// A thread's row in the table of a timed report.
 fn timed_row(number: u32, row: &ThreadRow, shares: ThreadShares) -> TableRow
-    requires ticks { shares.all_ticks < 2 ^ 57 }
+    requires live { shares.live_time < 2 ^ 57 }
     requires due { shares.due < 2 ^ 121 }
     requires values { shares.all_values < 2 ^ 96 }
     ensures { result ≡ timed_thread_record number row.now shares }
@@ -162,21 +162,20 @@ fn push_thread(fields: &mut TableRow, number: u32, row: &ThreadRow)
     fields.push_field(",", row.ticks);
 }
 
-/// Appends the thread's shares of all ticks, that which it has used and that which it was due, and then its share of
-/// the live value.
+/// Appends the thread's share of all ticks, what it was due of the time in which threads were live, and its share of the
+/// live value.
 fn push_shares(fields: &mut TableRow, ticks: u64, shares: ThreadShares)
     requires room { length fields.old ≤ 150 }
-    requires ticks { shares.all_ticks < 2 ^ 57 }
+    requires live { shares.live_time < 2 ^ 57 }
     requires due { shares.due < 2 ^ 121 }
     requires values { shares.all_values < 2 ^ 96 }
     ensures text { fields.new ≡ fields.old ++ (next_field (percent_field ticks shares.all_ticks)
-        ++ (next_field (percent_field shares.due (shares.all_ticks * tick_parts))
+        ++ (next_field (percent_field shares.due (shares.live_time * tick_parts))
         ++ next_field (percent_field shares.live_value shares.all_values))) }
     ensures len { length fields.new ≤ length fields.old + 132 }
 {
-    let all_ticks = u128::from(shares.all_ticks);
-    push_percent(fields, u128::from(ticks), all_ticks);
-    push_percent(fields, shares.due, all_ticks * TICK_PARTS);
+    push_percent(fields, u128::from(ticks), u128::from(shares.all_ticks));
+    push_percent(fields, shares.due, u128::from(shares.live_time) * TICK_PARTS);
     push_percent(fields, u128::from(shares.live_value), shares.all_values);
 }
 

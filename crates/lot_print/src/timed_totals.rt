@@ -25,8 +25,10 @@ type TimedLine = Line<TIMED_ROW>;
 pub struct ThreadShares {
     /// The ticks that all threads have used.
     pub all_ticks: u64,
-    /// What the thread was due, in parts of a tick, below 2^122.
+    /// What the thread was due, in parts of a tick, below 2^121.
     pub due: u128,
+    /// The ticks in which threads were live and worth anything, below 2^57.
+    pub live_time: u64,
     /// The thread's value if it is live, and 0 otherwise.
     pub live_value: u64,
     /// The value of all live threads, below 2^96.
@@ -72,7 +74,7 @@ pub fn write_timed_thread_total<W: Write>(
     shares: ThreadShares,
 ) -> Result<(), IoFault>
     requires working { writer.old.failed ≡ false }
-    requires ticks { shares.all_ticks < 2 ^ 57 }
+    requires live { shares.live_time < 2 ^ 57 }
     requires due { shares.due < 2 ^ 121 }
     requires values { shares.all_values < 2 ^ 96 }
     ensures { Writes W.contents writer.old writer.new result
@@ -83,7 +85,7 @@ pub fn write_timed_thread_total<W: Write>(
 
 /// A thread's line of a timed report.
 fn thread_line(number: u32, row: &ThreadRow, shares: ThreadShares) -> TimedLine
-    requires ticks { shares.all_ticks < 2 ^ 57 }
+    requires live { shares.live_time < 2 ^ 57 }
     requires due { shares.due < 2 ^ 121 }
     requires values { shares.all_values < 2 ^ 96 }
     ensures { result ≡ timed_thread_line number row.now shares }
@@ -98,21 +100,20 @@ fn thread_line(number: u32, row: &ThreadRow, shares: ThreadShares) -> TimedLine
     line
 }
 
-/// Appends the thread's shares of all ticks: that which it has used, and that which it was due. Then follows its share
-/// of the live value.
+/// Appends the thread's share of all ticks, what it was due of the time in which threads were live, and its share of the
+/// live value.
 fn push_shares(line: &mut TimedLine, ticks: u64, shares: ThreadShares)
     requires room { length line.old ≤ 150 }
-    requires ticks { shares.all_ticks < 2 ^ 57 }
+    requires live { shares.live_time < 2 ^ 57 }
     requires due { shares.due < 2 ^ 121 }
     requires values { shares.all_values < 2 ^ 96 }
     ensures text { line.new ≡ line.old ++ (codes " share " ++ (percent_text ticks shares.all_ticks
-        ++ (codes " due " ++ (percent_text shares.due (shares.all_ticks * tick_parts)
+        ++ (codes " due " ++ (percent_text shares.due (shares.live_time * tick_parts)
         ++ (codes " value " ++ percent_text shares.live_value shares.all_values))))) }
     ensures len { length line.new ≤ length line.old + 153 }
 {
-    let all_ticks = u128::from(shares.all_ticks);
-    push_percent(line, " share ", u128::from(ticks), all_ticks);
-    push_percent(line, " due ", shares.due, all_ticks * TICK_PARTS);
+    push_percent(line, " share ", u128::from(ticks), u128::from(shares.all_ticks));
+    push_percent(line, " due ", shares.due, u128::from(shares.live_time) * TICK_PARTS);
     push_percent(line, " value ", u128::from(shares.live_value), shares.all_values);
 }
 

@@ -18,7 +18,7 @@ use Rattle.lot_machine.specs.declared.record.Status.{Status}
 use Rattle.lot_machine.specs.declared.record.Status.TheVariants.{Ready, Running}
 use Rattle.lot_machine.specs.State.{State, live_of, opening, status_of, value_of}
 use Rattle.lot_simulation.specs.Texts.{newline, quotient_text}
-use Rattle.lot_simulation.specs.Report.{ActorTurn, count_in, quanta_in, idles_in, ticks_in, total_of, turns_of}
+use Rattle.lot_simulation.specs.Report.{ActorTurn, quanta_in, idles_in, ticks_in, total_of, turns_of}
 use Rattle.lot_simulation.specs.declared.timed.Clock.{Clock}
 use Rattle.lot_simulation.specs.declared.timed.EarlyEnd.{EarlyEnd}
 use Rattle.lot_simulation.specs.declared.timed.PastLives.{PastLives}
@@ -168,28 +168,42 @@ live_part s t value = if is_live (live_of s) t then value else 0
 abbrev pub tick_parts : ℕ
 tick_parts = 10 ^ 18
 
--- The parts that each base unit of live value is due when so many ticks are used in this state. They are rounded up, so
--- that what is due exactly doesn't read as less.
+-- The parts that each base unit of live value is due while the state stays so for this many ticks. They are rounded up,
+-- so that what is due exactly doesn't read as less.
 abbrev pub due_rate : State → ℕ → ℕ
 due_rate s ticks = if live_value s == 0 then 0 else (ticks * tick_parts + (live_value s - 1)) / live_value s
 
--- the parts that are due to the thread, by its value, when so many ticks are used in this state (2, 4.4)
+-- the parts that the thread is due, by its value, while the state stays so for this many ticks (2, 4.4)
 abbrev pub due_part : State → ℕ → ℕ → ℕ
 due_part s t ticks = live_part s t (value_of s t) * due_rate s ticks
 
--- The parts due to the thread after a turn that was made in this state, from those before it: the live threads share
--- the turn's ticks by their values. A new thread is due nothing, whoever had its number before.
-abbrev pub due_after : State → ℕ → ℕ → Answer → ℕ
-due_after s t due answer = if makes t answer then 0 else due + due_part s t (count_in ticks_in answer)
+-- The parts due to the thread after a turn, from those before it, when the state before it had lasted so many ticks: the
+-- live threads share these by their values. A new thread is due nothing, whoever had its number before.
+abbrev pub due_after : State → ℕ → ℕ → ℕ → Answer → ℕ
+due_after s ticks t due answer = if makes t answer then 0 else due + due_part s t ticks
 
--- the parts due to the thread after these turns, from those before them, when the first was made in this state
-abbrev pub due_from : State → ℕ → ℕ → List TimedTurn → ℕ
-due_from s t due [] = due
-due_from s t due (done ∷ others) = due_from done.turn.world.state t (due_after s t due done.turn.answer) others
+-- the parts due to the thread after these turns, from those before them, when this has been the state since this time
+abbrev pub due_from : State → ℕ → ℕ → ℕ → List TimedTurn → ℕ
+due_from s time t due [] = due
+due_from s time t due (done ∷ others) =
+    due_from done.turn.world.state done.time t (due_after s (done.time - time) t due done.turn.answer) others
 
 -- the parts due to the thread after these turns, the first of which was made in this state
 abbrev pub due_in : State → List TimedTurn → ℕ → ℕ
-due_in s turns t = due_from s t 0 turns
+due_in s turns t = due_from s 0 t 0 turns
+
+-- these ticks, if the live threads are worth anything in this state, and otherwise none
+abbrev pub live_ticks : State → ℕ → ℕ
+live_ticks s ticks = if live_value s == 0 then 0 else ticks
+
+-- the ticks in which live threads were worth anything, after these turns, when this has been the state since this time
+abbrev pub live_from : State → ℕ → ℕ → List TimedTurn → ℕ
+live_from s time all [] = all
+live_from s time all (done ∷ others) = live_from done.turn.world.state done.time (all + live_ticks s (done.time - time)) others
+
+-- the ticks in which live threads were worth anything in these turns, the first of which was made in this state
+abbrev pub live_time : State → List TimedTurn → ℕ
+live_time s turns = live_from s 0 0 turns
 
 -- When a thread was made, unless that was at 0 and it hasn't ended, and when it ended, if it has.
 abbrev pub life_text : Spans → List ℕ
@@ -200,14 +214,14 @@ life_text lives = text lives.since lives.last
     text None (Some life) = codes " made " ++ (decimal life.from ++ (codes " ended " ++ decimal life.to))
     text None None = []
 
--- A thread's line: its name, the draws it has won, the ticks it has used and their share of all ticks, the share that
--- it was due, its share of the live value, its waits to run, for mutexes and for replies, its refused traps, and when
+-- A thread's line: its name, the draws it has won, the ticks it has used and their share of all ticks, what it was due
+-- of the time in which threads were live, its share of the live value, its waits to run, for mutexes and for replies, its refused traps, and when
 -- it was made and ended.
 abbrev pub timed_thread_total : State → List TimedTurn → ℕ → ℕ → ThreadRow → List ℕ
 timed_thread_total s turns all t row =
     codes "thread " ++ (decimal t ++ (codes " " ++ (row.name ++ (codes " quanta " ++ (decimal row.quanta
     ++ (codes " ticks " ++ (decimal row.ticks ++ (codes " share " ++ (percent_text row.ticks all
-    ++ (codes " due " ++ (percent_text (due_in (opening s.limits) turns t) (all * tick_parts)
+    ++ (codes " due " ++ (percent_text (due_in (opening s.limits) turns t) (live_time (opening s.limits) turns * tick_parts)
     ++ (codes " value " ++ (percent_text (live_part s t row.value) (live_value s)
     ++ (waits_text (codes " ready") (ready_in turns t)
     ++ (waits_text (codes " mutex") (spans_in mutex_change turns t)

@@ -1,6 +1,6 @@
 //! Clocks, due turns, spans of time and early ends of a timed input.
 
-/// A tick is shared out in this many parts, where a report tells what threads were due.
+/// A tick is shared out in this many parts where a report tells what threads were due.
 pub const TICK_PARTS: u128 = 1000000000000000000;
 
 /// A processor's clock. Times are in ticks.

@@ -38,8 +38,8 @@ pub fn commands_in_time()
         ≡ text (codes "0 0 funded 1 1" ∷ codes "0 1 draw 7.992 of 10 thread 1"
         ∷ codes "100 1 thread 1 ticks 100 expire" ∷ codes "100 1 draw 3.281 of 10 thread 1" ∷ codes "150 0 funded 2 2"
         ∷ codes "200 1 thread 1 ticks 100 expire" ∷ codes "200 1 draw 23.921 of 40 thread 2" ∷ codes "report"
-        ∷ codes "thread 1 a quanta 2 ticks 200 share 100% due 62.5% value 25% ready waits 2 mean 0 longest 0"
-        ∷ codes "thread 2 b quanta 1 ticks 0 share 0% due 37.5% value 75% ready waits 1 mean 50 longest 50 made 150"
+        ∷ codes "thread 1 a quanta 2 ticks 200 share 100% due 81.25% value 25% ready waits 2 mean 0 longest 0"
+        ∷ codes "thread 2 b quanta 1 ticks 0 share 0% due 18.75% value 75% ready waits 1 mean 50 longest 50 made 150"
         ∷ codes "processor 1 quanta 3 idle 0 ticks 200 unused 0"
         ∷ codes "total turns 7 quanta 3 ticks 200 refused 0 left 1" ∷ []) }
 {}
@@ -186,9 +186,9 @@ pub fn amounts_in_time()
         ∷ codes "150 thread 3 c ready value 5 weight 5 quanta 0 ticks 0" ∷ codes "200 1 thread 1 ticks 100 expire"
         ∷ codes "200 1 draw 7.484 of 15 thread 2" ∷ codes "250 0 done" ∷ codes "300 1 thread 2 ticks 100 expire"
         ∷ codes "300 1 draw 6.195 of 10 thread 3" ∷ codes "report"
-        ∷ codes "thread 1 a quanta 1 ticks 100 share 33.333% due 18.888% value 10% ready waits 1 mean 100 longest 100"
-        ∷ codes "thread 2 b quanta 2 ticks 200 share 66.666% due 42.222% value 40% ready waits 2 mean 50 longest 100"
-        ∷ codes "thread 3 c quanta 1 ticks 0 share 0% due 38.888% value 50% ready waits 1 mean 300 longest 300"
+        ∷ codes "thread 1 a quanta 1 ticks 100 share 33.333% due 22.777% value 10% ready waits 1 mean 100 longest 100"
+        ∷ codes "thread 2 b quanta 2 ticks 200 share 66.666% due 41.111% value 40% ready waits 2 mean 50 longest 100"
+        ∷ codes "thread 3 c quanta 1 ticks 0 share 0% due 36.111% value 50% ready waits 1 mean 300 longest 300"
         ∷ codes "processor 1 quanta 4 idle 0 ticks 300 unused 0"
         ∷ codes "total turns 18 quanta 4 ticks 300 refused 2 left 0" ∷ []) }
 {}
@@ -213,8 +213,8 @@ pub fn threads_removed()
         ∷ codes "15 1 draw 3.921 of 4 thread 3" ∷ codes "20 1 thread 3 ticks 5 exit"
         ∷ codes "20 1 draw 0.363 of 1 thread 2" ∷ codes "30 1 thread 2 ticks 10 expire"
         ∷ codes "30 1 draw 0.738 of 1 thread 2" ∷ codes "report"
-        ∷ codes "thread 2 b quanta 3 ticks 20 share 66.666% due 50% value 100% ready waits 3 mean 3.333 longest 5"
-        ∷ (codes "thread 3 a quanta 1 ticks 5 share 16.666% due 37.5% value 0%"
+        ∷ codes "thread 2 b quanta 3 ticks 20 share 66.666% due 57.5% value 100% ready waits 3 mean 3.333 longest 5"
+        ∷ (codes "thread 3 a quanta 1 ticks 5 share 16.666% due 30% value 0%"
             ++ codes " ready waits 1 mean 7 longest 7 made 8 ended 20")
         ∷ codes "processor 1 quanta 5 idle 0 ticks 30 unused 0"
         ∷ codes "total turns 23 quanta 5 ticks 30 refused 6 left 0 ended 2 mean 8.5 longest 12" ∷ []) }
@@ -394,9 +394,9 @@ pub fn sleepers()
         ∷ codes "11 3 wake thread 2" ∷ codes "11 1 draw 0.238 of 9.996 thread 1"
         ∷ codes "11 2 draw 0.421 of 3.332 thread 2" ∷ codes "15 1 thread 1 ticks 4 exit" ∷ codes "15 1 idle"
         ∷ codes "15 2 thread 2 ticks 4 exit" ∷ codes "15 1 idle" ∷ codes "15 2 idle" ∷ codes "report"
-        ∷ (codes "thread 1 a quanta 2 ticks 7 share 50% due 54.761% value 0%"
+        ∷ (codes "thread 1 a quanta 2 ticks 7 share 50% due 66.666% value 0%"
             ++ codes " ready waits 2 mean 0 longest 0 made 0 ended 15")
-        ∷ (codes "thread 2 b quanta 2 ticks 7 share 50% due 45.238% value 0%"
+        ∷ (codes "thread 2 b quanta 2 ticks 7 share 50% due 33.333% value 0%"
             ++ codes " ready waits 2 mean 0 longest 0 made 0 ended 15")
         ∷ codes "processor 1 quanta 2 idle 4 ticks 7 unused 18"
         ∷ codes "processor 2 quanta 2 idle 2 ticks 7 unused 18"
@@ -450,8 +450,9 @@ pub fn killed_in_a_slice()
         ∷ codes "4 thread 2 b ready value 1 weight 1 quanta 0 ticks 0" ∷ codes "4 1 draw 0.281 of 1 thread 2"
         ∷ codes "14 1 thread 2 ticks 10 expire" ∷ codes "14 1 draw 0.921 of 1 thread 2"
         ∷ codes "24 1 thread 2 ticks 10 expire" ∷ codes "24 1 draw 0.363 of 1 thread 2" ∷ codes "report"
-        ∷ codes "thread 1 a quanta 1 ticks 0 share 0% due 0% value 0% ready waits 1 mean 0 longest 0 made 0 ended 4"
-        ∷ codes "thread 2 b quanta 3 ticks 20 share 100% due 100% value 100% ready waits 3 mean 1.333 longest 4"
+        ∷ (codes "thread 1 a quanta 1 ticks 0 share 0% due 11.111% value 0%"
+            ++ codes " ready waits 1 mean 0 longest 0 made 0 ended 4")
+        ∷ codes "thread 2 b quanta 3 ticks 20 share 100% due 88.888% value 100% ready waits 3 mean 1.333 longest 4"
         ∷ codes "processor 1 quanta 4 idle 0 ticks 20 unused 4"
         ∷ codes "total turns 12 quanta 4 ticks 20 refused 2 left 0 ended 1 mean 4 longest 4" ∷ []) }
 {}
@@ -470,9 +471,9 @@ pub fn killed_beside_another()
         ∷ codes "10 1 draw 1.281 of 2 thread 2" ∷ codes "13 0 done" ∷ codes "13 1 idle"
         ∷ codes "16 2 thread 1 ticks 10 expire" ∷ codes "16 1 draw 1.363 of 3 thread 1" ∷ codes "16 2 idle"
         ∷ codes "report"
-        ∷ codes "thread 1 a quanta 2 ticks 10 share 50% due 80% value 100% ready waits 2 mean 3 longest 6"
-        ∷ codes "thread 2 b quanta 2 ticks 10 share 50% due 20% value 0% ready waits 2 mean 0 longest 0 made 0 ended 13"
-        ∷ codes "thread 3 c quanta 1 ticks 0 share 0% due 0% value 0% ready waits 1 mean 0 longest 0 made 0 ended 6"
+        ∷ codes "thread 1 a quanta 2 ticks 10 share 50% due 63.75% value 100% ready waits 2 mean 3 longest 6"
+        ∷ codes "thread 2 b quanta 2 ticks 10 share 50% due 30% value 0% ready waits 2 mean 0 longest 0 made 0 ended 13"
+        ∷ codes "thread 3 c quanta 1 ticks 0 share 0% due 6.25% value 0% ready waits 1 mean 0 longest 0 made 0 ended 6"
         ∷ codes "processor 1 quanta 3 idle 1 ticks 10 unused 6"
         ∷ codes "processor 2 quanta 2 idle 1 ticks 10 unused 15"
         ∷ codes "total turns 14 quanta 5 ticks 20 refused 0 left 0 ended 2 mean 9.5 longest 13" ∷ []) }
@@ -510,9 +511,9 @@ pub fn killed_server()
         ∷ codes "3 1 thread 2 ticks 2 call 1 served by 1" ∷ codes "3 1 draw 13.921 of 30 thread 1 got 7"
         ∷ codes "4 0 done" ∷ codes "4 1 draw 1.363 of 5 thread 2" ∷ codes "5 1 thread 2 ticks 1 exit"
         ∷ codes "5 1 idle" ∷ codes "report"
-        ∷ (codes "thread 1 s quanta 2 ticks 1 share 25% due 16.666% value 0%"
+        ∷ (codes "thread 1 s quanta 2 ticks 1 share 25% due 33.333% value 0%"
             ++ codes " ready waits 2 mean 0 longest 0 made 0 ended 4")
-        ∷ (codes "thread 2 c quanta 2 ticks 3 share 75% due 83.333% value 0%"
+        ∷ (codes "thread 2 c quanta 2 ticks 3 share 75% due 66.666% value 0%"
             ++ codes " ready waits 2 mean 0.5 longest 1 made 0 ended 5")
         ∷ codes "processor 1 quanta 4 idle 1 ticks 4 unused 26"
         ∷ codes "total turns 11 quanta 4 ticks 4 refused 0 left 0 ended 2 mean 4.5 longest 5" ∷ []) }
@@ -531,9 +532,9 @@ pub fn killed_owner()
         ∷ codes "15 1 draw 0.921 of 1 thread 2" ∷ codes "15 2 idle" ∷ codes "18 1 thread 2 ticks 3 unlock 1 free"
         ∷ codes "18 2 idle" ∷ codes "19 1 thread 2 ticks 1 exit" ∷ codes "19 1 idle" ∷ codes "19 2 idle"
         ∷ codes "report"
-        ∷ (codes "thread 1 a quanta 1 ticks 1 share 6.25% due 8.333% value 0%"
+        ∷ (codes "thread 1 a quanta 1 ticks 1 share 6.25% due 24.561% value 0%"
             ++ codes " ready waits 1 mean 0 longest 0 made 0 ended 5")
-        ∷ (codes "thread 2 b quanta 3 ticks 15 share 93.75% due 91.666% value 0%"
+        ∷ (codes "thread 2 b quanta 3 ticks 15 share 93.75% due 75.438% value 0%"
             ++ codes " ready waits 3 mean 0 longest 0 made 0 ended 19")
         ∷ codes "processor 1 quanta 3 idle 1 ticks 15 unused 5"
         ∷ codes "processor 2 quanta 1 idle 5 ticks 1 unused 19"
@@ -556,9 +557,9 @@ pub fn numbers_again()
         ∷ codes "15 1 thread 2 ticks 10 expire" ∷ codes "15 1 draw 3.921 of 4 thread 2"
         ∷ codes "25 1 thread 2 ticks 10 expire" ∷ codes "25 1 draw 0.363 of 4 thread 1"
         ∷ codes "30 1 thread 1 ticks 5 exit" ∷ codes "30 1 draw 0.738 of 1 thread 2" ∷ codes "report"
-        ∷ (codes "thread 1 c quanta 1 ticks 5 share 16.666% due 62.5% value 0%"
+        ∷ (codes "thread 1 c quanta 1 ticks 5 share 16.666% due 55% value 0%"
             ++ codes " ready waits 1 mean 17 longest 17 made 8 ended 30")
-        ∷ codes "thread 2 b quanta 3 ticks 20 share 66.666% due 25% value 100% ready waits 3 mean 3.333 longest 5"
+        ∷ codes "thread 2 b quanta 3 ticks 20 share 66.666% due 32.5% value 100% ready waits 3 mean 3.333 longest 5"
         ∷ codes "processor 1 quanta 5 idle 0 ticks 30 unused 0"
         ∷ codes "total turns 17 quanta 5 ticks 30 refused 1 left 0 ended 2 mean 13.5 longest 22" ∷ []) }
 {}
@@ -583,8 +584,8 @@ pub fn begins_anew()
         ∷ codes "20 1 thread 2 ticks 1 unlock 1 free" ∷ codes "21 1 thread 2 ticks 1 exit"
         ∷ codes "21 1 draw 0.316 of 1 thread 1" ∷ codes "31 1 thread 1 ticks 10 expire"
         ∷ codes "31 1 draw 0.929 of 1 thread 1" ∷ codes "report"
-        ∷ codes "thread 1 h quanta 5 ticks 25 share 80.645% due 44.838% value 100% ready waits 5 mean 1.2 longest 3"
-        ∷ (codes "thread 2 v quanta 1 ticks 3 share 9.677% due 37.741% value 0%"
+        ∷ codes "thread 1 h quanta 5 ticks 25 share 80.645% due 65.161% value 100% ready waits 5 mean 1.2 longest 3"
+        ∷ (codes "thread 2 v quanta 1 ticks 3 share 9.677% due 20.322% value 0%"
             ++ codes " ready waits 1 mean 4 longest 4 made 14 ended 21")
         ∷ codes "processor 1 quanta 8 idle 0 ticks 31 unused 0"
         ∷ codes "total turns 25 quanta 8 ticks 31 refused 0 left 0 ended 2 mean 7 longest 7" ∷ []) }

@@ -62,8 +62,8 @@ unfund 1
 200 1 thread 1 ticks 100 expire
 200 1 draw 23.921 of 40 thread 2
 report
-thread 1 a quanta 2 ticks 200 share 100% due 62.5% value 25% ready waits 2 mean 0 longest 0
-thread 2 b quanta 1 ticks 0 share 0% due 37.5% value 75% ready waits 1 mean 50 longest 50 made 150
+thread 1 a quanta 2 ticks 200 share 100% due 81.25% value 25% ready waits 2 mean 0 longest 0
+thread 2 b quanta 1 ticks 0 share 0% due 18.75% value 75% ready waits 1 mean 50 longest 50 made 150
 processor 1 quanta 3 idle 0 ticks 200 unused 0
 total turns 7 quanta 3 ticks 200 refused 0 left 1
 ",
@@ -415,8 +415,8 @@ fundx 1 base b short
 30 1 draw 0.902 of 3.332 thread 1
 30 2 idle
 report
-thread 1 a quanta 3 ticks 8 share 61.538% due 80.769% value 100% ready waits 3 mean 0 longest 0
-thread 2 b quanta 2 ticks 5 share 38.461% due 19.23% value 0% ready waits 2 mean 0 longest 0
+thread 1 a quanta 3 ticks 8 share 61.538% due 68.75% value 100% ready waits 3 mean 0 longest 0
+thread 2 b quanta 2 ticks 5 share 38.461% due 31.25% value 0% ready waits 2 mean 0 longest 0
 processor 1 quanta 3 idle 4 ticks 5 unused 25
 processor 2 quanta 2 idle 3 ticks 8 unused 22
 total turns 21 quanta 5 ticks 13 refused 0 left 0
@@ -508,10 +508,10 @@ lsthr
 36 1 thread 1 ticks 1 exit
 36 1 idle
 report
-thread 1 a quanta 3 ticks 4 share 12.121% due 48.484% value 0% ready waits 3 mean 4 longest 10 made 0 ended 36
-thread 2 b quanta 2 ticks 3 share 9.09% due 9.09% value 0% \
+thread 1 a quanta 3 ticks 4 share 12.121% due 36.868% value 0% ready waits 3 mean 4 longest 10 made 0 ended 36
+thread 2 b quanta 2 ticks 3 share 9.09% due 7.07% value 0% \
 ready waits 2 mean 0 longest 0 mutex waits 1 mean 30 longest 30 made 2 ended 35
-thread 3 c quanta 3 ticks 26 share 78.787% due 42.424% value 0% ready waits 3 mean 0 longest 0 made 6 ended 32
+thread 3 c quanta 3 ticks 26 share 78.787% due 56.06% value 0% ready waits 3 mean 0 longest 0 made 6 ended 32
 processor 1 quanta 8 idle 2 ticks 33 unused 27
 total turns 26 quanta 8 ticks 33 refused 0 left 0 ended 3 mean 31.666 longest 36
 ",
@@ -592,8 +592,8 @@ lsthr
 56 1 thread 2 ticks 10 expire
 56 1 draw 0.929 of 1 thread 2
 report
-thread 1 d quanta 2 ticks 2 share 3.703% due 33.95% value 0% ready waits 2 mean 1.5 longest 3 made 21 ended 46
-thread 2 c quanta 6 ticks 50 share 92.592% due 62.962% value 100% ready waits 6 mean 0.5 longest 1 made 3
+thread 1 d quanta 2 ticks 2 share 3.703% due 7.716% value 0% ready waits 2 mean 1.5 longest 3 made 21 ended 46
+thread 2 c quanta 6 ticks 50 share 92.592% due 89.197% value 100% ready waits 6 mean 0.5 longest 1 made 3
 processor 1 quanta 10 idle 1 ticks 54 unused 2
 total turns 37 quanta 10 ticks 54 refused 2 left 0 ended 3 mean 15.333 longest 25
 ",

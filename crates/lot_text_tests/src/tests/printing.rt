@@ -936,13 +936,14 @@ fn check_shares(rt: &impl Abort, alloc: Global, shares: ThreadShares, wanted: &s
     check(rt, writer, ended, fields);
 }
 
-// 2 of 3 ticks are 66.666%, and 1729382256910270464 is half of 3 * 2^60. 3 waits of 7 ticks in all are 2.333 on
+// 2 of 3 ticks are 66.666%, and 1500000000000000000 is half of 3 * 10^18. 3 waits of 7 ticks in all are 2.333 on
 // average, 5 of 12 are 2.4, and 18446744073709551615 / 4294967295 is 4294967297.
 #[test]
 fn prints_timed_totals(rt: HostRuntime) {
     let shares = ThreadShares {
         all_ticks: 3,
-        due: 1729382256910270464,
+        due: 1500000000000000000,
+        live_time: 3,
         live_value: 1,
         all_values: 8,
         ready: Spans {
@@ -970,6 +971,7 @@ fn prints_timed_totals(rt: HostRuntime) {
     let shares = ThreadShares {
         all_ticks: 0,
         due: 0,
+        live_time: 0,
         live_value: 0,
         all_values: 0,
         ready: LONG,
@@ -986,13 +988,14 @@ fn prints_timed_totals(rt: HostRuntime) {
     check_shares(&rt, rt.alloc(), shares, wanted, fields);
 }
 
-// The thread that had the number before has ended; this one hasn't. 768614336404564650 is a third of 2 * 2^60, rounded
+// The thread that had the number before has ended; this one hasn't. 666666666666666666 is a third of 2 * 10^18, rounded
 // down.
 #[test]
 fn prints_lives(rt: HostRuntime) {
     let shares = ThreadShares {
         all_ticks: 2,
-        due: 768614336404564650,
+        due: 666666666666666666,
+        live_time: 2,
         live_value: 0,
         all_values: 0,
         ready: NO_SPANS,

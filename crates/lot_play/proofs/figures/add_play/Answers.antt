@@ -15,7 +15,7 @@ loop-place-preserved c =
     let all = total_of ticks_in (turns_made s.setting.program s.history) in
     let row = λ (place : ℕ). thread_row (world_of s).state (place + 1) in
     let is : c.thread_row-row.result ≡ row at = c.thread_row-row.ensures.row ∙ ap (λ (x : Seen). thread_row (world_of x).state (at + 1)) i.same in
-    let ticks : c.total-all_ticks.result.ticks ≡ all = ap (λ (x : Counts). x.ticks) c.total-all_ticks.ensures.counts in
+    let ticks : c.total-all_ticks.result.ticks ≡ all = ap (λ (x : Counts). x.ticks) c.total-all_ticks.ensures in
     let added : IsAdded all at (row at) c.loop-place.figures.items c.add_row.new.figures.items = rw (← ticks, ← is) c.add_row.ensures in
     record {
       same = c.thread_row-row.ensures.state ∙ i.same;

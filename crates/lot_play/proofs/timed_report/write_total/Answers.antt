@@ -10,5 +10,5 @@ pub returns : goal.returns
 returns g c =
     let s = c.args.system.now in
     let w = c.args.timekeeper.now in
-    let line = total-line c.total-counts.result (timed_turns s.setting.program) w.refused c.commands_left.result c.past_lives.result (moment_in s w) (c.total-counts.ensures.counts ∙ ap counted (turns-are s w c.requires.end)) (refused-are s w c.requires.end) c.commands_left.ensures c.past_lives.ensures in
+    let line = total-line c.total-counts.result (timed_turns s.setting.program) w.refused c.commands_left.result c.past_lives.result (moment_in s w) (c.total-counts.ensures ∙ ap counted (turns-are s w c.requires.end)) (refused-are s w c.requires.end) c.commands_left.ensures c.past_lives.ensures in
     subst (Written (g.W.Write.contents c.args.writer.now.inner) (g.W.Write.contents c.write_timed_whole_total.new.writer.inner) c.write_timed_whole_total.new.writer.failed c.write_timed_whole_total.result) line c.write_timed_whole_total.ensures

@@ -149,9 +149,9 @@ const EXPLAINED_AMOUNTS: &str = "0 0 currency 1
 300 1 lot thread 3 c weight 5 from 5 below 10 wins
 300 1 draw 6.195 of 10 thread 3
 report
-thread 1 a quanta 1 ticks 100 share 33.333% due 18.888% value 10% ready waits 1 mean 100 longest 100
-thread 2 b quanta 2 ticks 200 share 66.666% due 42.222% value 40% ready waits 2 mean 50 longest 100
-thread 3 c quanta 1 ticks 0 share 0% due 38.888% value 50% ready waits 1 mean 300 longest 300
+thread 1 a quanta 1 ticks 100 share 33.333% due 22.777% value 10% ready waits 1 mean 100 longest 100
+thread 2 b quanta 2 ticks 200 share 66.666% due 41.111% value 40% ready waits 2 mean 50 longest 100
+thread 3 c quanta 1 ticks 0 share 0% due 36.111% value 50% ready waits 1 mean 300 longest 300
 processor 1 quanta 4 idle 0 ticks 300 unused 0
 total turns 18 quanta 4 ticks 300 refused 2 left 0
 ";
@@ -198,8 +198,8 @@ const EXPLAINED_REMOVAL: &str = "0 0 funded 1 1
 15 1 lot thread 3 a weight 3 from 1 below 4 wins
 15 1 draw 3.921 of 4 thread 3
 report
-thread 2 b quanta 1 ticks 10 share 66.666% due 25% value 25% ready waits 1 mean 5 longest 5
-thread 3 a quanta 1 ticks 0 share 0% due 50% value 75% ready waits 1 mean 7 longest 7 made 8
+thread 2 b quanta 1 ticks 10 share 66.666% due 40% value 25% ready waits 1 mean 5 longest 5
+thread 3 a quanta 1 ticks 0 share 0% due 35% value 75% ready waits 1 mean 7 longest 7 made 8
 processor 1 quanta 3 idle 0 ticks 15 unused 0
 total turns 13 quanta 3 ticks 15 refused 3 left 0 ended 1 mean 5 longest 5
 ";
@@ -238,8 +238,8 @@ const EXPLAINED_SLEEPER: &str = "0 0 funded 1 1
 13 1 lot thread 2 b weight 1 from 0 below 1 wins
 13 1 draw 0.062 of 1 thread 2
 report
-thread 1 a quanta 2 ticks 3 share 23.076% due 50% value 0% ready waits 2 mean 3.5 longest 7
-thread 2 b quanta 2 ticks 10 share 76.923% due 50% value 100% ready waits 2 mean 1.5 longest 2
+thread 1 a quanta 2 ticks 3 share 23.076% due 38.461% value 0% ready waits 2 mean 3.5 longest 7
+thread 2 b quanta 2 ticks 10 share 76.923% due 61.538% value 100% ready waits 2 mean 1.5 longest 2
 processor 1 quanta 4 idle 0 ticks 13 unused 0
 total turns 10 quanta 4 ticks 13 refused 0 left 0
 ";

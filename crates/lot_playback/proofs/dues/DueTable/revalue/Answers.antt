@@ -27,7 +27,14 @@ loop-place-preserved c =
       rate = i.rate;
       live = i.live;
       small = i.small;
+      time = i.time;
+      live_time = i.live_time;
       have = subst (λ k. HaveValues s (place + 1) c.args.self.now.rate c.args.self.now.threads.items (set c.loop-place.self.threads.items place (record { value = c.live_value_of-value.result; since = k; parts = c.parts_of.result }))) (sym i.rate)
           (one-value s place c.args.self.now.rate c.live_value_of-value.result c.parts_of.result c.args.self.now.threads.items c.loop-place.self.threads.items c.index.result.now below c.index.ensures
           (λ parts is. c.parts_of.ensures parts (subst (λ k. IsOwed k parts c.index.result.now) (sym i.rate) is)) value i.have);
     }
+
+pub returns-clause-rest : goal.returns-clause-rest
+returns-clause-rest c =
+    let now = c.loop-place.invariant in
+    λ i. record { threads = c.loop-place.self.threads; live_value = c.loop-place.self.live_value; rate = now.rate i; time = now.time i; live_time = now.live_time i }

@@ -43,5 +43,5 @@ returns-clause-dues c first before done n turn room at answered world answers wa
   ready = waits-more done n before (world_of c.args.system.now).state turn c.args.time (Answered c.args.event.now c.args.reply) c.args.self.now.ready.threads.items c.queue.new.self.threads.items at (omega (arith, c.ranges.time.fits)) answered
       (ap (λ (w : World). w.state) world) c.queue.ensures.queued was.ready;
   dues = subst (λ (x : Seen). AreDue first (done ++ turn ∷ []) (n + 1) (world_of x).state c.follow.new.self) c.queue.ensures.same
-      (c.follow.ensures.due first before done n turn room answered (world ∙ ap world_of (sym c.queue.ensures.same)) (subst (λ (x : Seen). Answers before c.args.event.now c.args.reply (world_of x).state) (sym c.queue.ensures.same) answers) was.dues);
+      (c.follow.ensures.due first before done n turn room at answered (world ∙ ap world_of (sym c.queue.ensures.same)) (subst (λ (x : Seen). Answers before c.args.event.now c.args.reply (world_of x).state) (sym c.queue.ensures.same) answers) was.dues);
 }
