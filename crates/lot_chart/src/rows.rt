@@ -64,12 +64,14 @@ pub fn pictures()
 #[tactic(auto, unfolding(lot_simulation::specs::OnLiterals::texts_on_literals, crate::specs::Marks::marked))]
 pub fn marks()
     ensures whole { command_marks commanded_curves
-        ≡ text (codes "<path d='M101.0 60V460' stroke='#bbbbbb' stroke-dasharray='3 3'><title>command at 11</title></path>"
+        ≡ text
+        (codes "<path d='M101.0 60V460' stroke='#bbbbbb' stroke-dasharray='3 3'><title>command at 11</title></path>"
         ∷ codes "<path d='M435.0 60V460' stroke='#bbbbbb' stroke-dasharray='3 3'><title>command at 3500</title></path>"
         ∷ codes "<path d='M770.0 60V460' stroke='#bbbbbb' stroke-dasharray='3 3'><title>command at 7000</title></path>"
         ∷ []) }
     ensures interval { command_marks (curves_within (Some (record { from = 11; to = Some 3511 })) commanded_curves)
-        ≡ text (codes "<path d='M100.1 60V460' stroke='#bbbbbb' stroke-dasharray='3 3'><title>command at 12</title></path>"
+        ≡ text
+        (codes "<path d='M100.1 60V460' stroke='#bbbbbb' stroke-dasharray='3 3'><title>command at 12</title></path>"
         ∷ codes "<path d='M101.7 60V460' stroke='#bbbbbb' stroke-dasharray='3 3'><title>command at 20</title></path>"
         ∷ codes "<path d='M767.8 60V460' stroke='#bbbbbb' stroke-dasharray='3 3'><title>command at 3500</title></path>"
         ∷ []) }

@@ -46,7 +46,8 @@ impl Model for Lots {
 }
 
 impl Lots {
-    /// Room for the lots and loans of this many threads, and none yet. It allocates all the memory that will ever be used.
+    /// Room for the lots and loans of this many threads, and none yet. It allocates all the memory that will ever be
+    /// used.
     pub(crate) fn open(alloc: Global, threads: u32) -> Result<Lots, AllocError>
         ensures { IfOk result (λ lots. lots ≡ record { lots = []; loans = []; room = threads }) }
     {
@@ -72,7 +73,8 @@ impl Lots {
         &self.loans
     }
 
-    /// Gathers the lots of the lottery that the actor's next turn may hold, and the loans at it. It allocates no memory.
+    /// Gathers the lots of the lottery that the actor's next turn may hold, and the loans at it. It allocates no
+    /// memory.
     pub(crate) fn gather(&mut self, program: &Program, system: &mut System, actor: u32)
         requires program { system.old.setting.program ≡ program.now }
         requires room { self.old.room ≡ program.now.limits.threads }

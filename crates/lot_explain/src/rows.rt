@@ -113,7 +113,8 @@ pub fn behind_the_point()
         ∷ codes "total turns 7 quanta 1 ticks 0 refused 0 left 0" ∷ []) }
 {}
 
-/// A client that is served lends its value to its server (4.6). A compensated server weighs more by what it is lent too.
+/// A client that is served lends its value to its server (4.6). A compensated server weighs more by what it is lent,
+/// too.
 #[tactic(auto, unfolding(crate::specs::OnLiterals::texts_on_literals, lot_simulation::specs::Timed::timed_room))]
 pub fn serving()
     ensures { explained_output (text (codes "lottery 3" ∷ codes "quantum 9" ∷ codes "for 3" ∷ codes "seed 4"

@@ -95,7 +95,8 @@ pub fn servings_return_value()
         → s.limits.without_lending ≡ false → RepliesThenWaits s e caller server
         → OwnsNothing (step s e).state server → value_of s server ≡ value_of s caller }
     ensures others { (s : State) (e : Event) (caller server other : ℕ) → IsInOrder s
-        → s.limits.without_lending ≡ false → RepliesThenWaits s e caller server → other ≢ server → OwnsNothing (step s e).state server
+        → s.limits.without_lending ≡ false → RepliesThenWaits s e caller server → other ≢ server
+        → OwnsNothing (step s e).state server
         → value_of (step s e).state other ≡ value_of s other }
     ensures together { (s : State) (e : Event) (caller server : ℕ) → IsInOrder s
         → s.limits.without_lending ≡ false → RepliesThenWaits s e caller server → OwnsNothing (step s e).state server

@@ -1,6 +1,6 @@
 //! What threads are due: their shares, by value, of the ticks used.
-ghost use Rattle.std.specs.Prelude.{◌≡◌, ℕ, ◌+◌, ◌-◌, ◌*◌, ◌<◌, ◌≤◌, ◌^◌, [], ◌∷◌, ◌++◌, List, length, slice_index_or, IfOk, IsTrue, ◌↔◌};
-ghost use Rattle.std.specs.Prelude.{vec_len, if◌then◌else◌, ◌/◌, ◌==◌};
+ghost use Rattle.std.specs.Prelude.{◌≡◌, ℕ, ◌+◌, ◌-◌, ◌*◌, ◌<◌, ◌≤◌, ◌^◌, [], ◌∷◌, ◌++◌, List, length};
+ghost use Rattle.std.specs.Prelude.{slice_index_or, IfOk, IsTrue, ◌↔◌, vec_len, if◌then◌else◌, ◌/◌, ◌==◌};
 ghost use Rattle.lot_machine.specs.Bounds.{IsBetween};
 ghost use Rattle.lot_machine.specs.Facts as facts;
 ghost use Rattle.lot_machine.specs.State.{State, opening, value_of};

@@ -1,5 +1,6 @@
 //! Threads' waits to run: the times for which they are Ready.
-ghost use Rattle.std.specs.Prelude.{◌≡◌, ℕ, ◌+◌, ◌<◌, ◌^◌, length, slice_index_or, vec_len, IfSome, None, Some, false, ◌≤◌};
+ghost use Rattle.std.specs.Prelude.{◌≡◌, ℕ, ◌+◌, ◌<◌, ◌^◌, length, slice_index_or};
+ghost use Rattle.std.specs.Prelude.{vec_len, IfSome, None, Some, false, ◌≤◌};
 ghost use Rattle.lot_machine.specs.Lends.{is_live};
 ghost use Rattle.lot_machine.specs.State.{State, live_of, status_of};
 ghost use Rattle.lot_machine.specs.declared.event.Event.{Event as EventRecord};

@@ -48,7 +48,9 @@ fn header_of(columns: Columns) -> TableRow
         Columns::Totals => row.push_text("thread,name,quanta,ticks\n"),
         Columns::TimedTotals => {
             row.push_text("thread,name,quanta,ticks,share_percent,due_percent,value_percent");
-            row.push_text(",ready_waits,ready_mean,ready_longest,mutex_waits,mutex_mean,mutex_longest");
+            row.push_text(
+                ",ready_waits,ready_mean,ready_longest,mutex_waits,mutex_mean,mutex_longest",
+            );
             row.push_text(",reply_waits,reply_mean,reply_longest,refused,made,ended\n");
         }
         Columns::Figures => {
@@ -162,8 +164,8 @@ fn push_thread(fields: &mut TableRow, number: u32, row: &ThreadRow)
     fields.push_field(",", row.ticks);
 }
 
-/// Appends the thread's share of all ticks, what it was due of the time in which threads were live, and its share of the
-/// live value.
+/// Appends the thread's share of all ticks, what it was due of the time in which threads were live, and its share of
+/// the live value.
 fn push_shares(fields: &mut TableRow, ticks: u64, shares: ThreadShares)
     requires room { length fields.old ≤ 150 }
     requires live { shares.live_time < 2 ^ 57 }
@@ -175,7 +177,11 @@ fn push_shares(fields: &mut TableRow, ticks: u64, shares: ThreadShares)
     ensures len { length fields.new ≤ length fields.old + 132 }
 {
     push_percent(fields, u128::from(ticks), u128::from(shares.all_ticks));
-    push_percent(fields, shares.due, u128::from(shares.live_time) * TICK_PARTS);
+    push_percent(
+        fields,
+        shares.due,
+        u128::from(shares.live_time) * TICK_PARTS,
+    );
     push_percent(fields, u128::from(shares.live_value), shares.all_values);
 }
 

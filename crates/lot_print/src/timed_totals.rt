@@ -100,8 +100,8 @@ fn thread_line(number: u32, row: &ThreadRow, shares: ThreadShares) -> TimedLine
     line
 }
 
-/// Appends the thread's share of all ticks, what it was due of the time in which threads were live, and its share of the
-/// live value.
+/// Appends the thread's share of all ticks, what it was due of the time in which threads were live, and its share of
+/// the live value.
 fn push_shares(line: &mut TimedLine, ticks: u64, shares: ThreadShares)
     requires room { length line.old ≤ 150 }
     requires live { shares.live_time < 2 ^ 57 }
@@ -112,9 +112,24 @@ fn push_shares(line: &mut TimedLine, ticks: u64, shares: ThreadShares)
         ++ (codes " value " ++ percent_text shares.live_value shares.all_values))))) }
     ensures len { length line.new ≤ length line.old + 153 }
 {
-    push_percent(line, " share ", u128::from(ticks), u128::from(shares.all_ticks));
-    push_percent(line, " due ", shares.due, u128::from(shares.live_time) * TICK_PARTS);
-    push_percent(line, " value ", u128::from(shares.live_value), shares.all_values);
+    push_percent(
+        line,
+        " share ",
+        u128::from(ticks),
+        u128::from(shares.all_ticks),
+    );
+    push_percent(
+        line,
+        " due ",
+        shares.due,
+        u128::from(shares.live_time) * TICK_PARTS,
+    );
+    push_percent(
+        line,
+        " value ",
+        u128::from(shares.live_value),
+        shares.all_values,
+    );
 }
 
 /// Appends the thread's waits to run, for mutexes and for replies, and its refused traps.

@@ -67,7 +67,7 @@ pub fn one_time()
         ∷ codes "10 1 thread 1 ticks 10 expire" ∷ codes "10 1 draw 3.281 of 10 thread 1" ∷ codes "10 2 idle"
         ∷ codes "13 1 thread 1 ticks 3 exit" ∷ codes "13 1 idle" ∷ codes "13 2 idle" ∷ codes "report"
         ∷ (codes "thread 1 a quanta 2 ticks 13 share 100% due 100% value 0%"
-            ++ codes " ready waits 2 mean 0 longest 0 made 0 ended 13")
+        ++ codes " ready waits 2 mean 0 longest 0 made 0 ended 13")
         ∷ codes "processor 1 quanta 2 idle 1 ticks 13 unused 12"
         ∷ codes "processor 2 quanta 0 idle 3 ticks 0 unused 25"
         ∷ codes "total turns 9 quanta 2 ticks 13 refused 0 left 0 ended 1 mean 13 longest 13" ∷ []) }
@@ -86,9 +86,9 @@ pub fn waits_for_replies()
         ∷ codes "8 1 thread 1 ticks 1 exit" ∷ codes "8 1 draw 13.921 of 15 thread 2 got 41"
         ∷ codes "9 1 thread 2 ticks 1 exit" ∷ codes "9 1 idle" ∷ codes "report"
         ∷ (codes "thread 1 s quanta 1 ticks 6 share 66.666% due 76.388% value 0%"
-            ++ codes " ready waits 1 mean 2 longest 2 made 0 ended 8")
+        ++ codes " ready waits 1 mean 2 longest 2 made 0 ended 8")
         ∷ (codes "thread 2 c quanta 2 ticks 3 share 33.333% due 23.611% value 0%"
-            ++ codes " ready waits 2 mean 0.5 longest 1 reply waits 1 mean 5 longest 5 made 0 ended 9")
+        ++ codes " ready waits 2 mean 0.5 longest 1 reply waits 1 mean 5 longest 5 made 0 ended 9")
         ∷ codes "processor 1 quanta 3 idle 1 ticks 9 unused 31"
         ∷ codes "total turns 11 quanta 3 ticks 9 refused 0 left 0 ended 2 mean 8.5 longest 9" ∷ []) }
 {}
@@ -111,9 +111,9 @@ pub fn serving()
         ∷ codes "10 1 thread 2 ticks 1 exit" ∷ codes "10 1 idle" ∷ codes "report"
         ∷ codes "thread 1 s quanta 3 ticks 5 share 55.555% due 42.222% value 0% ready waits 3 mean 0 longest 0"
         ∷ (codes "thread 2 a quanta 2 ticks 2 share 22.222% due 48.888% value 0%"
-            ++ codes " ready waits 2 mean 2 longest 4 reply waits 1 mean 2 longest 2 made 2 ended 10")
+        ++ codes " ready waits 2 mean 2 longest 4 reply waits 1 mean 2 longest 2 made 2 ended 10")
         ∷ (codes "thread 3 b quanta 2 ticks 2 share 22.222% due 8.888% value 0%"
-            ++ codes " ready waits 2 mean 0 longest 0 reply waits 1 mean 2 longest 2 made 2 ended 6")
+        ++ codes " ready waits 2 mean 0 longest 0 reply waits 1 mean 2 longest 2 made 2 ended 6")
         ∷ codes "processor 1 quanta 7 idle 2 ticks 9 unused 51"
         ∷ codes "total turns 20 quanta 7 ticks 9 refused 0 left 0 ended 2 mean 6 longest 8" ∷ []) }
 {}
@@ -138,11 +138,11 @@ pub fn waits_for_mutexes()
         ∷ codes "17 1 thread 3 ticks 1 unlock 1 free" ∷ codes "18 1 thread 3 ticks 1 exit" ∷ codes "18 1 idle"
         ∷ codes "report"
         ∷ (codes "thread 1 a quanta 3 ticks 6 share 33.333% due 37.5% value 0%"
-            ++ codes " ready waits 3 mean 1.666 longest 4 mutex waits 1 mean 1 longest 1 made 0 ended 12")
+        ++ codes " ready waits 3 mean 1.666 longest 4 mutex waits 1 mean 1 longest 1 made 0 ended 12")
         ∷ (codes "thread 2 b quanta 3 ticks 6 share 33.333% due 15.74% value 0%"
-            ++ codes " ready waits 3 mean 0.333 longest 1 made 0 ended 7")
+        ++ codes " ready waits 3 mean 0.333 longest 1 made 0 ended 7")
         ∷ (codes "thread 3 c quanta 2 ticks 6 share 33.333% due 46.759% value 0%"
-            ++ codes " ready waits 2 mean 6 longest 12 made 0 ended 18")
+        ++ codes " ready waits 2 mean 6 longest 12 made 0 ended 18")
         ∷ codes "processor 1 quanta 8 idle 1 ticks 18 unused 42"
         ∷ codes "total turns 24 quanta 8 ticks 18 refused 0 left 0 ended 3 mean 12.333 longest 18" ∷ []) }
 {}
@@ -215,7 +215,7 @@ pub fn threads_removed()
         ∷ codes "30 1 draw 0.738 of 1 thread 2" ∷ codes "report"
         ∷ codes "thread 2 b quanta 3 ticks 20 share 66.666% due 57.5% value 100% ready waits 3 mean 3.333 longest 5"
         ∷ (codes "thread 3 a quanta 1 ticks 5 share 16.666% due 30% value 0%"
-            ++ codes " ready waits 1 mean 7 longest 7 made 8 ended 20")
+        ++ codes " ready waits 1 mean 7 longest 7 made 8 ended 20")
         ∷ codes "processor 1 quanta 5 idle 0 ticks 30 unused 0"
         ∷ codes "total turns 23 quanta 5 ticks 30 refused 6 left 0 ended 2 mean 8.5 longest 12" ∷ []) }
 {}
@@ -395,9 +395,9 @@ pub fn sleepers()
         ∷ codes "11 2 draw 0.421 of 3.332 thread 2" ∷ codes "15 1 thread 1 ticks 4 exit" ∷ codes "15 1 idle"
         ∷ codes "15 2 thread 2 ticks 4 exit" ∷ codes "15 1 idle" ∷ codes "15 2 idle" ∷ codes "report"
         ∷ (codes "thread 1 a quanta 2 ticks 7 share 50% due 66.666% value 0%"
-            ++ codes " ready waits 2 mean 0 longest 0 made 0 ended 15")
+        ++ codes " ready waits 2 mean 0 longest 0 made 0 ended 15")
         ∷ (codes "thread 2 b quanta 2 ticks 7 share 50% due 33.333% value 0%"
-            ++ codes " ready waits 2 mean 0 longest 0 made 0 ended 15")
+        ++ codes " ready waits 2 mean 0 longest 0 made 0 ended 15")
         ∷ codes "processor 1 quanta 2 idle 4 ticks 7 unused 18"
         ∷ codes "processor 2 quanta 2 idle 2 ticks 7 unused 18"
         ∷ codes "total turns 18 quanta 4 ticks 14 refused 0 left 0 ended 2 mean 15 longest 15" ∷ []) }
@@ -417,9 +417,9 @@ pub fn wakes_at_a_command()
         ∷ codes "21 1 draw 2.738 of 3 thread 2" ∷ codes "28 1 thread 2 ticks 7 exit" ∷ codes "28 1 idle"
         ∷ codes "report"
         ∷ (codes "thread 1 a quanta 2 ticks 5 share 22.727% due 38.181% value 0%"
-            ++ codes " ready waits 2 mean 5 longest 10 made 0 ended 21")
+        ++ codes " ready waits 2 mean 5 longest 10 made 0 ended 21")
         ∷ (codes "thread 2 b quanta 2 ticks 17 share 77.272% due 61.818% value 0%"
-            ++ codes " ready waits 2 mean 0.5 longest 1 made 10 ended 28")
+        ++ codes " ready waits 2 mean 0.5 longest 1 made 10 ended 28")
         ∷ codes "processor 1 quanta 4 idle 2 ticks 22 unused 8"
         ∷ codes "total turns 13 quanta 4 ticks 22 refused 0 left 0 ended 2 mean 19.5 longest 21" ∷ []) }
 {}
@@ -451,7 +451,7 @@ pub fn killed_in_a_slice()
         ∷ codes "14 1 thread 2 ticks 10 expire" ∷ codes "14 1 draw 0.921 of 1 thread 2"
         ∷ codes "24 1 thread 2 ticks 10 expire" ∷ codes "24 1 draw 0.363 of 1 thread 2" ∷ codes "report"
         ∷ (codes "thread 1 a quanta 1 ticks 0 share 0% due 11.111% value 0%"
-            ++ codes " ready waits 1 mean 0 longest 0 made 0 ended 4")
+        ++ codes " ready waits 1 mean 0 longest 0 made 0 ended 4")
         ∷ codes "thread 2 b quanta 3 ticks 20 share 100% due 88.888% value 100% ready waits 3 mean 1.333 longest 4"
         ∷ codes "processor 1 quanta 4 idle 0 ticks 20 unused 4"
         ∷ codes "total turns 12 quanta 4 ticks 20 refused 2 left 0 ended 1 mean 4 longest 4" ∷ []) }
@@ -491,9 +491,9 @@ pub fn killed_sleeper()
         ∷ codes "13 1 draw 0.363 of 1 thread 2" ∷ codes "16 1 thread 2 ticks 3 exit" ∷ codes "16 1 idle"
         ∷ codes "report"
         ∷ (codes "thread 1 a quanta 1 ticks 1 share 7.142% due 7.142% value 0%"
-            ++ codes " ready waits 1 mean 0 longest 0 made 0 ended 3")
+        ++ codes " ready waits 1 mean 0 longest 0 made 0 ended 3")
         ∷ (codes "thread 2 b quanta 2 ticks 13 share 92.857% due 92.857% value 0%"
-            ++ codes " ready waits 2 mean 0 longest 0 made 3 ended 16")
+        ++ codes " ready waits 2 mean 0 longest 0 made 3 ended 16")
         ∷ codes "processor 1 quanta 3 idle 2 ticks 14 unused 6"
         ∷ codes "total turns 12 quanta 3 ticks 14 refused 1 left 0 ended 2 mean 8 longest 13" ∷ []) }
 {}
@@ -512,9 +512,9 @@ pub fn killed_server()
         ∷ codes "4 0 done" ∷ codes "4 1 draw 1.363 of 5 thread 2" ∷ codes "5 1 thread 2 ticks 1 exit"
         ∷ codes "5 1 idle" ∷ codes "report"
         ∷ (codes "thread 1 s quanta 2 ticks 1 share 25% due 33.333% value 0%"
-            ++ codes " ready waits 2 mean 0 longest 0 made 0 ended 4")
+        ++ codes " ready waits 2 mean 0 longest 0 made 0 ended 4")
         ∷ (codes "thread 2 c quanta 2 ticks 3 share 75% due 66.666% value 0%"
-            ++ codes " ready waits 2 mean 0.5 longest 1 made 0 ended 5")
+        ++ codes " ready waits 2 mean 0.5 longest 1 made 0 ended 5")
         ∷ codes "processor 1 quanta 4 idle 1 ticks 4 unused 26"
         ∷ codes "total turns 11 quanta 4 ticks 4 refused 0 left 0 ended 2 mean 4.5 longest 5" ∷ []) }
 {}
@@ -533,9 +533,9 @@ pub fn killed_owner()
         ∷ codes "18 2 idle" ∷ codes "19 1 thread 2 ticks 1 exit" ∷ codes "19 1 idle" ∷ codes "19 2 idle"
         ∷ codes "report"
         ∷ (codes "thread 1 a quanta 1 ticks 1 share 6.25% due 24.561% value 0%"
-            ++ codes " ready waits 1 mean 0 longest 0 made 0 ended 5")
+        ++ codes " ready waits 1 mean 0 longest 0 made 0 ended 5")
         ∷ (codes "thread 2 b quanta 3 ticks 15 share 93.75% due 75.438% value 0%"
-            ++ codes " ready waits 3 mean 0 longest 0 made 0 ended 19")
+        ++ codes " ready waits 3 mean 0 longest 0 made 0 ended 19")
         ∷ codes "processor 1 quanta 3 idle 1 ticks 15 unused 5"
         ∷ codes "processor 2 quanta 1 idle 5 ticks 1 unused 19"
         ∷ codes "total turns 18 quanta 4 ticks 16 refused 0 left 0 ended 2 mean 12 longest 19" ∷ []) }
@@ -558,7 +558,7 @@ pub fn numbers_again()
         ∷ codes "25 1 thread 2 ticks 10 expire" ∷ codes "25 1 draw 0.363 of 4 thread 1"
         ∷ codes "30 1 thread 1 ticks 5 exit" ∷ codes "30 1 draw 0.738 of 1 thread 2" ∷ codes "report"
         ∷ (codes "thread 1 c quanta 1 ticks 5 share 16.666% due 55% value 0%"
-            ++ codes " ready waits 1 mean 17 longest 17 made 8 ended 30")
+        ++ codes " ready waits 1 mean 17 longest 17 made 8 ended 30")
         ∷ codes "thread 2 b quanta 3 ticks 20 share 66.666% due 32.5% value 100% ready waits 3 mean 3.333 longest 5"
         ∷ codes "processor 1 quanta 5 idle 0 ticks 30 unused 0"
         ∷ codes "total turns 17 quanta 5 ticks 30 refused 1 left 0 ended 2 mean 13.5 longest 22" ∷ []) }
@@ -586,7 +586,7 @@ pub fn begins_anew()
         ∷ codes "31 1 draw 0.929 of 1 thread 1" ∷ codes "report"
         ∷ codes "thread 1 h quanta 5 ticks 25 share 80.645% due 65.161% value 100% ready waits 5 mean 1.2 longest 3"
         ∷ (codes "thread 2 v quanta 1 ticks 3 share 9.677% due 20.322% value 0%"
-            ++ codes " ready waits 1 mean 4 longest 4 made 14 ended 21")
+        ++ codes " ready waits 1 mean 4 longest 4 made 14 ended 21")
         ∷ codes "processor 1 quanta 8 idle 0 ticks 31 unused 0"
         ∷ codes "total turns 25 quanta 8 ticks 31 refused 0 left 0 ended 2 mean 7 longest 7" ∷ []) }
 {}
@@ -607,9 +607,9 @@ pub fn refused_traps()
         ∷ codes "10 1 thread 2 ticks 1 unlock 1 free" ∷ codes "11 1 thread 2 ticks 1 exit" ∷ codes "11 1 idle"
         ∷ codes "report"
         ∷ (codes "thread 1 a quanta 1 ticks 5 share 62.5% due 62.5% value 0%"
-            ++ codes " ready waits 1 mean 0 longest 0 refused 2 made 0 ended 5")
+        ++ codes " ready waits 1 mean 0 longest 0 refused 2 made 0 ended 5")
         ∷ (codes "thread 2 b quanta 1 ticks 3 share 37.5% due 37.5% value 0%"
-            ++ codes " ready waits 1 mean 0 longest 0 made 8 ended 11")
+        ++ codes " ready waits 1 mean 0 longest 0 made 8 ended 11")
         ∷ codes "processor 1 quanta 2 idle 2 ticks 8 unused 4"
         ∷ codes "total turns 15 quanta 2 ticks 8 refused 1 left 0 ended 2 mean 4 longest 5" ∷ []) }
 {}
@@ -626,7 +626,7 @@ pub fn refused_traps_anew()
         ∷ codes "5 1 draw 0.921 of 1 thread 1" ∷ codes "6 1 thread 1 ticks 1 refused 32 NothingToReply"
         ∷ codes "7 1 thread 1 ticks 1 exit" ∷ codes "7 1 idle" ∷ codes "report"
         ∷ (codes "thread 1 b quanta 1 ticks 2 share 50% due 50% value 0%"
-            ++ codes " ready waits 1 mean 0 longest 0 refused 1 made 5 ended 7")
+        ++ codes " ready waits 1 mean 0 longest 0 refused 1 made 5 ended 7")
         ∷ codes "processor 1 quanta 2 idle 2 ticks 4 unused 6"
         ∷ codes "total turns 13 quanta 2 ticks 4 refused 0 left 0 ended 2 mean 2 longest 2" ∷ []) }
 {}

@@ -2,7 +2,8 @@
 ghost use Rattle.std.specs.Prelude.{◌≡◌, [], ◌∷◌, ◌++◌, codes, false, None};
 ghost use Rattle.lot_machine.specs.declared.action.Action.TheVariants.{Lock, Sleep, Exit};
 ghost use Rattle.lot_machine.specs.declared.event.Event.TheVariants.{Draw, Expire, Trap, Preempt, Overrun, Wake};
-ghost use Rattle.lot_machine.specs.Worked.{after, answers, after_in, answers_in, uncompensated, values, weights, fundx, base};
+ghost use Rattle.lot_machine.specs.Worked.{after, answers, after_in, answers_in, uncompensated, values, weights};
+ghost use Rattle.lot_machine.specs.Worked.{fundx, base};
 ghost use Rattle.lot_machine.specs.WorkedRuns.{two_to_one, early_yield};
 ghost use Rattle.lot_machine.specs.declared.reply.Reply.TheVariants as reply;
 ghost use Rattle.lot_machine.specs.declared.reply.Outcome.TheVariants as outcome;
@@ -53,6 +54,6 @@ pub fn without_compensation()
     ensures yields { weights (after_in uncompensated early_yield) ≡ 400 ∷ 400 ∷ [] }
     ensures sleeps { weights (after_in uncompensated (fundx 400 base (codes "a") ∷ Draw 1 0 ∷ Trap 1 19 Sleep
         ∷ Wake 1 ∷ [])) ≡ 400 ∷ [] }
-    ensures late { answers_in uncompensated (fundx 400 base (codes "a") ∷ Draw 1 0 ∷ []) (Overrun 1 100 ∷ Draw 1 399 ∷ [])
-        ≡ reply.Expired 1 200 ∷ reply.Winner 1 399 400 None ∷ [] }
+    ensures late { answers_in uncompensated (fundx 400 base (codes "a") ∷ Draw 1 0 ∷ [])
+        (Overrun 1 100 ∷ Draw 1 399 ∷ []) ≡ reply.Expired 1 200 ∷ reply.Winner 1 399 400 None ∷ [] }
 {}

@@ -85,8 +85,15 @@ follow-requires c =
       can = subst (λ n. CanFollow c.args.next.actor n (length timekeeper.alarms.threads.items) c.make_due-sleeper.result) (sym processors) c.make_due-sleeper.ensures.can;
       followed = (turns_done seen.setting.program seen, length seen.history, omega (arith, within-room seen.setting.program seen timekeeper followed, room-small), followed.followed);
       threads = (omega (arith, followed.room.ready, followed.bounds.of_threads.1, timekeeper.ready.threads.ok.0), omega (arith, followed.room.dues, followed.bounds.of_threads.1, timekeeper.dues.threads.ok.0));
-      dues = (opening seen.setting.program.limits, (world_of seen).state, turns_done seen.setting.program seen, length seen.history, omega (arith, within-room seen.setting.program seen timekeeper followed, room-few), followed.dues,
-          answers-then seen timekeeper c.requires.there c.args.next c.requires.next c.in-Some.time c.in-Some.is (search rules) c.make_due-sleeper.new.turn.event c.make_due-sleeper.new.turn.reply c.make_due-sleeper.new.system c.make_due-sleeper.ensures.made.0 c.make_due-sleeper.ensures.made.1);
+      dues = (
+        opening seen.setting.program.limits,
+        (world_of seen).state,
+        turns_done seen.setting.program seen,
+        length seen.history,
+        omega (arith, within-room seen.setting.program seen timekeeper followed, room-few),
+        followed.dues,
+        answers-then seen timekeeper c.requires.there c.args.next c.requires.next c.in-Some.time c.in-Some.is (search rules) c.make_due-sleeper.new.turn.event c.make_due-sleeper.new.turn.reply c.make_due-sleeper.new.system c.make_due-sleeper.ensures.made.0 c.make_due-sleeper.ensures.made.1,
+      );
     }
 
 pub returns : goal.returns

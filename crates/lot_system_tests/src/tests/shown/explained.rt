@@ -244,8 +244,8 @@ processor 1 quanta 4 idle 0 ticks 13 unused 0
 total turns 10 quanta 4 ticks 13 refused 0 left 0
 ";
 
-/// A server waits for a mutex while it serves a client, so what the client lends it goes on to the owner. Another thread
-/// waits for the mutex too, until its only ticket funds it no longer.
+/// A server waits for a mutex while it serves a client, so what the client lends it goes on to the owner. Another
+/// thread waits for the mutex too, until its only ticket funds it no longer.
 const LENDERS: &str = "lottery 3
 quantum 10
 for 34

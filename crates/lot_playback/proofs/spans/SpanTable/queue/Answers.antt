@@ -8,7 +8,6 @@ pub queue_all-requires-clause-few : goal.queue_all-requires-clause-few
 queue_all-requires-clause-few c =
     few-forgotten (Answered c.args.event.now c.args.reply) c.args.self.now.threads.items c.forget_new.new.self.threads.items c.forget_new.ensures.count (c.forget_new.ensures.forgets c.args.event.now) c.requires.few
 
-
 pub queue_thread-requires : goal.queue_thread-requires
 queue_thread-requires c = few-at c.args.self.now.threads.items c.in-Some.thread c.requires.few
 
