@@ -1,14 +1,14 @@
 //! The system.
 ghost use Rattle.std.specs.Prelude.{◌≡◌, ◌↔◌, ◌<◌, ◌≤◌, ◌*◌, ◌^◌, [], ◌∷◌, ◌++◌, All, IfOk, IfErr};
 ghost use Rattle.std.specs.Prelude.{IsFalse, IsTrue, Some, None, false, true, length, option_and_then};
-ghost use Rattle.std.specs.Prelude.{vec_len, vec_capacity};
+ghost use Rattle.std.specs.Prelude.{vec_len, vec_capacity, if◌then◌else◌};
 ghost use Rattle.lot_machine.specs.Bounds.{IsBetween};
 ghost use Rattle.lot_machine.specs.Commands as commands;
 ghost use Rattle.lot_machine.specs.Lends.{is_live};
 ghost use Rattle.lot_machine.specs.Mutexes.{mutex_at};
 ghost use Rattle.lot_machine.specs.Numbered.{at_number};
 ghost use Rattle.lot_machine.specs.Rows as rows;
-ghost use Rattle.lot_machine.specs.State.{live_of, sizes_of};
+ghost use Rattle.lot_machine.specs.State.{live_of, sizes_of, status_of, value_of};
 ghost use Rattle.lot_simulation.specs.Formats.{unit_of};
 ghost use Rattle.lot_simulation.specs.World.Answer.{Answered};
 ghost use Rattle.lot_simulation.specs.World.{IsLegal, sleeper_on, system_turn};
@@ -34,8 +34,8 @@ use crate::turn::{
 use lot_draw::ParkMiller;
 use lot_kernel::Kernel;
 use lot_machine::{
-    CurrencyNumber, CurrencyRow, Event, Kind, Limits, MutexNumber, Processor, Reply, ThreadNumber,
-    ThreadRef, ThreadRow, TicketNumber, TicketRow, index_of,
+    CurrencyNumber, CurrencyRow, Event, Kind, Limits, MutexNumber, Processor, Reply, Status,
+    ThreadNumber, ThreadRef, ThreadRow, TicketNumber, TicketRow, index_of,
 };
 use lot_script::{Place, Slice};
 use lot_simulation::{Format, Sleeper};
@@ -457,6 +457,22 @@ impl System {
         ensures state { self.new ≡ self.old }
     {
         self.kernel.thread_row(ThreadNumber { number: thread })
+    }
+
+    /// The thread's status, or `None` if no thread has ever had the number. A removed thread is dead.
+    pub fn status(&self, thread: u32) -> Option<Status>
+        ensures { result ≡ status_of (world_of self.now).state.records thread }
+    {
+        self.kernel.status(ThreadNumber { number: thread })
+    }
+
+    /// The thread's value, in base units, if it is live (Ready or Running), and otherwise 0.
+    pub fn live_value(&mut self, thread: u32) -> u64
+        ensures value { result ≡ (if is_live (live_of (world_of self.old).state) thread
+            then value_of (world_of self.old).state thread else 0) }
+        ensures state { self.new ≡ self.old }
+    {
+        self.kernel.live_value(ThreadNumber { number: thread })
     }
 
     /// Stores in `out` the threads that wait for the mutex, the one that has waited longest first; none if there is

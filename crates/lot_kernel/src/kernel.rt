@@ -1,10 +1,12 @@
 //! The kernel and its events.
 ghost use Rattle.std.specs.Prelude.{◌≡◌, ◌↔◌, ◌<◌, ◌≤◌, ◌^◌, [], All, None, Some, IfNone, IfOk, IfSome, IsTrue};
-ghost use Rattle.std.specs.Prelude.{MatchOption, length, option_and_then, option_map, vec_len, vec_capacity};
+ghost use Rattle.std.specs.Prelude.{MatchOption, false, length, option_and_then, option_map, true, vec_len, vec_capacity};
+ghost use Rattle.std.specs.Prelude.{if◌then◌else◌};
 ghost use Rattle.lot_machine.specs.Bounds.{IsBetween};
 ghost use Rattle.lot_machine.specs.Commands as commands;
 ghost use Rattle.lot_machine.specs.Mutexes.{mutex_at};
-ghost use Rattle.lot_machine.specs.State.{sizes_of, thread_at, thread_on, used_by};
+ghost use Rattle.lot_machine.specs.Lends.{is_live};
+ghost use Rattle.lot_machine.specs.State.{live_of, sizes_of, status_of, thread_at, thread_on, used_by, value_of};
 ghost use Rattle.lot_machine.specs.Step.{replies, state_after, step};
 ghost use Rattle.lot_machine.specs.Facts.{IsSound};
 ghost use Rattle.lot_machine.specs.Rows as rows;
@@ -18,8 +20,8 @@ ghost use Rattle.lot_kernel.specs.Snapshots.{MakesStale, starting};
 
 use crate::tables::Tables;
 use lot_machine::{
-    CurrencyNumber, CurrencyRow, Event, Limits, MutexNumber, Processor, Reply, ThreadNumber,
-    ThreadRef, ThreadRow, TicketNumber, TicketRow,
+    CurrencyNumber, CurrencyRow, Event, Limits, MutexNumber, Processor, Reply, Status,
+    ThreadNumber, ThreadRef, ThreadRow, TicketNumber, TicketRow,
 };
 use lot_threads::Runner;
 use lot_value::Meter;
@@ -275,6 +277,26 @@ impl Kernel {
         ensures { result ≡ (mutex_at self.now.state.mutexes mutex.number).owner }
     {
         self.tables.owner(mutex)
+    }
+
+    /// The thread's status, or `None` if no thread has ever had the number. A removed thread is dead.
+    pub fn status(&self, thread: ThreadNumber) -> Option<Status>
+        ensures { result ≡ status_of self.now.state.records thread.number }
+    {
+        self.tables.status(thread)
+    }
+
+    /// The thread's value, in base units, if it is live (Ready or Running), and otherwise 0. If it is, this recomputes
+    /// all stale values and counts that.
+    pub fn live_value(&mut self, thread: ThreadNumber) -> u64
+        ensures value { result ≡ (if is_live (live_of self.old.state) thread.number
+            then value_of self.old.state thread.number else 0) }
+        ensures state { self.new.state ≡ self.old.state }
+        ensures settled { is_live (live_of self.old.state) thread.number ≡ true → self.new ≡ settled self.old }
+        ensures once { is_live (live_of self.old.state) thread.number ≡ true → HasNoneTwice self.old.stale }
+        ensures unchanged { is_live (live_of self.old.state) thread.number ≡ false → self.new ≡ self.old }
+    {
+        self.tables.live_value(thread)
     }
 
     /// The ticks that the thread used before it gave up its quantum, for which it is compensated until it next wins a

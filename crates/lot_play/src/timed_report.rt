@@ -19,7 +19,7 @@ ghost use Rattle.lot_play.specs.ReportTable.{shares_in, timed_thread_text};
 use crate::Form;
 use lot_engine::System;
 use lot_io::{IoFault, Watched};
-use lot_playback::{Timekeeper, live_value, live_value_of};
+use lot_playback::{Timekeeper, live_value};
 use lot_print::{
     ThreadShares, TimedProcessorTotal, TimedWholeTotal, write_early_end, write_report_line,
     write_timed_processor_total, write_timed_thread_record, write_timed_thread_total,
@@ -178,7 +178,7 @@ fn shares_of(
     ensures due { result.due < 2 ^ 121 }
     ensures values { result.all_values ≡ all_values }
 {
-    let live_value = live_value_of(system, thread);
+    let live_value = system.live_value(thread);
     ThreadShares {
         all_ticks: system.total().ticks,
         due: timekeeper.dues.of(thread),

@@ -2,7 +2,6 @@
 use Rattle.std.proofs.Common.{◌≡◌, ℕ, zero, suc, ◌+◌, ◌-◌, ◌*◌, ◌/◌, ◌^◌, ◌<◌, ◌≤◌, ◌==◌, Bool, true, false, cond, Option, Some, None, is_some, get_or, set, slice_get, sum_by, ne_eqb, ◌≢◌, List, [], ◌∷◌, ◌++◌, length, option_map, ◌⊎◌, inl, inr, refl, sym, ◌∙◌, ap, subst, arith, max}
 use Rattle.std.specs.Prelude.{slice_index_or, if◌then◌else◌}
 use Rattle.std.proofs.lemmas.List.Sums.{fold_push}
-use Rattle.std.specs.Option.{IfSome}
 use Rattle.std.proofs.lemmas.List.{get_or-set_other, get_or_default, length-map, length-set}
 use Rattle.std.proofs.lemmas.Bool.{cases_eq, cases_lt, eq-eqb}
 use Rattle.std.proofs.lemmas.Grind.{get_or-set_at}
@@ -21,7 +20,6 @@ use Rattle.lot_machine.specs.Numbered.{at_number, numbers, option_any}
 use Rattle.lot_machine.specs.State.{State, is_live_status, is_ready, live_of, status_of, value_of}
 use Rattle.lot_machine.proofs.Sums.{sum-filter}
 use Rattle.lot_machine.proofs.Tickets.{at_number-suc, some-injective}
-use Rattle.lot_machine.proofs.TrapCycles.{at_number-map}
 use Rattle.lot_simulation.specs.declared.timed.Spans.{Spans}
 use Rattle.lot_simulation.specs.Timed.{TimedTurn}
 use Rattle.lot_simulation.specs.TimedReport.{live_part, no_spans, span_begun, span_ended}
@@ -131,25 +129,6 @@ queued-few time waits (Some (Served t)) = few-same time waits _ refl refl
 queued-few time waits (Some (Waiting m)) = few-same time waits _ refl refl
 queued-few time waits (Some Asleep) = few-same time waits _ refl refl
 queued-few time waits (Some Dead) = few-same time waits _ refl refl
-
--- the status that a row shows, or that there is none, tells a thread's waits
-pub shown-queued : (s : State) (t time : ℕ) (waits : Spans) (o : Option Status) → IfSome o (λ now. status_of s.records t ≡ Some now) → (o ≡ None → is_live (live_of s) t ≡ false) → queued time waits o ≡ queued time waits (status_of s.records t)
-shown-queued s t time waits (Some now) is gone = ap (queued time waits) (sym is)
-shown-queued s t time waits None is gone = by (at_number s.records t) (ap (option_any (λ flag. flag)) (sym (at_number-map (λ (r : Record). is_live_status r.status) s.records t)) ∙ gone refl)
-  where
-    of : (now : Status) → is_live_status now ≡ false → record waits { since = None } ≡ queued time waits (Some now)
-    of Ready e = cc
-    of (Running p used) e = cc
-    of (Receiving p) e = refl
-    of (Queued p) e = refl
-    of (Served u) e = refl
-    of (Waiting m) e = refl
-    of Asleep e = refl
-    of Dead e = refl
-
-    by : (o : Option Record) → option_any (λ flag. flag) (option_map (λ (r : Record). is_live_status r.status) o) ≡ false → record waits { since = None } ≡ queued time waits (option_map (λ (r : Record). r.status) o)
-    by None e = refl
-    by (Some r) e = of r.status e
 
 -- one thread's waits, put into the table
 pub one-queued : (time : ℕ) (s : State) (t : ℕ) (old : List Spans) (was now : Spans) → 1 ≤ t → t ≤ length old → was ≡ slice_index_or old (t - 1) was → now ≡ queued time was (status_of s.records t) → HaveQueuedOne time s t old (set old (t - 1) now)

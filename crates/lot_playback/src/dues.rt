@@ -15,7 +15,7 @@ ghost use Rattle.lot_playback.specs.declared.dues.ThreadDue.{ThreadDue as Thread
 ghost use Rattle.lot_playback.specs.Owed as owed;
 ghost use Rattle.lot_playback.specs.Owed.{Answers, AreDue, AreOwed, IsOwed};
 
-use crate::values::{live_value, live_value_of};
+use crate::values::live_value;
 use lot_engine::System;
 use lot_machine::{Event, Reply};
 use lot_simulation::TICK_PARTS;
@@ -163,7 +163,7 @@ impl DueTable {
     {
         self.live_value = live_value(system);
         for place in 0..self.threads.len() {
-            let value = live_value_of(system, place as u32 + 1);
+            let value = system.live_value(place as u32 + 1);
             self.threads[place] = ThreadDue {
                 value,
                 since: self.rate,

@@ -23,4 +23,4 @@ pub use refused_traps::RefusedTraps;
 pub use spans::SpanTable;
 pub use timekeeper::Timekeeper;
 pub use turn::{NextTurn, Turn};
-pub use values::{live_value, live_value_of};
+pub use values::live_value;

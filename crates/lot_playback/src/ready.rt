@@ -1,8 +1,6 @@
 //! Threads' waits to run: the times for which they are Ready.
-ghost use Rattle.std.specs.Prelude.{◌≡◌, ℕ, ◌+◌, ◌<◌, ◌^◌, length, slice_index_or};
-ghost use Rattle.std.specs.Prelude.{vec_len, IfSome, None, Some, false, ◌≤◌};
-ghost use Rattle.lot_machine.specs.Lends.{is_live};
-ghost use Rattle.lot_machine.specs.State.{State, live_of, status_of};
+ghost use Rattle.std.specs.Prelude.{◌≡◌, ℕ, ◌+◌, ◌<◌, ◌^◌, length, slice_index_or, vec_len, ◌≤◌};
+ghost use Rattle.lot_machine.specs.State.{State, status_of};
 ghost use Rattle.lot_machine.specs.declared.event.Event.{Event as EventRecord};
 ghost use Rattle.lot_simulation.specs.World.Answer.{Answered};
 ghost use Rattle.lot_simulation.specs.declared.timed.Spans.{Spans as SpansRecord};
@@ -22,13 +20,12 @@ use lot_simulation::Spans;
 
 impl SpanTable {
     /// Records a turn at this time, with this event and reply, which led to this system, in a table of waits to run.
-    pub(crate) fn queue(&mut self, system: &mut System, time: u32, event: &Event, reply: Reply)
+    pub(crate) fn queue(&mut self, system: &System, time: u32, event: &Event, reply: Reply)
         requires count { vec_len self.old.threads ≤ 4096 }
         requires few { AreFew self.old.threads.items }
-        requires answers { (s : State) × Answers s event.now reply (world_of system.old).state
+        requires answers { (s : State) × Answers s event.now reply (world_of system.now).state
             × AreWaiting s self.old.threads.items }
-        ensures same { system.new ≡ system.old }
-        ensures queued { HaveQueued time (Answered event.now reply) (world_of system.old).state
+        ensures queued { HaveQueued time (Answered event.now reply) (world_of system.now).state
             self.old.threads.items self.new.threads.items }
     {
         if is_dispatch(event) {
@@ -54,15 +51,14 @@ impl SpanTable {
     }
 
     /// Records the statuses of all threads after a turn at this time.
-    fn queue_all(&mut self, system: &mut System, time: u32)
+    fn queue_all(&mut self, system: &System, time: u32)
         requires count { vec_len self.old.threads ≤ 4096 }
         requires few { AreFew self.old.threads.items }
-        ensures same { system.new ≡ system.old }
         ensures count { length self.new.threads.items ≡ length self.old.threads.items }
         ensures queued { (place : ℕ) (d : SpansRecord) → place < length self.old.threads.items
             → slice_index_or self.new.threads.items place d ≡ dues.queued time
             (slice_index_or self.old.threads.items place d)
-            (status_of (world_of system.old).state.records (place + 1)) }
+            (status_of (world_of system.now).state.records (place + 1)) }
     {
         for place in 0..self.threads.len() {
             self.queue_thread(system, time, place as u32 + 1);
@@ -70,29 +66,16 @@ impl SpanTable {
     }
 
     /// Records the status of the thread after a turn at this time. It ignores a nonexistent thread.
-    fn queue_thread(&mut self, system: &mut System, time: u32, thread: u32)
+    fn queue_thread(&mut self, system: &System, time: u32, thread: u32)
         requires { HasFew self.old.threads.items thread }
-        ensures same { system.new ≡ system.old }
-        ensures queued { HaveQueuedOne time (world_of system.old).state thread
+        ensures queued { HaveQueuedOne time (world_of system.now).state thread
             self.old.threads.items self.new.threads.items }
     {
         if thread == 0 || self.threads.len() < thread as usize {
             return;
         }
         let place = thread as usize - 1;
-        self.threads[place] = queued(self.threads[place], time, shown_status(system, thread));
-    }
-}
-
-/// The thread's status, or `None` if it doesn't exist.
-fn shown_status(system: &mut System, thread: u32) -> Option<Status>
-    ensures shown { IfSome result (λ now. status_of (world_of system.old).state.records thread ≡ Some now) }
-    ensures gone { result ≡ None → is_live (live_of (world_of system.old).state) thread ≡ false }
-    ensures same { system.new ≡ system.old }
-{
-    match system.thread_row(thread) {
-        Some(row) => Some(row.status),
-        None => None,
+        self.threads[place] = queued(self.threads[place], time, system.status(thread));
     }
 }
 

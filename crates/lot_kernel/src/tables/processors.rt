@@ -7,7 +7,8 @@ ghost use Rattle.lot_machine.specs.declared.record.Status.{Status as AStatus};
 ghost use Rattle.lot_machine.specs.Bounds.{IsBetween};
 ghost use Rattle.lot_machine.specs.Numbered.{at_number};
 ghost use Rattle.lot_machine.specs.Order.{IsInOrder};
-ghost use Rattle.lot_machine.specs.State.{change_record, funding_of, lend_of, thread_at, thread_on, used_by};
+ghost use Rattle.lot_machine.specs.State.{change_record, funding_of, lend_of, status_of, thread_at, thread_on};
+ghost use Rattle.lot_machine.specs.State.{used_by};
 ghost use Rattle.lot_machine.specs.Step as steps;
 ghost use Rattle.lot_machine.specs.Step.{step};
 ghost use Rattle.lot_machine.specs.Traps.{after_trap, with_ticks};
@@ -19,7 +20,7 @@ ghost use Rattle.lot_kernel.specs.Trapped.{RunsOn, trapped};
 
 use crate::ending::{Trap, ends_quantum, record_after};
 use crate::tables::Tables;
-use lot_machine::{Action, After, Processor, Refusal, Reply, ThreadNumber, index_of};
+use lot_machine::{Action, After, Processor, Refusal, Reply, Status, ThreadNumber, index_of};
 use lot_threads::Runner;
 
 impl Tables {
@@ -47,6 +48,13 @@ impl Tables {
             Some(found) => Some(found.script),
             None => None,
         }
+    }
+
+    /// The thread's status, or `None` if no thread has ever had the number.
+    pub(crate) fn status(&self, thread: ThreadNumber) -> Option<Status>
+        ensures { result ≡ status_of self.now.state.records thread.number }
+    {
+        Some(self.threads.record(thread)?.status)
     }
 
     /// The ticks for which the thread is compensated, or `None` without compensation.

@@ -1,11 +1,13 @@
 //! Rows of listings (4.7).
-ghost use Rattle.std.specs.Prelude.{◌≡◌, ◌↔◌, ◌<◌, [], Some, IfNone, IfSome, IsTrue, length};
+ghost use Rattle.std.specs.Prelude.{◌≡◌, ◌↔◌, ◌<◌, [], Some, IfNone, IfSome, IsTrue, false, length, true};
+ghost use Rattle.std.specs.Prelude.{if◌then◌else◌};
 ghost use Rattle.lot_machine.specs.declared.ticket.Ticket.{Ticket as ATicket};
 ghost use Rattle.lot_machine.specs.Rows as rows;
 ghost use Rattle.lot_machine.specs.Order.{IsInOrder};
 ghost use Rattle.lot_machine.specs.Funding.{ticket_in};
 ghost use Rattle.lot_machine.specs.declared.funding.Node.TheVariants as node;
-ghost use Rattle.lot_machine.specs.State.{funding_of, live_of};
+ghost use Rattle.lot_machine.specs.Lends as lends;
+ghost use Rattle.lot_machine.specs.State.{funding_of, is_live_status, live_of, value_of};
 ghost use Rattle.lot_machine.specs.Value as worth;
 ghost use Rattle.lot_value.specs.Caches.{HasNoneTwice};
 ghost use Rattle.lot_kernel.specs.Counted.{settled, with_ticket_read};
@@ -14,7 +16,7 @@ use crate::counts::{count_backing, count_issued};
 use crate::tables::Tables;
 use lot_draw::weight;
 use lot_machine::{
-    CurrencyNumber, CurrencyRow, Name, Node, Target, ThreadNumber, ThreadRow, TicketNumber,
+    CurrencyNumber, CurrencyRow, Name, Node, Status, Target, ThreadNumber, ThreadRow, TicketNumber,
     TicketRow, index_of,
 };
 
@@ -185,6 +187,25 @@ impl Tables {
         })
     }
 
+    /// The thread's value if it is live, and otherwise 0. Settles if it is.
+    pub(crate) fn live_value(&mut self, thread: ThreadNumber) -> u64
+        ensures value { result ≡ (if lends.is_live (live_of self.old.state) thread.number
+            then value_of self.old.state thread.number else 0) }
+        ensures state { self.new.state ≡ self.old.state }
+        ensures settled { lends.is_live (live_of self.old.state) thread.number ≡ true → self.new ≡ settled self.old }
+        ensures once { lends.is_live (live_of self.old.state) thread.number ≡ true → HasNoneTwice self.old.stale }
+        ensures unchanged { lends.is_live (live_of self.old.state) thread.number ≡ false → self.new ≡ self.old }
+    {
+        let Some(found) = self.threads.record(thread) else {
+            return 0;
+        };
+        if !is_live(found.status) {
+            return 0;
+        }
+        self.threads.settle();
+        self.threads.worth_of(thread)
+    }
+
     /// The row of the thread with this number, or `None` if and only if it doesn't exist, if nothing is stale.
     pub(crate) fn settled_thread_row(&self, thread: ThreadNumber) -> Option<ThreadRow>
         requires settled { self.now.stale ≡ [] }
@@ -236,4 +257,11 @@ impl Tables {
             None => None,
         }
     }
+}
+
+/// Whether a thread with this status is live: it competes or runs.
+fn is_live(status: Status) -> bool
+    ensures { result ≡ is_live_status status }
+{
+    matches!(status, Status::Ready | Status::Running { .. })
 }

@@ -20,6 +20,6 @@ returns-clause-shares c =
     let replies = c.of-4.ensures.spans reply_change turns count (replies-are s w end) in
     let traps = c.of-5.ensures turns count (traps-are s w end) in
     let lives = c.of-6.ensures.spans life_change turns count (lives-are s w end) in
-    let ticks = ticks-are s c.live_value_of-live_value.new.system w c.total.result end c.live_value_of-live_value.ensures.same c.total.ensures in
-    shares-are (world_of s).state turns t c.total.result.ticks c.of.result w.dues.live_time c.live_value_of-live_value.result c.args.all_values c.of-2.result c.of-3.result c.of-4.result c.of-6.result c.of-5.result
-    ticks due (dues-are s w end).live_time c.live_value_of-live_value.ensures.value c.requires.values ready mutexes replies traps lives
+    let ticks = ticks-are s c.live_value-live_value.new.system w c.total.result end c.live_value-live_value.ensures.state c.total.ensures in
+    shares-are (world_of s).state turns t c.total.result.ticks c.of.result w.dues.live_time c.live_value-live_value.result c.args.all_values c.of-2.result c.of-3.result c.of-4.result c.of-6.result c.of-5.result
+    ticks due (dues-are s w end).live_time c.live_value-live_value.ensures.value c.requires.values ready mutexes replies traps lives

@@ -20,17 +20,17 @@ loop-place-preserved c =
     let place = c.loop-place.place in
     let s = (world_of c.args.system.now).state in
     let below : place < length c.loop-place.self.threads.items = omega (arith, c.loop-place-test.true, i.have.count, c.len-place-end.ensures, c.loop-place.auto.place-end) in
-    let value : c.live_value_of-value.result ≡ live_part s (place + 1) (value_of s (place + 1)) =
-    c.live_value_of-value.ensures.value ∙ ap (λ (x : Seen). live_part (world_of x).state (place + 1) (value_of (world_of x).state (place + 1))) i.system in
+    let value : c.live_value-value.result ≡ live_part s (place + 1) (value_of s (place + 1)) =
+    c.live_value-value.ensures.value ∙ ap (λ (x : Seen). live_part (world_of x).state (place + 1) (value_of (world_of x).state (place + 1))) i.system in
     record {
-      system = c.live_value_of-value.ensures.same ∙ i.system;
+      system = c.live_value-value.ensures.state ∙ i.system;
       rate = i.rate;
       live = i.live;
       small = i.small;
       time = i.time;
       live_time = i.live_time;
-      have = subst (λ k. HaveValues s (place + 1) c.args.self.now.rate c.args.self.now.threads.items (set c.loop-place.self.threads.items place (record { value = c.live_value_of-value.result; since = k; parts = c.parts_of.result }))) (sym i.rate)
-          (one-value s place c.args.self.now.rate c.live_value_of-value.result c.parts_of.result c.args.self.now.threads.items c.loop-place.self.threads.items c.index.result.now below c.index.ensures
+      have = subst (λ k. HaveValues s (place + 1) c.args.self.now.rate c.args.self.now.threads.items (set c.loop-place.self.threads.items place (record { value = c.live_value-value.result; since = k; parts = c.parts_of.result }))) (sym i.rate)
+          (one-value s place c.args.self.now.rate c.live_value-value.result c.parts_of.result c.args.self.now.threads.items c.loop-place.self.threads.items c.index.result.now below c.index.ensures
           (λ parts is. c.parts_of.ensures parts (subst (λ k. IsOwed k parts c.index.result.now) (sym i.rate) is)) value i.have);
     }
 

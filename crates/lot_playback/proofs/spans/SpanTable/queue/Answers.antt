@@ -11,20 +11,26 @@ queue_all-requires-clause-few c =
 pub queue_thread-requires : goal.queue_thread-requires
 queue_thread-requires c = few-at c.args.self.now.threads.items c.in-Some.thread c.requires.few
 
-pub returns-in-Some-clause-queued : goal.returns-in-Some-clause-queued
-returns-in-Some-clause-queued c =
+pub returns-in-Some : goal.returns-in-Some
+returns-in-Some c =
     let next = (world_of c.args.system.now).state in
-    dispatch-one c.args.time c.requires.answers.0 next c.args.event.now c.args.reply c.args.self.now.threads.items c.queue_thread.new.self.threads.items c.in-Some.thread
-    (c.is_dispatch.ensures.0 c.if-is_dispatch.true) c.requires.answers.1 c.requires.answers.2 (sym c.moved_thread.ensures ∙ c.in-Some.is) c.queue_thread.ensures.queued
+    record {
+      queued = dispatch-one c.args.time c.requires.answers.0 next c.args.event.now c.args.reply c.args.self.now.threads.items c.queue_thread.new.self.threads.items c.in-Some.thread
+          (c.is_dispatch.ensures.0 c.if-is_dispatch.true) c.requires.answers.1 c.requires.answers.2 (sym c.moved_thread.ensures ∙ c.in-Some.is) c.queue_thread.ensures.queued;
+    }
 
-pub returns-in_default-clause-queued : goal.returns-in_default-clause-queued
-returns-in_default-clause-queued c =
+pub returns-in_default : goal.returns-in_default
+returns-in_default c =
     let next = (world_of c.args.system.now).state in
-    dispatch-none c.args.time c.requires.answers.0 next c.args.event.now c.args.reply c.args.self.now.threads.items c.args.self.now.threads.items
-    (c.is_dispatch.ensures.0 c.if-is_dispatch.true) c.requires.answers.1 c.requires.answers.2 (sym c.moved_thread.ensures ∙ c.in_default.is)
+    record {
+      queued = dispatch-none c.args.time c.requires.answers.0 next c.args.event.now c.args.reply c.args.self.now.threads.items c.args.self.now.threads.items
+          (c.is_dispatch.ensures.0 c.if-is_dispatch.true) c.requires.answers.1 c.requires.answers.2 (sym c.moved_thread.ensures ∙ c.in_default.is);
+    }
 
-pub returns-clause-queued : goal.returns-clause-queued
-returns-clause-queued c =
+pub returns : goal.returns
+returns c =
     let next = (world_of c.args.system.now).state in
-    all-queued c.args.time c.requires.answers.0 next c.args.event.now c.args.reply c.args.self.now.threads.items c.queue_all.new.self.threads.items c.forget_new.new.self.threads.items
-    c.forget_new.ensures.count c.queue_all.ensures.count (c.forget_new.ensures.forgets c.args.event.now) c.queue_all.ensures.queued
+    record {
+      queued = all-queued c.args.time c.requires.answers.0 next c.args.event.now c.args.reply c.args.self.now.threads.items c.queue_all.new.self.threads.items c.forget_new.new.self.threads.items
+          c.forget_new.ensures.count c.queue_all.ensures.count (c.forget_new.ensures.forgets c.args.event.now) c.queue_all.ensures.queued;
+    }

@@ -1,4 +1,3 @@
-use Rattle.std.proofs.Common.{◌≡◌}
 use Rattle.lot_engine.specs.Seen.{world_of}
 use Rattle.lot_playback.proofs.DueFacts.{HavePassed}
 use Rattle.lot_playback.proofs.spans.SpanTable.queue_all.Given as goal
@@ -6,6 +5,5 @@ use Rattle.lot_playback.proofs.spans.SpanTable.queue_all.Given as goal
 -- the threads passed so far have the waits after the turn
 abbrev pub invariant-loop-place : goal.invariant-loop-place
 invariant-loop-place l = record {
-  system : l.system ≡ l.initial.system;
-  waits : HavePassed l.time (world_of l.initial.system).state l.place l.initial.self.threads.items l.self.threads.items;
+  waits : HavePassed l.time (world_of l.system).state l.place l.initial.self.threads.items l.self.threads.items;
 }

@@ -1,7 +1,6 @@
 use Rattle.std.proofs.Common.{◌+◌, ◌++◌, ◌∷◌, [], ◌∙◌, ap, sym, subst, arith}
 use Rattle.lot_simulation.specs.TimedReport.{life, life_change, mutex_change, mutex_wait, reply_change, reply_wait}
 use Rattle.lot_engine.specs.Seen.{Seen, world_of}
-use Rattle.lot_playback.specs.Owed.{Answers, AreDue}
 use Rattle.lot_playback.proofs.DueFacts.{few-waits, waits-more}
 use Rattle.lot_simulation.specs.World.{World}
 use Rattle.lot_simulation.specs.World.Answer.{Answered}
@@ -15,7 +14,7 @@ returns-clause-followed c done n turn at answered world was = record {
   mutexes = c.follow-4.ensures.exact mutex_change done n turn at (ap mutex_wait answered ∙ sym c.mutex_wait.ensures) was.mutexes;
   replies = c.follow-5.ensures.exact reply_change done n turn at (ap reply_wait answered ∙ sym (c.reply_wait.ensures c.args.event.now)) was.replies;
   lives = c.follow-6.ensures.exact life_change done n turn at (ap (λ (w : World). life w.state turn.turn.answer) world ∙ ap (life (world_of c.args.system.now).state) answered
-      ∙ ap (λ (x : Seen). life (world_of x).state (Answered c.args.event.now c.args.reply)) (sym (c.follow.ensures.same ∙ c.queue.ensures.same)) ∙ sym c.life.ensures) was.lives;
+      ∙ ap (λ (x : Seen). life (world_of x).state (Answered c.args.event.now c.args.reply)) (sym c.follow.ensures.same) ∙ sym c.life.ensures) was.lives;
   refused_traps = traps-more done n turn (Answered c.args.event.now c.args.reply) c.args.self.now.refused_traps.threads.items c.follow-7.new.self.threads.items answered (c.follow-7.ensures.counted c.args.event.now) was.refused_traps;
   refused = omega (arith, refusals-more done turn c.args.event.now c.args.reply answered, c.refusals_in.ensures.refusals, was.refused);
   few = omega (arith, was.few, c.refusals_in.ensures.few);
@@ -42,6 +41,5 @@ pub returns-clause-dues : goal.returns-clause-dues
 returns-clause-dues c first before done n turn room at answered world answers was = record {
   ready = waits-more done n before (world_of c.args.system.now).state turn c.args.time (Answered c.args.event.now c.args.reply) c.args.self.now.ready.threads.items c.queue.new.self.threads.items at (omega (arith, c.ranges.time.fits)) answered
       (ap (λ (w : World). w.state) world) c.queue.ensures.queued was.ready;
-  dues = subst (λ (x : Seen). AreDue first (done ++ turn ∷ []) (n + 1) (world_of x).state c.follow.new.self) c.queue.ensures.same
-      (c.follow.ensures.due first before done n turn room at answered (world ∙ ap world_of (sym c.queue.ensures.same)) (subst (λ (x : Seen). Answers before c.args.event.now c.args.reply (world_of x).state) (sym c.queue.ensures.same) answers) was.dues);
+  dues = c.follow.ensures.due first before done n turn room at answered world answers was.dues;
 }
