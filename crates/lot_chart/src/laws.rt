@@ -1,7 +1,8 @@
 //! Bounds and order of pictures and tables, the curves of turns, and their ends: laws of the definitions, without
 //! executable code.
 ghost use Rattle.std.specs.Prelude.{◌≡◌, ◌==◌, ◌≤◌, ◌<◌, ◌+◌, ◌-◌, ◌*◌, ◌^◌, ℕ, [], ◌∷◌, false};
-ghost use Rattle.std.specs.Prelude.{All, AllPairs, Contains, List, true, filter, length, map, slice_get, slice_index, Some, unwrap_or};
+ghost use Rattle.std.specs.Prelude.{All, AllPairs, Contains, List, true, filter, length, map};
+ghost use Rattle.std.specs.Prelude.{slice_get, slice_index, Some, unwrap_or};
 ghost use Rattle.lot_machine.specs.Bounds.{IsBetween, IsWithinBounds};
 ghost use Rattle.lot_curves.specs.declared.stretch.Measure.{Measure as Measured};
 ghost use Rattle.lot_curves.specs.Curves as curves;
@@ -41,8 +42,8 @@ pub fn names_do_not_overlap()
         → All (λ line. line.place ≤ 4600) (lines_of most shown) }
 {}
 
-/// Each mark is at the time of a command that stands in its column, after the left edge and not after the right one; and
-/// each command in the picture stands in a column with a mark.
+/// Each mark is at the time of a command that stands in its column, after the left edge and not after the right one.
+/// Each command in the picture stands in a column with a mark.
 pub fn marks_are_of_commands()
     ensures commands { (curves : curves.Curves) (column time : ℕ)
         → slice_get (marked curves) column ≡ Some (Some time)
