@@ -38,6 +38,20 @@ commanded_curves = record {
   commands = 0 ∷ 11 ∷ 12 ∷ 20 ∷ 3500 ∷ 3500 ∷ 7000 ∷ 7001 ∷ [];
 }
 
+-- Their marks: a column is about ten ticks wide.
+abbrev pub commanded_marks : List ℕ
+commanded_marks = text (
+    codes "<path d='M101.0 60V460' stroke='#bbbbbb' stroke-dasharray='3 3'><title>command at 11</title></path>"
+    ∷ codes "<path d='M435.0 60V460' stroke='#bbbbbb' stroke-dasharray='3 3'><title>command at 3500</title></path>"
+    ∷ codes "<path d='M770.0 60V460' stroke='#bbbbbb' stroke-dasharray='3 3'><title>command at 7000</title></path>" ∷ [])
+
+-- Their marks from tick 11 to tick 3511: a column is about five ticks wide.
+abbrev pub commanded_marks_within : List ℕ
+commanded_marks_within = text (
+    codes "<path d='M100.1 60V460' stroke='#bbbbbb' stroke-dasharray='3 3'><title>command at 12</title></path>"
+    ∷ codes "<path d='M101.7 60V460' stroke='#bbbbbb' stroke-dasharray='3 3'><title>command at 20</title></path>"
+    ∷ codes "<path d='M767.8 60V460' stroke='#bbbbbb' stroke-dasharray='3 3'><title>command at 3500</title></path>" ∷ [])
+
 -- the picture of `three_ticks` with the title `a < b`
 abbrev pub three_tick_picture : List ℕ
 three_tick_picture = text (

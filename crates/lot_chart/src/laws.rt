@@ -1,8 +1,8 @@
 //! Bounds and order of pictures and tables, the curves of turns, and their ends: laws of the definitions, without
 //! executable code.
 ghost use Rattle.std.specs.Prelude.{◌≡◌, ◌==◌, ◌≤◌, ◌<◌, ◌+◌, ◌-◌, ◌*◌, ◌^◌, ℕ, [], ◌∷◌, false};
-ghost use Rattle.std.specs.Prelude.{All, AllPairs, Contains, List, true, filter, length, map, slice_get, slice_index};
-ghost use Rattle.std.specs.Prelude.{Some, unwrap_or};
+ghost use Rattle.std.specs.Prelude.{All, AllPairs, Contains, List, true, filter, length, map};
+ghost use Rattle.std.specs.Prelude.{slice_get, slice_index, Some, unwrap_or};
 ghost use Rattle.lot_machine.specs.Bounds.{IsBetween, IsWithinBounds};
 ghost use Rattle.lot_curves.specs.declared.stretch.Measure.{Measure as Measured};
 ghost use Rattle.lot_curves.specs.Curves as curves;

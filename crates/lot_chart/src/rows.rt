@@ -6,7 +6,8 @@ ghost use Rattle.lot_curves.specs.Intervals.{curves_within};
 ghost use Rattle.lot_simulation.specs.Samples.{text};
 ghost use Rattle.lot_chart.specs.Axes.{time_marks};
 ghost use Rattle.lot_chart.specs.Charts.{chart, command_marks};
-ghost use Rattle.lot_chart.specs.Samples.{commanded_curves, seven_tick_curves, three_tick_curves, three_tick_picture};
+ghost use Rattle.lot_chart.specs.Samples.{commanded_curves, commanded_marks, commanded_marks_within};
+ghost use Rattle.lot_chart.specs.Samples.{seven_tick_curves, three_tick_curves, three_tick_picture};
 ghost use Rattle.lot_chart.specs.Samples.{three_tick_window_picture};
 ghost use Rattle.lot_chart.specs.Shown.{shares_output};
 ghost use Rattle.lot_chart.specs.Tables.{table};
@@ -52,29 +53,20 @@ pub fn windows()
 {}
 
 /// The run as a picture, with a title that needs escapes; and its shares of the last two ticks.
-#[tactic(auto, unfolding(lot_simulation::specs::OnLiterals::texts_on_literals, crate::specs::Charts::picture, crate::specs::Marks::marked))]
+#[tactic(auto, unfolding(crate::specs::OnLiterals::pictures_on_literals))]
 pub fn pictures()
     ensures whole { chart (codes "a < b") three_tick_curves ≡ three_tick_picture }
     ensures window { chart (codes "a < b") (windowed (Some 2) three_tick_curves) ≡ three_tick_window_picture }
 {}
 
-/// A column is about ten ticks wide. The commands at 11, 12 and 20 stand in one and share a mark, and so do the two at
-/// 3500. The one at tick 0, on the left edge, and the one after the last tick have none. From tick 11 to 3511 a column is
-/// half as wide, and the command at 11 is on the left edge.
-#[tactic(auto, unfolding(lot_simulation::specs::OnLiterals::texts_on_literals, crate::specs::Marks::marked))]
+/// The commands at 11, 12 and 20 stand in one column and share a mark, and so do the two at 3500. The one at tick 0,
+/// on the left edge, and the one after the last tick have none. From tick 11 to 3511 those at 12 and 20 stand in columns
+/// of their own, and the one at 11 is on the left edge.
+#[tactic(auto, unfolding(crate::specs::OnLiterals::pictures_on_literals))]
 pub fn marks()
-    ensures whole { command_marks commanded_curves
-        ≡ text
-        (codes "<path d='M101.0 60V460' stroke='#bbbbbb' stroke-dasharray='3 3'><title>command at 11</title></path>"
-        ∷ codes "<path d='M435.0 60V460' stroke='#bbbbbb' stroke-dasharray='3 3'><title>command at 3500</title></path>"
-        ∷ codes "<path d='M770.0 60V460' stroke='#bbbbbb' stroke-dasharray='3 3'><title>command at 7000</title></path>"
-        ∷ []) }
+    ensures whole { command_marks commanded_curves ≡ commanded_marks }
     ensures interval { command_marks (curves_within (Some (record { from = 11; to = Some 3511 })) commanded_curves)
-        ≡ text
-        (codes "<path d='M100.1 60V460' stroke='#bbbbbb' stroke-dasharray='3 3'><title>command at 12</title></path>"
-        ∷ codes "<path d='M101.7 60V460' stroke='#bbbbbb' stroke-dasharray='3 3'><title>command at 20</title></path>"
-        ∷ codes "<path d='M767.8 60V460' stroke='#bbbbbb' stroke-dasharray='3 3'><title>command at 3500</title></path>"
-        ∷ []) }
+        ≡ commanded_marks_within }
     ensures none { command_marks three_tick_curves ≡ [] }
 {}
 
