@@ -153,3 +153,38 @@ pub fn waiting()
         ∷ codes "processor 1 quanta 3 idle 0 ticks 4 unused 0"
         ∷ codes "total turns 8 quanta 3 ticks 4 refused 0 left 0" ∷ []) }
 {}
+
+/// The funding: two threads share what a currency is worth as 3 to 1 (4.4). Its third ticket funds nothing, so it isn't
+/// active. A thread that waits for a mutex is funded too, and lends what it is worth.
+#[tactic(auto, unfolding(crate::specs::OnLiterals::texts_on_literals, lot_simulation::specs::Timed::timed_room))]
+pub fn funded()
+    ensures { explained_output Funding (text (codes "lottery 3" ∷ codes "quantum 9" ∷ codes "for 4" ∷ codes "seed 2"
+        ∷ codes "mutex m" ∷ codes "script hold" ∷ codes "lock m" ∷ codes "compute 1" ∷ codes "yield"
+        ∷ codes "endscript" ∷ codes "mkcur g" ∷ codes "mktkt 3 base" ∷ codes "fund 1 g" ∷ codes "fundx 3 g a hold"
+        ∷ codes "fundx 1 g b hold" ∷ codes "mktkt 5 g" ∷ []))
+        ≡ text (codes "0 0 currency 1" ∷ codes "0 0 ticket 1" ∷ codes "0 0 done" ∷ codes "0 0 funded 2 1"
+        ∷ codes "0 0 funded 3 2" ∷ codes "0 0 ticket 4"
+        ∷ codes "0 1 funds currency 1 g ticket 1 amount 3 of base value 3"
+        ∷ codes "0 1 funds thread 1 a ticket 2 amount 3 of g value 2.25"
+        ∷ codes "0 1 funds thread 2 b ticket 3 amount 1 of g value 0.75"
+        ∷ codes "0 1 currency 0 base value 3 active 3" ∷ codes "0 1 currency 1 g value 3 active 4"
+        ∷ codes "0 1 lot thread 1 a weight 2.25 from 0 below 2.25 wins"
+        ∷ codes "0 1 lot thread 2 b weight 0.75 from 2.25 below 3" ∷ codes "0 1 draw 1.042 of 3 thread 1"
+        ∷ codes "1 1 thread 1 ticks 1 lock 1 taken" ∷ codes "3 1 thread 1 ticks 2 yield"
+        ∷ codes "3 1 funds currency 1 g ticket 1 amount 3 of base value 3"
+        ∷ codes "3 1 funds thread 1 a ticket 2 amount 3 of g value 2.25"
+        ∷ codes "3 1 funds thread 2 b ticket 3 amount 1 of g value 0.75"
+        ∷ codes "3 1 currency 0 base value 3 active 3" ∷ codes "3 1 currency 1 g value 3 active 4"
+        ∷ codes "3 1 lot thread 1 a weight 6.75 = value 2.25 x 9 / 3 from 0 below 6.75"
+        ∷ codes "3 1 lot thread 2 b weight 0.75 from 6.75 below 7.5 wins" ∷ codes "3 1 draw 7.226 of 7.5 thread 2"
+        ∷ codes "4 1 thread 2 ticks 1 lock 1 waits" ∷ codes "4 1 funds currency 1 g ticket 1 amount 3 of base value 3"
+        ∷ codes "4 1 funds thread 1 a ticket 2 amount 3 of g value 2.25"
+        ∷ codes "4 1 funds thread 2 b ticket 3 amount 1 of g value 0.75"
+        ∷ codes "4 1 currency 0 base value 3 active 3" ∷ codes "4 1 currency 1 g value 3 active 4"
+        ∷ codes "4 1 lot thread 1 a weight 9 = value 3 x 9 / 3 from 0 below 9 wins"
+        ∷ codes "4 1 lent thread 2 b value 0.75 to thread 1" ∷ codes "4 1 draw 2.515 of 9 thread 1" ∷ codes "report"
+        ∷ codes "thread 1 a quanta 2 ticks 3 share 75% value 100%"
+        ∷ codes "thread 2 b quanta 1 ticks 1 share 25% value 0%"
+        ∷ codes "processor 1 quanta 3 idle 0 ticks 4 unused 0"
+        ∷ codes "total turns 12 quanta 3 ticks 4 refused 0 left 0" ∷ []) }
+{}
