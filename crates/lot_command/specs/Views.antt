@@ -22,7 +22,7 @@ abbrev pub view_of : View → List ℕ → Program → List ℕ
 view_of views.Play title program = played_output program program.duration
 view_of (views.Report None form) title program = report_text form program
 view_of (views.Report (Some seeds) form) title program = seeds_report form seeds.first seeds.last program
-view_of views.Explain title program = explained_program program program.duration
+view_of (views.Explain detail) title program = explained_program detail program program.duration
 view_of (views.Shares measure interval window) title program =
     table measure (windowed window (curves_within interval (curves_of program)))
 view_of (views.Chart interval window) title program =

@@ -5,6 +5,7 @@ use clap::builder::ValueParser;
 use clap::error::ErrorKind;
 use clap::{Arg, ArgAction, ArgMatches, Command, Error};
 use lot_curves::{Interval, Measure};
+use lot_explain::Detail;
 use lot_play::{Form, Seeds};
 use lot_simulation::ranges;
 use lot_text::Seed;
@@ -193,12 +194,19 @@ fn report_command<'a>(alloc: Global) -> Result<Command<'a>, AllocError> {
 
 /// The command that writes the turns and the lots of each lottery.
 fn explain_command<'a>(alloc: Global) -> Result<Command<'a>, AllocError> {
+    let funding = Arg::new(alloc, "funding")
+        .long("funding")
+        .action(ArgAction::SetTrue)
+        .help(
+            "Before each draw of a lottery 3 input also writes a line for each active ticket and for its currency",
+        );
     showing(
         alloc,
         "explain",
         "Plays an input from FILE or standard input, and before each lottery that was won writes a line for each \
          thread that took part in it, with its weight and its numbers",
-    )
+    )?
+    .arg(funding)
 }
 
 /// The command that has threads make the turns.
@@ -283,7 +291,7 @@ fn view_of(name: &str, given: &ArgMatches<'_>) -> View {
     }
     let interval = interval_of(name, given);
     match name {
-        "explain" => View::Explain,
+        "explain" => View::Explain(detail_of(given)),
         "shares" => View::Shares {
             measure: measure_of(given),
             interval,
@@ -326,6 +334,15 @@ fn title_of<'a>(name: &str, given: &ArgMatches<'a>) -> &'a str {
     match name {
         "chart" => given.get_str("title").unwrap_or(TITLE),
         _ => TITLE,
+    }
+}
+
+/// How much `explain` says.
+fn detail_of(given: &ArgMatches<'_>) -> Detail {
+    if given.get_flag("funding") {
+        Detail::Funding
+    } else {
+        Detail::Lots
     }
 }
 

@@ -2,6 +2,7 @@
 ghost use Rattle.std.specs.Prelude.{◌≡◌, ℕ, List, None};
 ghost use Rattle.lot_simulation.specs.Output.{output};
 ghost use Rattle.lot_curves.specs.declared.stretch.Measure.{Measure};
+ghost use Rattle.lot_explain.specs.declared.detail.Detail.{Detail};
 ghost use Rattle.lot_explain.specs.Explained.{explained_output};
 ghost use Rattle.lot_chart.specs.Shown.{chart_output, shares_output};
 ghost use Rattle.lot_command.specs.declared.view.View.TheVariants as views;
@@ -10,7 +11,8 @@ ghost use Rattle.lot_command.specs.Views.{text_of};
 /// Without a given seed, interval or window, the text of each view is the library's output for the same bytes.
 pub fn texts_without_a_seed()
     ensures play { (title bytes : List ℕ) → text_of views.Play title None bytes ≡ output bytes }
-    ensures explain { (title bytes : List ℕ) → text_of views.Explain title None bytes ≡ explained_output bytes }
+    ensures explain { (detail : Detail) (title bytes : List ℕ)
+        → text_of (views.Explain detail) title None bytes ≡ explained_output detail bytes }
     ensures shares { (measure : Measure) (title bytes : List ℕ)
         → text_of (views.Shares measure None None) title None bytes ≡ shares_output measure bytes }
     ensures chart { (title bytes : List ℕ)

@@ -8,7 +8,7 @@ ghost use Rattle.lot_command.specs.Views.{text_of, view_of};
 use crate::diagnostics::Diagnostics;
 use lot_chart::{chart_program, shares_program};
 use lot_curves::{Interval, Measure};
-use lot_explain::explain_program;
+use lot_explain::{Detail, explain_program};
 use lot_io::{IoFault, Watched, read_input};
 use lot_play::{Form, Seeds, play_program, report_program, report_seeds};
 use lot_system::{Played, Warnings, refuse};
@@ -26,8 +26,8 @@ pub(crate) enum View {
         seeds: Option<Seeds>,
         form: Form,
     },
-    /// A line for each turn, after the lots of its lottery if a thread won it, and the report.
-    Explain,
+    /// A line for each turn, after the lots of its lottery if a thread won it, and the report; in so much detail.
+    Explain(Detail),
     /// A table of this measure of each thread over time, or in an interval of it; with a window, of the shares in the
     /// last ticks.
     Shares {
@@ -122,7 +122,7 @@ fn show_program<W: Write>(
             seeds: Some(seeds),
             form,
         } => report_seeds(alloc, program, seeds, *form, warnings, writer),
-        View::Explain => explain_program(alloc, program, warnings, writer),
+        View::Explain(detail) => explain_program(alloc, *detail, program, warnings, writer),
         View::Shares {
             measure,
             interval,

@@ -13,3 +13,4 @@ pub mod ReadPrograms
 pub mod ShortTexts
 pub mod Reasons
 pub mod Lenders
+pub mod FundingFacts

@@ -5,17 +5,18 @@ use Rattle.lot_simulation.specs.Timed.{TimedTurn, timed_turns}
 use Rattle.lot_simulation.specs.World.{Program, World, opening_world, system_turn}
 use Rattle.lot_play.specs.Texts.{last_report}
 use Rattle.lot_playback.specs.Turns.{scheduled_turns, turns_by, turns_in_time}
+use Rattle.lot_explain.specs.declared.detail.Detail.{Detail}
 use Rattle.lot_explain.specs.Explained.{explained_program, explained_text, explained_texts, explained_times}
 use Rattle.lot_explain.specs.MadeTurns.{explained_turns}
 
-texts-scheduled : (program : Program) (w : World) (actors : List ℕ) → explained_texts program w actors ≡ explained_turns (scheduled_turns program w actors)
-texts-scheduled program w [] = refl
-texts-scheduled program w (a ∷ actors) = ap (λ ts. explained_text Whole a w (system_turn program w a) ++ ts) (texts-scheduled program (system_turn program w a).world actors)
+texts-scheduled : (detail : Detail) (program : Program) (w : World) (actors : List ℕ) → explained_texts detail program w actors ≡ explained_turns detail (scheduled_turns program w actors)
+texts-scheduled detail program w [] = refl
+texts-scheduled detail program w (a ∷ actors) = ap (λ ts. explained_text detail Whole a w (system_turn program w a) ++ ts) (texts-scheduled detail program (system_turn program w a).world actors)
 
-texts-timed : (w : World) (turns : List TimedTurn) → explained_times w turns ≡ explained_turns (turns_in_time w turns)
-texts-timed w [] = refl
-texts-timed w (t ∷ turns) = ap (λ ts. explained_text (Timed t.time) t.actor w t.turn ++ ts) (texts-timed t.turn.world turns)
+texts-timed : (detail : Detail) (w : World) (turns : List TimedTurn) → explained_times detail w turns ≡ explained_turns detail (turns_in_time w turns)
+texts-timed detail w [] = refl
+texts-timed detail w (t ∷ turns) = ap (λ ts. explained_text detail (Timed t.time) t.actor w t.turn ++ ts) (texts-timed detail t.turn.world turns)
 
-pub program-texts : (program : Program) (duration : Option ℕ) → explained_program program duration ≡ explained_turns (turns_by program duration) ++ last_report program duration
-program-texts program None = ap (λ ts. ts ++ last_report program None) (texts-scheduled program (opening_world program) program.schedule)
-program-texts program (Some duration) = ap (λ ts. ts ++ last_report program (Some duration)) (texts-timed (opening_world program) (timed_turns program))
+pub program-texts : (detail : Detail) (program : Program) (duration : Option ℕ) → explained_program detail program duration ≡ explained_turns detail (turns_by program duration) ++ last_report program duration
+program-texts detail program None = ap (λ ts. ts ++ last_report program None) (texts-scheduled detail program (opening_world program) program.schedule)
+program-texts detail program (Some duration) = ap (λ ts. ts ++ last_report program (Some duration)) (texts-timed detail (opening_world program) (timed_turns program))

@@ -14,6 +14,7 @@ use Rattle.lot_simulation.specs.Report.{report}
 use Rattle.lot_simulation.specs.Timed.{Moment, TimedTurn, all_due, due_first, earliest, end_of, moment_after, next_due, opening_moment, timed_room, timed_turns, turn_due, turns_from, within}
 use Rattle.lot_simulation.specs.TimedReport.{timed_report}
 use Rattle.lot_simulation.specs.World.{Program, World, opening_world, system_run, system_turn}
+use Rattle.lot_explain.specs.declared.detail.Detail.TheVariants.{Lots}
 use Rattle.lot_explain.specs.Explained.{explained_in_time, explained_output, explained_program, explained_schedule, explained_texts, explained_times, lots_text}
 use Rattle.lot_explain.specs.Short.{HasShortName, line_bytes, turn_count}
 use Rattle.lot_explain.proofs.ReadPrograms.{IsReadProgram, program-read}
@@ -31,19 +32,19 @@ after-short more explained written end few = omega (arith, length-append explain
 -- ---- by a schedule
 
 -- what explains the turns of actors
-texts-short : (program : Program) (w : World) (actors : List ℕ) → IsShort program.limits w → length (explained_texts program w actors) ≤ length (turn_texts program w actors) + length actors * (program.limits.threads * 139)
+texts-short : (program : Program) (w : World) (actors : List ℕ) → IsShort program.limits w → length (explained_texts Lots program w actors) ≤ length (turn_texts program w actors) + length actors * (program.limits.threads * 139)
 texts-short program w [] short = omega arith
 texts-short program w (actor ∷ actors) short =
     let turn = system_turn program w actor in
-    more-short (program.limits.threads * 139) (length actors) (lots_text Whole (printed_actor turn.world.state actor) w.state turn.answer) (turn_text Whole actor turn) (explained_texts program turn.world actors) (turn_texts program turn.world actors)
+    more-short (program.limits.threads * 139) (length actors) (lots_text Whole (printed_actor turn.world.state actor) w.state turn.answer) (turn_text Whole actor turn) (explained_texts Lots program turn.world actors) (turn_texts program turn.world actors)
     (turn-short Whole program w actor (printed_actor turn.world.state actor) (min-le_left actor (turn.world.state.limits.processors + 1)) tt short) (texts-short program turn.world actors (turn-keeps program w actor short))
 
 -- and what explains the whole schedule, with the report
 pub schedule-short : (program : Program) → IsWithinBounds program.limits → All HasShortName program.commands
-    → length (explained_schedule program) ≤ length (scheduled_output program) + length program.schedule * (program.limits.threads * 139)
+    → length (explained_schedule Lots program) ≤ length (scheduled_output program) + length program.schedule * (program.limits.threads * 139)
 schedule-short program bounds names =
     let first = opening_world program in
-    after-short (length program.schedule * (program.limits.threads * 139)) (explained_texts program first program.schedule) (turn_texts program first program.schedule)
+    after-short (length program.schedule * (program.limits.threads * 139)) (explained_texts Lots program first program.schedule) (turn_texts program first program.schedule)
     (report program (system_run program program.schedule).history) (texts-short program first program.schedule (opening-short program bounds names))
 
 -- ---- in the order of time
@@ -59,7 +60,7 @@ within-end end (Some x) due e = at (nat_lt end x.time) refl e
 
 -- turns, the first of which is made in this world, are explained in few bytes more than are written of them
 abbrev AreShortTimes : Program → World → List TimedTurn → Type 0
-AreShortTimes program w turns = length (explained_times w turns) ≤ length (flat_map timed_text turns) + length turns * (program.limits.threads * 183)
+AreShortTimes program w turns = length (explained_times Lots w turns) ≤ length (flat_map timed_text turns) + length turns * (program.limits.threads * 183)
 
 -- the turns from a moment on
 times-short : (program : Program) → end_of program < 2 ^ 32 → (room : ℕ) (m : Moment) → IsShort program.limits m.world → AreShortTimes program m.world (turns_from program room m)
@@ -75,26 +76,26 @@ times-short program small (suc room) m short = at (λ next. times-short program 
         let next = moment_after m done in
         let others = turns_from program room next in
         let time : due.time < 2 ^ 32 = omega (arith, within-end (end_of program) (earliest (all_due program m)) due is, small) in
-        more-short (program.limits.threads * 183) (length others) (lots_text (Timed due.time) (printed_actor turn.world.state due.actor) m.world.state turn.answer) (turn_text (Timed due.time) due.actor turn) (explained_times turn.world others)
+        more-short (program.limits.threads * 183) (length others) (lots_text (Timed due.time) (printed_actor turn.world.state due.actor) m.world.state turn.answer) (turn_text (Timed due.time) due.actor turn) (explained_times Lots turn.world others)
         (flat_map timed_text others) (turn-short (Timed due.time) program m.world due.actor (printed_actor turn.world.state due.actor) (min-le_left due.actor (turn.world.state.limits.processors + 1)) time short) (later next (turn-keeps program m.world due.actor short))
 
 -- and all turns in the order of time, with the report
 pub in_time-short : (program : Program) → IsWithinBounds program.limits → All HasShortName program.commands → end_of program < 2 ^ 32
-    → length (explained_in_time program) ≤ length (timed_output program) + length (timed_turns program) * (program.limits.threads * 183)
+    → length (explained_in_time Lots program) ≤ length (timed_output program) + length (timed_turns program) * (program.limits.threads * 183)
 in_time-short program bounds names small =
     let turns = timed_turns program in
-    after-short (length turns * (program.limits.threads * 183)) (explained_times (opening_world program) turns) (flat_map timed_text turns) (timed_report program)
+    after-short (length turns * (program.limits.threads * 183)) (explained_times Lots (opening_world program) turns) (flat_map timed_text turns) (timed_report program)
     (times-short program small timed_room (opening_moment program) (opening-short program bounds names))
 
 -- ---- every input
 
 -- a program that is read
 program-short : (program : Program) → IsReadProgram program → (duration : Option ℕ)
-    → length (explained_program program duration) ≤ length (played_output program duration) + turn_count program duration * (program.limits.threads * line_bytes duration)
+    → length (explained_program Lots program duration) ≤ length (played_output program duration) + turn_count program duration * (program.limits.threads * line_bytes duration)
 program-short program is None = schedule-short program is.bounds is.names
 program-short program is (Some duration) = in_time-short program is.bounds is.names is.time
 
 -- and the bytes that it is read from
 pub output-short : (bytes : List ℕ) (program : Program) → program_in bytes ≡ Ok program
-    → length (explained_output bytes) ≤ length (output bytes) + turn_count program program.duration * (program.limits.threads * line_bytes program.duration)
+    → length (explained_output Lots bytes) ≤ length (output bytes) + turn_count program program.duration * (program.limits.threads * line_bytes program.duration)
 output-short bytes program is = rw is (program-short program (program-read bytes program is) program.duration)

@@ -8,6 +8,7 @@ use Rattle.lot_machine.specs.declared.event.Event.TheVariants as event
 use Rattle.lot_machine.specs.declared.reply.Reply.{Reply}
 use Rattle.lot_machine.specs.declared.sizes.Sizes.{Sizes}
 use Rattle.lot_machine.specs.State.{State}
+use Rattle.lot_machine.specs.Step.{step}
 use Rattle.lot_machine.proofs.StepSizes.{step-limits}
 use Rattle.lot_io.specs.declared.fault.IoFault.{IoFault}
 use Rattle.lot_io.specs.Writing.{Begins, IsPut, Put}
@@ -26,11 +27,15 @@ use Rattle.lot_playback.specs.Stages.{HasJustMade, answer_in}
 use Rattle.lot_play.specs.Texts.{style_at}
 use Rattle.lot_playback.specs.Turns.{MadeTurn}
 use Rattle.lot_playback.proofs.MadeFacts.{world-one_more}
-use Rattle.lot_explain.specs.Explained.{lots_text}
+use Rattle.lot_explain.specs.declared.detail.Detail.{Detail}
+use Rattle.lot_explain.specs.declared.detail.Detail.TheVariants as detail
+use Rattle.lot_explain.specs.Explained.{detail_text, lots_text}
+use Rattle.lot_explain.specs.Funding.{funding_in}
 use Rattle.lot_explain.specs.Gathering.{Gathered}
 use Rattle.lot_explain.specs.Lots.{loans_of, lots_of, total_of, won_in, won_lines}
 use Rattle.lot_explain.specs.MadeTurns.{HasLots, IsExplained, explained_made}
-use Rattle.lot_explain.proofs.WonFacts.{won-total}
+use Rattle.lot_explain.proofs.FundingFacts.{funding-same}
+use Rattle.lot_explain.proofs.WonFacts.{turn-state, won-total}
 
 -- one text that is put after another
 pub put-then : {U : Type 0} (old mid new : Option (List ℕ)) (before waits after a b : List ℕ) (failed : Bool) (r : Result U IoFault) → IsPut old mid before waits a → Put mid new waits after failed r b → Put old new before after failed r (a ++ b)
@@ -59,16 +64,24 @@ turn-limits program w actor = at (actor == 0)
 
 module _ (made : MadeTurn) (m : LineStyle) (a : ℕ) (of_m : m ≡ style_at made.time) (of_a : a ≡ printed_actor made.turn.world.state made.actor) where
   -- of one that goes
-  answered-is : (u : ℕ) (lots : List Lot) (loans : List Loan) (s : State) (e : Event) (r : Reply) → u ≡ made.before.state.limits.unit → lots ≡ lots_of made.before.state e → loans ≡ loans_of made.before.state e
+  answered-is : (detail : Detail) (u : ℕ) (lots : List Lot) (loans : List Loan) (s : State) (e : Event) (r : Reply) → u ≡ made.before.state.limits.unit → lots ≡ lots_of made.before.state e → loans ≡ loans_of made.before.state e
       → s ≡ made.turn.world.state → made.turn.answer ≡ Answered e r
-      → won_lines m u a lots loans (won_in e r) ++ (front m ++ (decimal a ++ (codes " " ++ reply_text m s e r))) ≡ explained_made made
-  answered-is u lots loans s e r of_u of_lots of_loans of_s is =
+      → funding_in detail (won_in e r) m u a made.before.state ++ (won_lines m u a lots loans (won_in e r) ++ (front m ++ (decimal a ++ (codes " " ++ reply_text m s e r)))) ≡ explained_made detail made
+  answered-is detail.Funding u lots loans s e r of_u of_lots of_loans of_s is =
+      rw (of_m, of_a, of_u, of_lots, of_loans, of_s)
+      (ap (λ (x : Answer). detail_text detail.Funding (style_at made.time) (printed_actor made.turn.world.state made.actor) made.before.state x
+      ++ (lots_text (style_at made.time) (printed_actor made.turn.world.state made.actor) made.before.state x ++ (front (style_at made.time) ++ (decimal (printed_actor made.turn.world.state made.actor) ++ (codes " " ++ answer_text (style_at made.time) made.turn.world.state x))))) (sym is))
+  answered-is detail.Lots u lots loans s e r of_u of_lots of_loans of_s is =
       rw (of_m, of_a, of_u, of_lots, of_loans, of_s)
       (ap (λ (x : Answer). lots_text (style_at made.time) (printed_actor made.turn.world.state made.actor) made.before.state x ++ (front (style_at made.time) ++ (decimal (printed_actor made.turn.world.state made.actor) ++ (codes " " ++ answer_text (style_at made.time) made.turn.world.state x)))) (sym is))
 
   -- and of one without a command
-  ended-is : made.turn.answer ≡ Ended → front m ++ (decimal a ++ (codes " " ++ (refused 41 (codes "Ended") ++ newline))) ≡ explained_made made
-  ended-is is =
+  ended-is : (detail : Detail) → made.turn.answer ≡ Ended → front m ++ (decimal a ++ (codes " " ++ (refused 41 (codes "Ended") ++ newline))) ≡ explained_made detail made
+  ended-is detail.Funding is =
+      rw (of_m, of_a)
+      (ap (λ (x : Answer). detail_text detail.Funding (style_at made.time) (printed_actor made.turn.world.state made.actor) made.before.state x
+      ++ (lots_text (style_at made.time) (printed_actor made.turn.world.state made.actor) made.before.state x ++ (front (style_at made.time) ++ (decimal (printed_actor made.turn.world.state made.actor) ++ (codes " " ++ answer_text (style_at made.time) made.turn.world.state x))))) (sym is))
+  ended-is detail.Lots is =
       rw (of_m, of_a)
       (ap (λ (x : Answer). lots_text (style_at made.time) (printed_actor made.turn.world.state made.actor) made.before.state x ++ (front (style_at made.time) ++ (decimal (printed_actor made.turn.world.state made.actor) ++ (codes " " ++ answer_text (style_at made.time) made.turn.world.state x)))) (sym is))
 
@@ -108,6 +121,10 @@ module _ (seen : Seen) (turn : ATurn) (lots : Gathered) (made : MadeTurn) (is : 
     system-answer : (system_turn program made.before made.actor).answer ≡ Answered turn.event r
     system-answer = ap (λ (t : Turn). t.answer) (sym is.turn_is) ∙ answer-is
 
+    -- the state that the system is in now is that after the event
+    after-is : (world_of seen).state ≡ (step made.before.state turn.event).state
+    after-is = ap (λ (w : World). w.state) is.world ∙ ap (λ (t : Turn). t.world.state) is.turn_is ∙ turn-state program made.before made.actor turn.event r system-answer
+
     gathered-are : (lots.lots ≡ lots_of made.before.state turn.event) × (lots.loans ≡ loans_of made.before.state turn.event)
     gathered-are = is.gathered turn.event r system-answer
 
@@ -117,12 +134,16 @@ module _ (seen : Seen) (turn : ATurn) (lots : Gathered) (made : MadeTurn) (is : 
         subst (λ (xs : List Lot). IfSome (won_in turn.event r) (λ won. won.total ≡ total_of xs)) (sym gathered-are.0)
         (won-total program made.before made.actor turn.event r system-answer)
 
-    pub answered-text : (m : LineStyle) (a u : ℕ) → m ≡ style_at turn.time → a ≡ printed_actor (world_of seen).state turn.actor → u ≡ (world_of seen).state.limits.unit
-        → won_lines m u a lots.lots lots.loans (won_in turn.event r) ++ (front m ++ (decimal a ++ (codes " " ++ reply_text m (world_of seen).state turn.event r))) ≡ explained_made made
-    answered-text m a u of_m of_a of_u =
-        answered-is made m a (of_m ∙ ap style_at is.reports.time) (of_a ∙ shown-is) u lots.lots lots.loans (world_of seen).state turn.event r
+    pub answered-text : (detail : Detail) (m : LineStyle) (a u : ℕ) → m ≡ style_at turn.time → a ≡ printed_actor (world_of seen).state turn.actor → u ≡ (world_of seen).state.limits.unit
+        → funding_in detail (won_in turn.event r) m u a (world_of seen).state
+        ++ (won_lines m u a lots.lots lots.loans (won_in turn.event r) ++ (front m ++ (decimal a ++ (codes " " ++ reply_text m (world_of seen).state turn.event r)))) ≡ explained_made detail made
+    answered-text detail m a u of_m of_a of_u =
+        let rest = won_lines m u a lots.lots lots.loans (won_in turn.event r) ++ (front m ++ (decimal a ++ (codes " " ++ reply_text m (world_of seen).state turn.event r))) in
+        let funding = ap (funding_in detail (won_in turn.event r) m u a) after-is ∙ funding-same m u a made.before.state detail turn.event r in
+        ap (λ xs. xs ++ rest) funding
+        ∙ answered-is made m a (of_m ∙ ap style_at is.reports.time) (of_a ∙ shown-is) detail u lots.lots lots.loans (world_of seen).state turn.event r
         (of_u ∙ unit-is) gathered-are.0 gathered-are.1 (ap (λ (w : World). w.state) is.world) answer-is
 
-  pub ended-text : turn.has_ended ≡ true → (m : LineStyle) (a : ℕ) → m ≡ style_at turn.time → a ≡ printed_actor (world_of seen).state turn.actor → front m ++ (decimal a ++ (codes " " ++ (refused 41 (codes "Ended") ++ newline))) ≡ explained_made made
-  ended-text ended m a of_m of_a =
-      ended-is made m a (of_m ∙ ap style_at is.reports.time) (of_a ∙ shown-is) (is.reports.answer ∙ ap (λ b. answer_in b turn.event turn.reply) ended)
+  pub ended-text : (detail : Detail) → turn.has_ended ≡ true → (m : LineStyle) (a : ℕ) → m ≡ style_at turn.time → a ≡ printed_actor (world_of seen).state turn.actor → front m ++ (decimal a ++ (codes " " ++ (refused 41 (codes "Ended") ++ newline))) ≡ explained_made detail made
+  ended-text detail ended m a of_m of_a =
+      ended-is made m a (of_m ∙ ap style_at is.reports.time) (of_a ∙ shown-is) detail (is.reports.answer ∙ ap (λ b. answer_in b turn.event turn.reply) ended)

@@ -205,6 +205,21 @@ turn-reply program w actor e r is = at (actor == 0) refl
         let one : Answered (actor_event program w actor) (step w.state (actor_event program w actor)).reply ≡ Answered e r = rw zero at is in
         cc
 
+-- and leads to the state after it
+console-state : (program : Program) (w : World) (commands : List Command) (e : Event) (r : Reply) → (console_turn program w commands).answer ≡ Answered e r → (console_turn program w commands).world.state ≡ (step w.state e).state
+console-state program w [] e r is = cc
+console-state program w (c ∷ cs) e r is = let same : event.Command c ≡ e = cc in ap (λ x. (step w.state x).state) same
+
+pub turn-state : (program : Program) (w : World) (actor : ℕ) (e : Event) (r : Reply) → (system_turn program w actor).answer ≡ Answered e r → (system_turn program w actor).world.state ≡ (step w.state e).state
+turn-state program w actor e r is = at (actor == 0) refl
+  where
+    at : (b : Bool) → (actor == 0) ≡ b → (system_turn program w actor).world.state ≡ (step w.state e).state
+    at true zero = rw zero (console-state program w w.commands e r (rw zero at is))
+    at false zero =
+        let one : Answered (actor_event program w actor) (step w.state (actor_event program w actor)).reply ≡ Answered e r = rw zero at is in
+        let same : actor_event program w actor ≡ e = cc in
+        rw zero (ap (λ x. (step w.state x).state) same)
+
 pub turn-won : (program : Program) (w : World) (actor : ℕ) (e : Event) (r : Reply) → (system_turn program w actor).answer ≡ Answered e r → HasWon (lots_of w.state e) e r
 turn-won program w actor e r is = subst (HasWon (lots_of w.state e) e) (turn-reply program w actor e r is) (step-won w.state e)
 

@@ -1,4 +1,5 @@
 pub mod Loans
+pub mod Funding
 pub mod Lots
 pub mod Numbers
 pub mod Explained

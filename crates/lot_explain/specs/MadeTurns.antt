@@ -10,17 +10,18 @@ use Rattle.lot_playback.specs.declared.turn.Turn.{Turn}
 use Rattle.lot_playback.specs.Stages.{Reports}
 use Rattle.lot_play.specs.Texts.{style_at}
 use Rattle.lot_playback.specs.Turns.{MadeTurn}
+use Rattle.lot_explain.specs.declared.detail.Detail.{Detail}
 use Rattle.lot_explain.specs.Explained.{explained_text}
 use Rattle.lot_explain.specs.Gathering.{Gathered}
 use Rattle.lot_explain.specs.Lots.{loans_of, lots_of}
 
--- the lots of a turn's lottery, and then the turn's lines
-abbrev pub explained_made : MadeTurn → List ℕ
-explained_made made = explained_text (style_at made.time) made.actor made.before made.turn
+-- what explains a turn, and then the turn's lines
+abbrev pub explained_made : Detail → MadeTurn → List ℕ
+explained_made detail made = explained_text detail (style_at made.time) made.actor made.before made.turn
 
 -- the explained lines of these turns
-abbrev pub explained_turns : List MadeTurn → List ℕ
-explained_turns turns = flat_map explained_made turns
+abbrev pub explained_turns : Detail → List MadeTurn → List ℕ
+explained_turns detail turns = flat_map (explained_made detail) turns
 
 -- what is gathered are the lots of the lottery that the actor's turn in this world may hold, and the loans at it
 abbrev pub HasLots : Program → World → ℕ → Gathered → Type 0

@@ -7,9 +7,12 @@ ghost use Rattle.lot_simulation.specs.Texts.{front, reply_text};
 ghost use Rattle.lot_engine.specs.Seen.{world_of};
 ghost use Rattle.lot_playback.specs.Stages.{HasMade, turns_left};
 ghost use Rattle.lot_playback.specs.Turns.{MadeTurn, program_turns};
+ghost use Rattle.lot_explain.specs.Funding.{funding_in};
 ghost use Rattle.lot_explain.specs.Lots.{total_of, won_in, won_lines};
 ghost use Rattle.lot_explain.specs.MadeTurns.{HasLots, IsExplained, explained_made, explained_turns};
 
+use crate::detail::Detail;
+use crate::funding::put_funding;
 use crate::gathering::Lots;
 use crate::lines::put_lots;
 use lot_engine::System;
@@ -25,6 +28,7 @@ use std::io::Write;
 /// warnings.
 #[derive(Drop)]
 struct Explained<'a, W> {
+    detail: Detail,
     /// The lots of the lottery that the next turn may hold, and the loans at it.
     lots: &'a mut Lots,
     page: Page,
@@ -39,18 +43,20 @@ impl<'a, W: Write> Observer for Explained<'a, W> {
         × (now.lots.now.room ≡ program.limits.threads)
         × (now.writer.now.failed ≡ false)
         × IsPut (W.contents first.writer.now.inner) (W.contents now.writer.now.inner) [] now.page
-        (explained_turns turns) };
+        (explained_turns first.detail turns)
+        × (now.detail ≡ first.detail) };
 
     ghost awaits = { λ program turns world actor first now. (now.writer.ghost_name ≡ first.writer.ghost_name)
         × (now.lots.now.room ≡ program.limits.threads)
         × (now.writer.now.failed ≡ false)
         × IsPut (W.contents first.writer.now.inner) (W.contents now.writer.now.inner) [] now.page
-        (explained_turns turns)
-        × HasLots program world actor now.lots.now };
+        (explained_turns first.detail turns)
+        × HasLots program world actor now.lots.now
+        × (now.detail ≡ first.detail) };
 
     ghost stopped = { λ program turns first now fault. (now.writer.ghost_name ≡ first.writer.ghost_name)
         × (fault ≡ faults.Write) × (now.writer.now.failed ≡ true)
-        × Begins (W.contents first.writer.now.inner) (W.contents now.writer.now.inner) (explained_turns turns) };
+        × Begins (W.contents first.writer.now.inner) (W.contents now.writer.now.inner) (explained_turns first.detail turns) };
 
     #[inline(always)]
     fn before(&mut self, program: &Program, system: &mut System, actor: u32) {
@@ -66,6 +72,7 @@ impl<'a, W: Write> Observer for Explained<'a, W> {
     ) -> Result<(), IoFault> {
         put_explained(
             system,
+            self.detail,
             turn,
             self.lots,
             self.warnings,
@@ -89,6 +96,7 @@ impl<'a, W: Write> Explained<'a, W> {
 /// Makes the program's turns, and writes their lines with their explanations.
 pub(crate) fn explain_turns<W: Write>(
     program: &Program,
+    detail: Detail,
     playback: &mut Playback,
     lots: &mut Lots,
     warnings: &mut Warnings,
@@ -100,9 +108,10 @@ pub(crate) fn explain_turns<W: Write>(
     requires working { writer.old.failed ≡ false }
     ensures setting { playback.new.seen.setting ≡ playback.old.seen.setting }
     ensures ended { OnOk result (turns_left playback.new ≡ []) }
-    ensures text { Writes W.contents writer.old writer.new result (explained_turns (program_turns program.now)) }
+    ensures text { Writes W.contents writer.old writer.new result (explained_turns detail (program_turns program.now)) }
 {
     let mut explained = Explained {
+        detail,
         lots,
         page: Page::new(),
         warnings,
@@ -116,6 +125,7 @@ pub(crate) fn explain_turns<W: Write>(
 /// records its warning.
 fn put_explained<W: Write>(
     system: &mut System,
+    detail: Detail,
     turn: &Turn,
     lots: &Lots,
     warnings: &mut Warnings,
@@ -126,7 +136,7 @@ fn put_explained<W: Write>(
     requires working { writer.old.failed ≡ false }
     ensures same { system.new ≡ system.old }
     ensures text { (made : MadeTurn) → IsExplained system.old turn.now lots.now made
-        → Puts W.contents writer.old writer.new page.old page.new result (explained_made made) }
+        → Puts W.contents writer.old writer.new page.old page.new result (explained_made detail made) }
 {
     let actor = printed_actor(system, turn.actor);
     let heading = heading(system, style_of(turn), actor);
@@ -134,11 +144,47 @@ fn put_explained<W: Write>(
         return write_ended(writer, page, heading);
     }
     warnings.note(system, turn);
-    put_turn(system, heading, &turn.event, turn.reply, lots, writer, page)
+    put_turn(
+        system,
+        detail,
+        heading,
+        &turn.event,
+        turn.reply,
+        lots,
+        writer,
+        page,
+    )
+}
+
+/// Puts the lines of a turn on the page, after the funding, the lots of its lottery and the loans at it, if a thread won
+/// it.
+fn put_turn<W: Write>(
+    system: &mut System,
+    detail: Detail,
+    heading: Heading,
+    event: &Event,
+    reply: Reply,
+    lots: &Lots,
+    writer: &mut Watched<W>,
+    page: &mut Page,
+) -> Result<(), IoFault>
+    requires working { writer.old.failed ≡ false }
+    requires unit { 0 < heading.unit }
+    requires total { IfSome (won_in event.now reply) (λ won. won.total ≡ total_of lots.now.lots) }
+    ensures same { system.new ≡ system.old }
+    ensures text { Puts W.contents writer.old writer.new page.old page.new result
+        (funding_in detail (won_in event.now reply) heading.style heading.unit heading.actor
+        (world_of system.old).state
+        ++ (won_lines heading.style heading.unit heading.actor lots.now.lots lots.now.loans (won_in event.now reply)
+        ++ (front heading.style ++ (decimal heading.actor
+        ++ (codes " " ++ reply_text heading.style (world_of system.old).state event.now reply))))) }
+{
+    put_funding(system, detail, heading, event, reply, writer, page)?;
+    put_lots_and_answer(system, heading, event, reply, lots, writer, page)
 }
 
 /// Puts the lines of a turn on the page, after the lots of its lottery and the loans at it, if a thread won it.
-fn put_turn<W: Write>(
+fn put_lots_and_answer<W: Write>(
     system: &mut System,
     heading: Heading,
     event: &Event,

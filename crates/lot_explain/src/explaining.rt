@@ -5,6 +5,7 @@ ghost use Rattle.lot_play.specs.Played.{Plays, came_of};
 ghost use Rattle.lot_play.specs.declared.inputs.Played.TheVariants.{Done};
 ghost use Rattle.lot_explain.specs.Explained.{explained_output, explained_program};
 
+use crate::detail::Detail;
 use crate::explained::explain_turns;
 use crate::gathering::Lots;
 use lot_io::{IoFault, Watched};
@@ -19,6 +20,7 @@ use std::io::Write;
 /// memory before the first turn.
 pub fn explain_bytes<W: Write>(
     alloc: Global,
+    detail: Detail,
     bytes: &[u8],
     warnings: &mut Warnings,
     writer: &mut Watched<W>,
@@ -26,10 +28,10 @@ pub fn explain_bytes<W: Write>(
     requires { writer.old.failed ≡ false }
     ensures flushed { OnOk result (writer.new.flushed ≡ true) }
     ensures played { Plays W.contents writer.old writer.new result (came_of (program_in bytes.now))
-        (explained_output bytes.now) }
+        (explained_output detail bytes.now) }
 {
     match parse(alloc, bytes) {
-        Ok(program) => explain_program(alloc, &program, warnings, writer),
+        Ok(program) => explain_program(alloc, detail, &program, warnings, writer),
         Err(ParseFault::Memory) => Err(IoFault::Memory),
         Err(ParseFault::Input(fault)) => refuse(fault, writer),
     }
@@ -39,6 +41,7 @@ pub fn explain_bytes<W: Write>(
 /// won lottery before its line. It allocates all its memory before the first turn.
 pub fn explain_program<W: Write>(
     alloc: Global,
+    detail: Detail,
     program: &Program,
     warnings: &mut Warnings,
     writer: &mut Watched<W>,
@@ -46,7 +49,7 @@ pub fn explain_program<W: Write>(
     requires { writer.old.failed ≡ false }
     ensures flushed { OnOk result (writer.new.flushed ≡ true) }
     ensures played { Plays W.contents writer.old writer.new result Done
-        (explained_program program.now program.now.duration) }
+        (explained_program detail program.now program.now.duration) }
 {
     let Ok(mut playback) = Playback::open(alloc, program) else {
         return Err(IoFault::Memory);
@@ -54,7 +57,7 @@ pub fn explain_program<W: Write>(
     let Ok(mut lots) = Lots::open(alloc, program.limits().threads) else {
         return Err(IoFault::Memory);
     };
-    explain_turns(program, &mut playback, &mut lots, warnings, writer)?;
+    explain_turns(program, detail, &mut playback, &mut lots, warnings, writer)?;
     end_play(program, playback, warnings, writer)?;
     Ok(Played::Done)
 }

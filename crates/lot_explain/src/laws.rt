@@ -15,6 +15,8 @@ ghost use Rattle.lot_simulation.specs.World.Answer.{Answered};
 ghost use Rattle.lot_simulation.specs.declared.style.LineStyle.{LineStyle};
 ghost use Rattle.lot_play.specs.Texts.{last_report};
 ghost use Rattle.lot_playback.specs.Turns.{program_turns};
+ghost use Rattle.lot_explain.specs.declared.detail.Detail.{Detail};
+ghost use Rattle.lot_explain.specs.declared.detail.Detail.TheVariants.{Lots};
 ghost use Rattle.lot_explain.specs.Explained.{explained_in_time, explained_output, explained_program};
 ghost use Rattle.lot_explain.specs.Explained.{explained_schedule};
 ghost use Rattle.lot_explain.specs.Loans.{IsLent, all_loans};
@@ -27,23 +29,23 @@ ghost use Rattle.lot_explain.specs.declared.won.Won.{Won};
 /// The output of `explain` is the explanation of each of the program's turns, and then the report, with a schedule
 /// and for a timed program.
 pub fn explanations_are_those_of_the_turns()
-    ensures { (program : Program) → explained_program program program.duration
-        ≡ explained_turns (program_turns program) ++ last_report program program.duration }
+    ensures { (detail : Detail) (program : Program) → explained_program detail program program.duration
+        ≡ explained_turns detail (program_turns program) ++ last_report program program.duration }
 {}
 
-/// An explanation of a program's turns is longer than the output of `play` by at most 139 bytes for each pair of a
+/// An explanation without the funding is longer than the output of `play` by at most 139 bytes for each pair of a
 /// turn and a possible thread, and in time by at most 183, if sizes are within their bounds, names of threads have at
 /// most 16 bytes, and times have 32 bits. Every accepted input meets these.
 pub fn explanations_are_short()
     ensures scheduled { (program : Program) → IsWithinBounds program.limits → All HasShortName program.commands
-        → length (explained_schedule program)
+        → length (explained_schedule Lots program)
         ≤ length (scheduled_output program) + length program.schedule * (program.limits.threads * 139) }
     ensures in_time { (program : Program) → IsWithinBounds program.limits → All HasShortName program.commands
         → end_of program < 2 ^ 32
-        → length (explained_in_time program)
+        → length (explained_in_time Lots program)
         ≤ length (timed_output program) + length (timed_turns program) * (program.limits.threads * 183) }
     ensures read { (bytes : List ℕ) (program : Program) → program_in bytes ≡ Ok program
-        → length (explained_output bytes)
+        → length (explained_output Lots bytes)
         ≤ length (output bytes)
         + turn_count program program.duration * (program.limits.threads * line_bytes program.duration) }
 {}

@@ -3,9 +3,11 @@
 //! says why it weighs more than its value, and a line for each blocked thread says what it lends, and whom to.
 #![tactic(auto)]
 
+mod detail;
 mod entrants;
 mod explained;
 mod explaining;
+mod funding;
 mod gathering;
 pub mod laws;
 mod lines;
@@ -13,4 +15,5 @@ mod loans;
 pub mod rows;
 mod won;
 
+pub use detail::Detail;
 pub use explaining::{explain_bytes, explain_program};

@@ -1,12 +1,13 @@
 //! Worked rows for small inputs and their explanations, worked out by hand from the rules.
 ghost use Rattle.std.specs.Prelude.{◌≡◌, [], ◌∷◌, codes};
 ghost use Rattle.lot_simulation.specs.Samples.{text, refused_on_line};
+ghost use Rattle.lot_explain.specs.declared.detail.Detail.TheVariants.{Funding, Lots};
 ghost use Rattle.lot_explain.specs.Explained.{explained_output};
 
 /// Two threads that compute, with shares of 2 to 1.
 #[tactic(auto, unfolding(crate::specs::OnLiterals::texts_on_literals))]
 pub fn two_spinners()
-    ensures { explained_output (text (codes "lottery 1" ∷ codes "script spin" ∷ codes "compute 1000"
+    ensures { explained_output Lots (text (codes "lottery 1" ∷ codes "script spin" ∷ codes "compute 1000"
         ∷ codes "endscript" ∷ codes "fundx 10 base a spin" ∷ codes "fundx 5 base b spin"
         ∷ codes "schedule 0 0 1 1 1 1 1" ∷ []))
         ≡ text (codes "0 funded 1 1" ∷ codes "0 funded 2 2" ∷ codes "1 lot thread 1 a weight 10 from 0 below 10 wins"
@@ -23,7 +24,7 @@ pub fn two_spinners()
 /// and numbers as in draws.
 #[tactic(auto, unfolding(crate::specs::OnLiterals::texts_on_literals))]
 pub fn compensated()
-    ensures { explained_output (text (codes "lottery 2" ∷ codes "quantum 9" ∷ codes "seed 3" ∷ codes "script short"
+    ensures { explained_output Lots (text (codes "lottery 2" ∷ codes "quantum 9" ∷ codes "seed 3" ∷ codes "script short"
         ∷ codes "compute 2" ∷ codes "yield" ∷ codes "endscript" ∷ codes "script long" ∷ codes "compute 9"
         ∷ codes "endscript" ∷ codes "fundx 1 base a short" ∷ codes "fundx 1 base b long"
         ∷ codes "schedule 0 0 1 1 1" ∷ []))
@@ -38,7 +39,7 @@ pub fn compensated()
 /// An unlock that passes its mutex on by a lottery between two waiters (6.1). Its owner also has their lends.
 #[tactic(auto, unfolding(crate::specs::OnLiterals::texts_on_literals))]
 pub fn mutex_lottery()
-    ensures { explained_output (text (codes "lottery 1" ∷ codes "quantum 10" ∷ codes "seed 132" ∷ codes "mutex m"
+    ensures { explained_output Lots (text (codes "lottery 1" ∷ codes "quantum 10" ∷ codes "seed 132" ∷ codes "mutex m"
         ∷ codes "script one" ∷ codes "lock m" ∷ codes "compute 2" ∷ codes "yield" ∷ codes "unlock m"
         ∷ codes "endscript" ∷ codes "fundx 3 base a one" ∷ codes "fundx 2 base b one" ∷ codes "fundx 1 base c one"
         ∷ codes "schedule 0 0 0 1 1 1 1 1 1 1 1 1" ∷ []))
@@ -61,7 +62,7 @@ pub fn mutex_lottery()
 /// A draw without a winner has no lots, and neither has a turn without a command.
 #[tactic(auto, unfolding(crate::specs::OnLiterals::texts_on_literals))]
 pub fn nobody_wins()
-    ensures { explained_output (text (codes "lottery 1" ∷ codes "schedule 1 0" ∷ []))
+    ensures { explained_output Lots (text (codes "lottery 1" ∷ codes "schedule 1 0" ∷ []))
         ≡ text (codes "1 idle" ∷ codes "0 refused 41 Ended" ∷ codes "report"
         ∷ codes "processor 1 quanta 0 idle 1 ticks 0" ∷ codes "total turns 1 quanta 0 ticks 0" ∷ []) }
 {}
@@ -69,8 +70,8 @@ pub fn nobody_wins()
 /// A refused input has the one line that `play` writes.
 #[tactic(auto, unfolding(crate::specs::OnLiterals::texts_on_literals))]
 pub fn refused_inputs()
-    ensures header { explained_output (text (codes "lottery 4" ∷ [])) ≡ refused_on_line (codes "1 50 BadHeader") }
-    ensures line { explained_output (text (codes "lottery 1" ∷ codes "nonsense" ∷ []))
+    ensures header { explained_output Lots (text (codes "lottery 4" ∷ [])) ≡ refused_on_line (codes "1 50 BadHeader") }
+    ensures line { explained_output Lots (text (codes "lottery 1" ∷ codes "nonsense" ∷ []))
         ≡ refused_on_line (codes "2 51 BadLine") }
 {}
 
@@ -78,7 +79,7 @@ pub fn refused_inputs()
 /// has the reason of its weight (4.5).
 #[tactic(auto, unfolding(crate::specs::OnLiterals::texts_on_literals, lot_simulation::specs::Timed::timed_room))]
 pub fn in_time()
-    ensures { explained_output (text (codes "lottery 3" ∷ codes "quantum 9" ∷ codes "for 12" ∷ codes "seed 5"
+    ensures { explained_output Lots (text (codes "lottery 3" ∷ codes "quantum 9" ∷ codes "for 12" ∷ codes "seed 5"
         ∷ codes "script short" ∷ codes "compute 2" ∷ codes "yield" ∷ codes "endscript" ∷ codes "script long"
         ∷ codes "compute 9" ∷ codes "endscript" ∷ codes "fundx 1 base a short" ∷ codes "fundx 1 base b long" ∷ []))
         ≡ text (codes "0 0 funded 1 1" ∷ codes "0 0 funded 2 2" ∷ codes "0 1 lot thread 1 a weight 1 from 0 below 1"
@@ -97,7 +98,7 @@ pub fn in_time()
 /// Three threads that share 100 of base: digits after the third are cut off (4.4).
 #[tactic(auto, unfolding(crate::specs::OnLiterals::texts_on_literals, lot_simulation::specs::Timed::timed_room))]
 pub fn behind_the_point()
-    ensures { explained_output (text (codes "lottery 3" ∷ codes "for 1" ∷ codes "script s" ∷ codes "compute 5"
+    ensures { explained_output Lots (text (codes "lottery 3" ∷ codes "for 1" ∷ codes "script s" ∷ codes "compute 5"
         ∷ codes "endscript" ∷ codes "mkcur g" ∷ codes "mktkt 100 base" ∷ codes "fund 1 g" ∷ codes "fundx 1 g a s"
         ∷ codes "fundx 1 g b s" ∷ codes "fundx 1 g c s" ∷ []))
         ≡ text (codes "0 0 currency 1" ∷ codes "0 0 ticket 1" ∷ codes "0 0 done" ∷ codes "0 0 funded 2 1"
@@ -117,7 +118,7 @@ pub fn behind_the_point()
 /// too.
 #[tactic(auto, unfolding(crate::specs::OnLiterals::texts_on_literals, lot_simulation::specs::Timed::timed_room))]
 pub fn serving()
-    ensures { explained_output (text (codes "lottery 3" ∷ codes "quantum 9" ∷ codes "for 3" ∷ codes "seed 4"
+    ensures { explained_output Lots (text (codes "lottery 3" ∷ codes "quantum 9" ∷ codes "for 3" ∷ codes "seed 4"
         ∷ codes "port p" ∷ codes "script serve" ∷ codes "receive p" ∷ codes "compute 4" ∷ codes "reply"
         ∷ codes "endscript" ∷ codes "script ask" ∷ codes "compute 1" ∷ codes "call p" ∷ codes "endscript"
         ∷ codes "fundx 1 base s serve" ∷ codes "fundx 3 base c ask" ∷ []))
@@ -138,7 +139,7 @@ pub fn serving()
 /// A thread that waits for a mutex lends its value to the owner (6.1).
 #[tactic(auto, unfolding(crate::specs::OnLiterals::texts_on_literals, lot_simulation::specs::Timed::timed_room))]
 pub fn waiting()
-    ensures { explained_output (text (codes "lottery 3" ∷ codes "quantum 9" ∷ codes "for 4" ∷ codes "seed 3"
+    ensures { explained_output Lots (text (codes "lottery 3" ∷ codes "quantum 9" ∷ codes "for 4" ∷ codes "seed 3"
         ∷ codes "mutex m" ∷ codes "script hold" ∷ codes "lock m" ∷ codes "compute 1" ∷ codes "yield"
         ∷ codes "endscript" ∷ codes "fundx 3 base a hold" ∷ codes "fundx 2 base b hold" ∷ []))
         ≡ text (codes "0 0 funded 1 1" ∷ codes "0 0 funded 2 2"
@@ -153,4 +154,39 @@ pub fn waiting()
         ∷ codes "thread 2 b quanta 1 ticks 1 share 25% due 40% value 0% ready waits 1 mean 3 longest 3"
         ∷ codes "processor 1 quanta 3 idle 0 ticks 4 unused 0"
         ∷ codes "total turns 8 quanta 3 ticks 4 refused 0 left 0" ∷ []) }
+{}
+
+/// The funding: two threads share what a currency is worth as 3 to 1 (4.4). Its third ticket funds nothing, so it isn't
+/// active. A thread that waits for a mutex is funded too, and lends what it is worth.
+#[tactic(auto, unfolding(crate::specs::OnLiterals::texts_on_literals, lot_simulation::specs::Timed::timed_room))]
+pub fn funded()
+    ensures { explained_output Funding (text (codes "lottery 3" ∷ codes "quantum 9" ∷ codes "for 4" ∷ codes "seed 2"
+        ∷ codes "mutex m" ∷ codes "script hold" ∷ codes "lock m" ∷ codes "compute 1" ∷ codes "yield"
+        ∷ codes "endscript" ∷ codes "mkcur g" ∷ codes "mktkt 3 base" ∷ codes "fund 1 g" ∷ codes "fundx 3 g a hold"
+        ∷ codes "fundx 1 g b hold" ∷ codes "mktkt 5 g" ∷ []))
+        ≡ text (codes "0 0 currency 1" ∷ codes "0 0 ticket 1" ∷ codes "0 0 done" ∷ codes "0 0 funded 2 1"
+        ∷ codes "0 0 funded 3 2" ∷ codes "0 0 ticket 4"
+        ∷ codes "0 1 funds currency 1 g ticket 1 amount 3 of base value 3"
+        ∷ codes "0 1 funds thread 1 a ticket 2 amount 3 of g value 2.25"
+        ∷ codes "0 1 funds thread 2 b ticket 3 amount 1 of g value 0.75"
+        ∷ codes "0 1 currency 0 base value 3 active 3" ∷ codes "0 1 currency 1 g value 3 active 4"
+        ∷ codes "0 1 lot thread 1 a weight 2.25 from 0 below 2.25 wins"
+        ∷ codes "0 1 lot thread 2 b weight 0.75 from 2.25 below 3" ∷ codes "0 1 draw 1.042 of 3 thread 1"
+        ∷ codes "1 1 thread 1 ticks 1 lock 1 taken" ∷ codes "3 1 thread 1 ticks 2 yield"
+        ∷ codes "3 1 funds currency 1 g ticket 1 amount 3 of base value 3"
+        ∷ codes "3 1 funds thread 1 a ticket 2 amount 3 of g value 2.25"
+        ∷ codes "3 1 funds thread 2 b ticket 3 amount 1 of g value 0.75"
+        ∷ codes "3 1 currency 0 base value 3 active 3" ∷ codes "3 1 currency 1 g value 3 active 4"
+        ∷ codes "3 1 lot thread 1 a weight 6.75 = value 2.25 x 9 / 3 from 0 below 6.75"
+        ∷ codes "3 1 lot thread 2 b weight 0.75 from 6.75 below 7.5 wins" ∷ codes "3 1 draw 7.226 of 7.5 thread 2"
+        ∷ codes "4 1 thread 2 ticks 1 lock 1 waits" ∷ codes "4 1 funds currency 1 g ticket 1 amount 3 of base value 3"
+        ∷ codes "4 1 funds thread 1 a ticket 2 amount 3 of g value 2.25"
+        ∷ codes "4 1 funds thread 2 b ticket 3 amount 1 of g value 0.75"
+        ∷ codes "4 1 currency 0 base value 3 active 3" ∷ codes "4 1 currency 1 g value 3 active 4"
+        ∷ codes "4 1 lot thread 1 a weight 9 = value 3 x 9 / 3 from 0 below 9 wins"
+        ∷ codes "4 1 lent thread 2 b value 0.75 to thread 1" ∷ codes "4 1 draw 2.515 of 9 thread 1" ∷ codes "report"
+        ∷ codes "thread 1 a quanta 2 ticks 3 share 75% value 100%"
+        ∷ codes "thread 2 b quanta 1 ticks 1 share 25% value 0%"
+        ∷ codes "processor 1 quanta 3 idle 0 ticks 4 unused 0"
+        ∷ codes "total turns 12 quanta 3 ticks 4 refused 0 left 0" ∷ []) }
 {}

@@ -4,6 +4,7 @@
 #![tactic(auto)]
 
 mod figures;
+mod funds;
 mod histories;
 mod laws;
 mod lengths;
@@ -20,6 +21,7 @@ mod timed_totals;
 mod totals;
 
 pub use figures::{Figures, Spread, Unit, write_figures, write_seeds};
+pub use funds::{write_currency_funds, write_ticket_funds};
 pub use histories::write_history;
 pub use laws::histories_are_read_back;
 pub use loans::{Loan, write_loan};

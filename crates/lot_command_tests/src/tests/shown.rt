@@ -232,6 +232,79 @@ fn explained(rt: HostRuntime) {
     check_words(&rt, alloc, &["lot_sim", "explain", "x", "y"], 2, false);
 }
 
+/// Two threads share what a currency is worth as 3 to 1. Its third ticket funds nothing.
+const FUNDED: &str = "lottery 3
+quantum 9
+for 4
+seed 2
+mutex m
+script hold
+lock m
+compute 1
+yield
+endscript
+mkcur g
+mktkt 3 base
+fund 1 g
+fundx 3 g a hold
+fundx 1 g b hold
+mktkt 5 g
+";
+
+/// Its explanation with the funding, computed by a small model of the rules.
+const EXPLAINED_FUNDING: &str = "0 0 currency 1
+0 0 ticket 1
+0 0 done
+0 0 funded 2 1
+0 0 funded 3 2
+0 0 ticket 4
+0 1 funds currency 1 g ticket 1 amount 3 of base value 3
+0 1 funds thread 1 a ticket 2 amount 3 of g value 2.25
+0 1 funds thread 2 b ticket 3 amount 1 of g value 0.75
+0 1 currency 0 base value 3 active 3
+0 1 currency 1 g value 3 active 4
+0 1 lot thread 1 a weight 2.25 from 0 below 2.25 wins
+0 1 lot thread 2 b weight 0.75 from 2.25 below 3
+0 1 draw 1.042 of 3 thread 1
+1 1 thread 1 ticks 1 lock 1 taken
+3 1 thread 1 ticks 2 yield
+3 1 funds currency 1 g ticket 1 amount 3 of base value 3
+3 1 funds thread 1 a ticket 2 amount 3 of g value 2.25
+3 1 funds thread 2 b ticket 3 amount 1 of g value 0.75
+3 1 currency 0 base value 3 active 3
+3 1 currency 1 g value 3 active 4
+3 1 lot thread 1 a weight 6.75 = value 2.25 x 9 / 3 from 0 below 6.75
+3 1 lot thread 2 b weight 0.75 from 6.75 below 7.5 wins
+3 1 draw 7.226 of 7.5 thread 2
+4 1 thread 2 ticks 1 lock 1 waits
+4 1 funds currency 1 g ticket 1 amount 3 of base value 3
+4 1 funds thread 1 a ticket 2 amount 3 of g value 2.25
+4 1 funds thread 2 b ticket 3 amount 1 of g value 0.75
+4 1 currency 0 base value 3 active 3
+4 1 currency 1 g value 3 active 4
+4 1 lot thread 1 a weight 9 = value 3 x 9 / 3 from 0 below 9 wins
+4 1 lent thread 2 b value 0.75 to thread 1
+4 1 draw 2.515 of 9 thread 1
+report
+thread 1 a quanta 2 ticks 3 share 75% value 100%
+thread 2 b quanta 1 ticks 1 share 25% value 0%
+processor 1 quanta 3 idle 0 ticks 4 unused 0
+total turns 12 quanta 3 ticks 4 refused 0 left 0
+";
+
+/// `--funding` has the funding written at each draw, and changes nothing in another format.
+#[test]
+fn explained_funding(rt: HostRuntime) {
+    let alloc = rt.alloc();
+    let words = ["lot_sim", "explain", "--funding"];
+    for (input, expected) in [(FUNDED, EXPLAINED_FUNDING), (INPUT, EXPLAINED)] {
+        let ended = ended_on(&rt, alloc, &words, input);
+        let is_same = ended.output.as_slice() == expected.as_bytes();
+        check_same_at(&rt, &input, &(ended.code, is_same), &(0, true));
+    }
+    check_words(&rt, alloc, &["lot_sim", "play", "--funding"], 2, false);
+}
+
 /// An input of three threads and two processors, with this line of seeds, or none if it is empty.
 fn with_seeds(rt: &impl Abort, alloc: Global, seeds: &str) -> String {
     format!(in alloc;

@@ -14,7 +14,7 @@ mod words;
 use endings::has_written_or_lacked_memory;
 use lot_chart::{chart_bytes, shares_bytes};
 use lot_curves::Measure;
-use lot_explain::explain_bytes;
+use lot_explain::{Detail, explain_bytes};
 use lot_io::{IoFault, Watched};
 use lot_play::{Played, Warnings, play_bytes};
 use lot_words::write_warnings;
@@ -84,7 +84,7 @@ fn show<W: Write>(
     };
     let bytes = input.as_bytes();
     match shown {
-        Shown::Explained => explain_bytes(alloc, bytes, &mut warnings, writer),
+        Shown::Explained => explain_bytes(alloc, Detail::Lots, bytes, &mut warnings, writer),
         Shown::Table(measure) => shares_bytes(alloc, measure, bytes, &mut warnings, writer),
         Shown::Picture(title) => chart_bytes(alloc, title, bytes, &mut warnings, writer),
     }

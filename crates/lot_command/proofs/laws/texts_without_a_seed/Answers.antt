@@ -5,6 +5,7 @@ use Rattle.lot_simulation.specs.Output.{output_of}
 use Rattle.lot_simulation.specs.Seeded.{seeded}
 use Rattle.lot_simulation.specs.World.{Program}
 use Rattle.lot_curves.specs.declared.stretch.Measure.{Measure}
+use Rattle.lot_explain.specs.declared.detail.Detail.{Detail}
 use Rattle.lot_explain.specs.Explained.{explained_of}
 use Rattle.lot_chart.specs.Charts.{chart}
 use Rattle.lot_chart.specs.Shown as charts
@@ -17,9 +18,9 @@ play-is : (title : List ℕ) (input : Result Program InputFault) → shown_of vi
 play-is title (Ok program) = refl
 play-is title (Err fault) = refl
 
-explain-is : (title : List ℕ) (input : Result Program InputFault) → shown_of views.Explain title (seeded None input) ≡ explained_of input
-explain-is title (Ok program) = refl
-explain-is title (Err fault) = refl
+explain-is : (detail : Detail) (title : List ℕ) (input : Result Program InputFault) → shown_of (views.Explain detail) title (seeded None input) ≡ explained_of detail input
+explain-is detail title (Ok program) = refl
+explain-is detail title (Err fault) = refl
 
 shares-is : (measure : Measure) (title : List ℕ) (input : Result Program InputFault) → shown_of (views.Shares measure None None) title (seeded None input) ≡ charts.shown_of (table measure) input
 shares-is measure title (Ok program) = refl
@@ -33,7 +34,7 @@ pub returns-clause-play : goal.returns-clause-play
 returns-clause-play c title bytes = play-is title (program_in bytes)
 
 pub returns-clause-explain : goal.returns-clause-explain
-returns-clause-explain c title bytes = explain-is title (program_in bytes)
+returns-clause-explain c detail title bytes = explain-is detail title (program_in bytes)
 
 pub returns-clause-shares : goal.returns-clause-shares
 returns-clause-shares c measure title bytes = shares-is measure title (program_in bytes)

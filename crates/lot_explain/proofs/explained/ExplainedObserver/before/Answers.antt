@@ -17,4 +17,5 @@ returns-clause-awaits g c turns first made observed =
       λ event reply is.
           let answered = ap (λ (p : Program). (system_turn p (world_of seen) actor).answer) c.requires.program ∙ is in
           (c.gather.ensures.lots event reply answered, c.gather.ensures.loans event reply answered),
+      observed.4,
     )

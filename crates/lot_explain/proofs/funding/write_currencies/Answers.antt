@@ -1,0 +1,34 @@
+use Rattle.std.proofs.Common.{◌≡◌, ◌+◌, ◌∙◌, Err, List, ℕ, ap, arith, length, rules, subst}
+use Rattle.std.specs.List.{flat_map, range_with_len}
+use Rattle.std.specs.Io.KnownBytes.{Appends}
+use Rattle.lot_engine.specs.Seen.{world_of}
+use Rattle.lot_play.proofs.WritingFacts.{range-more, range-stops}
+use Rattle.lot_explain.specs.Funding.{currency_funds}
+use Rattle.lot_explain.proofs.funding.write_currencies.Goals as goal
+
+pub returns-in_err-write_currency-clause-text : goal.returns-in_err-write_currency-clause-text
+returns-in_err-write_currency-clause-text g c =
+    let is : c.from_residual.result ≡ Err c.in_err-write_currency.field-0.0 = search rules in
+    let i = c.loop-number.invariant in
+    let told = rw i.system at c.in_err-write_currency.ensures.text in
+    let h = c.args.heading in
+    let s = (world_of c.args.system.now).state in
+    rw is (
+      told.0,
+      told.1,
+      range-stops (g.W.Write.contents c.args.writer.now.inner) (g.W.Write.contents c.loop-number.writer.inner) (g.W.Write.contents c.write_currency.new.writer.inner) (currency_funds h.style h.unit h.actor s) 0 c.loop-number.number
+          (length s.currencies) (c.loop-number.number) (omega (arith, c.loop-number-test.true, c.given_count-number-end.ensures)) (omega arith) i.bytes told.2,
+    )
+
+pub loop-number-preserved : goal.loop-number-preserved
+loop-number-preserved g c =
+    let i = c.loop-number.invariant in
+    let told = rw i.system at c.in_ok-write_currency.ensures.text in
+    let h = c.args.heading in
+    let s = (world_of c.args.system.now).state in
+    record {
+      working = told.0;
+      system = c.in_ok-write_currency.ensures.same ∙ i.system;
+      bytes = range-more (g.W.Write.contents c.args.writer.now.inner) (g.W.Write.contents c.loop-number.writer.inner) (g.W.Write.contents c.write_currency.new.writer.inner) (currency_funds h.style h.unit h.actor s) 0 c.loop-number.number (c.loop-number.number)
+          (omega arith) i.bytes told.1;
+    }

@@ -1,0 +1,5 @@
+use Rattle.std.proofs.Common.{append_assoc}
+use Rattle.lot_print.proofs.funds.ticket_text.Goals as goal
+
+pub returns : goal.returns
+returns c = rw (c.push_text-2.ensures.text, c.push_value.ensures.text, c.from-value.ensures, c.push_amount.ensures.text, c.push_funded.ensures.text, c.push_text.ensures.text, c.push_field.ensures.text, c.push_front.ensures.text, c.new-line.ensures) (simp append_assoc)
