@@ -60,8 +60,8 @@ pub fn pictures()
 {}
 
 /// The commands at 11, 12 and 20 stand in one column and share a mark, and so do the two at 3500. The one at tick 0,
-/// on the left edge, and the one after the last tick have none. From tick 11 to 3511 those at 12 and 20 stand in columns
-/// of their own, and the one at 11 is on the left edge.
+/// on the left edge, and the one after the last tick have none. From tick 11 to 3511 those at 12 and 20 stand in
+/// columns of their own, and the one at 11 is on the left edge.
 #[tactic(auto, unfolding(crate::specs::OnLiterals::pictures_on_literals))]
 pub fn marks()
     ensures whole { command_marks commanded_curves ≡ commanded_marks }

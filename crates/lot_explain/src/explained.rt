@@ -56,7 +56,8 @@ impl<'a, W: Write> Observer for Explained<'a, W> {
 
     ghost stopped = { λ program turns first now fault. (now.writer.ghost_name ≡ first.writer.ghost_name)
         × (fault ≡ faults.Write) × (now.writer.now.failed ≡ true)
-        × Begins (W.contents first.writer.now.inner) (W.contents now.writer.now.inner) (explained_turns first.detail turns) };
+        × Begins (W.contents first.writer.now.inner) (W.contents now.writer.now.inner)
+        (explained_turns first.detail turns) };
 
     #[inline(always)]
     fn before(&mut self, program: &Program, system: &mut System, actor: u32) {
@@ -156,8 +157,8 @@ fn put_explained<W: Write>(
     )
 }
 
-/// Puts the lines of a turn on the page, after the funding, the lots of its lottery and the loans at it, if a thread won
-/// it.
+/// Puts the lines of a turn on the page, after the funding, the lots of its lottery and the loans at it, if a thread
+/// won it.
 fn put_turn<W: Write>(
     system: &mut System,
     detail: Detail,
