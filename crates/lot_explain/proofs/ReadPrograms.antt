@@ -1,6 +1,6 @@
 -- What every program that is read has: sizes within their bounds, short names of threads, and times of 32 bits.
 use Rattle.std.proofs.Common.{◌≡◌, ℕ, ◌+◌, ◌-◌, ◌%◌, ◌^◌, ◌<◌, ◌≤◌, ◌==◌, nat_lt, nat_le, max, Bool, true, false, cond, not, ◌&&◌, ◌||◌, codes, Option, Some, None, Result, Ok, Err, List, [], ◌∷◌, ◌++◌, length, refl, subst, arith, unwrap_or, length-append}
-use Rattle.std.specs.Prelude.{All, IfOk, IfSome}
+use Rattle.std.specs.Prelude.{All, IfOk, IfSome, if◌then◌else◌}
 use Rattle.std.specs.Str.{bytes_eq}
 use Rattle.std.proofs.lemmas.Bool.{leb-false, ltb-false, or_parts}
 use Rattle.std.proofs.lemmas.List.Elements.{All-nil, All-push}

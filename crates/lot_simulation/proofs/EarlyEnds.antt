@@ -1,5 +1,5 @@
 -- With room left no turn is due after the last.
-use Rattle.std.proofs.Common.{◌≡◌, ℕ, zero, suc, ◌<◌, Option, Some, None, List, [], ◌∷◌, ◌++◌, length, refl, sym, ◌∙◌, ap, append-nil, arith}
+use Rattle.std.proofs.Common.{◌≡◌, ℕ, zero, suc, ◌<◌, Option, Some, None, ◌++◌, length, refl, ◌∙◌, ap, append-nil, arith}
 use Rattle.std.specs.Option.{option_map}
 use Rattle.lot_simulation.specs.declared.timed.Due.{Due}
 use Rattle.lot_simulation.specs.Timed.{Moment, TimedTurn, due_first, end_of, ended_at, last_moment, moment_after, moment_after_all, next_due, opening_moment, timed_room, timed_turns, turn_due, turns_from}

@@ -80,10 +80,14 @@ header_line r header.Without (mechanism ∷ []) = without_line r mechanism
 header_line r header.Reuse [] = checked ((not r.is_timed, BadLine) ∷ []) (record r { reuse = true })
 header_line r word tokens = Err BadLine
 
--- whether the header has a line with this word, which can't come again; `without` can, with another word
+-- whether the header has a line with this word
+abbrev pub has_line : Reading → HeaderWord → Bool
+has_line r word = list_any (λ given. header_place given == header_place word) r.given
+
+-- whether the word was given and can't come again; `without` can, with another word
 abbrev pub is_given : Reading → HeaderWord → Bool
 is_given r header.Without = false
-is_given r word = list_any (λ given. header_place given == header_place word) r.given
+is_given r word = has_line r word
 
 -- whether the word is `processors` after `seed`, whose line has a number for each processor
 abbrev pub is_after_seed : Reading → HeaderWord → Bool

@@ -10,6 +10,7 @@ ghost use Rattle.lot_machine.specs.Lottery.{mixed_seed};
 ghost use Rattle.lot_simulation.specs.Grammar.{add_command as add_command_read, add_runs as add_runs_read};
 ghost use Rattle.lot_simulation.specs.Grammar.{closed_program, lacks_duration as lacks_duration_read, limits_of};
 ghost use Rattle.lot_simulation.specs.Grammar.{is_after_seed as is_after_seed_read, is_given as is_given_read};
+ghost use Rattle.lot_simulation.specs.Grammar.{has_line as has_line_read};
 ghost use Rattle.lot_simulation.specs.Grammar.{is_late as is_late_read, script_names, whole_program};
 ghost use Rattle.lot_simulation.specs.Grammar.{with_header_word};
 ghost use Rattle.lot_simulation.specs.Formats.{is_timed, unit_of};
@@ -159,13 +160,20 @@ impl Reading {
         word.place() <= self.place || self.is_given(word) || self.is_after_seed(word)
     }
 
-    /// Whether the header has a line with this word, which can't come again. `without` can, with another word.
+    /// Whether the word was given and can't come again. `without` can, with another word.
     fn is_given(&self, word: HeaderWord) -> bool
         ensures { result ≡ is_given_read self.now word }
     {
-        if word == HeaderWord::Without {
-            return false;
+        match word {
+            HeaderWord::Without => false,
+            _ => self.has_line(word),
         }
+    }
+
+    /// Whether the header has a line with this word.
+    fn has_line(&self, word: HeaderWord) -> bool
+        ensures { result ≡ has_line_read self.now word }
+    {
         let place = word.place();
         self.given.iter().any(|given| given.place() == place)
     }
