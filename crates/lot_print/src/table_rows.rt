@@ -104,9 +104,7 @@ fn timed_row(number: u32, row: &ThreadRow, shares: ThreadShares) -> TableRow
     let mut fields = TableRow::new();
     push_thread(&mut fields, number, row);
     push_shares(&mut fields, row.ticks, shares);
-    push_waits(&mut fields, shares.ready);
-    push_waits(&mut fields, shares.mutexes);
-    push_waits(&mut fields, shares.replies);
+    push_all_waits(&mut fields, shares);
     fields.push_field(",", shares.refused_traps);
     push_life(&mut fields, shares.lives);
     fields.push_text("\n");
@@ -199,6 +197,18 @@ fn push_percent(fields: &mut TableRow, part: u128, whole: u128)
     } else {
         fields.push_quotient(",", part * 100, whole);
     }
+}
+
+/// Appends the thread's waits to run, for mutexes and for replies.
+fn push_all_waits(fields: &mut TableRow, shares: ThreadShares)
+    requires { length fields.old ≤ 210 }
+    ensures text { fields.new ≡ fields.old ++ (waits_fields shares.ready
+        ++ (waits_fields shares.mutexes ++ waits_fields shares.replies)) }
+    ensures len { length fields.new ≤ length fields.old + 198 }
+{
+    push_waits(fields, shares.ready);
+    push_waits(fields, shares.mutexes);
+    push_waits(fields, shares.replies);
 }
 
 /// Appends the number of a thread's waits of one kind, their mean, and the longest.

@@ -3,10 +3,12 @@ use Rattle.std.specs.Prelude.{if◌then◌else◌}
 use Rattle.lot_machine.specs.declared.record.Record.{Record}
 use Rattle.lot_machine.specs.Lends.{is_live}
 use Rattle.lot_machine.specs.Numbered.{at_number, option_any}
-use Rattle.lot_machine.specs.State.{State, is_live_status, live_of, value_of}
+use Rattle.lot_machine.specs.State.{State, is_live_status, live_of, sizes_of, value_of}
 use Rattle.lot_machine.proofs.TrapCycles.{at_number-map}
 use Rattle.lot_threads.specs.Threaded.{Threaded, settled_in, worth_in}
 use Rattle.lot_kernel.specs.contracts.tables.Tables.{the_view}
+use Rattle.lot_kernel.specs.FreePlaces.{freed_in}
+use Rattle.lot_kernel.proofs.Holding.{settles-held}
 use Rattle.lot_kernel.proofs.tables.Tables.live_value.Goals as goal
 
 -- a thread is live if its record says so
@@ -34,3 +36,8 @@ returns-clause-unchanged c =
     let status : is_live_status c.in-Some.found.status ≡ true = search rules in
     let live = live-there s t c.in-Some.found found status in
     rw (← c.self.view_is) (λ dead. let never = sym live ∙ dead in cc)
+
+pub returns-clause-settled : goal.returns-clause-settled
+returns-clause-settled c =
+    let i = c.self.inside in
+    rw (← c.self.view_is) (λ live. settles-held (sizes_of i.limits) (freed_in i.freed) i.currencies.items i.threads c.settle.new.self i.queues c.self.invariant.threads c.settle.ensures.settled)
