@@ -921,7 +921,9 @@ fn lived(from: u32, to: u32) -> Spans {
 
 /// Checks the line and the row of thread 1 with 4 quanta and 2 ticks, among totals of which it has these shares.
 fn check_shares(rt: &impl Abort, alloc: Global, shares: ThreadShares, wanted: &str, fields: &str)
-    requires { shares.all_values < 2 ^ 96 }
+    requires live { shares.live_time < 2 ^ 57 }
+    requires due { shares.due < 2 ^ 121 }
+    requires values { shares.all_values < 2 ^ 96 }
 {
     let row = ThreadRow {
         quanta: 4,
