@@ -21,7 +21,7 @@ use Rattle.lot_simulation.specs.declared.timed.PastLives.{PastLives}
 use Rattle.lot_simulation.specs.declared.timed.Spans.{Spans}
 use Rattle.lot_simulation.specs.Report.{ActorTurn, ticks_in, total_of, turns_made, turns_of}
 use Rattle.lot_simulation.specs.Timed.{Moment, TimedTurn, clock_of, end_of, ended_at, last_moment, moment_after_all, next_due, opening_moment, timed_turns}
-use Rattle.lot_simulation.specs.TimedReport.{actor_turns, due_in, early_end, early_text, idle_until, life_change, live_part, mutex_change, no_lives, past_lives, ready_in, refusals_in, refused_traps_in, reply_change, report_at, timed_processor_total, timed_report, timed_report_of, timed_whole_total, spans_in, with_lives}
+use Rattle.lot_simulation.specs.TimedReport.{actor_turns, due_in, early_end, early_text, idle_until, life_change, live_part, live_time, mutex_change, no_lives, past_lives, ready_in, refusals_in, refused_traps_in, reply_change, report_at, timed_processor_total, timed_report, timed_report_of, timed_whole_total, spans_in, with_lives}
 use Rattle.lot_simulation.specs.World.{Program, World, opening_world, system_after, system_turn}
 use Rattle.lot_simulation.proofs.ClocksAddUp.{turn-limits}
 use Rattle.lot_machine.specs.declared.sizes.Sizes.{Sizes}
@@ -35,7 +35,7 @@ use Rattle.lot_play.specs.declared.form.Form.TheVariants.{Lines, Table}
 use Rattle.lot_play.specs.ReportTable.{shares_in, timed_thread_text}
 use Rattle.lot_simulation.proofs.TimedRuns.{room-small, timed-made}
 use Rattle.lot_text.proofs.SeedLemmas.{range_with_len-push}
-use Rattle.lot_playback.proofs.FollowFacts.{within-room}
+use Rattle.lot_playback.proofs.FollowFacts.{room-few, within-room}
 
 -- ---- all of the program's turns
 
@@ -76,6 +76,9 @@ module _ (seen : Seen) (timekeeper : Timekeeper) (end : IsAtEnd seen timekeeper)
   -- how long they have waited to run
   pub ready-are : AreReadyFor all (length seen.history) (world_of seen).state timekeeper.ready.threads.items
   ready-are = subst (λ ts. AreReadyFor ts (length seen.history) (world_of seen).state timekeeper.ready.threads.items) end.all end.followed.dues.ready
+
+  pub turns-few : length seen.history < 2 ^ 24
+  turns-few = omega (arith, room-few, within-room seen.setting.program seen timekeeper end.followed)
 
   -- what they are due
   pub dues-are : AreDue (opening (world_of seen).state.limits) all (length seen.history) (world_of seen).state timekeeper.dues
