@@ -1,5 +1,5 @@
 -- A loan is what the machine's thread lends.
-use Rattle.std.proofs.Common.{◌≡◌, ℕ, ◌==◌, Bool, true, false, ◌||◌, cond, Option, Some, None, is_none, List, [], ◌∷◌, unwrap_or, option_and_then, option_map, refl, sym, ◌∙◌, ap, arith}
+use Rattle.std.proofs.Common.{◌≡◌, ℕ, ◌==◌, Bool, true, false, ◌||◌, cond, Option, Some, None, is_none, List, [], ◌∷◌, unwrap_or, option_and_then, option_map, map, refl, sym, ◌∙◌, ap, subst, arith}
 use Rattle.std.specs.Prelude.{All}
 use Rattle.std.specs.List.{flat_map}
 use Rattle.std.specs.Option.{option_flatten}
@@ -7,15 +7,16 @@ use Rattle.std.proofs.lemmas.Bool.{eqb-false, or_parts}
 use Rattle.std.proofs.lemmas.List.Elements.{All-nil, All-cons, All-append}
 use Rattle.lot_machine.specs.declared.record.Record.{Record}
 use Rattle.lot_machine.specs.declared.record.Status.{Status}
-use Rattle.lot_machine.specs.declared.record.Status.TheVariants.{Served, Waiting}
+use Rattle.lot_machine.specs.declared.record.Status.TheVariants.{Ready, Running, Served, Waiting}
 use Rattle.lot_machine.specs.declared.row.ThreadRow.{ThreadRow}
 use Rattle.lot_machine.specs.Funding.{owner_of}
-use Rattle.lot_machine.specs.Lends.{borrower, borrower_of}
+use Rattle.lot_machine.specs.Lends.{borrower, borrower_of, is_live}
 use Rattle.lot_machine.specs.Mutexes.{mutex_at}
-use Rattle.lot_machine.specs.Numbered.{at_number, numbers}
+use Rattle.lot_machine.specs.Numbered.{at_number, numbers, option_any}
 use Rattle.lot_machine.specs.Rows.{thread_row}
-use Rattle.lot_machine.specs.State.{State, Mutex, funding_of, lend_of, status_of, value_of}
+use Rattle.lot_machine.specs.State.{State, Mutex, funding_of, is_live_status, lend_of, live_of, status_of, value_of}
 use Rattle.lot_machine.proofs.TrapCycles.{at_number-map, lend-at}
+use Rattle.lot_machine.proofs.Unlent.{lends-to-nobody, unlent-nothing}
 use Rattle.lot_print.specs.declared.loans.Loan.{Loan}
 use Rattle.lot_explain.specs.Loans.{IsLent, all_loans, lends_to, loan_in, loan_of, loan_to}
 use Rattle.lot_explain.proofs.ShortLots.{rows-record}
@@ -29,10 +30,21 @@ module _ (s : State) where
       at None = refl
       at (Some mutex) = refl
 
-  borrower-is : (now : Status) → borrower (funding_of s) (lend_of now) ≡ lends_to s now
+  borrower-is : (now : Status) → borrower (funding_of s) (lend_of false now) ≡ lends_to s now
   borrower-is (Served server) = refl
   borrower-is (Waiting m) = owner-is m
   borrower-is other = refl
+
+  -- a blocked thread isn't live
+  not-live : (now : Status) (to : ℕ) → lends_to s now ≡ Some to → is_live_status now ≡ false
+  not-live Ready to is = cc
+  not-live (Running p used) to is = cc
+  not-live other to is = refl
+
+  -- without lending nobody has a borrower
+  nobody : s.limits.without_lending ≡ true → (u : ℕ) → borrower_of (funding_of s) u ≡ None
+  nobody off u =
+      subst (λ (without : Bool). option_and_then (borrower (funding_of s)) (at_number (map (λ (r : Record). lend_of without r.status) s.records) u) ≡ None) (sym off) (lends-to-nobody (funding_of s) s.records u)
 
   -- a thread with a row
   row-lent : (t : ℕ) (o : Option ThreadRow) → thread_row s t ≡ o → All (IsLent s) (loan_in s t o)
@@ -45,8 +57,19 @@ module _ (s : State) where
       value-is : row.value ≡ value_of s t
       value-is = let (r, there, same) = rows-record s t row is in sym (ap (λ (x : ThreadRow). x.value) same)
 
-      lends : borrower_of (funding_of s) t ≡ lends_to s row.status
-      lends = ap (option_and_then (borrower (funding_of s))) (lend-at s.records t row.status status-is) ∙ borrower-is row.status
+      lends : s.limits.without_lending ≡ false → borrower_of (funding_of s) t ≡ lends_to s row.status
+      lends on =
+          ap (option_and_then (borrower (funding_of s))) (lend-at s.limits.without_lending s.records t row.status status-is)
+          ∙ ap (λ (without : Bool). borrower (funding_of s) (lend_of without row.status)) on ∙ borrower-is row.status
+
+      -- without lending a blocked thread is worth nothing
+      worthless-then : s.limits.without_lending ≡ true → (to : ℕ) → lends_to s row.status ≡ Some to → row.value ≡ 0
+      worthless-then off to to_is =
+          let (r, there, same) = rows-record s t row is in
+          let now : r.status ≡ row.status = ap (λ (x : ThreadRow). x.status) same in
+          let gone : is_live (live_of s) t ≡ false =
+          ap (option_any (λ flag. flag)) (at_number-map (λ (x : Record). is_live_status x.status) s.records t ∙ ap (option_map (λ (x : Record). is_live_status x.status)) there) ∙ ap is_live_status now ∙ not-live row.status to to_is in
+          value-is ∙ unlent-nothing (funding_of s) (live_of s) (nobody off) s.limits.unit t gone
 
       to-lent : (o : Option ℕ) → lends_to s row.status ≡ o → All (IsLent s) (loan_to s t row o)
       to-lent None to_is = All-nil (IsLent s)
@@ -59,7 +82,11 @@ module _ (s : State) where
           by true worthless = All-nil (IsLent s)
           by false worth =
               let some = eqb-false row.value 0 (or_parts (row.value == 0) (is_none (thread_row s to)) worth).0 in
-              All-cons (IsLent s) loan [] (record { lends = lends ∙ to_is; value = value-is; some = omega (arith, some) }) (All-nil (IsLent s))
+              at s.limits.without_lending refl some
+            where
+              at : (b : Bool) → s.limits.without_lending ≡ b → ¬ (row.value ≡ 0) → All (IsLent s) (loan ∷ [])
+              at true off some = absurd (some (worthless-then off to to_is))
+              at false on some = All-cons (IsLent s) loan [] (record { lends = lends on ∙ to_is; value = value-is; some = omega (arith, some) }) (All-nil (IsLent s))
 
   loans-lent : (ts : List ℕ) → All (IsLent s) (flat_map (loan_of s) ts)
   loans-lent [] = All-nil (IsLent s)

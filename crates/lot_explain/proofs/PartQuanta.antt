@@ -26,7 +26,8 @@ use Rattle.lot_machine.specs.Places.{placed}
 use Rattle.lot_machine.specs.Ports.{call, first_client, port_at, receive, reply}
 use Rattle.lot_machine.specs.State.{State, Port, QueuedCall, change_each, change_record, free_threads, ready_threads, value_of, weight_of}
 use Rattle.lot_machine.specs.Step.{checked_effect, draw, event_effect, event_refusal, step, thread_there, trap_effect, trap_refusal, used_there}
-use Rattle.lot_machine.specs.Traps.{after_trap, with_ticks}
+use Rattle.lot_machine.specs.Traps.{after_trap, compensation_for, with_ticks}
+use Rattle.lot_machine.specs.declared.sizes.Sizes.{Sizes}
 use Rattle.lot_machine.proofs.Tickets.{at_number-suc}
 
 -- a thread that is compensated used a part of a quantum
@@ -45,18 +46,22 @@ part-at quantum records (suc i) r parts is =
     subst (IsPart quantum) (get_or_from_slice_get records i r r place) (parts i r (slice_get_within records i r place))
 
 -- what a trap leaves of a compensation: the ticks used, if they are less than a quantum
-after-part : (after : After) (p used quantum : ℕ) → 0 < used → (r : Record) → IsPart quantum r → IsPart quantum (after_trap after p used quantum r)
-after-part GoesOn p used quantum some r part = at (nat_lt used quantum)
+after-part : (after : After) (p used : ℕ) (limits : Sizes) → 0 < used → (r : Record) → IsPart limits.quantum r → IsPart limits.quantum (after_trap after p used limits r)
+after-part GoesOn p used limits some r part = at (nat_lt used limits.quantum)
   where
-    at : (b : Bool) → IsPart quantum (cond b (record r { status = status.Running p used }) (record r { status = status.Ready; compensation = None }))
+    at : (b : Bool) → IsPart limits.quantum (cond b (record r { status = status.Running p used }) (record r { status = status.Ready; compensation = None }))
     at true = part
     at false = tt
-after-part (Leaves now) p used quantum some r part = at (nat_lt used quantum) refl
+after-part (Leaves now) p used limits some r part = at (nat_lt used limits.quantum) refl
   where
-    at : (b : Bool) → nat_lt used quantum ≡ b → IfSome (cond b (Some used) None) (λ ticks. (0 < ticks) × (ticks < quantum))
-    at true less = (some, ltb-true used quantum less)
+    compensated : (b : Bool) → used < limits.quantum → IfSome (cond b None (Some used)) (λ ticks. (0 < ticks) × (ticks < limits.quantum))
+    compensated true less = tt
+    compensated false less = (some, less)
+
+    at : (b : Bool) → nat_lt used limits.quantum ≡ b → IfSome (cond b (compensation_for limits used) None) (λ ticks. (0 < ticks) × (ticks < limits.quantum))
+    at true less = compensated limits.without_compensation (ltb-true used limits.quantum less)
     at false more = tt
-after-part Ends p used quantum some r part = tt
+after-part Ends p used limits some r part = tt
 
 -- a step that is refused changes nothing
 unless-parts : (quantum : ℕ) (s : State) (o : Option Refusal) (next : Step) → AreParts quantum s.records → AreParts quantum next.state.records → AreParts quantum (unless_refused s o next).state.records
@@ -185,4 +190,4 @@ step-parts s e on_time parts = unless-parts s.limits.quantum s (event_refusal s 
         let used = used_there s p + ran + 1 in
         let o = trap_refusal s t action in
         let effect = checked_effect s o (trap_effect s t action) in
-        change-parts quantum (λ r. with_ticks (ran + 1) (after_trap effect.after p used quantum r)) (after-part effect.after p used quantum (omega arith)) effect.state.records t (checked-parts quantum s t action o parts)
+        change-parts quantum (λ r. with_ticks (ran + 1) (after_trap effect.after p used s.limits r)) (after-part effect.after p used s.limits (omega arith)) effect.state.records t (checked-parts quantum s t action o parts)

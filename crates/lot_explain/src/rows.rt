@@ -185,8 +185,8 @@ pub fn funded()
         ∷ codes "4 1 currency 0 base value 3 active 3" ∷ codes "4 1 currency 1 g value 3 active 4"
         ∷ codes "4 1 lot thread 1 a weight 9 = value 3 x 9 / 3 from 0 below 9 wins"
         ∷ codes "4 1 lent thread 2 b value 0.75 to thread 1" ∷ codes "4 1 draw 2.515 of 9 thread 1" ∷ codes "report"
-        ∷ codes "thread 1 a quanta 2 ticks 3 share 75% value 100%"
-        ∷ codes "thread 2 b quanta 1 ticks 1 share 25% value 0%"
+        ∷ codes "thread 1 a quanta 2 ticks 3 share 75% due 75% value 100% ready waits 2 mean 0.5 longest 1"
+        ∷ codes "thread 2 b quanta 1 ticks 1 share 25% due 25% value 0% ready waits 1 mean 3 longest 3"
         ∷ codes "processor 1 quanta 3 idle 0 ticks 4 unused 0"
         ∷ codes "total turns 12 quanta 3 ticks 4 refused 0 left 0" ∷ []) }
 {}

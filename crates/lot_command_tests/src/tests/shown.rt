@@ -286,8 +286,8 @@ const EXPLAINED_FUNDING: &str = "0 0 currency 1
 4 1 lent thread 2 b value 0.75 to thread 1
 4 1 draw 2.515 of 9 thread 1
 report
-thread 1 a quanta 2 ticks 3 share 75% value 100%
-thread 2 b quanta 1 ticks 1 share 25% value 0%
+thread 1 a quanta 2 ticks 3 share 75% due 75% value 100% ready waits 2 mean 0.5 longest 1
+thread 2 b quanta 1 ticks 1 share 25% due 25% value 0% ready waits 1 mean 3 longest 3
 processor 1 quanta 3 idle 0 ticks 4 unused 0
 total turns 12 quanta 3 ticks 4 refused 0 left 0
 ";
