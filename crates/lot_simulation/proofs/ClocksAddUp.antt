@@ -29,11 +29,11 @@ use Rattle.lot_simulation.specs.declared.timed.Clock.{Clock}
 use Rattle.lot_simulation.specs.declared.timed.Due.{Due}
 use Rattle.lot_simulation.specs.Report.{ActorTurn, count_in, ticks_in, total_of, turns_of}
 use Rattle.lot_simulation.specs.Script.{Context, is_mark, slice}
-use Rattle.lot_simulation.specs.Timed.{Moment, TimedTurn, all_due, clock_after_console, clock_of, clocks_after, clocks_after_console, clocks_after_processor, cost_of, due_first, earliest, end_of, ended_at, idle_to, is_idle_draw, last_moment, moment_after, moment_after_all, next_due, opening_moment, timed_room, timed_turns, turn_due, turns_from, within, woken}
+use Rattle.lot_simulation.specs.Timed.{Moment, TimedTurn, all_due, clock_after_console, clock_of, clocks_after, clocks_after_console, clocks_after_processor, cost_of, due_first, earliest, end_of, ended_at, following, idle_to, is_idle_draw, last_moment, moment_after, moment_after_all, next_due, opening_moment, timed_room, timed_turns, turn_due, turns_from, within, woken}
 use Rattle.lot_simulation.specs.TimedReport.{actor_turns, clock_at, idle_until}
-use Rattle.lot_simulation.specs.World.{Program, World, action_of, actor_event, console_turn, context_of, number_of, processor_event, processor_turn, event_of_slice, slice_on, system_turn}
+use Rattle.lot_simulation.specs.World.{Program, World, action_of, actor_event, console_turn, context_of, number_of, processor_event, processor_turn, event_of_slice, next_name, resolved, slice_on, system_turn}
 use Rattle.lot_simulation.proofs.OtherTurns.{event_for, event-for, set-kept}
-use Rattle.lot_simulation.proofs.TimesRise.{Each, IsTimely, console-clock, each-due, earliest-one, kept, next, number-map, opening-timely, there, within-some}
+use Rattle.lot_simulation.proofs.TimesRise.{Each, IsTimely, console-clock, each-due, earliest-one, kept, next, next-follows, number-map, opening-timely, there, first-due}
 
 -- ---- what a turn costs its processor is what it has used by its reply
 
@@ -109,7 +109,7 @@ turn-limits program w actor = at (actor == 0)
   where
     console : (commands : List Command) → (console_turn program w commands).world.state.limits ≡ w.state.limits
     console [] = refl
-    console (c ∷ cs) = step-limits w.state (event.Command c)
+    console (c ∷ cs) = step-limits w.state (event.Command (resolved w.tickets (next_name w) c))
 
     at : (b : Bool) → (cond b (console_turn program w w.commands) (processor_turn w actor (actor_event program w actor))).world.state.limits ≡ w.state.limits
     at true = console w.commands
@@ -258,7 +258,7 @@ module _ (program : Program) (p : ℕ) (low : 1 ≤ p) (high : p ≤ program.lim
 
   module _ (ticks : ℕ) (m : Moment) (is : IsClocked ticks m) (due : Due) (first : next_due program m ≡ Some due) where
     soonest : earliest (all_due program m) ≡ Some due
-    soonest = within-some (end_of program) (earliest (all_due program m)) due first
+    soonest = first-due program m due first
 
     -- the ticks that the processor has used in this turn
     abbrev used : ℕ
@@ -315,7 +315,7 @@ module _ (program : Program) (p : ℕ) (low : 1 ≤ p) (high : p ≤ program.lim
           count = clocks-length after m.clocks due idle ∙ is.count;
           sum = now.0;
           past = now.1;
-          within = within-end (end_of program) (earliest (all_due program m)) due first;
+          within = within-end (end_of program) (earliest (all_due program m)) due (next-follows program m due first);
         }
 
   clocked-all : (room ticks : ℕ) (m : Moment) → IsClocked ticks m
@@ -356,9 +356,9 @@ module _ (program : Program) (p : ℕ) (low : 1 ≤ p) (high : p ≤ program.lim
     last = subst (λ n. IsClocked n (last_moment program)) (omega arith) (clocked-all timed_room 0 (opening_moment program) opening-clocked)
 
     past-end : (clock_of (last_moment program).clocks p).time ≤ ended_at program (last_moment program)
-    past-end = at (next_due program (last_moment program)) refl
+    past-end = at (following program (last_moment program)) refl
       where
-        at : (o : Option Due) → next_due program (last_moment program) ≡ o → (clock_of (last_moment program).clocks p).time ≤ ended_at program (last_moment program)
+        at : (o : Option Due) → following program (last_moment program) ≡ o → (clock_of (last_moment program).clocks p).time ≤ ended_at program (last_moment program)
         at None is = rw is (omega (arith, last.past, last.within))
         at (Some due) is = rw is last.past
 

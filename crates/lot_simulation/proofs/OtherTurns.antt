@@ -30,7 +30,7 @@ use Rattle.lot_machine.proofs.NamedThreads.{named-apart}
 use Rattle.lot_machine.proofs.StepSizes.{other-sizes, killed-length, step-grown, step-sizes, step-limits, command-grown}
 use Rattle.lot_simulation.specs.declared.script.ScriptTrap.{ScriptTrap}
 use Rattle.lot_simulation.specs.Script.{Context, Slice, slice}
-use Rattle.lot_simulation.specs.World.{Program, World, Turn, number_of, context_of, slice_on, event_of_slice, processor_event, actor_event, contexts_after, contexts_after_command, new_context, console_turn, processor_turn, system_turn}
+use Rattle.lot_simulation.specs.World.{Program, World, Turn, number_of, context_of, slice_on, event_of_slice, processor_event, actor_event, contexts_after, contexts_after_command, new_context, command_turn, console_turn, next_name, processor_turn, resolved, system_turn}
 use Rattle.lot_simulation.specs.Timed.{cost_of}
 use Rattle.lot_simulation.proofs.DrawnThreads.{number-some}
 
@@ -262,9 +262,8 @@ wake-keeps w actor t orderly =
 runs-on : (s : State) (e : Event) (p : ℕ) → IsInOrder s → is_none (thread_on (step s e).state.records p) ≡ false → (t : ℕ) → thread_on s.records p ≡ Some t → ¬ (killed_by s e ≡ Some t)
 runs-on s e p order runs t found kills = let idle : true ≡ false = sym (ap is_none (step-idle s e p t order kills found)) ∙ runs in cc
 
-console-keeps : (program : Program) (w : World) (commands : List Command) → IsOrderly w → TurnKeeps w 0 (console_turn program w commands)
-console-keeps program w [] orderly = (orderly, λ p other positive spared. refl)
-console-keeps program w (c ∷ cs) orderly =
+command-keeps : (program : Program) (w : World) (c : Command) (cs : List Command) → IsOrderly w → TurnKeeps w 0 (command_turn program w c cs)
+command-keeps program w c cs orderly =
     let grown = command-grown w.state c in
     let comes = contexts-come program w c in (
       record {
@@ -273,7 +272,7 @@ console-keeps program w (c ∷ cs) orderly =
       },
       λ p other positive spared.
           let alive = runs-on w.state (event.Command c) p orderly.order (spared refl) in
-          cost-same (console_turn program w (c ∷ cs)).world w p grown.0 (step-used_there w.state (event.Command c) p orderly.order (nobody p) alive) (step-found w.state (event.Command c) p orderly.order (nobody p) alive)
+          cost-same (command_turn program w c cs).world w p grown.0 (step-used_there w.state (event.Command c) p orderly.order (nobody p) alive) (step-found w.state (event.Command c) p orderly.order (nobody p) alive)
           (λ t found.
           let runs = found-runs w.state.records p t found in
           let there = numbered w.state.records t (status.Running p runs.0) runs.1 in
@@ -282,6 +281,10 @@ console-keeps program w (c ∷ cs) orderly =
   where
     nobody : (p : ℕ) → ¬ (None ≡ Some p)
     nobody p e = cc
+
+console-keeps : (program : Program) (w : World) (commands : List Command) → IsOrderly w → TurnKeeps w 0 (console_turn program w commands)
+console-keeps program w [] orderly = (orderly, λ p other positive spared. refl)
+console-keeps program w (c ∷ cs) orderly = command-keeps program w (resolved w.tickets (next_name w) c) cs orderly
 
 pub turn-keeps : (program : Program) (w : World) (actor : ℕ) → IsOrderly w → TurnKeeps w actor (system_turn program w actor)
 turn-keeps program w actor orderly = at (actor == 0) refl
@@ -304,7 +307,7 @@ turn-grows program w actor = at (actor == 0)
 
     console : (commands : List Command) → length w.state.records ≤ length (console_turn program w commands).world.state.records
     console [] = omega arith
-    console (c ∷ cs) = grows (event.Command c)
+    console (c ∷ cs) = grows (event.Command (resolved w.tickets (next_name w) c))
 
     at : (b : Bool) → length w.state.records ≤ length (cond b (console_turn program w w.commands) (processor_turn w actor (actor_event program w actor))).world.state.records
     at true = console w.commands

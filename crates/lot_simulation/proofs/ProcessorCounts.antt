@@ -11,7 +11,7 @@ use Rattle.lot_machine.specs.declared.event.Event.TheVariants as event
 use Rattle.lot_machine.specs.State.{State}
 use Rattle.lot_machine.specs.Step.{event_refusal, step, wake}
 use Rattle.lot_machine.specs.Commands.{Step, command_refusal, command_effect, command_step, unless_refused}
-use Rattle.lot_simulation.specs.World.{Program, World, console_turn, opening_world, processor_event, processor_turn, system_turn, system_answers}
+use Rattle.lot_simulation.specs.World.{Program, World, console_turn, next_name, opening_world, processor_event, processor_turn, resolved, system_turn, system_answers}
 use Rattle.lot_simulation.specs.Report.{ActorTurn, beside, turns_made, quanta_in, idles_in, ticks_in, count_in, total_of, turns_of}
 use Rattle.lot_machine.proofs.Sums.{sum-at_most, sum-nothing, sum-one, sum-plus, sum-same}
 
@@ -43,7 +43,7 @@ turns-cons count p turn turns = at (turn.actor == p)
 module _ (count : Reply → ℕ) (silent : (s : State) (c : Command) → count (command_step s c).reply ≡ 0) (wakes : (s : State) (t : ℕ) → count (step s (event.Wake t)).reply ≡ 0) (program : Program) where
   console-silent : (w : World) (commands : List Command) → count_in count (console_turn program w commands).answer ≡ 0
   console-silent w [] = refl
-  console-silent w (c ∷ cs) = silent w.state c
+  console-silent w (c ∷ cs) = silent w.state (resolved w.tickets (next_name w) c)
 
   -- an actor that is no processor counts nothing
   others-silent : (w : World) (actor : ℕ) → ¬ ((1 ≤ actor) × (actor ≤ program.limits.processors)) → count_in count (system_turn program w actor).answer ≡ 0

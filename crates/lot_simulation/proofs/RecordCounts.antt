@@ -34,7 +34,7 @@ use Rattle.lot_machine.specs.Step.{is_bad_processor, started, draw, expire, trap
 use Rattle.lot_machine.specs.Order.{IsInOrder}
 use Rattle.lot_simulation.specs.declared.script.ScriptTrap.{ScriptTrap}
 use Rattle.lot_simulation.specs.Script.{Slice}
-use Rattle.lot_simulation.specs.World.{Program, World, Turn, event_of_slice, number_of, slice_on, console_turn, processor_turn, processor_event, actor_event, opening_world, system_turn, system_after, system_answers, system_run}
+use Rattle.lot_simulation.specs.World.{Program, World, Turn, event_of_slice, number_of, slice_on, console_turn, processor_turn, processor_event, actor_event, opening_world, system_turn, system_after, system_answers, system_run, next_name, resolved}
 use Rattle.lot_simulation.specs.World.Answer.{Answered}
 use Rattle.lot_simulation.specs.Report.{ActorTurn, beside, turns_made, count_in, quanta_in, ticks_in, total_of}
 use Rattle.lot_machine.proofs.OrderKept.{opening-order, step-order}
@@ -353,7 +353,7 @@ module _ (program : Program) where
 
       console : (commands : List Command) → AddsTurn w (console_turn program w commands)
       console [] = record { quanta = as-much w.state _ _ (omega arith); ticks = as-much w.state _ _ (omega arith); bounded = omega arith; short = omega arith; order = order; limits = refl }
-      console (c ∷ cs) = of_step (event.Command c) (console_turn program w (c ∷ cs)) tt refl refl
+      console (c ∷ cs) = of_step (event.Command (resolved w.tickets (next_name w) c)) (console_turn program w (c ∷ cs)) tt refl refl
 
       at : (b : Bool) → AddsTurn w (if b then console_turn program w w.commands else processor_turn w actor (actor_event program w actor))
       at true = console w.commands

@@ -6,10 +6,10 @@ use Rattle.std.proofs.lemmas.List.{length-map, length-drop}
 use Rattle.std.proofs.lemmas.List.Sums.{sum_by-cons}
 use Rattle.lot_simulation.specs.declared.timed.Due.{Due}
 use Rattle.lot_simulation.specs.Report.{ActorTurn, beside, turns_made}
-use Rattle.lot_simulation.specs.Timed.{Moment, TimedTurn, all_due, console_due, due_first, end_of, earliest, last_moment, moment_after, moment_after_all, next_due, opening_moment, timed_room, timed_schedule, timed_turns, turn_due, turns_from}
+use Rattle.lot_simulation.specs.Timed.{Moment, TimedTurn, all_due, console_due, due_first, last_moment, moment_after, moment_after_all, next_due, opening_moment, timed_room, timed_schedule, timed_turns, turn_due, turns_from}
 use Rattle.lot_simulation.specs.TimedReport.{actor_turns}
 use Rattle.lot_simulation.specs.World.{Program, IsLegalInTime, system_after, system_answers, system_run, system_turn}
-use Rattle.lot_simulation.proofs.TimesRise.{Each, each-due, earliest-one, within-some}
+use Rattle.lot_simulation.proofs.TimesRise.{Each, each-due, earliest-one, first-due}
 
 -- there are fewer turns than a counter can hold
 pub room-small : timed_room < 2147483648
@@ -68,7 +68,7 @@ module _ (program : Program) where
   due-there m due is =
       earliest-one (IsThere m) (all_due program m) due
       (each-due (IsThere m) program m (console-there m) (λ t time low high _ e. absurd (omega (arith, low, e))) (λ p low high _ e. absurd (omega (arith, low, e))))
-      (within-some (end_of program) (earliest (all_due program m)) due is)
+      (first-due program m due is)
 
   -- ---- the history is legal
 

@@ -23,7 +23,7 @@ use Rattle.lot_simulation.specs.declared.timed.Clock.{Clock}
 use Rattle.lot_simulation.specs.declared.timed.Due.{Due}
 use Rattle.lot_simulation.specs.declared.timed.Sleeper.{Sleeper}
 use Rattle.lot_simulation.specs.World.{Program, World, processor_event, slice_on, sleeper_by, sleeper_on, system_turn}
-use Rattle.lot_simulation.specs.Timed.{Moment, opening_moment, clock_of, cost_of, console_due, alarm_due, timer_due, processor_due, processors_due, all_due, set_alarm, alarms_asleep, alarms_after, sooner, earliest, within, end_of, next_due, is_idle_draw, idle_to, woken, clock_after_console, clocks_after_console, clocks_after_processor, clocks_after, TimedTurn, turn_due, moment_after, due_first, turns_from, timed_room, timed_turns}
+use Rattle.lot_simulation.specs.Timed.{Moment, opening_moment, clock_of, cost_of, console_due, alarm_due, timer_due, processor_due, processors_due, all_due, set_alarm, alarms_asleep, alarms_after, sooner, earliest, within, end_of, following, is_stopped, next_due, is_idle_draw, idle_to, woken, clock_after_console, clocks_after_console, clocks_after_processor, clocks_after, TimedTurn, turn_due, moment_after, due_first, turns_from, timed_room, timed_turns}
 use Rattle.lot_simulation.proofs.DrawnThreads.{number-some}
 use Rattle.lot_simulation.proofs.OtherTurns.{IsOrderly, IsSpared, turn-grows, turn-keeps}
 
@@ -471,6 +471,17 @@ within-some end (Some x) due e = at (nat_lt end x.time) e
     at true is = cc
     at false is = is
 
+-- a next turn is the one that follows, and the earliest of those due
+pub next-follows : (program : Program) (m : Moment) (due : Due) → next_due program m ≡ Some due → following program m ≡ Some due
+next-follows program m due is = at (is_stopped program m) is
+  where
+    at : (b : Bool) → cond b None (following program m) ≡ Some due → following program m ≡ Some due
+    at true is = cc
+    at false is = is
+
+pub first-due : (program : Program) (m : Moment) (due : Due) → next_due program m ≡ Some due → earliest (all_due program m) ≡ Some due
+first-due program m due is = within-some (end_of program) (earliest (all_due program m)) due (next-follows program m due is)
+
 turns-rise : (program : Program) (room : ℕ) (m : Moment) → IsTimely program m → Rises m.time (map (λ done. done.time) (turns_from program room m))
 turns-rise program zero m timely = tt
 turns-rise program (suc room) m timely = at (λ next. turns-rise program room next) (next_due program m) refl
@@ -478,7 +489,7 @@ turns-rise program (suc room) m timely = at (λ next. turns-rise program room ne
     at : ((next : Moment) → IsTimely program next → Rises next.time (map (λ done. done.time) (turns_from program room next))) → (o : Option Due) → next_due program m ≡ o → Rises m.time (map (λ (done : TimedTurn). done.time) (due_first program m (λ done. turns_from program room (moment_after m done)) o))
     at later None is = tt
     at later (Some due) is =
-        let first = within-some (end_of program) (earliest (all_due program m)) due is in
+        let first = first-due program m due is in
         ((next program m timely due first).0, later (moment_after m (turn_due program m due)) (kept program m timely due first))
 
 pub opening-timely : (program : Program) → IsWithinBounds program.limits → IsNonDecreasing program.times → IsTimely program (opening_moment program)

@@ -17,6 +17,8 @@ use Rattle.lot_simulation.specs.declared.input.BodyWord.{BodyWord}
 use Rattle.lot_simulation.specs.declared.input.BodyWord.TheVariants as body
 use Rattle.lot_simulation.specs.declared.input.ScriptWord.{ScriptWord}
 use Rattle.lot_simulation.specs.declared.input.ScriptWord.TheVariants as script
+use Rattle.lot_simulation.specs.declared.input.TicketRef.{TicketRef}
+use Rattle.lot_simulation.specs.declared.input.TicketRef.TheVariants.{Named, Numbered}
 use Rattle.lot_simulation.specs.declared.input.InputRefusal.{InputRefusal}
 use Rattle.lot_simulation.specs.declared.input.InputRefusal.TheVariants.{BadHeader, BadLine, OpenScript as ScriptIsOpen, TooDeep, TooLong}
 use Rattle.lot_simulation.specs.declared.input.InputFault.{InputFault}
@@ -25,7 +27,7 @@ use Rattle.lot_simulation.specs.declared.separators.Separators.{Separators}
 use Rattle.lot_simulation.specs.declared.separators.Separators.TheVariants.{Blanks}
 use Rattle.lot_simulation.specs.Lines.{lines_of, without_end, separators_in, tokens_of, is_ignored, is_printable}
 use Rattle.lot_simulation.specs.Words.{word_in, header_words, timed_header_words, header_place, body_words, timed_body_words, script_words, timed_script_words}
-use Rattle.lot_simulation.specs.Reading.{OpenScript, Reading, opening_reading, ◌>>=◌, checked, each, each_pair, number_between, any_number, actor_below, any_name, new_name, known_name, script_number}
+use Rattle.lot_simulation.specs.Reading.{OpenScript, Reading, opening_reading, ◌>>=◌, checked, each, each_pair, number_between, any_number, actor_below, any_name, any_ticket, new_name, known_name, script_number}
 use Rattle.lot_machine.specs.Lottery.{mixed_seed}
 use Rattle.lot_simulation.specs.World.{Program}
 
@@ -78,6 +80,7 @@ header_line r header.Limits (t ∷ c ∷ h ∷ []) = do
   Ok (record r { tickets = tickets; currencies = currencies; threads = threads })
 header_line r header.Without (mechanism ∷ []) = without_line r mechanism
 header_line r header.Reuse [] = checked ((not r.is_timed, BadLine) ∷ []) (record r { reuse = true })
+header_line r header.Strict [] = checked ((not r.is_timed, BadLine) ∷ []) (record r { strict = true })
 header_line r word tokens = Err BadLine
 
 -- whether the header has a line with this word
@@ -186,13 +189,48 @@ phrases_of (word ∷ next ∷ tokens) =
 abbrev pub script_names : Reading → List (List ℕ)
 script_names r = map (λ s. s.name) r.scripts
 
--- the time of a command that comes next: in a timed input the last `at`
-abbrev pub time_of_next : Reading → List ℕ
-time_of_next r = if r.is_timed then r.time ∷ [] else []
+-- this for the next command, if the input is timed
+abbrev pub in_time : {A : Type 0} → Reading → A → List A
+in_time r x = if r.is_timed then x ∷ [] else []
 
--- the reading after one more command
+-- The reading after one more command, which may name a ticket. In a timed input its time is that of the last `at`.
+abbrev pub add_naming : Reading → Option ℕ → Command → Result Reading InputRefusal
+add_naming r name c =
+    checked ((nat_le 100000 (length r.commands), TooLong) ∷ []) (record r { commands = r.commands ++ c ∷ []; names = r.names ++ in_time r name; times = r.times ++ in_time r r.time })
+
+-- the reading after one more command, which names no ticket
 abbrev pub add_command : Reading → Command → Result Reading InputRefusal
-add_command r c = checked ((nat_le 100000 (length r.commands), TooLong) ∷ []) (record r { commands = r.commands ++ c ∷ []; times = r.times ++ time_of_next r })
+add_command r c = add_naming r None c
+
+-- the ticket's number in a command, or 0 for a name
+abbrev pub ticket_number : TicketRef → ℕ
+ticket_number (Numbered number) = number
+ticket_number (Named name) = 0
+
+-- the number of the ticket's name, if the command names it
+abbrev pub ticket_name : TicketRef → Option ℕ
+ticket_name (Numbered number) = None
+ticket_name (Named name) = Some name
+
+-- the reading after one more command for this ticket
+abbrev pub add_for_ticket : Reading → TicketRef → (ℕ → Command) → Result Reading InputRefusal
+add_for_ticket r ticket c = add_naming r (ticket_name ticket) (c (ticket_number ticket))
+
+-- whether the word stands before the name of a new ticket; only a timed input has such names
+abbrev pub names_ticket : Reading → List ℕ → Bool
+names_ticket r word = r.is_timed && bytes_eq word (codes "as")
+
+-- the reading with one more name of a ticket
+abbrev pub add_ticket_name : Reading → List ℕ → Result Reading InputRefusal
+add_ticket_name r token = do
+  name ← new_name r.ticket_names token
+  checked ((nat_le 4096 (length r.ticket_names), TooLong) ∷ []) (record r { ticket_names = r.ticket_names ++ name ∷ [] })
+
+-- the reading after a command that makes a ticket with this name
+abbrev pub add_named : Reading → List ℕ → Command → Result Reading InputRefusal
+add_named r token c = do
+  named ← add_ticket_name r token
+  add_naming named (Some (length named.ticket_names)) c
 
 -- several turns of one actor in a row
 pub record ActorRun : Type 0 where
@@ -232,9 +270,14 @@ body_line n r body.MakeTicket (a ∷ c ∷ []) = do
   amount ← any_number a
   currency ← any_name c
   add_command r (MakeTicket amount (currency_ref.Named currency))
+body_line n r body.MakeTicket (a ∷ c ∷ word ∷ token ∷ []) = do
+  given ← checked ((not (names_ticket r word), BadLine) ∷ []) a
+  amount ← any_number given
+  currency ← any_name c
+  add_named r token (MakeTicket amount (currency_ref.Named currency))
 body_line n r body.RemoveTicket (t ∷ []) = do
-  ticket ← any_number t
-  add_command r (RemoveTicket ticket)
+  ticket ← any_ticket r t
+  add_for_ticket r ticket RemoveTicket
 body_line n r body.MakeCurrency (token ∷ []) = do
   name ← any_name token
   add_command r (MakeCurrency name)
@@ -242,16 +285,16 @@ body_line n r body.RemoveCurrency (c ∷ []) = do
   currency ← any_name c
   add_command r (RemoveCurrency (currency_ref.Named currency))
 body_line n r body.Fund (t ∷ to ∷ []) = do
-  ticket ← any_number t
+  ticket ← any_ticket r t
   target ← any_name to
-  add_command r (Fund ticket (target_ref.Named target))
+  add_for_ticket r ticket (λ number. Fund number (target_ref.Named target))
 body_line n r body.Unfund (t ∷ []) = do
-  ticket ← any_number t
-  add_command r (Unfund ticket)
+  ticket ← any_ticket r t
+  add_for_ticket r ticket Unfund
 body_line n r body.SetTicket (t ∷ a ∷ []) = do
-  ticket ← any_number t
+  ticket ← any_ticket r t
   amount ← any_number a
-  add_command r (SetTicket ticket amount)
+  add_for_ticket r ticket (λ number. SetTicket number amount)
 body_line n r body.RemoveThread (token ∷ []) = do
   thread ← any_name token
   add_command r (RemoveThread (thread_ref.Named thread))
@@ -268,6 +311,13 @@ body_line n r body.MakeFunded (a ∷ c ∷ token ∷ s ∷ []) = do
   name ← any_name token
   number ← script_number (script_names r) s
   add_command r (MakeFunded amount (currency_ref.Named currency) name number)
+body_line n r body.MakeFunded (a ∷ c ∷ token ∷ s ∷ word ∷ ticket ∷ []) = do
+  given ← checked ((not (names_ticket r word), BadLine) ∷ []) a
+  amount ← any_number given
+  currency ← any_name c
+  name ← any_name token
+  number ← script_number (script_names r) s
+  add_named r ticket (MakeFunded amount (currency_ref.Named currency) name number)
 body_line n r body.ListTickets [] = add_command r (Listing Tickets)
 body_line n r body.ListCurrencies [] = add_command r (Listing Currencies)
 body_line n r body.ListThreads [] = add_command r (Listing Threads)
@@ -288,7 +338,7 @@ body_line n r word tokens = Err BadLine
 abbrev pub body_after_header : ℕ → Reading → BodyWord → List (List ℕ) → Result Reading InputRefusal
 body_after_header n r word tokens = do
   after ← body_line n r word tokens
-  Ok (record after { place = 9 })
+  Ok (record after { place = 10 })
 
 -- ---- a line
 
@@ -413,6 +463,9 @@ program_of r = record {
   schedule = r.schedule;
   duration = r.duration;
   times = r.times;
+  ticket_names = length r.ticket_names;
+  names = r.names;
+  strict = r.strict;
 }
 
 -- A script left open is refused on the line where it begins.

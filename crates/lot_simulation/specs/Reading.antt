@@ -1,9 +1,11 @@
 -- The part of an input read so far, and the meaning of tokens.
-use Rattle.std.specs.Prelude.{ℕ, ◌+◌, ◌-◌, ◌^◌, nat_lt, Bool, false, not, ◌||◌, Option, Some, None, is_none, Result, Ok, Err, List, [], ◌∷◌, length, position, option_map, unwrap_or}
+use Rattle.std.specs.Prelude.{ℕ, ◌+◌, ◌-◌, ◌^◌, nat_lt, Bool, false, not, ◌&&◌, ◌||◌, Option, Some, None, is_none, Result, Ok, Err, List, [], ◌∷◌, length, position, option_map, unwrap_or, if◌then◌else◌}
 use Rattle.std.specs.Str.{bytes_eq}
 use Rattle.lot_simulation.specs.declared.script.Line.{Line}
 use Rattle.lot_machine.specs.declared.command.Command.{Command}
 use Rattle.lot_simulation.specs.declared.input.HeaderWord.{HeaderWord}
+use Rattle.lot_simulation.specs.declared.input.TicketRef.{TicketRef}
+use Rattle.lot_simulation.specs.declared.input.TicketRef.TheVariants.{Named, Numbered}
 use Rattle.lot_simulation.specs.declared.input.InputRefusal.{InputRefusal}
 use Rattle.lot_simulation.specs.declared.input.InputRefusal.TheVariants.{BadLine, BadNumber, UnknownName, TooLong, BadActor}
 use Rattle.lot_machine.specs.Commands.{first_failing, is_good_name}
@@ -22,7 +24,7 @@ pub record OpenScript : Type 0 where
   pub loops : ℕ
 
 -- The contents of the lines read so far. Header lines up to the place come too late: the place is that of the last header
--- line, or 0 in a timed input, and 9 from the body on.
+-- line, or 0 in a timed input, and 10 from the body on.
 pub record Reading : Type 0 where
   pub place : ℕ
   pub given : List HeaderWord  -- the words of the header lines so far, after the first line
@@ -39,6 +41,7 @@ pub record Reading : Type 0 where
   pub reuse : Bool  -- whether numbers are given again
   pub without_compensation : Bool  -- whether no thread is compensated
   pub without_lending : Bool  -- whether blocked threads lend to nobody
+  pub strict : Bool  -- whether a refused command or trap ends the play
   pub ports : List (List ℕ)  -- names, as for mutexes
   pub mutexes : List (List ℕ)
   pub scripts : List NamedScript
@@ -46,6 +49,8 @@ pub record Reading : Type 0 where
   pub commands : List Command
   pub time : ℕ  -- the time of the next commands
   pub times : List ℕ  -- the times of the commands so far
+  pub ticket_names : List (List ℕ)  -- the names that tickets can have
+  pub names : List (Option ℕ)  -- the number of the name that each command so far has for its ticket
   pub schedule : List ℕ
 
 -- the reading after the first line, which gives the unit and says whether the input is timed
@@ -66,6 +71,7 @@ opening_reading is_timed unit = record {
   reuse = false;
   without_compensation = false;
   without_lending = false;
+  strict = false;
   ports = [];
   mutexes = [];
   scripts = [];
@@ -73,6 +79,8 @@ opening_reading is_timed unit = record {
   commands = [];
   time = 0;
   times = [];
+  ticket_names = [];
+  names = [];
   schedule = [];
 }
 
@@ -119,7 +127,7 @@ number_between first last token = made (number_of token)
     made None = Err BadNumber
     made (Some n) = checked ((nat_lt n first || nat_lt last n, BadNumber) ∷ []) n
 
--- an amount or a ticket's number in a command: any 64-bit number, which the kernel then judges
+-- an amount in a command: any 64-bit number, which the kernel then judges
 abbrev pub any_number : List ℕ → Result ℕ InputRefusal
 any_number token = number_between 0 (2 ^ 64 - 1) token
 
@@ -143,7 +151,20 @@ number_named names token = option_map (λ place. place + 1) (position (bytes_eq 
 abbrev pub any_name : List ℕ → Result (List ℕ) InputRefusal
 any_name token = checked ((is_long_name token, TooLong) ∷ []) token
 
--- the name of a new port, mutex or script: a good one that no other of its kind has
+-- the ticket that these names mean, in a timed input
+abbrev pub named_ticket : Option ℕ → Result TicketRef InputRefusal
+named_ticket None = Err UnknownName
+named_ticket (Some name) = Ok (Named name)
+
+-- A ticket in a command: its number, which the kernel then judges, or in a timed input a name that an earlier line gave.
+abbrev pub any_ticket : Reading → List ℕ → Result TicketRef InputRefusal
+any_ticket r token = made (number_of token)
+  where
+    made : Option ℕ → Result TicketRef InputRefusal
+    made (Some number) = Ok (Numbered number)
+    made None = if r.is_timed && is_good_name token then named_ticket (number_named r.ticket_names token) else Err BadNumber
+
+-- the name of a new port, mutex, script or ticket: a good one that no other of its kind has
 abbrev pub new_name : List (List ℕ) → List ℕ → Result (List ℕ) InputRefusal
 new_name names token =
     checked ((is_long_name token, TooLong) ∷ (not (is_good_name token) || not (is_none (number_named names token)), BadLine) ∷ []) token

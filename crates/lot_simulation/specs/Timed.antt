@@ -1,9 +1,10 @@
 -- Timed inputs: turns in time order, so that no turn sees the effect of a later one.
-use Rattle.std.specs.Prelude.{ℕ, zero, suc, ◌+◌, ◌-◌, ◌==◌, nat_lt, nat_le, Bool, true, false, ◌||◌, Option, Some, None, is_none, List, [], ◌∷◌, ◌++◌, length, map, take, drop, replicate, unwrap_or, if◌then◌else◌}
+use Rattle.std.specs.Prelude.{ℕ, zero, suc, ◌+◌, ◌-◌, ◌==◌, nat_lt, nat_le, Bool, true, false, ◌&&◌, ◌||◌, Option, Some, None, is_none, List, [], ◌∷◌, ◌++◌, length, map, take, drop, replicate, unwrap_or, if◌then◌else◌}
 use Rattle.std.specs.List.{flat_map, range_with_len}
 use Rattle.std.specs.Option.{option_map_or}
 use Rattle.lot_machine.specs.declared.event.Event.{Event}
 use Rattle.lot_machine.specs.declared.event.Event.TheVariants as event
+use Rattle.lot_machine.specs.declared.reply.Outcome.TheVariants as outcome
 use Rattle.lot_machine.specs.declared.reply.Reply.TheVariants as reply
 use Rattle.lot_machine.specs.Numbered.{at_number, numbers, set_number}
 use Rattle.lot_machine.specs.State.{State, thread_on}
@@ -14,13 +15,15 @@ use Rattle.lot_simulation.specs.declared.timed.Sleeper.{Sleeper}
 use Rattle.lot_simulation.specs.World.{Program, World, Answer, Turn, opening_world, processor_event, sleeper_on, system_turn}
 use Rattle.lot_simulation.specs.World.Answer.{Answered}
 
--- a world at a time: each processor's clock, the times of the remaining commands, and when each sleeping thread wakes
+-- a world at a time: each processor's clock, the times of the remaining commands, when each sleeping thread wakes, and
+-- whether a command or a trap was refused so far
 pub record Moment : Type 0 where
   pub world : World
   pub time : ℕ  -- the time of the last turn
   pub clocks : List Clock
   pub times : List ℕ
   pub alarms : ℕ → Option ℕ  -- by the threads' numbers
+  pub has_refused : Bool
 
 -- the moment at the start, when each clock is at 0
 abbrev pub opening_moment : Program → Moment
@@ -30,6 +33,7 @@ opening_moment program = record {
   clocks = replicate program.limits.processors (record { time = 0; waits = false; idle = 0 });
   times = program.times;
   alarms = λ t. None;
+  has_refused = false;
 }
 
 -- ---- whose turn is next
@@ -91,10 +95,18 @@ within end (Some due) = if nat_lt end due.time then None else Some due
 abbrev pub end_of : Program → ℕ
 end_of program = unwrap_or program.duration 0
 
--- The next turn. There is none if all processors wait, no thread sleeps and no command remains, or if it would come
--- after the end.
+-- The turn that would follow if no refusal ended the play. There is none if all processors wait, no thread sleeps and no
+-- command remains, or if it would come after the end.
+abbrev pub following : Program → Moment → Option Due
+following program m = within (end_of program) (earliest (all_due program m))
+
+-- whether a refusal has ended the play, as it does in a strict program
+abbrev pub is_stopped : Program → Moment → Bool
+is_stopped program m = program.strict && m.has_refused
+
+-- the next turn: the one that follows, unless a refusal has ended the play
 abbrev pub next_due : Program → Moment → Option Due
-next_due program m = within (end_of program) (earliest (all_due program m))
+next_due program m = if is_stopped program m then None else following program m
 
 -- ---- a turn
 
@@ -159,6 +171,12 @@ alarms_after m time actor =
     else if nat_le actor (length m.clocks) then alarms_asleep m.alarms time (sleeper_on m.world actor)
     else set_alarm m.alarms (actor - length m.clocks) None
 
+-- whether a command or a trap was refused; the wake of a dead thread isn't one
+abbrev pub is_refusal : Answer → Bool
+is_refusal (Answered (event.Command c) (reply.Refused why)) = true
+is_refusal (Answered e (reply.Trapped thread ticks (outcome.Refused why) ends)) = true
+is_refusal other = false
+
 -- the moment after the turn
 abbrev pub moment_after : Moment → TimedTurn → Moment
 moment_after m done = record {
@@ -167,6 +185,7 @@ moment_after m done = record {
   clocks = clocks_after done.turn.world.state m.clocks (record { time = done.time; actor = done.actor }) (is_idle_draw done.turn.answer);
   times = if done.actor == 0 then drop 1 m.times else m.times;
   alarms = alarms_after m done.time done.actor;
+  has_refused = m.has_refused || is_refusal done.turn.answer;
 }
 
 -- ---- all turns
@@ -203,9 +222,10 @@ timed_schedule program = map (λ done. done.actor) (timed_turns program)
 abbrev pub last_moment : Program → Moment
 last_moment program = moment_after_all (opening_moment program) (timed_turns program)
 
--- The time at which the play ends: the end that the input gives, or the last turn's time if there was no more room.
+-- The time at which the play ends: the end that the input gives, or the last turn's time if another turn would follow
+-- but there was no more room, or a refusal ended the play.
 abbrev pub ended_at : Program → Moment → ℕ
-ended_at program m = made (next_due program m)
+ended_at program m = made (following program m)
   where
     made : Option Due → ℕ
     made None = end_of program

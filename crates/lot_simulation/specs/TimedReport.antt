@@ -26,7 +26,7 @@ use Rattle.lot_simulation.specs.declared.timed.Span.{Span}
 use Rattle.lot_simulation.specs.declared.timed.SpanChange.{SpanChange}
 use Rattle.lot_simulation.specs.declared.timed.SpanChange.TheVariants.{Nobody, Anew, Begins, Ends}
 use Rattle.lot_simulation.specs.declared.timed.Spans.{Spans}
-use Rattle.lot_simulation.specs.Timed.{Moment, TimedTurn, clock_of, end_of, ended_at, moment_after_all, next_due, opening_moment, timed_turns}
+use Rattle.lot_simulation.specs.Timed.{Moment, TimedTurn, clock_of, end_of, ended_at, following, moment_after_all, opening_moment, timed_turns}
 use Rattle.lot_simulation.specs.World.{Program, Answer, Turn}
 use Rattle.lot_simulation.specs.World.Answer.{Answered}
 
@@ -293,9 +293,9 @@ timed_report_of m end turns =
     ++ (flat_map (timed_processor_total m end (actor_turns turns)) (range_with_len 1 m.world.state.limits.processors)
     ++ timed_whole_total m turns)))
 
--- How a play that has come to this moment by so many turns ended before its time. It did only if a turn is still due.
+-- How a play that has come to this moment by so many turns ended before its time. It did only if a turn would follow.
 abbrev pub early_end : Program → Moment → ℕ → Option EarlyEnd
-early_end program m made = option_map (λ due. record { time = m.time; end = end_of program; turns = made }) (next_due program m)
+early_end program m made = option_map (λ due. record { time = m.time; end = end_of program; turns = made }) (following program m)
 
 -- the line that says so: the time of the last turn, the end that the input gives, and the number of turns
 abbrev pub early_line : EarlyEnd → List ℕ

@@ -20,9 +20,9 @@ header_words =
     (codes "lottery", header.Lottery) ∷ (codes "processors", header.Processors) ∷ (codes "quantum", header.Quantum)
     ∷ (codes "turns", header.Turns) ∷ (codes "seed", header.Seed) ∷ (codes "limits", header.Limits) ∷ []
 
--- the words of a timed input's header: also `for`, which gives the duration, `reuse` and `without`
+-- the words of a timed input's header: also `for`, which gives the duration, `reuse`, `without` and `strict`
 abbrev pub timed_header_words : List (List ℕ × HeaderWord)
-timed_header_words = (codes "for", header.For) ∷ (codes "reuse", header.Reuse) ∷ (codes "without", header.Without) ∷ header_words
+timed_header_words = (codes "for", header.For) ∷ (codes "reuse", header.Reuse) ∷ (codes "without", header.Without) ∷ (codes "strict", header.Strict) ∷ header_words
 
 -- a header word's place in the order of the lines
 abbrev pub header_place : HeaderWord → ℕ
@@ -35,6 +35,7 @@ header_place header.Seed = 5
 header_place header.Limits = 6
 header_place header.Reuse = 7
 header_place header.Without = 8
+header_place header.Strict = 9
 
 -- the words of the body
 abbrev pub body_words : List (List ℕ × BodyWord)

@@ -1,5 +1,5 @@
 -- Whole systems that are small enough to compute by hand, turn by turn.
-use Rattle.std.specs.Prelude.{ℕ, List, [], ◌∷◌, codes, Option, Some, None}
+use Rattle.std.specs.Prelude.{ℕ, List, [], ◌∷◌, codes, Option, Some, None, false}
 use Rattle.lot_machine.specs.declared.command.Command.TheVariants.{MakeTicket, Fund, MakeThread, MakeFunded}
 use Rattle.lot_machine.specs.declared.reference.CurrencyRef.{CurrencyRef}
 use Rattle.lot_machine.specs.declared.reference.CurrencyRef.TheVariants as currency_ref
@@ -38,6 +38,9 @@ first_run = record {
   schedule = [];
   duration = None;
   times = [];
+  ticket_names = 0;
+  names = [];
+  strict = false;
 }
 
 -- the system `first_run` with finer values
@@ -67,6 +70,9 @@ call_and_reply = record {
   schedule = [];
   duration = None;
   times = [];
+  ticket_names = 0;
+  names = [];
+  strict = false;
 }
 
 -- a system with a server that replies and receives in one trap, and two clients
@@ -78,4 +84,4 @@ serving = record call_and_reply {
 
 -- a system with two processors and one thread
 abbrev pub two_processors : Program
-two_processors = record { limits = largest; seeds = 1 ∷ 2 ∷ []; scripts = (line.Compute 150 ∷ []) ∷ []; commands = MakeFunded 10 in_base (codes "a") 1 ∷ []; turns = 0; schedule = []; duration = None; times = [] }
+two_processors = record { limits = largest; seeds = 1 ∷ 2 ∷ []; scripts = (line.Compute 150 ∷ []) ∷ []; commands = MakeFunded 10 in_base (codes "a") 1 ∷ []; turns = 0; schedule = []; duration = None; times = []; ticket_names = 0; names = []; strict = false }

@@ -1,6 +1,7 @@
 -- The simulated system: a console, processors with their generators, and threads with their scripts.
-use Rattle.std.specs.Prelude.{ℕ, ◌-◌, ◌≤◌, ◌==◌, nat_le, Bool, true, false, Option, Some, None, is_some, List, [], ◌∷◌, ◌++◌, length, map, count_by, All, option_and_then, unwrap_or, if◌then◌else◌}
+use Rattle.std.specs.Prelude.{ℕ, ◌-◌, ◌≤◌, ◌==◌, nat_le, Bool, true, false, Option, Some, None, is_some, List, [], ◌∷◌, ◌++◌, length, map, drop, replicate, count_by, All, option_and_then, slice_get, unwrap_or, if◌then◌else◌}
 use Rattle.std.specs.List.{last_or}
+use Rattle.std.specs.Option.{option_flatten}
 use Rattle.lot_simulation.specs.declared.script.Line.{Line}
 use Rattle.lot_simulation.specs.declared.script.ScriptTrap.{ScriptTrap}
 use Rattle.lot_simulation.specs.declared.script.ScriptTrap.TheVariants as script_trap
@@ -9,7 +10,7 @@ use Rattle.lot_simulation.specs.declared.script.MutexTrap.TheVariants.{Lock, Unl
 use Rattle.lot_machine.specs.declared.action.Action.{Action}
 use Rattle.lot_machine.specs.declared.action.Action.TheVariants as action
 use Rattle.lot_machine.specs.declared.command.Command.{Command}
-use Rattle.lot_machine.specs.declared.command.Command.TheVariants.{MakeThread, MakeFunded}
+use Rattle.lot_machine.specs.declared.command.Command.TheVariants.{RemoveTicket, Fund, Unfund, SetTicket, MakeThread, MakeFunded}
 use Rattle.lot_machine.specs.declared.event.Event.{Event}
 use Rattle.lot_machine.specs.declared.event.Event.TheVariants as event
 use Rattle.lot_machine.specs.declared.reply.Reply.{Reply}
@@ -37,20 +38,25 @@ pub record Program : Type 0 where
   pub schedule : List ℕ
   pub duration : Option ℕ
   pub times : List ℕ  -- the commands' times, in a timed program
+  pub ticket_names : ℕ  -- how many names tickets can have, numbered from 1
+  pub names : List (Option ℕ)  -- the number of the name that each command has for its ticket, in a timed program
+  pub strict : Bool  -- whether a refused command or trap ends the play
 
--- the kernel's state, each thread's context, each processor's generator, the remaining commands, and the actors of
--- the turns so far
+-- the kernel's state, each thread's context, each processor's generator, the remaining commands with their names for
+-- tickets, the ticket that has each name, and the actors of the turns so far
 pub record World : Type 0 where
   pub state : State
   pub contexts : List Context
   pub generators : List ℕ
   pub is_wide : Bool  -- whether it draws wide numbers
   pub commands : List Command
+  pub names : List (Option ℕ)
+  pub tickets : List ℕ  -- 0 for a name that no ticket has
   pub history : List ℕ
 
--- The opening world: no thread, all commands, no turn made. A timed program draws wide numbers.
+-- The opening world: no thread, all commands, no named ticket, no turn made. A timed program draws wide numbers.
 abbrev pub opening_world : Program → World
-opening_world program = record { state = opening program.limits; contexts = []; generators = program.seeds; is_wide = is_some program.duration; commands = program.commands; history = [] }
+opening_world program = record { state = opening program.limits; contexts = []; generators = program.seeds; is_wide = is_some program.duration; commands = program.commands; names = program.names; tickets = replicate program.ticket_names 0; history = [] }
 
 -- ---- an actor's next turn
 
@@ -160,6 +166,41 @@ contexts_after_command program w (MakeThread name script) (reply.Thread t) = pla
 contexts_after_command program w (MakeFunded amount currency name script) (reply.Funded ticket t) = placed w.contexts (free_threads w.state) (new_context program script)
 contexts_after_command program w c other = w.contexts
 
+-- ---- named tickets
+
+-- the number of the ticket with this name, or 0 if there is none
+abbrev pub ticket_named : List ℕ → ℕ → ℕ
+ticket_named tickets name = unwrap_or (at_number tickets name) 0
+
+-- the command for this ticket, if it is one for a ticket
+abbrev pub for_ticket : ℕ → Command → Command
+for_ticket ticket (RemoveTicket t) = RemoveTicket ticket
+for_ticket ticket (Fund t target) = Fund ticket target
+for_ticket ticket (Unfund t) = Unfund ticket
+for_ticket ticket (SetTicket t amount) = SetTicket ticket amount
+for_ticket ticket other = other
+
+-- the command with the number of the ticket that it names, if it names one
+abbrev pub resolved : List ℕ → Option ℕ → Command → Command
+resolved tickets None c = c
+resolved tickets (Some name) c = for_ticket (ticket_named tickets name) c
+
+-- the tickets with names once this one is removed
+abbrev pub without_ticket : ℕ → List ℕ → List ℕ
+without_ticket ticket tickets = map (λ t. if t == ticket then 0 else t) tickets
+
+-- The tickets with names after this command, which may name one: a new ticket gets the name, and a removed one loses
+-- its own, whoever gets its number then.
+abbrev pub tickets_after : List ℕ → Option ℕ → Command → Reply → List ℕ
+tickets_after tickets (Some name) c (reply.Ticket ticket) = set_number tickets name ticket
+tickets_after tickets (Some name) c (reply.Funded ticket thread) = set_number tickets name ticket
+tickets_after tickets name (RemoveTicket ticket) reply.Done = without_ticket ticket tickets
+tickets_after tickets name c other = tickets
+
+-- the name that the next command has for its ticket, if it has one
+abbrev pub next_name : World → Option ℕ
+next_name w = option_flatten (slice_get w.names 0)
+
 -- ---- turns
 
 -- the answer to a turn: the event and its reply, or that no command is left
@@ -172,16 +213,20 @@ pub record Turn : Type 0 where
   pub world : World
   pub answer : Answer
 
--- the console's next command; nothing changes if none is left
-abbrev pub console_turn : Program → World → List Command → Turn
-console_turn program w [] = record { world = w; answer = Ended }
-console_turn program w (c ∷ cs) = made (step w.state (event.Command c))
+-- the turn in which the console makes this command, and after which these are left
+abbrev pub command_turn : Program → World → Command → List Command → Turn
+command_turn program w c cs = made (step w.state (event.Command c))
   where
     made : Step → Turn
     made done = record {
-      world = record { state = done.state; contexts = contexts_after_command program w c done.reply; generators = w.generators; is_wide = w.is_wide; commands = cs; history = w.history ++ 0 ∷ [] };
+      world = record { state = done.state; contexts = contexts_after_command program w c done.reply; generators = w.generators; is_wide = w.is_wide; commands = cs; names = drop 1 w.names; tickets = tickets_after w.tickets (next_name w) c done.reply; history = w.history ++ 0 ∷ [] };
       answer = Answered (event.Command c) done.reply;
     }
+
+-- the console's next command, for the ticket that it names, if it does; nothing changes if none is left
+abbrev pub console_turn : Program → World → List Command → Turn
+console_turn program w [] = record { world = w; answer = Ended }
+console_turn program w (c ∷ cs) = command_turn program w (resolved w.tickets (next_name w) c) cs
 
 -- the turn in which a processor or the timer makes this event
 abbrev pub processor_turn : World → ℕ → Event → Turn
@@ -189,7 +234,7 @@ processor_turn w p e = made (step w.state e)
   where
     made : Step → Turn
     made done = record {
-      world = record { state = done.state; contexts = contexts_after w p done.reply; generators = generators_after w p e; is_wide = w.is_wide; commands = w.commands; history = w.history ++ p ∷ [] };
+      world = record { state = done.state; contexts = contexts_after w p done.reply; generators = generators_after w p e; is_wide = w.is_wide; commands = w.commands; names = w.names; tickets = w.tickets; history = w.history ++ p ∷ [] };
       answer = Answered e done.reply;
     }
 

@@ -13,8 +13,11 @@ pub struct Range {
 #[derive(Clone, Copy, Debug)]
 pub enum Argument {
     Number(Range),
-    /// An amount or a ticket's number. Only the kernel checks it further.
+    /// An amount. Only the kernel checks it further.
     AnyNumber,
+    /// A ticket: its number, which only the kernel checks further, or in a timed input the name that an earlier line
+    /// gave it.
+    Ticket,
     /// A name. Only the kernel checks it further.
     AnyName,
     /// A good name, new among the lines that begin with this word.
@@ -38,6 +41,9 @@ pub enum Form {
     Once(&'static [(&'static str, Argument)]),
     /// Each argument comes once; the line is a command of the console.
     Command(&'static [(&'static str, Argument)]),
+    /// Each argument comes once; the line is a command of the console that makes a ticket. In a timed input `as` and
+    /// the ticket's name may follow, a good name and new among those of tickets.
+    Naming(&'static [(&'static str, Argument)]),
     /// The arguments come once or more, as a group.
     Repeated(&'static [(&'static str, Argument)]),
     /// The arguments come once for each processor.
@@ -50,6 +56,7 @@ impl Form {
         match self {
             Form::Once(arguments)
             | Form::Command(arguments)
+            | Form::Naming(arguments)
             | Form::Repeated(arguments)
             | Form::PerProcessor(arguments) => arguments,
         }

@@ -14,6 +14,7 @@ pub enum HeaderWord {
     Limits,
     Reuse,
     Without,
+    Strict,
 }
 
 /// A word that begins a line of the body.
@@ -55,6 +56,13 @@ pub enum ScriptWord {
     OnMutex(MutexTrap),
     Sleep,
     EndScript,
+}
+
+/// A ticket in a command: its number, or the number of its name among the names of tickets, from 1.
+#[derive(Clone, Copy, Debug, PartialEq, Eq)]
+pub enum TicketRef {
+    Numbered(u64),
+    Named(u32),
 }
 
 /// The reason why an input is refused.

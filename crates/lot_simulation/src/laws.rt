@@ -1,13 +1,13 @@
 //! Laws of the definitions, without executable code.
-ghost use Rattle.std.specs.Prelude.{◌≡◌, ◌≤◌, ◌<◌, ℕ, ◌+◌, false, List, length, map, sum_by};
+ghost use Rattle.std.specs.Prelude.{◌≡◌, ◌≤◌, ◌<◌, ℕ, ◌+◌, false, true, List, [], ◌∷◌, ◌++◌, length, map, sum_by};
 ghost use Rattle.std.specs.List.{range_with_len};
 ghost use Rattle.std.specs.List.Sorted.{IsNonDecreasing};
 ghost use Rattle.lot_machine.specs.Bounds.{IsBetween, IsWithinBounds};
 ghost use Rattle.lot_machine.specs.declared.reply.Reply.{Reply};
 ghost use Rattle.lot_simulation.specs.World.{Program, IsLegal, IsLegalInTime, system_run};
 ghost use Rattle.lot_simulation.specs.Report.{idles_in, quanta_in, ticks_in, total_of, turns_made, turns_of};
-ghost use Rattle.lot_simulation.specs.Timed.{clock_of, end_of, ended_at, last_moment, timed_room, timed_schedule};
-ghost use Rattle.lot_simulation.specs.Timed.{timed_turns};
+ghost use Rattle.lot_simulation.specs.Timed.{TimedTurn, clock_of, end_of, ended_at, is_refusal, is_stopped, last_moment};
+ghost use Rattle.lot_simulation.specs.Timed.{timed_room, timed_schedule, timed_turns};
 ghost use Rattle.lot_simulation.specs.TimedReport.{actor_turns, clock_at, idle_until, timed_report, timed_report_of};
 
 /// The counts of each actor's turns add up to the counts over all turns of a legal history, and the numbers of turns
@@ -87,9 +87,17 @@ pub fn timed_processors_add_up()
         ≡ total_of ticks_in (actor_turns (timed_turns program)) }
 {}
 
-/// A timed program that makes fewer turns than there is room for comes to its end, and its report has no line of an
-/// early end.
+/// A timed program that makes fewer turns than there is room for comes to its end, unless a refusal ends it, and its
+/// report has no line of an early end.
 pub fn few_turns_come_to_the_end()
-    ensures { (program : Program) → length (timed_turns program) < timed_room
+    ensures { (program : Program) → is_stopped program (last_moment program) ≡ false
+        → length (timed_turns program) < timed_room
         → timed_report program ≡ timed_report_of (last_moment program) (end_of program) (timed_turns program) }
+{}
+
+/// A refused command or trap is the last turn of a strict program.
+pub fn refusals_end_strict_programs()
+    ensures { (program : Program) → program.strict ≡ true
+        → (before : List TimedTurn) (done : TimedTurn) (others : List TimedTurn)
+        → timed_turns program ≡ before ++ done ∷ others → is_refusal done.turn.answer ≡ true → others ≡ [] }
 {}

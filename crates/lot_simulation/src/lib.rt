@@ -6,12 +6,14 @@ mod format;
 mod forms;
 mod input;
 pub mod laws;
+pub mod named_tickets;
 pub mod printed;
 pub mod ranges;
 pub mod read;
 mod script;
 mod separators;
 pub mod sliced;
+pub mod strict;
 mod style;
 pub mod texts;
 mod timed;
@@ -21,12 +23,12 @@ pub mod worked;
 
 pub use format::Format;
 pub use forms::{Argument, Form, Range};
-pub use input::{BodyWord, HeaderWord, InputFault, InputRefusal, ScriptWord};
+pub use input::{BodyWord, HeaderWord, InputFault, InputRefusal, ScriptWord, TicketRef};
 pub use script::{Line, MutexTrap, PortTrap, ScriptTrap};
 pub use separators::Separators;
 pub use style::LineStyle;
 pub use timed::{Clock, Due, EarlyEnd, PastLives, Sleeper, Span, SpanChange, Spans, TICK_PARTS};
 pub use words::{
-    BODY_WORDS, COMPENSATION_WORD, FIRST_WORD, HEADER_WORDS, LENDING_WORD, RUNS_WORD,
+    AS_WORD, BODY_WORDS, COMPENSATION_WORD, FIRST_WORD, HEADER_WORDS, LENDING_WORD, RUNS_WORD,
     SCHEDULE_WORD, SCRIPT_WORDS, WordRow,
 };

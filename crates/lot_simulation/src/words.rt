@@ -8,10 +8,10 @@ ghost use Rattle.lot_simulation.specs.Words.{header_place, script_words, timed_s
 
 use crate::format::Format;
 use crate::forms::Argument::{
-    Actor, AnyName, AnyNumber, KnownName, Mechanism, NewName, Number, Time, Version,
+    Actor, AnyName, AnyNumber, KnownName, Mechanism, NewName, Number, Ticket, Time, Version,
 };
 use crate::forms::Form;
-use crate::forms::Form::{Command, Once, PerProcessor, Repeated};
+use crate::forms::Form::{Command, Naming, Once, PerProcessor, Repeated};
 use crate::input::{BodyWord, HeaderWord, ScriptWord};
 use crate::ranges;
 use crate::script::{MutexTrap, PortTrap};
@@ -28,15 +28,18 @@ pub const COMPENSATION_WORD: &[u8] = b"compensation";
 /// After `without`: a blocked thread lends to nobody.
 pub const LENDING_WORD: &[u8] = b"lending";
 
+/// Before the name of a new ticket.
+pub const AS_WORD: &[u8] = b"as";
+
 /// The first word of a line of a schedule, which lists actors.
 pub const SCHEDULE_WORD: &[u8] = b"schedule";
 
 /// The first word of a line of a schedule that lists runs, several turns of one actor in a row.
 pub const RUNS_WORD: &[u8] = b"runs";
 
-/// The words of the header in the order of their lines; first `for`, `reuse` and `without`, which only some formats
-/// have.
-pub const HEADER_WORDS: [WordRow<HeaderWord>; 9] = [
+/// The words of the header in the order of their lines; first `for`, `reuse`, `without` and `strict`, which only some
+/// formats have.
+pub const HEADER_WORDS: [WordRow<HeaderWord>; 10] = [
     (
         b"for",
         HeaderWord::For,
@@ -48,6 +51,7 @@ pub const HEADER_WORDS: [WordRow<HeaderWord>; 9] = [
         HeaderWord::Without,
         Once(&[("MECHANISM", Mechanism)]),
     ),
+    (b"strict", HeaderWord::Strict, Once(&[])),
     (
         FIRST_WORD,
         HeaderWord::Lottery,
@@ -90,7 +94,7 @@ pub const BODY_WORDS: [WordRow<BodyWord>; 20] = [
     (
         b"settkt",
         BodyWord::SetTicket,
-        Command(&[("TICKET", AnyNumber), ("AMOUNT", AnyNumber)]),
+        Command(&[("TICKET", Ticket), ("AMOUNT", AnyNumber)]),
     ),
     (
         b"rmthr",
@@ -116,12 +120,12 @@ pub const BODY_WORDS: [WordRow<BodyWord>; 20] = [
     (
         b"mktkt",
         BodyWord::MakeTicket,
-        Command(&[("AMOUNT", AnyNumber), ("CURRENCY", AnyName)]),
+        Naming(&[("AMOUNT", AnyNumber), ("CURRENCY", AnyName)]),
     ),
     (
         b"rmtkt",
         BodyWord::RemoveTicket,
-        Command(&[("TICKET", AnyNumber)]),
+        Command(&[("TICKET", Ticket)]),
     ),
     (
         b"mkcur",
@@ -136,13 +140,9 @@ pub const BODY_WORDS: [WordRow<BodyWord>; 20] = [
     (
         b"fund",
         BodyWord::Fund,
-        Command(&[("TICKET", AnyNumber), ("TARGET", AnyName)]),
+        Command(&[("TICKET", Ticket), ("TARGET", AnyName)]),
     ),
-    (
-        b"unfund",
-        BodyWord::Unfund,
-        Command(&[("TICKET", AnyNumber)]),
-    ),
+    (b"unfund", BodyWord::Unfund, Command(&[("TICKET", Ticket)])),
     (
         b"mkthr",
         BodyWord::MakeThread,
@@ -151,7 +151,7 @@ pub const BODY_WORDS: [WordRow<BodyWord>; 20] = [
     (
         b"fundx",
         BodyWord::MakeFunded,
-        Command(&[
+        Naming(&[
             ("AMOUNT", AnyNumber),
             ("CURRENCY", AnyName),
             ("NAME", AnyName),
@@ -232,7 +232,7 @@ pub const SCRIPT_WORDS: [WordRow<ScriptWord>; 14] = [
 ];
 
 // The tables above as static data: a constant would be built anew at each call.
-static HEADER_TABLE: [WordRow<HeaderWord>; 9] = HEADER_WORDS;
+static HEADER_TABLE: [WordRow<HeaderWord>; 10] = HEADER_WORDS;
 
 static BODY_TABLE: [WordRow<BodyWord>; 20] = BODY_WORDS;
 
@@ -246,7 +246,7 @@ impl HeaderWord {
         if format.is_timed() {
             word_spelled(&HEADER_TABLE, token)
         } else {
-            word_spelled(&HEADER_TABLE[3..], token)
+            word_spelled(&HEADER_TABLE[4..], token)
         }
     }
 
