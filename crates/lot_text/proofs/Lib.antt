@@ -7,4 +7,5 @@ pub mod PhraseLemmas
 pub mod RunLemmas
 pub mod ScriptLemmas
 pub mod SeedLemmas
+pub mod TicketLemmas
 pub mod TokenLemmas

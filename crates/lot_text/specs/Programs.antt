@@ -10,7 +10,7 @@ IsSeed seed = IsBetween 1 2147483646 seed
 
 -- Sizes are within their bounds; each processor has a seed; the number of scripts is that of the sizes; the
 -- schedule's actors are the console and the processors; turns, commands and schedule are within the limits of inputs.
--- If the program is timed, each command has a time. Times never decrease.
+-- If the program is timed, each command has a time. Times never decrease. Tickets have a limited number of names.
 pub record IsProgram (program : Program) : Type 0 where
   pub limits : IsWithinBounds program.limits
   pub seed_count : length program.seeds ≡ program.limits.processors
@@ -22,3 +22,4 @@ pub record IsProgram (program : Program) : Type 0 where
   pub schedule_length : length program.schedule ≤ 1000000
   pub time_count : IsSome program.duration → length program.times ≡ length program.commands
   pub rising : IsNonDecreasing program.times
+  pub ticket_names : program.ticket_names ≤ 4096

@@ -22,6 +22,7 @@ reading_of r = record {
   reuse = r.reuse;
   without_compensation = r.without_compensation;
   without_lending = r.without_lending;
+  strict = r.strict;
   ports = r.ports.items;
   mutexes = r.mutexes.items;
   scripts = r.scripts.items;
@@ -29,5 +30,7 @@ reading_of r = record {
   commands = r.commands;
   time = r.time;
   times = r.times.items;
+  ticket_names = r.ticket_names.items;
+  names = r.names.items;
   schedule = r.schedule.items;
 }

@@ -1,12 +1,13 @@
 -- The invariant of every state of reading an input.
-use Rattle.std.specs.Prelude.{◌≡◌, ℕ, ◌<◌, ◌≤◌, Result, Ok, List, [], ◌∷◌, length, take, All, IsSome, IsTrue, Some, if◌then◌else◌}
+use Rattle.std.specs.Prelude.{◌≡◌, ℕ, ◌<◌, ◌≤◌, Option, None, Result, Ok, Err, List, [], ◌∷◌, length, take, All, IsSome, IsTrue, Some, if◌then◌else◌}
 use Rattle.std.specs.List.Sorted.{IsNonDecreasing}
 use Rattle.std.specs.Option.{ForSome}
 use Rattle.lot_simulation.specs.declared.input.InputRefusal.{InputRefusal}
-use Rattle.lot_simulation.specs.declared.input.InputRefusal.TheVariants.{TooLong}
+use Rattle.lot_simulation.specs.declared.input.InputRefusal.TheVariants.{BadLine, TooLong}
+use Rattle.lot_machine.specs.declared.command.Command.{Command}
 use Rattle.lot_simulation.specs.declared.script.Line.{Line}
 use Rattle.lot_machine.specs.Bounds.{IsBetween}
-use Rattle.lot_simulation.specs.Grammar.{Phrase, add_runs, is_alone, is_full, run_of, with_line}
+use Rattle.lot_simulation.specs.Grammar.{Phrase, add_command, add_named, add_runs, is_alone, is_full, names_ticket, run_of, with_line}
 use Rattle.lot_simulation.specs.Reading.{Reading, OpenScript, ◌>>=◌, checked, each_pair}
 use Rattle.lot_script.specs.Drafts.{loops_after}
 use Rattle.lot_text.specs.Programs.{IsSeed}
@@ -37,11 +38,12 @@ pub record IsReading (r : Reading) : Type 0 where
   pub running : IsSome r.duration → IsTrue r.is_timed
   pub rising : IsNonDecreasing r.times
   pub past : All (λ time. time ≤ r.time) r.times
+  pub ticket_name_count : length r.ticket_names ≤ 4096
   pub unscheduled : r.place ≡ 0 → r.schedule ≡ []
 
 -- the reading after a line of the body, which ends the header
 abbrev pub after_header : Result Reading InputRefusal → Result Reading InputRefusal
-after_header read = read >>= λ after. Ok (record after { place = 9 })
+after_header read = read >>= λ after. Ok (record after { place = 10 })
 
 -- the reading with this script open
 abbrev pub within_script : Reading → OpenScript → Reading
@@ -62,3 +64,14 @@ line_added r s l = checked ((is_full s, TooLong) ∷ []) (within_script r (recor
 -- the reading after the schedule gets each pair of tokens as a run
 abbrev pub pairs_added : Reading → List (List ℕ) → Result Reading InputRefusal
 pairs_added r tokens = each_pair (run_of r.processors) tokens >>= λ runs. add_runs r runs
+
+-- the name of a new ticket in the tokens at the end of a line, if they are `as` and a name
+abbrev pub name_at_end : Reading → List (List ℕ) → Result (Option (List ℕ)) InputRefusal
+name_at_end r [] = Ok None
+name_at_end r (word ∷ token ∷ []) = if names_ticket r word then Ok (Some token) else Err BadLine
+name_at_end r other = Err BadLine
+
+-- the reading after a command that makes a ticket, with this name if there is one
+abbrev pub ticket_added : Reading → Option (List ℕ) → Command → Result Reading InputRefusal
+ticket_added r None c = add_command r c
+ticket_added r (Some token) c = add_named r token c

@@ -10,6 +10,7 @@ use crate::name::{any_name, new_name};
 use crate::number::{actor_below, any_number, number_in};
 use crate::reading::{BODY, MOST_ENTRIES, OpenScript, Reading};
 use crate::runs::read_runs;
+use crate::ticket::{any_ticket, name_at_end, ticket_name, ticket_number};
 use crate::tokens::Tokens;
 use lot_machine::{Command, CurrencyRef, Kind, Sizes, TargetRef, ThreadRef, is_good_name};
 use lot_script::ScriptBuilder;
@@ -104,15 +105,16 @@ fn open_script(
     Ok(())
 }
 
-/// `mktkt AMOUNT CURRENCY`
+/// `mktkt AMOUNT CURRENCY`, and in an input of `lottery 3` with `as TICKET` or without
 fn make_ticket(reading: &mut Reading, mut tokens: Tokens<'_>) -> Result<(), LineFault>
     ensures { (n : ℕ) → Gives reading.new result (body_after_header n reading.old BodyWord.MakeTicket tokens.entry) }
 {
     let amount = tokens.expected()?;
-    let currency = tokens.only()?;
+    let currency = tokens.expected()?;
+    let ticket = name_at_end(reading, tokens)?;
     let amount = any_number(amount)?;
     let currency = CurrencyRef::Named(any_name(currency)?);
-    reading.add_command(Command::MakeTicket { amount, currency })
+    reading.add_ticket(ticket, Command::MakeTicket { amount, currency })
 }
 
 /// `rmtkt TICKET`
@@ -120,8 +122,9 @@ fn remove_ticket(reading: &mut Reading, tokens: Tokens<'_>) -> Result<(), LineFa
     ensures { (n : ℕ) → Gives reading.new result (body_after_header n reading.old BodyWord.RemoveTicket tokens.entry) }
 {
     let ticket = tokens.only()?;
-    let ticket = any_number(ticket)?;
-    reading.add_command(Command::RemoveTicket { ticket })
+    let given = any_ticket(reading, ticket)?;
+    let ticket = ticket_number(given);
+    reading.add_naming(ticket_name(given), Command::RemoveTicket { ticket })
 }
 
 /// `mkcur NAME`
@@ -149,9 +152,10 @@ fn fund(reading: &mut Reading, mut tokens: Tokens<'_>) -> Result<(), LineFault>
 {
     let ticket = tokens.expected()?;
     let target = tokens.only()?;
-    let ticket = any_number(ticket)?;
+    let given = any_ticket(reading, ticket)?;
+    let ticket = ticket_number(given);
     let target = TargetRef::Named(any_name(target)?);
-    reading.add_command(Command::Fund { ticket, target })
+    reading.add_naming(ticket_name(given), Command::Fund { ticket, target })
 }
 
 /// `unfund TICKET`
@@ -159,8 +163,9 @@ fn unfund(reading: &mut Reading, tokens: Tokens<'_>) -> Result<(), LineFault>
     ensures { (n : ℕ) → Gives reading.new result (body_after_header n reading.old BodyWord.Unfund tokens.entry) }
 {
     let ticket = tokens.only()?;
-    let ticket = any_number(ticket)?;
-    reading.add_command(Command::Unfund { ticket })
+    let given = any_ticket(reading, ticket)?;
+    let ticket = ticket_number(given);
+    reading.add_naming(ticket_name(given), Command::Unfund { ticket })
 }
 
 /// `rmthr THREAD`, in an input of `lottery 3`
@@ -188,9 +193,10 @@ fn set_ticket(reading: &mut Reading, mut tokens: Tokens<'_>) -> Result<(), LineF
 {
     let ticket = tokens.expected()?;
     let amount = tokens.only()?;
-    let ticket = any_number(ticket)?;
+    let given = any_ticket(reading, ticket)?;
+    let ticket = ticket_number(given);
     let amount = any_number(amount)?;
-    reading.add_command(Command::SetTicket { ticket, amount })
+    reading.add_naming(ticket_name(given), Command::SetTicket { ticket, amount })
 }
 
 /// `mkthr NAME SCRIPT`
@@ -204,24 +210,28 @@ fn make_thread(reading: &mut Reading, mut tokens: Tokens<'_>) -> Result<(), Line
     reading.add_command(Command::MakeThread { name, script })
 }
 
-/// `fundx AMOUNT CURRENCY NAME SCRIPT`
+/// `fundx AMOUNT CURRENCY NAME SCRIPT`, and in an input of `lottery 3` with `as TICKET` or without
 fn make_funded(reading: &mut Reading, mut tokens: Tokens<'_>) -> Result<(), LineFault>
     ensures { (n : ℕ) → Gives reading.new result (body_after_header n reading.old BodyWord.MakeFunded tokens.entry) }
 {
     let amount = tokens.expected()?;
     let currency = tokens.expected()?;
     let name = tokens.expected()?;
-    let script = tokens.only()?;
+    let script = tokens.expected()?;
+    let ticket = name_at_end(reading, tokens)?;
     let amount = any_number(amount)?;
     let currency = CurrencyRef::Named(any_name(currency)?);
     let name = any_name(name)?;
     let script = script_named(reading, script)?;
-    reading.add_command(Command::MakeFunded {
-        amount,
-        currency,
-        name,
-        script,
-    })
+    reading.add_ticket(
+        ticket,
+        Command::MakeFunded {
+            amount,
+            currency,
+            name,
+            script,
+        },
+    )
 }
 
 /// `lstkt`

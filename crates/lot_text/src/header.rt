@@ -70,6 +70,7 @@ fn header_arguments(
         HeaderWord::Limits => read_limits(reading, tokens),
         HeaderWord::Reuse => read_reuse(reading, tokens),
         HeaderWord::Without => read_without(reading, tokens),
+        HeaderWord::Strict => read_strict(reading, tokens),
     }
 }
 
@@ -189,4 +190,16 @@ fn read_without(reading: &mut Reading, tokens: Tokens<'_>) -> Result<(), LineFau
         return Ok(());
     }
     Err(LineFault::Refused(InputRefusal::BadLine))
+}
+
+/// `strict`, in a timed input
+fn read_strict(reading: &mut Reading, tokens: Tokens<'_>) -> Result<(), LineFault>
+    ensures { Gives reading.new result (header_line_read reading.old HeaderWord.Strict tokens.entry) }
+{
+    tokens.none()?;
+    if !reading.format.is_timed() {
+        return Err(LineFault::Refused(InputRefusal::BadLine));
+    }
+    reading.strict = true;
+    Ok(())
 }

@@ -14,6 +14,7 @@ mod reading;
 mod runs;
 mod script_lines;
 mod seed;
+mod ticket;
 mod tokens;
 mod words;
 

@@ -14,9 +14,9 @@ pub(crate) fn any_name(token: &[u8]) -> Result<Name, InputRefusal>
     Name::from_bytes(token).ok_or(InputRefusal::TooLong)
 }
 
-/// The name of a new port or mutex: a good one that no other of its kind has.
+/// The name of a new port, mutex or ticket: a good one that no other of its kind has.
 pub(crate) fn new_name(names: &[Name], token: &[u8]) -> Result<Name, InputRefusal>
-    requires { length names.now ≤ 256 }
+    requires { length names.now ≤ 4096 }
     ensures { result ≡ new_name_read names.now token.now }
 {
     let name = any_name(token)?;
@@ -28,7 +28,7 @@ pub(crate) fn new_name(names: &[Name], token: &[u8]) -> Result<Name, InputRefusa
 
 /// The number of the port or mutex with this name, in a line of a script.
 pub(crate) fn known_name(names: &[Name], token: &[u8]) -> Result<u32, InputRefusal>
-    requires { length names.now ≤ 256 }
+    requires { length names.now ≤ 4096 }
     ensures { result ≡ known_name_read names.now token.now }
 {
     if 16 < token.len() {
@@ -38,9 +38,10 @@ pub(crate) fn known_name(names: &[Name], token: &[u8]) -> Result<u32, InputRefus
 }
 
 /// The number of the first of these names with this spelling, from 1.
-fn number_named(names: &[Name], token: &[u8]) -> Option<u32>
-    requires { length names.now ≤ 256 }
-    ensures { result ≡ number_named_read names.now token.now }
+pub(crate) fn number_named(names: &[Name], token: &[u8]) -> Option<u32>
+    requires { length names.now ≤ 4096 }
+    ensures number { result ≡ number_named_read names.now token.now }
+    ensures within { IfSome result (λ number. number ≤ length names.now) }
 {
     match place_named(names, token) {
         Some(place) => Some(place as u32 + 1),

@@ -93,7 +93,7 @@ pub(crate) fn number_in(range: Range, token: &[u8]) -> Result<u32, InputRefusal>
     Ok(number as u32)
 }
 
-/// An amount or a ticket's number in a command. Only the kernel checks it further.
+/// An amount in a command. Only the kernel checks it further.
 pub(crate) fn any_number(token: &[u8]) -> Result<u64, InputRefusal>
     ensures { result ≡ any_number_read token.now }
 {

@@ -29,6 +29,9 @@ pub struct Program {
     pub(crate) schedule: ArcSlice<u8>,
     pub(crate) duration: Option<u32>,
     pub(crate) times: ArcSlice<u32>,
+    pub(crate) ticket_names: u32,
+    pub(crate) names: ArcSlice<Option<u16>>,
+    pub(crate) strict: bool,
 }
 
 impl Model for Program {
@@ -50,6 +53,9 @@ impl Model for Program {
       schedule = arc_slice_items p.schedule;
       duration = p.duration;
       times = arc_slice_items p.times;
+      ticket_names = p.ticket_names;
+      names = arc_slice_items p.names;
+      strict = p.strict;
     } };
 
     ghost invariant = { λ p. record {
@@ -62,6 +68,9 @@ impl Model for Program {
         schedule = arc_slice_items p.schedule;
         duration = p.duration;
         times = arc_slice_items p.times;
+        ticket_names = p.ticket_names;
+        names = arc_slice_items p.names;
+        strict = p.strict;
       });
       unit : unit_of p.format ≡ p.limits.unit;
       timed : is_timed p.format ≡ is_some p.duration;
@@ -144,6 +153,30 @@ impl Program {
         self.times.as_slice()
     }
 
+    /// How many names tickets can have, at most 4096.
+    pub fn ticket_names(&self) -> u32
+        ensures ticket_names { result ≡ self.now.ticket_names }
+        ensures legal { IsProgram self.now }
+    {
+        self.ticket_names
+    }
+
+    /// The number of the name that each command has for its ticket, if the program is timed, and otherwise none.
+    pub fn names(&self) -> &[Option<u16>]
+        ensures names { result.now ≡ self.now.names }
+        ensures legal { IsProgram self.now }
+    {
+        self.names.as_slice()
+    }
+
+    /// Whether a refused command or trap ends the play of a timed program.
+    pub fn is_strict(&self) -> bool
+        ensures strict { result ≡ self.now.strict }
+        ensures legal { IsProgram self.now }
+    {
+        self.strict
+    }
+
     /// A copy of the program without time, as a free run makes it: each `sleep` ends at once, so it is a `yield`. It
     /// fails only if out of memory.
     pub fn without_time(&self, alloc: Global) -> Result<Program, AllocError>
@@ -166,8 +199,8 @@ impl Program {
         Ok(program)
     }
 
-    /// A copy of the program. It shares the commands, the schedule and the times with this one, since no program ever
-    /// changes them. It fails only if out of memory.
+    /// A copy of the program. It shares the commands with their times and names and the schedule with this one, since
+    /// no program ever changes them. It fails only if out of memory.
     pub fn copied(&self, alloc: Global) -> Result<Program, AllocError>
         ensures { IfOk result (λ program. program ≡ self.now) }
     {
@@ -181,6 +214,9 @@ impl Program {
             schedule: self.schedule.clone()?,
             duration: self.duration,
             times: self.times.clone()?,
+            ticket_names: self.ticket_names,
+            names: self.names.clone()?,
+            strict: self.strict,
         })
     }
 }

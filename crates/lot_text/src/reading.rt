@@ -8,6 +8,7 @@ ghost use Rattle.std.specs.Str.{bytes_eq};
 ghost use Rattle.lot_machine.specs.Bounds.{IsBetween};
 ghost use Rattle.lot_machine.specs.Lottery.{mixed_seed};
 ghost use Rattle.lot_simulation.specs.Grammar.{add_command as add_command_read, add_runs as add_runs_read};
+ghost use Rattle.lot_simulation.specs.Grammar.{add_named as add_named_read, add_naming as add_naming_read};
 ghost use Rattle.lot_simulation.specs.Grammar.{closed_program, lacks_duration as lacks_duration_read, limits_of};
 ghost use Rattle.lot_simulation.specs.Grammar.{is_after_seed as is_after_seed_read, is_given as is_given_read};
 ghost use Rattle.lot_simulation.specs.Grammar.{has_line as has_line_read};
@@ -18,10 +19,11 @@ ghost use Rattle.lot_simulation.specs.Reading.{number_named, opening_reading};
 ghost use Rattle.lot_simulation.specs.Words.{header_place};
 ghost use Rattle.lot_machine.specs.State.{sizes_of};
 ghost use Rattle.lot_text.specs.Faults.{Gives, IsFaultOf};
-ghost use Rattle.lot_text.specs.Readings.{AreSeeds, after_header};
+ghost use Rattle.lot_text.specs.Readings.{AreSeeds, after_header, ticket_added};
 
 use crate::commands::CommandList;
 use crate::fault::LineFault;
+use crate::name::new_name;
 use crate::runs::{ActorRun, actors_of, have_room};
 use crate::{Commands, ParseFault, Program};
 use lot_machine::{Command, Limits, Name, Sizes};
@@ -68,6 +70,9 @@ pub(crate) const BODY: u32 = HEADER_WORDS.len() as u32;
 /// The largest number of entries in a schedule.
 pub(crate) const MOST_ENTRIES: usize = 1000000;
 
+/// The largest number of names that tickets can have.
+const MOST_TICKET_NAMES: usize = 4096;
+
 /// The state after some lines of an input.
 #[derive(Drop)]
 pub(crate) struct Reading {
@@ -90,6 +95,8 @@ pub(crate) struct Reading {
     pub(crate) without_compensation: bool,
     /// Whether blocked threads lend to nobody.
     pub(crate) without_lending: bool,
+    /// Whether a refused command or trap ends the play.
+    pub(crate) strict: bool,
     pub(crate) ports: Vec<Name>,
     pub(crate) mutexes: Vec<Name>,
     pub(crate) scripts: Vec<NamedScript>,
@@ -99,6 +106,10 @@ pub(crate) struct Reading {
     pub(crate) time: u32,
     /// The times of the commands so far, in a timed input.
     pub(crate) times: Vec<u32>,
+    /// The names that tickets can have.
+    pub(crate) ticket_names: Vec<Name>,
+    /// The number of the name that each command so far has for its ticket, in a timed input.
+    pub(crate) names: Vec<Option<u16>>,
     pub(crate) schedule: Vec<u8>,
 }
 
@@ -135,6 +146,7 @@ impl Reading {
             reuse: false,
             without_compensation: false,
             without_lending: false,
+            strict: false,
             ports: Vec::new(alloc),
             mutexes: Vec::new(alloc),
             scripts: Vec::new(alloc),
@@ -142,6 +154,8 @@ impl Reading {
             commands: CommandList::new(alloc),
             time: 0,
             times: Vec::new(alloc),
+            ticket_names: Vec::new(alloc),
+            names: Vec::new(alloc),
             schedule: Vec::new(alloc),
         }
     }
@@ -200,15 +214,54 @@ impl Reading {
         Ok(())
     }
 
-    /// Adds a command, which ends the header.
+    /// Adds a command that names no ticket, which ends the header.
     pub(crate) fn add_command(&mut self, command: Command) -> Result<(), LineFault>
         ensures { Gives self.new result (after_header (add_command_read self.old command)) }
+    {
+        self.add_naming(None, command)
+    }
+
+    /// Adds a command that makes a ticket, which has this name if one is given. It ends the header.
+    pub(crate) fn add_ticket(
+        &mut self,
+        name: Option<&[u8]>,
+        command: Command,
+    ) -> Result<(), LineFault>
+        ensures { Gives self.new result (after_header (ticket_added self.old (option_map (λ token. token.now) name.entry)
+            command)) }
+    {
+        match name {
+            Some(token) => self.add_named(token, command),
+            None => self.add_command(command),
+        }
+    }
+
+    /// Adds a command that makes a ticket with this name, which must be new.
+    fn add_named(&mut self, token: &[u8], command: Command) -> Result<(), LineFault>
+        ensures { Gives self.new result (after_header (add_named_read self.old token.now command)) }
+    {
+        let name = new_name(self.ticket_names.as_slice(), token)?;
+        if MOST_TICKET_NAMES <= self.ticket_names.len() {
+            return Err(LineFault::Refused(InputRefusal::TooLong));
+        }
+        self.ticket_names.push(name)?;
+        let number = self.ticket_names.len() as u16;
+        self.add_naming(Some(number), command)
+    }
+
+    /// Adds a command, with the number of the name that it has for its ticket, which ends the header.
+    pub(crate) fn add_naming(
+        &mut self,
+        name: Option<u16>,
+        command: Command,
+    ) -> Result<(), LineFault>
+        ensures { Gives self.new result (after_header (add_naming_read self.old name command)) }
     {
         if 100000 <= self.commands.len() {
             return Err(LineFault::Refused(InputRefusal::TooLong));
         }
         if self.format.is_timed() {
-            return self.add_timed_command(command);
+            return self.add_timed_command(name, command);
         }
         self.commands.push(command)?;
         self.place = BODY;
@@ -216,14 +269,16 @@ impl Reading {
     }
 
     /// Adds a command of a timed input.
-    fn add_timed_command(&mut self, command: Command) -> Result<(), LineFault>
+    fn add_timed_command(&mut self, name: Option<u16>, command: Command) -> Result<(), LineFault>
         requires timed { IsTrue self.old.is_timed }
         requires room { length self.old.commands < 100000 }
-        ensures { Gives self.new result (after_header (add_command_read self.old command)) }
+        ensures { Gives self.new result (after_header (add_naming_read self.old name command)) }
     {
         self.times.reserve(1)?;
+        self.names.reserve(1)?;
         self.commands.push(command)?;
         self.times.push_reserved(self.time);
+        self.names.push_reserved(name);
         self.place = BODY;
         Ok(())
     }
@@ -311,6 +366,7 @@ impl Reading {
             reuse: _,
             without_compensation: _,
             without_lending: _,
+            strict,
             ports: _,
             mutexes: _,
             scripts,
@@ -318,6 +374,8 @@ impl Reading {
             commands,
             time: _,
             times,
+            ticket_names,
+            names,
             schedule,
         } = self;
         if let Some(script) = unclosed {
@@ -326,13 +384,14 @@ impl Reading {
                 refusal: InputRefusal::OpenScript,
             }));
         }
-        let tables = shared(commands, schedule, times)?;
+        let tables = shared(commands, schedule, times, names)?;
         let seeds = seeds_or_own(alloc, seeds, processors, format)?;
         let scripts = without_names(alloc, scripts)?;
         let SharedTables {
             commands,
             schedule,
             times,
+            names,
         } = tables;
         Ok(Program {
             format,
@@ -344,6 +403,9 @@ impl Reading {
             schedule,
             duration,
             times,
+            ticket_names: ticket_names.len() as u32,
+            names,
+            strict,
         })
     }
 }
@@ -354,6 +416,7 @@ struct SharedTables {
     commands: Commands,
     schedule: ArcSlice<u8>,
     times: ArcSlice<u32>,
+    names: ArcSlice<Option<u16>>,
 }
 
 /// These tables, to be shared.
@@ -361,15 +424,18 @@ fn shared(
     commands: CommandList,
     schedule: Vec<u8>,
     times: Vec<u32>,
+    names: Vec<Option<u16>>,
 ) -> Result<SharedTables, AllocError>
     ensures commands { IfOk result (λ tables. tables.commands ≡ commands) }
     ensures schedule { IfOk result (λ tables. arc_slice_items tables.schedule ≡ schedule.items) }
     ensures times { IfOk result (λ tables. arc_slice_items tables.times ≡ times.items) }
+    ensures names { IfOk result (λ tables. arc_slice_items tables.names ≡ names.items) }
 {
     Ok(SharedTables {
         commands: commands.into_commands()?,
         schedule: ArcSlice::from_vec(schedule)?,
         times: ArcSlice::from_vec(times)?,
+        names: ArcSlice::from_vec(names)?,
     })
 }
 

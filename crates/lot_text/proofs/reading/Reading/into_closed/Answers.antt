@@ -1,5 +1,5 @@
 -- What the program shares are the tables that were read.
-use Rattle.std.proofs.Common.{rules, ◌≡◌, ◌∙◌, ap, sym, length, arith}
+use Rattle.std.proofs.Common.{rules, ◌∙◌, ap, sym, length}
 use Rattle.std.proofs.lemmas.List.{length-map}
 use Rattle.lot_machine.specs.declared.sizes.Sizes.{Sizes}
 use Rattle.lot_simulation.specs.Reading.{Reading}
@@ -25,6 +25,7 @@ invariant_of-result c =
         schedule_length = rw schedule read.schedule_length;
         time_count = λ some. rw (times, commands) (read.time_count (read.running some));
         rising = rw times read.rising;
+        ticket_names = search rules;
       };
       unit = search rules;
       timed = search rules;
