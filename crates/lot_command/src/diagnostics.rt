@@ -16,7 +16,8 @@ const MOST_FAULTS: u32 = 10;
 /// The line after them, if the input has more.
 const MORE_FAULTS: &str = "there are more faults\n";
 
-/// The diagnostics for standard error. The output and the status don't depend on them.
+/// The diagnostics for standard error. The output doesn't depend on them, and of the status only whether a refusal
+/// ended a strict play.
 #[derive(Drop)]
 pub(crate) struct Diagnostics {
     /// The input, whose lines they name; after a play without the lines of the schedule at its end.

@@ -18,7 +18,7 @@ use std::thread::Threads;
 
 /// Success, or help was requested.
 const DONE: u8 = 0;
-/// The input was refused.
+/// The input was refused, or a refused command or trap ended a strict play.
 const REFUSED: u8 = 1;
 /// The command line was refused.
 const COMMAND_LINE: u8 = 2;
@@ -34,7 +34,7 @@ const BUFFER: usize = 65536;
 /// Runs the program with these words, the first of which is its own name, and returns its exit status:
 ///
 /// - 0 on success, or if help was requested;
-/// - 1 if the input was refused;
+/// - 1 if the input was refused, or if a refused command or trap ended the play of a strict one;
 /// - 2 if the command line was refused;
 /// - 3 if out of memory, if the input can't be opened or read, if `output` failed, or if workers stopped early.
 ///
@@ -134,7 +134,11 @@ fn request_status<H: Threads + Wait + Sync, R: Read + Drop, W: Write + Drop, E: 
     match played {
         Some(Played::Done) => {
             diagnostics.say_warnings(alloc, &mut errors);
-            DONE
+            if diagnostics.warnings.stopped {
+                REFUSED
+            } else {
+                DONE
+            }
         }
         Some(Played::Refused) => {
             diagnostics.say_why(alloc, &mut errors);

@@ -571,6 +571,56 @@ fn long_comment(rt: HostRuntime) {
     );
 }
 
+/// A strict input in which a thread's second lock of one mutex is refused.
+const STRICT: &str = "lottery 3
+quantum 10
+strict
+for 12
+mutex m
+script twice
+lock m lock m unlock m endscript
+fundx 1 base a twice
+";
+
+/// Its lines and its report.
+const STRICT_PLAYED: &str = "0 0 funded 1 1
+0 1 draw 0.992 of 1 thread 1
+1 1 thread 1 ticks 1 lock 1 taken
+2 1 thread 1 ticks 1 refused 35 AlreadyOwner
+report
+thread 1 a quanta 1 ticks 2 share 100% due 100% value 100% ready waits 1 mean 0 longest 0 refused 1
+processor 1 quanta 1 idle 0 ticks 2 unused 0
+total turns 4 quanta 1 ticks 2 refused 0 left 0
+ended at 2 of 12: 4 turns made
+";
+
+/// A refusal ends a strict play, with status 1 for each view of it. A run has no time, and goes on.
+#[test]
+fn strict_inputs(rt: HostRuntime) {
+    let alloc = rt.alloc();
+    check_play(&rt, alloc, STRICT, 1, STRICT_PLAYED);
+    for word in ["report", "explain", "shares", "chart"] {
+        let ended = ended_on(&rt, alloc, &["lot_sim", word], STRICT);
+        check_same_at(&rt, &word, &(ended.code, ended.errors.is_empty()), &(1, false));
+    }
+    let seeds = &["lot_sim", "report", "--seeds", "1..3"];
+    check_same_at(&rt, &"seeds", &ended_on(&rt, alloc, seeds, STRICT).code, &1);
+    let ended = ended_on(&rt, alloc, &["lot_sim", "run"], STRICT);
+    check_same_at(&rt, &"run", &ended.code, &0);
+}
+
+/// Without a refusal the status of a strict play is 0.
+#[test]
+fn strict_input_without_refusals(rt: HostRuntime) {
+    let input = "lottery 3\nfor 10\nstrict\n";
+    let output = "0 1 idle
+report
+processor 1 quanta 0 idle 1 ticks 0 unused 10
+total turns 1 quanta 0 ticks 0 refused 0 left 0
+";
+    check_play(&rt, rt.alloc(), input, 0, output);
+}
+
 /// Checks the exit status of these words, and where a text was written.
 fn check_words<H: Abort + Threads + Wait + Sync>(
     rt: &H,

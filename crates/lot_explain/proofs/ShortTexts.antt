@@ -11,6 +11,7 @@ use Rattle.lot_simulation.specs.declared.timed.Due.{Due}
 use Rattle.lot_simulation.specs.Grammar.{program_in}
 use Rattle.lot_simulation.specs.Output.{output, played_output, printed_actor, scheduled_output, timed_output, timed_text, turn_text, turn_texts}
 use Rattle.lot_simulation.specs.Report.{report}
+use Rattle.lot_simulation.proofs.TimesRise.{next-follows}
 use Rattle.lot_simulation.specs.Timed.{Moment, TimedTurn, all_due, due_first, earliest, end_of, moment_after, next_due, opening_moment, timed_room, timed_turns, turn_due, turns_from, within}
 use Rattle.lot_simulation.specs.TimedReport.{timed_report}
 use Rattle.lot_simulation.specs.World.{Program, World, opening_world, system_run, system_turn}
@@ -75,7 +76,7 @@ times-short program small (suc room) m short = at (λ next. times-short program 
         let turn = system_turn program m.world due.actor in
         let next = moment_after m done in
         let others = turns_from program room next in
-        let time : due.time < 2 ^ 32 = omega (arith, within-end (end_of program) (earliest (all_due program m)) due is, small) in
+        let time : due.time < 2 ^ 32 = omega (arith, within-end (end_of program) (earliest (all_due program m)) due (next-follows program m due is), small) in
         more-short (program.limits.threads * 183) (length others) (lots_text (Timed due.time) (printed_actor turn.world.state due.actor) m.world.state turn.answer) (turn_text (Timed due.time) due.actor turn) (explained_times Lots turn.world others)
         (flat_map timed_text others) (turn-short (Timed due.time) program m.world due.actor (printed_actor turn.world.state due.actor) (min-le_left due.actor (turn.world.state.limits.processors + 1)) time short) (later next (turn-keeps program m.world due.actor short))
 

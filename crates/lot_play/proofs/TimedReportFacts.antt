@@ -20,7 +20,7 @@ use Rattle.lot_simulation.specs.declared.timed.EarlyEnd.{EarlyEnd}
 use Rattle.lot_simulation.specs.declared.timed.PastLives.{PastLives}
 use Rattle.lot_simulation.specs.declared.timed.Spans.{Spans}
 use Rattle.lot_simulation.specs.Report.{ActorTurn, ticks_in, total_of, turns_made, turns_of}
-use Rattle.lot_simulation.specs.Timed.{Moment, TimedTurn, clock_of, end_of, ended_at, last_moment, moment_after_all, next_due, opening_moment, timed_turns}
+use Rattle.lot_simulation.specs.Timed.{Moment, TimedTurn, clock_of, end_of, ended_at, following, last_moment, moment_after_all, opening_moment, timed_turns}
 use Rattle.lot_simulation.specs.TimedReport.{actor_turns, due_in, early_end, early_text, idle_until, life_change, live_part, live_time, mutex_change, no_lives, past_lives, ready_in, refusals_in, refused_traps_in, reply_change, report_at, timed_processor_total, timed_report, timed_report_of, timed_whole_total, spans_in, with_lives}
 use Rattle.lot_simulation.specs.World.{Program, World, opening_world, system_after, system_turn}
 use Rattle.lot_simulation.proofs.ClocksAddUp.{turn-limits}
@@ -108,8 +108,8 @@ module _ (seen : Seen) (timekeeper : Timekeeper) (end : IsAtEnd seen timekeeper)
 
 -- ---- early ends
 
--- how a play ended early, if a turn is still due
-pub early-is : (program : Program) (m : Moment) (due : Due) (end turns n : ℕ) → Some due ≡ next_due program m → end ≡ end_of program → turns ≡ n → Some (record { time = m.time; end = end; turns = turns }) ≡ early_end program m n
+-- how a play ended early, if a turn would follow
+pub early-is : (program : Program) (m : Moment) (due : Due) (end turns n : ℕ) → Some due ≡ following program m → end ≡ end_of program → turns ≡ n → Some (record { time = m.time; end = end; turns = turns }) ≡ early_end program m n
 early-is program m due end turns n is last made = rw (last, made) (ap (option_map (λ (d : Due). record { time = m.time; end = end_of program; turns = n })) is)
 
 -- the line of the early end of a system that stays as it is

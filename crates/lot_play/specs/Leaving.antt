@@ -1,8 +1,9 @@
 -- The warnings of a run.
-use Rattle.std.specs.Prelude.{ℕ, ◌==◌, Option, None, length, if◌then◌else◌}
+use Rattle.std.specs.Prelude.{ℕ, ◌==◌, Bool, false, Option, None, length, if◌then◌else◌}
 use Rattle.lot_machine.specs.declared.reply.Reply.{Reply}
 use Rattle.lot_machine.specs.declared.reply.Reply.TheVariants as replies
 use Rattle.lot_simulation.specs.declared.timed.EarlyEnd.{EarlyEnd}
+use Rattle.lot_simulation.specs.Timed.{is_stopped}
 use Rattle.lot_simulation.specs.TimedReport.{early_end}
 use Rattle.lot_simulation.specs.World.{Program}
 use Rattle.lot_engine.specs.Seen.{Seen}
@@ -25,3 +26,8 @@ noted warnings actor reply = if actor == 0 then command_noted warnings reply els
 abbrev pub early_in : Program → Seen → Order → Option EarlyEnd
 early_in program seen (Scheduled place) = None
 early_in program seen (InTime timekeeper) = early_end program (moment_in seen timekeeper) (length seen.history)
+
+-- whether a refusal ended a play that has come to this position: with a schedule none does
+abbrev pub stopped_in : Program → Seen → Order → Bool
+stopped_in program seen (Scheduled place) = false
+stopped_in program seen (InTime timekeeper) = is_stopped program (moment_in seen timekeeper)

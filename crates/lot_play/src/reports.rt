@@ -1,10 +1,10 @@
 //! The end of a play's output: the report after all turns, with a schedule or timed.
-ghost use Rattle.std.specs.Prelude.{◌≡◌, [], false, true, OnOk, length};
+ghost use Rattle.std.specs.Prelude.{◌≡◌, ◌||◌, [], false, true, OnOk, length};
 ghost use Rattle.lot_engine.specs.Seen.{world_of};
 ghost use Rattle.lot_io.specs.Writing.{Writes};
 ghost use Rattle.lot_playback.specs.Orders.{IsAtPlace, IsAtTime, IsInOrder, made_in};
 ghost use Rattle.lot_playback.specs.Stages.{turns_left};
-ghost use Rattle.lot_play.specs.Leaving.{early_in};
+ghost use Rattle.lot_play.specs.Leaving.{early_in, stopped_in};
 ghost use Rattle.lot_play.specs.Texts.{last_report};
 
 use crate::Warnings;
@@ -38,8 +38,8 @@ pub fn end_play<W: Write>(
     Ok(())
 }
 
-/// Records the end of a play in its warnings: the state of its system, and, if it is timed and ended before its time,
-/// how. It allocates no memory.
+/// Records the end of a play in its warnings: the state of its system; if it is timed and ended before its time, how;
+/// and whether a refusal ended it. It allocates no memory.
 pub fn note_last(program: &Program, system: &mut System, order: &Order, warnings: &mut Warnings)
     requires program { system.old.setting.program ≡ program.now }
     requires order { IsInOrder system.old order.now }
@@ -48,9 +48,12 @@ pub fn note_last(program: &Program, system: &mut System, order: &Order, warnings
         × (warnings.new.refused_traps ≡ warnings.old.refused_traps) }
     ensures unmade { warnings.new.unmade ≡ length (world_of system.old).commands }
     ensures early { warnings.new.early ≡ early_in program.now system.old order.now }
+    ensures stopped { warnings.new.stopped
+        ≡ (warnings.old.stopped || stopped_in program.now system.old order.now) }
 {
     warnings.note_end(system);
     warnings.early = early_end_of(program, system, order);
+    warnings.stopped |= is_stopped(program, system, order);
 }
 
 /// How the play ended before its time, if it is timed and did.
@@ -62,6 +65,16 @@ fn early_end_of(program: &Program, system: &System, order: &Order) -> Option<Ear
     match order {
         Order::Scheduled(_) => None,
         Order::InTime(timekeeper) => early_end(program, system, timekeeper),
+    }
+}
+
+/// Whether a refusal ended the play, as it does if the program is strict.
+fn is_stopped(program: &Program, system: &System, order: &Order) -> bool
+    ensures { result ≡ stopped_in program.now system.now order.now }
+{
+    match order {
+        Order::Scheduled(_) => false,
+        Order::InTime(timekeeper) => timekeeper.is_stopped(program),
     }
 }
 

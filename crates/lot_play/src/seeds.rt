@@ -27,8 +27,8 @@ pub struct Seeds {
 }
 
 /// Plays the program once with each of these seeds, and writes for each thread the mean, the least and the most of
-/// its figures at the ends of the plays, in this form. It stores the warnings of the first play in `warnings`. If out
-/// of memory, it writes nothing.
+/// its figures at the ends of the plays, in this form. It stores the warnings of the first play in `warnings`, and
+/// whether a refusal ended any of the plays. If out of memory, it writes nothing.
 pub fn report_seeds<W: Write>(
     alloc: Global,
     program: &Program,
@@ -49,7 +49,8 @@ pub fn report_seeds<W: Write>(
     Ok(Played::Done)
 }
 
-/// Each thread's figures over a play with each of these seeds. It stores the warnings of the first play in `warnings`.
+/// Each thread's figures over a play with each of these seeds. It stores the warnings of the first play in `warnings`,
+/// and whether a refusal ended any of the plays.
 fn figures_of(
     alloc: Global,
     program: &Program,
@@ -68,6 +69,7 @@ fn figures_of(
         };
         play_with(alloc, program, seed, &mut unsaid, &mut figures)?;
     }
+    warnings.stopped |= unsaid.stopped;
     Ok(figures)
 }
 

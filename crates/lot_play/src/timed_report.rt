@@ -30,7 +30,7 @@ use lot_text::Program;
 use std::io::Write;
 
 /// Writes the report of a system that has made all of its timed program's turns: a line for each thread, a line for
-/// each processor, the totals, and, if a turn is still due, the line that says so.
+/// each processor, the totals, and, if another turn would follow, the line that says so.
 pub fn write_timed_report<W: Write>(
     program: &Program,
     system: &mut System,
@@ -47,7 +47,8 @@ pub fn write_timed_report<W: Write>(
     write_early(early_end(program, system, timekeeper), writer)
 }
 
-/// How the play ended before its time, if it did: there was no more room for turns, and one is still due.
+/// How the play ended before its time, if it did: there was no more room for turns, or a refusal ended it, and another
+/// turn would follow.
 pub(crate) fn early_end(
     program: &Program,
     system: &System,
@@ -58,7 +59,7 @@ pub(crate) fn early_end(
     ensures { result
         ≡ reports.early_end program.now (moment_in system.now timekeeper.now) (length system.now.history) }
 {
-    timekeeper.next_due(program, system)?;
+    timekeeper.following(program, system)?;
     Some(EarlyEnd {
         time: timekeeper.clocks.time,
         end: program.duration().unwrap_or(0),
@@ -99,13 +100,13 @@ fn write_lines<W: Write>(
     write_total(system, timekeeper, writer)
 }
 
-/// The time at which the play ended: the end that the input gives, or the last turn's time if there was no more room.
+/// The time at which the play ended: the end that the input gives, or the last turn's time if another turn would follow.
 fn ended_at(program: &Program, system: &System, timekeeper: &Timekeeper) -> u32
     requires program { system.now.setting.program ≡ program.now }
     requires end { IsAtEnd system.now timekeeper.now }
     ensures { result ≡ timed.ended_at program.now (moment_in system.now timekeeper.now) }
 {
-    match timekeeper.next_due(program, system) {
+    match timekeeper.following(program, system) {
         Some(_) => timekeeper.clocks.time,
         None => program.duration().unwrap_or(0),
     }

@@ -1,6 +1,6 @@
 //! The warnings of a run, which aren't part of its output.
 
-ghost use Rattle.std.specs.Prelude.{◌≡◌, IfOk, None, length};
+ghost use Rattle.std.specs.Prelude.{◌≡◌, IfOk, None, false, length};
 ghost use Rattle.lot_play.specs.Kept.{none_kept};
 ghost use Rattle.lot_play.specs.Leaving.{command_noted, noted};
 ghost use Rattle.lot_engine.specs.Seen.{world_of};
@@ -57,6 +57,8 @@ pub struct Warnings {
     pub unmade: usize,
     /// How a timed run ended before its time, if it did.
     pub early: Option<EarlyEnd>,
+    /// Whether a refusal ended a strict run.
+    pub stopped: bool,
     /// The Ready threads with a weight of 0.
     pub weightless: FirstFew<StuckThread>,
     /// The threads that wait for good.
@@ -73,6 +75,7 @@ impl Warnings {
               refused_traps = none_kept;
               unmade = 0;
               early = None;
+              stopped = false;
               weightless = none_kept;
               waiting = none_kept;
             }) }
@@ -83,6 +86,7 @@ impl Warnings {
             refused_traps: FirstFew::none(alloc)?,
             unmade: 0,
             early: None,
+            stopped: false,
             weightless: FirstFew::none(alloc)?,
             waiting: FirstFew::none(alloc)?,
         })
@@ -128,7 +132,7 @@ impl Warnings {
     /// Records the warnings about the state at the end of a run.
     pub fn note_end(&mut self, system: &mut System)
         ensures kept { (self.new.made ≡ self.old.made) × (self.new.refused ≡ self.old.refused)
-            × (self.new.refused_traps ≡ self.old.refused_traps) }
+            × (self.new.refused_traps ≡ self.old.refused_traps) × (self.new.stopped ≡ self.old.stopped) }
         ensures unmade { self.new.unmade ≡ length (world_of system.old).commands }
         ensures same { system.new ≡ system.old }
     {
@@ -145,7 +149,8 @@ impl Warnings {
     /// can run any more.
     fn note_thread(&mut self, system: &mut System, number: u32, row: ThreadRow, is_over: bool)
         ensures kept { (self.new.made ≡ self.old.made) × (self.new.refused ≡ self.old.refused)
-            × (self.new.refused_traps ≡ self.old.refused_traps) × (self.new.unmade ≡ self.old.unmade) }
+            × (self.new.refused_traps ≡ self.old.refused_traps) × (self.new.unmade ≡ self.old.unmade)
+            × (self.new.stopped ≡ self.old.stopped) }
         ensures same { system.new ≡ system.old }
     {
         let ThreadRow {

@@ -13,9 +13,9 @@ use Rattle.lot_simulation.specs.declared.timed.Due.{Due}
 use Rattle.lot_machine.proofs.RecordsKept.{found-runs, numbered}
 use Rattle.lot_machine.specs.declared.record.Status.TheVariants as status
 use Rattle.lot_simulation.specs.declared.timed.Sleeper.{Sleeper}
-use Rattle.lot_simulation.specs.Timed.{Moment, all_due, earliest, end_of, next_due, set_alarm}
+use Rattle.lot_simulation.specs.Timed.{Moment, all_due, earliest, next_due, set_alarm}
 use Rattle.lot_simulation.specs.World.{Program, World, sleeper_on}
-use Rattle.lot_simulation.proofs.TimesRise.{Each, each-due, earliest-one, sleeper-found, within-some}
+use Rattle.lot_simulation.proofs.TimesRise.{Each, each-due, earliest-one, sleeper-found, first-due}
 use Rattle.lot_simulation.proofs.DrawnThreads.{number-some}
 use Rattle.lot_simulation.proofs.OtherTurns.{set-kept}
 use Rattle.lot_engine.specs.Seen.{Seen, world_of}
@@ -110,7 +110,7 @@ alarm-due program m due is =
     (each-due (λ d. program.limits.processors < d.actor → m.alarms (d.actor - program.limits.processors) ≡ Some d.time) program m (console-none program.limits.processors m.alarms m.times)
     (λ t time low high there past. let whom : program.limits.processors + t - program.limits.processors ≡ t = omega arith in ap m.alarms whom ∙ there)
     (λ p low high runs past. absurd (omega (arith, high, past))))
-    (within-some (end_of program) (earliest (all_due program m)) due is)
+    (first-due program m due is)
 
 -- who goes to sleep is one of the numbered threads
 pub sleeper-numbered : (w : World) (p : ℕ) (o : Option Sleeper) → o ≡ sleeper_on w p → IfSome o (λ s. IsBetween 1 (length w.state.records) s.thread)

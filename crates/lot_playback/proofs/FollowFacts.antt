@@ -1,5 +1,5 @@
 -- One more of a program's turns in time.
-use Rattle.std.proofs.Common.{◌≡◌, ℕ, zero, suc, ◌+◌, ◌-◌, ◌^◌, ◌<◌, ◌≤◌, ◌==◌, Bool, true, false, Option, Some, None, List, [], ◌∷◌, ◌++◌, length, take, drop, refl, sym, ◌∙◌, ap, subst, arith, append_assoc, append-nil, length-append, length-drop, ne_eqb}
+use Rattle.std.proofs.Common.{◌≡◌, ℕ, zero, suc, ◌+◌, ◌-◌, ◌^◌, ◌<◌, ◌≤◌, ◌==◌, Bool, true, false, Option, Some, None, List, [], ◌∷◌, ◌++◌, ◌||◌, length, take, drop, refl, sym, ◌∙◌, ap, subst, arith, append_assoc, append-nil, length-append, length-drop, ne_eqb}
 use Rattle.std.specs.Prelude.{map, count_by, replicate, if◌then◌else◌, Result, Ok, Err, IsErr, IfOk}
 use Rattle.std.proofs.lemmas.List.{length-map, map-append}
 use Rattle.std.proofs.Math.Seq.{take-append_seam, drop-append_seam}
@@ -9,7 +9,7 @@ use Rattle.lot_machine.specs.declared.reply.Reply.{Reply}
 use Rattle.lot_simulation.specs.declared.timed.Due.{Due}
 use Rattle.std.proofs.lemmas.List.Sums.{sum_by_push}
 use Rattle.lot_simulation.specs.Report.{ActorTurn, count_in, total_of}
-use Rattle.lot_simulation.specs.Timed.{Moment, TimedTurn, turns_from, timed_turns, timed_room, next_due, due_first, turn_due, moment_after, moment_after_all, opening_moment, alarms_after, clocks_after, is_idle_draw}
+use Rattle.lot_simulation.specs.Timed.{Moment, TimedTurn, turns_from, timed_turns, timed_room, next_due, due_first, turn_due, moment_after, moment_after_all, opening_moment, alarms_after, clocks_after, is_idle_draw, is_refusal}
 use Rattle.lot_simulation.specs.TimedReport.{actor_turns, refusals_in}
 use Rattle.lot_simulation.specs.World.{Program, World, Answer, actor_event, console_turn, processor_turn, system_turn}
 use Rattle.lot_simulation.specs.World.Answer.{Answered, Ended}
@@ -187,7 +187,7 @@ module _ (program : Program) (seen : Seen) (timekeeper : Timekeeper) (is : IsFol
         from false = is.left
 
     module _ (e : Event) (r : Reply) (answer : (system_turn seen.setting.program (world_of seen) due.actor).answer ≡ Answered e r) (next : Timekeeper) (time : next.clocks.time ≡ due.time) (clocks : next.clocks.processors.items ≡ clocks_after (world_of after).state timekeeper.clocks.processors.items (record { time = due.time; actor = due.actor }) (is_idle_draw (Answered e r)))
-        (alarms : alarms_in next.alarms.threads.items ≡ alarms_after now due.time due.actor) where
+        (alarms : alarms_in next.alarms.threads.items ≡ alarms_after now due.time due.actor) (refused : next.has_refused ≡ (timekeeper.has_refused || is_refusal (Answered e r))) where
       pub answer-is : turn.turn.answer ≡ Answered e r
       answer-is = sym (ap (λ (p : Program). (system_turn p (world_of seen) due.actor).answer) is.program_is) ∙ answer
 
@@ -196,7 +196,8 @@ module _ (program : Program) (seen : Seen) (timekeeper : Timekeeper) (is : IsFol
           let clocks-are : next.clocks.processors.items ≡ clocks_after turn.turn.world.state timekeeper.clocks.processors.items (record { time = due.time; actor = due.actor }) (is_idle_draw turn.turn.answer) =
           clocks ∙ ap (λ (w : World). clocks_after w.state timekeeper.clocks.processors.items (record { time = due.time; actor = due.actor }) (is_idle_draw (Answered e r))) world-more
           ∙ ap (λ (a : Answer). clocks_after turn.turn.world.state timekeeper.clocks.processors.items (record { time = due.time; actor = due.actor }) (is_idle_draw a)) (sym answer-is) in
-          λ i. record { world = world-more i; time = time i; clocks = clocks-are i; times = times-more i; alarms = alarms i }
+          let refused-are : next.has_refused ≡ (timekeeper.has_refused || is_refusal turn.turn.answer) = refused ∙ ap (λ (a : Answer). timekeeper.has_refused || is_refusal a) (sym answer-is) in
+          λ i. record { world = world-more i; time = time i; clocks = clocks-are i; times = times-more i; alarms = alarms i; has_refused = refused-are i }
 
       -- the system with this turn is followed
       sleepers-more : AreNumbered (length (world_of after).state.records) (alarms_in next.alarms.threads.items)
@@ -235,12 +236,12 @@ unfolding timed_room
 room-few = omega arith
 
 -- a system that was opened has made none of the program's turns
-pub opened-followed : (program : Program) (timekeeper : Timekeeper) → IsWithinBounds program.limits → AreAlarms program.limits.processors timekeeper.alarms → timekeeper.alarms.threads.items ≡ replicate program.limits.threads None → length program.times ≡ length program.commands → timekeeper.clocks.time ≡ 0 → timekeeper.clocks.processors.items ≡ replicate program.limits.processors (record { time = 0; waits = false; idle = 0 }) → HasRoomFor program timekeeper → HasFollowed [] 0 timekeeper → HasDues (opening program.limits) [] 0 (opening program.limits) timekeeper
+pub opened-followed : (program : Program) (timekeeper : Timekeeper) → IsWithinBounds program.limits → AreAlarms program.limits.processors timekeeper.alarms → timekeeper.alarms.threads.items ≡ replicate program.limits.threads None → length program.times ≡ length program.commands → timekeeper.clocks.time ≡ 0 → timekeeper.clocks.processors.items ≡ replicate program.limits.processors (record { time = 0; waits = false; idle = 0 }) → HasRoomFor program timekeeper → HasFollowed [] 0 timekeeper → HasDues (opening program.limits) [] 0 (opening program.limits) timekeeper → timekeeper.has_refused ≡ false
     → IsFollowed program (record { setting = record { program = program; room = 16000000; timer = true }; history = [] }) timekeeper
-opened-followed program timekeeper bounds sleeping nobody as_many time clocks fits followed dues =
+opened-followed program timekeeper bounds sleeping nobody as_many time clocks fits followed dues refused =
     let seen : Seen = record { setting = record { program = program; room = 16000000; timer = true }; history = [] } in
     let none_asleep : alarms_in timekeeper.alarms.threads.items ≡ (λ (t : ℕ). None) = ap alarms_in nobody ∙ none-asleep program.limits.threads in
-    let moment : moment_in seen timekeeper ≡ opening_moment program = λ i. record { world = world_of seen; time = time i; clocks = clocks i; times = program.times; alarms = none_asleep i } in
+    let moment : moment_in seen timekeeper ≡ opening_moment program = λ i. record { world = world_of seen; time = time i; clocks = clocks i; times = program.times; alarms = none_asleep i; has_refused = refused i } in
     let none : timed_room - 0 ≡ timed_room = omega arith in
     record {
       program_is = refl;

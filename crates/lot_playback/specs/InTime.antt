@@ -29,9 +29,9 @@ use Rattle.lot_engine.specs.Playing.{turn_in}
 use Rattle.lot_engine.specs.Seen.{Seen, commands_made, world_of}
 use Rattle.lot_playback.specs.Owed.{AreDue, AreReadyFor}
 
--- the moment of a system at this time, with these clocks and alarms
+-- the moment of a system at this time, with these clocks and alarms, and with nothing refused so far
 abbrev pub moment_of : Seen → ℕ → List Clock → (ℕ → Option ℕ) → Moment
-moment_of seen time clocks alarms = record { world = world_of seen; time = time; clocks = clocks; times = drop (commands_made seen) seen.setting.program.times; alarms = alarms }
+moment_of seen time clocks alarms = record { world = world_of seen; time = time; clocks = clocks; times = drop (commands_made seen) seen.setting.program.times; alarms = alarms; has_refused = false }
 
 -- ---- alarms
 
@@ -166,7 +166,7 @@ pub record HasRoomFor (program : Program) (timekeeper : Timekeeper) : Type 0 whe
 
 -- the moment of a system with these records
 abbrev pub moment_in : Seen → Timekeeper → Moment
-moment_in seen timekeeper = moment_of seen timekeeper.clocks.time timekeeper.clocks.processors.items (alarms_in timekeeper.alarms.threads.items)
+moment_in seen timekeeper = record (moment_of seen timekeeper.clocks.time timekeeper.clocks.processors.items (alarms_in timekeeper.alarms.threads.items)) { has_refused = timekeeper.has_refused }
 
 -- the timed turns that a system has made: as many as its history has entries
 abbrev pub turns_done : Program → Seen → List TimedTurn

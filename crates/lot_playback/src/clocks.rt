@@ -1,4 +1,4 @@
-//! The next turn in time order.
+//! The turn that follows in time order.
 ghost use Rattle.std.specs.Prelude.{◌≡◌, ℕ, ◌<◌, ◌≤◌, ◌+◌, ◌^◌, ◌||◌, List, Option, false, map, replicate, is_none};
 ghost use Rattle.std.specs.Prelude.{IfOk, IfSome, vec_len, if◌then◌else◌};
 ghost use Rattle.lot_machine.specs.Bounds.{IsBetween};
@@ -49,14 +49,14 @@ impl Clocks {
         })
     }
 
-    /// The next turn, given the alarms. There is none if all processors wait, no thread sleeps and no command remains,
-    /// or if it would come after the end.
-    pub fn next_due(&self, program: &Program, system: &System, alarms: &Alarms) -> Option<Due>
+    /// The turn that follows, given the alarms. There is none if all processors wait, no thread sleeps and no command
+    /// remains, or if it would come after the end.
+    pub fn following(&self, program: &Program, system: &System, alarms: &Alarms) -> Option<Due>
         requires program { system.now.setting.program ≡ program.now }
         requires clocks { vec_len self.now.processors ≡ program.now.limits.processors }
         requires alarms { IsNextAlarm program.now system.now alarms.now }
         ensures due { result
-            ≡ timed.next_due program.now (moment_of system.now self.now.time self.now.processors.items
+            ≡ timed.following program.now (moment_of system.now self.now.time self.now.processors.items
             (alarms_in alarms.now.threads.items)) }
         ensures within { IfSome result (λ due. due.time < 2 ^ 32) }
     {

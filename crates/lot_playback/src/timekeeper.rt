@@ -1,13 +1,14 @@
 //! The records of a timed play, which its report needs in addition to the system.
-ghost use Rattle.std.specs.Prelude.{◌≡◌, ℕ, ◌<◌, ◌≤◌, ◌+◌, ◌^◌, ◌++◌, List, [], ◌∷◌, None, false, length, replicate};
+ghost use Rattle.std.specs.Prelude.{◌≡◌, ℕ, ◌<◌, ◌≤◌, ◌+◌, ◌^◌, ◌++◌, ◌||◌, List, [], ◌∷◌, None, false, length, replicate};
 ghost use Rattle.std.specs.Prelude.{IfOk, IfSome, vec_len};
 ghost use Rattle.lot_machine.specs.State.{State, opening};
 ghost use Rattle.lot_simulation.specs.TimedReport as reports;
 ghost use Rattle.lot_simulation.specs.Timed as timed;
 ghost use Rattle.lot_simulation.specs.Timed.{Moment, TimedTurn, alarms_after, clocks_after, is_idle_draw};
+ghost use Rattle.lot_simulation.specs.Timed.{is_refusal};
 ghost use Rattle.lot_simulation.specs.World.{Program as ProgramRecord, sleeper_on};
 ghost use Rattle.lot_simulation.specs.World.Answer.{Answered};
-ghost use Rattle.lot_engine.specs.Seen.{world_of};
+ghost use Rattle.lot_engine.specs.Seen.{Seen, world_of};
 ghost use Rattle.lot_playback.specs.InTime.{AreAlarms, CanFollow, HasDues, HasFollowed, HasRoomFor, IsFollowed};
 ghost use Rattle.lot_playback.specs.InTime.{alarms_in, moment_in};
 ghost use Rattle.lot_playback.specs.Owed.{Answers};
@@ -19,7 +20,7 @@ use crate::dues::DueTable;
 use crate::refused_traps::RefusedTraps;
 use crate::spans::{SpanTable, life, mutex_wait, reply_wait};
 use lot_engine::System;
-use lot_machine::{Event, Reply};
+use lot_machine::{Event, Outcome, Reply};
 use lot_simulation::{Due, Sleeper};
 use lot_text::Program;
 use std::alloc::{AllocError, Global};
@@ -48,6 +49,8 @@ pub struct Timekeeper {
     pub refused_traps: RefusedTraps,
     /// The number of refused commands and wakes.
     pub refused: u64,
+    /// Whether a command or a trap was refused.
+    pub has_refused: bool,
 }
 
 impl Timekeeper {
@@ -63,6 +66,7 @@ impl Timekeeper {
         ensures room { IfOk result (HasRoomFor program.now) }
         ensures followed { IfOk result (HasFollowed [] 0) }
         ensures dues { IfOk result (HasDues (opening program.now.limits) [] 0 (opening program.now.limits)) }
+        ensures refused { IfOk result (λ timekeeper. timekeeper.has_refused ≡ false) }
         ensures legal { IsProgram program.now }
     {
         let limits = program.limits();
@@ -76,17 +80,38 @@ impl Timekeeper {
             dues: DueTable::open(alloc, limits.threads)?,
             refused_traps: RefusedTraps::open(alloc, limits.threads)?,
             refused: 0,
+            has_refused: false,
         })
     }
 
-    /// The next turn, if there is one.
+    /// The next turn, if there is one: the turn that follows, unless a refusal has ended the play.
     pub fn next_due(&self, program: &Program, system: &System) -> Option<Due>
         requires program { system.now.setting.program ≡ program.now }
         requires followed { IsFollowed system.now.setting.program system.now self.now }
         ensures due { result ≡ timed.next_due program.now (moment_in system.now self.now) }
         ensures within { IfSome result (λ due. due.time < 2 ^ 32) }
     {
-        self.clocks.next_due(program, system, &self.alarms)
+        if self.is_stopped(program) {
+            return None;
+        }
+        self.following(program, system)
+    }
+
+    /// The turn that would follow if no refusal ended the play, if there is one.
+    pub fn following(&self, program: &Program, system: &System) -> Option<Due>
+        requires program { system.now.setting.program ≡ program.now }
+        requires followed { IsFollowed system.now.setting.program system.now self.now }
+        ensures due { result ≡ timed.following program.now (moment_in system.now self.now) }
+        ensures within { IfSome result (λ due. due.time < 2 ^ 32) }
+    {
+        self.clocks.following(program, system, &self.alarms)
+    }
+
+    /// Whether a refusal has ended the play of the program, as it does if that is strict.
+    pub fn is_stopped(&self, program: &Program) -> bool
+        ensures { (seen : Seen) → result ≡ timed.is_stopped program.now (moment_in seen self.now) }
+    {
+        program.is_strict() && self.has_refused
     }
 
     /// Records this actor's turn at this time, with its event and reply, which led to this system, and the thread that
@@ -118,6 +143,7 @@ impl Timekeeper {
             → (0 < actor → actor ≤ length self.old.clocks.processors.items → sleeper ≡ sleeper_on m.world actor)
             → alarms_in self.new.alarms.threads.items ≡ alarms_after m time actor }
         ensures sleeping { AreAlarms (vec_len self.old.clocks.processors) self.new.alarms }
+        ensures refused { self.new.has_refused ≡ (self.old.has_refused || is_refusal (Answered event.now reply)) }
         ensures followed { (done : List TimedTurn) (n : ℕ) (turn : TimedTurn) → turn.time ≡ time
             → turn.turn.answer ≡ Answered event.now reply → turn.turn.world ≡ world_of system.old
             → HasFollowed done n self.old → HasFollowed (done ++ turn ∷ []) (n + 1) self.new }
@@ -137,6 +163,21 @@ impl Timekeeper {
         self.lives.follow(time, life(system, event, reply));
         self.refused_traps.follow(reply);
         self.refused += refusals_in(reply);
+        self.has_refused |= is_refusal(event, reply);
+    }
+}
+
+/// Whether the kernel refused a command or a trap.
+fn is_refusal(event: &Event, reply: Reply) -> bool
+    ensures { result ≡ timed.is_refusal (Answered event.now reply) }
+{
+    match reply {
+        Reply::Refused(_) => matches!(event, Event::Command(_)),
+        Reply::Trapped {
+            outcome: Outcome::Refused(_),
+            ..
+        } => true,
+        _ => false,
     }
 }
 

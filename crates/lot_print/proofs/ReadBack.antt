@@ -19,7 +19,7 @@ use Rattle.lot_print.proofs.PlainLemmas.{Shown, Words, spaced, Shown-append, Sho
 
 -- what was read, and a line of these actors more
 abbrev pub scheduled : Reading → List ℕ → Reading
-scheduled r actors = record r { schedule = r.schedule ++ actors; place = 9 }
+scheduled r actors = record r { schedule = r.schedule ++ actors; place = 10 }
 
 -- ---- one line
 

@@ -1,9 +1,9 @@
 -- The turn is the one that is due, and the timekeeper has followed it.
-use Rattle.std.proofs.Common.{◌≡◌, ℕ, ◌+◌, ◌<◌, ◌^◌, ◌++◌, List, [], ◌∷◌, Some, false, length, refl, sym, ◌∙◌, ap, subst, arith, rules, vec_len}
+use Rattle.std.proofs.Common.{◌≡◌, ℕ, ◌+◌, ◌<◌, ◌^◌, ◌++◌, ◌||◌, List, [], ◌∷◌, Some, false, length, refl, sym, ◌∙◌, ap, subst, arith, rules, vec_len}
 use Rattle.lot_machine.specs.declared.event.Event.{Event}
 use Rattle.lot_machine.specs.declared.reply.Reply.{Reply}
 use Rattle.lot_simulation.specs.declared.timed.Due.{Due}
-use Rattle.lot_simulation.specs.Timed.{TimedTurn, alarms_after, clocks_after, is_idle_draw, timed_room, turn_due}
+use Rattle.lot_simulation.specs.Timed.{TimedTurn, alarms_after, clocks_after, is_idle_draw, is_refusal, timed_room, turn_due}
 use Rattle.lot_machine.specs.State.{State, opening}
 use Rattle.lot_simulation.specs.World.{Program, World, system_turn}
 use Rattle.lot_simulation.specs.World.Answer.{Answered}
@@ -47,23 +47,23 @@ module _ (seen : Seen) (timekeeper : Timekeeper) (there : IsAtTime seen timekeep
 
   followed-then : (e : Event) (r : Reply) (now : Seen) → now ≡ after_turn seen next.actor → (turn_in seen next.actor).answer ≡ Answered e r → (then_following : Timekeeper) → then_following.clocks.time ≡ time
       → then_following.clocks.processors.items ≡ clocks_after (world_of now).state timekeeper.clocks.processors.items (record { time = time; actor = next.actor }) (is_idle_draw (Answered e r))
-      → alarms_in then_following.alarms.threads.items ≡ alarms_after (moment_in seen timekeeper) time next.actor → AreAlarms seen.setting.program.limits.processors then_following.alarms
+      → alarms_in then_following.alarms.threads.items ≡ alarms_after (moment_in seen timekeeper) time next.actor → then_following.has_refused ≡ (timekeeper.has_refused || is_refusal (Answered e r)) → AreAlarms seen.setting.program.limits.processors then_following.alarms
       → ((done : List TimedTurn) (n : ℕ) (turn : TimedTurn) → turn.time ≡ time → turn.turn.answer ≡ Answered e r → turn.turn.world ≡ world_of now → HasFollowed done n timekeeper → HasFollowed (done ++ turn ∷ []) (n + 1) then_following)
       → ((first before : State) (done : List TimedTurn) (n : ℕ) (turn : TimedTurn) → n < 2 ^ 24 → turn.time ≡ time → turn.turn.answer ≡ Answered e r → turn.turn.world ≡ world_of now → Answers before e r (world_of now).state → HasDues first done n before timekeeper
       → HasDues first (done ++ turn ∷ []) (n + 1) (world_of now).state then_following)
       → ((p : Program) → HasRoomFor p timekeeper → HasRoomFor p then_following) → IsFollowed program now then_following
-  followed-then e r now after answer then_following at clocks alarms sleeping follows owes fits =
+  followed-then e r now after answer then_following at clocks alarms refused sleeping follows owes fits =
       let is_followed = there.followed in
       let turn = turn_due program (moment_in seen timekeeper) due in
       let clocks_there : then_following.clocks.processors.items ≡ clocks_after (world_of (after_turn seen next.actor)).state timekeeper.clocks.processors.items (record { time = time; actor = next.actor }) (is_idle_draw (Answered e r)) =
       clocks ∙ ap (λ (s : Seen). clocks_after (world_of s).state timekeeper.clocks.processors.items (record { time = time; actor = next.actor }) (is_idle_draw (Answered e r))) after in
-      let more = follows (turns_done program seen) (length seen.history) turn refl (answer-is program seen timekeeper is_followed due its.first room e r answer then_following at clocks_there alarms)
+      let more = follows (turns_done program seen) (length seen.history) turn refl (answer-is program seen timekeeper is_followed due its.first room e r answer then_following at clocks_there alarms refused)
       (sym (ap world_of after ∙ world-more program seen timekeeper is_followed due its.first room)) is_followed.followed in
       let few : length seen.history < 2 ^ 24 = omega (arith, within-room program seen timekeeper is_followed, room-few) in
-      let owed = owes (opening program.limits) (world_of seen).state (turns_done program seen) (length seen.history) turn few refl (answer-is program seen timekeeper is_followed due its.first room e r answer then_following at clocks_there alarms)
+      let owed = owes (opening program.limits) (world_of seen).state (turns_done program seen) (length seen.history) turn few refl (answer-is program seen timekeeper is_followed due its.first room e r answer then_following at clocks_there alarms refused)
       (sym (ap world_of after ∙ world-more program seen timekeeper is_followed due its.first room)) (answers-then e r now after answer) is_followed.dues in
       let owed_there = subst (λ s. HasDues (opening program.limits) (turns_done program seen ++ turn ∷ []) (length seen.history + 1) (world_of s).state then_following) after owed in
-      subst (λ s. IsFollowed program s then_following) (sym after) (followed-more program seen timekeeper is_followed due its.first room e r answer then_following at clocks_there alarms more owed_there (fits program is_followed.room) sleeping)
+      subst (λ s. IsFollowed program s then_following) (sym after) (followed-more program seen timekeeper is_followed due its.first room e r answer then_following at clocks_there alarms refused more owed_there (fits program is_followed.room) sleeping)
 
 pub unreachable-requires : goal.unreachable-requires
 unreachable-requires c = time-there c.args.system.now c.args.timekeeper.now c.requires.there c.args.next c.requires.next ⊥ c.in_default.is
@@ -114,7 +114,7 @@ returns c =
     let alarms : alarms_in then_following.alarms.threads.items ≡ alarms_after (moment_in seen timekeeper) time c.args.next.actor =
     c.follow.ensures.alarms (moment_in seen timekeeper) refl refl (λ some few. c.make_due-sleeper.ensures.sleeper some (omega (arith, few, processors))) in
     let sleeping : AreAlarms seen.setting.program.limits.processors then_following.alarms = subst (λ n. AreAlarms n then_following.alarms) counted c.follow.ensures.sleeping in
-    let followed = followed-then seen timekeeper c.requires.there c.args.next c.requires.next time c.in-Some.is early e r now made.0 made.1 then_following c.follow.ensures.time c.follow.ensures.clocks alarms sleeping c.follow.ensures.followed c.follow.ensures.dues c.follow.ensures.room in
+    let followed = followed-then seen timekeeper c.requires.there c.args.next c.requires.next time c.in-Some.is early e r now made.0 made.1 then_following c.follow.ensures.time c.follow.ensures.clocks alarms c.follow.ensures.refused sleeping c.follow.ensures.followed c.follow.ensures.dues c.follow.ensures.room in
     let same = c.follow.ensures.same in
     let last = c.follow.new.system in
     let followed_last = subst (λ s. IsFollowed seen.setting.program s then_following) (sym same) followed in

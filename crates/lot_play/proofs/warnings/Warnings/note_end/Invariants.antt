@@ -7,6 +7,7 @@ invariant-loop-place l = record {
   made : l.self.made ≡ l.initial.self.made;
   refused : l.self.refused ≡ l.initial.self.refused;
   refused_traps : l.self.refused_traps ≡ l.initial.self.refused_traps;
+  stopped : l.self.stopped ≡ l.initial.self.stopped;
   unmade : l.self.unmade ≡ l.initial.self.unmade;
   system : l.system ≡ l.initial.system;
 }

@@ -14,5 +14,5 @@ invariant_of-result c =
     record {
       timed = subst (λ (s : Seen). IsSome s.setting.program.duration) system c.requires;
       followed = subst (λ (s : Seen). IsFollowed s.setting.program s timekeeper) system
-          (opened-followed program timekeeper opened.legal.limits opened.sleeping opened.alarms (opened.legal.time_count c.requires) opened.time opened.clocks opened.room opened.followed opened.dues);
+          (opened-followed program timekeeper opened.legal.limits opened.sleeping opened.alarms (opened.legal.time_count c.requires) opened.time opened.clocks opened.room opened.followed opened.dues opened.refused);
     }

@@ -1,14 +1,14 @@
-use Rattle.std.proofs.Common.{◌≡◌, ap, subst, arith}
-use Rattle.lot_simulation.specs.World.{Program}
-use Rattle.lot_playback.specs.InTime.{IsFollowed, IsNextAlarm}
-use Rattle.lot_playback.proofs.AlarmFacts.{next-alarm}
+use Rattle.std.proofs.Common.{◌≡◌, Bool, None, ap, cond, ◌∙◌}
+use Rattle.lot_simulation.specs.Timed.{following}
+use Rattle.lot_playback.specs.InTime.{moment_in}
 use Rattle.lot_playback.proofs.timekeeper.Timekeeper.next_due.Goals as goal
 
-pub next_due-requires-clause-clocks : goal.next_due-requires-clause-clocks
-next_due-requires-clause-clocks c = omega (arith, c.requires.followed.room.clocks, c.args.self.now.clocks.processors.ok.0, ap (λ (p : Program). p.limits.processors) c.requires.program)
+pub returns-then-is_stopped-clause-due : goal.returns-then-is_stopped-clause-due
+returns-then-is_stopped-clause-due c =
+    let m = moment_in c.args.system.now c.args.self.now in
+    ap (λ (b : Bool). cond b None (following c.args.program.now m)) (c.if-is_stopped.ensures c.args.system.now)
 
-pub next_due-requires-clause-alarms : goal.next_due-requires-clause-alarms
-next_due-requires-clause-alarms c =
-    let followed = c.requires.followed in
-    subst (λ (p : Program). IsNextAlarm p c.args.system.now c.args.self.now.alarms) c.requires.program
-    (next-alarm c.args.system.now.setting.program c.args.system.now c.args.self.now.alarms followed.sleeping followed.sleepers)
+pub returns-clause-due : goal.returns-clause-due
+returns-clause-due c =
+    let m = moment_in c.args.system.now c.args.self.now in
+    c.following.ensures.due ∙ ap (λ (b : Bool). cond b None (following c.args.program.now m)) (c.if-is_stopped.ensures c.args.system.now)
