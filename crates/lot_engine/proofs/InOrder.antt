@@ -5,12 +5,12 @@ use Rattle.lot_machine.specs.declared.event.Event.TheVariants as event
 use Rattle.lot_machine.specs.Bounds.{IsWithinBounds}
 use Rattle.lot_machine.specs.Order.{IsInOrder}
 use Rattle.lot_machine.proofs.OrderKept.{opening-order, step-order}
-use Rattle.lot_simulation.specs.World.{Program, World, Turn, opening_world, actor_event, console_turn, processor_turn, system_turn, system_after, system_run}
+use Rattle.lot_simulation.specs.World.{Program, World, Turn, opening_world, actor_event, console_turn, next_name, processor_turn, resolved, system_turn, system_after, system_run}
 
 module _ (program : Program) where
   console-in-order : (w : World) (commands : List Command) → IsInOrder w.state → IsInOrder (console_turn program w commands).world.state
   console-in-order w [] order = order
-  console-in-order w (c ∷ cs) order = step-order w.state (event.Command c) order
+  console-in-order w (c ∷ cs) order = step-order w.state (event.Command (resolved w.tickets (next_name w) c)) order
 
   turn-in-order : (w : World) (actor : ℕ) → IsInOrder w.state → IsInOrder (system_turn program w actor).world.state
   turn-in-order w actor order = by (actor == 0)

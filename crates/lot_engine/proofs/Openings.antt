@@ -1,12 +1,13 @@
 -- A system with no turn holds its program's opening world.
 use Rattle.std.proofs.Common.{◌≡◌, ℕ, List, [], arith, refl, subst, sym}
+use Rattle.std.specs.Prelude.{replicate}
 use Rattle.lot_machine.specs.State.{State, opening}
 use Rattle.lot_script.specs.Places.{Place}
 use Rattle.lot_simulation.specs.World.{Program, opening_world, system_run}
 use Rattle.lot_engine.specs.Counted.{IsCount}
 use Rattle.lot_engine.specs.Held.{IsHeld}
 
-opens : (program : Program) → IsHeld program (opening_world program) (opening program.limits) [] program.seeds 0
+opens : (program : Program) → IsHeld program (opening_world program) (opening program.limits) [] program.seeds (replicate program.ticket_names 0) 0
 opens program = record {
   state = refl;
   kept = record { limits = refl; records = refl; count = omega arith };
@@ -14,14 +15,18 @@ opens program = record {
   seeds = refl;
   wide = refl;
   commands = refl;
+  names = refl;
+  tickets_are = refl;
 }
 
-pub opening-held : (program : Program) (history : List ℕ) (state : State) (places : List Place) (generators : List ℕ) → history ≡ [] → state ≡ opening program.limits → places ≡ [] → generators ≡ program.seeds → IsHeld program (system_run program history) state places generators 0
-opening-held program history state places generators none is placed seeded =
-    subst (λ h. IsHeld program (system_run program h) state places generators 0) (sym none)
-    (subst (λ s. IsHeld program (opening_world program) s places generators 0) (sym is)
-    (subst (λ ps. IsHeld program (opening_world program) (opening program.limits) ps generators 0) (sym placed)
-    (subst (λ gs. IsHeld program (opening_world program) (opening program.limits) [] gs 0) (sym seeded) (opens program))))
+pub opening-held : (program : Program) (history : List ℕ) (state : State) (places : List Place) (generators tickets : List ℕ) → history ≡ [] → state ≡ opening program.limits → places ≡ [] → generators ≡ program.seeds → tickets ≡ replicate program.ticket_names 0
+    → IsHeld program (system_run program history) state places generators tickets 0
+opening-held program history state places generators tickets none is placed seeded unnamed =
+    subst (λ h. IsHeld program (system_run program h) state places generators tickets 0) (sym none)
+    (subst (λ s. IsHeld program (opening_world program) s places generators tickets 0) (sym is)
+    (subst (λ ps. IsHeld program (opening_world program) (opening program.limits) ps generators tickets 0) (sym placed)
+    (subst (λ gs. IsHeld program (opening_world program) (opening program.limits) [] gs tickets 0) (sym seeded)
+    (subst (λ ts. IsHeld program (opening_world program) (opening program.limits) [] program.seeds ts 0) (sym unnamed) (opens program)))))
 
 -- no turn counts nothing
 pub nothing-counted : IsCount [] 0 (record { turns = 0; quanta = 0; idles = 0; ticks = 0 })

@@ -1,5 +1,5 @@
 -- Whom a reply names.
-use Rattle.std.proofs.Common.{◌≡◌, ℕ, zero, suc, ◌+◌, ◌<◌, ◌==◌, Bool, true, false, not, ◌&&◌, ◌||◌, cond, Option, Some, None, inl, inr, is_none, unwrap_or, List, [], ◌∷◌, length, map, option_map, nat_lt, nat_le, refl, sym, ◌∙◌, ap, arith, length-append}
+use Rattle.std.proofs.Common.{◌≡◌, ℕ, zero, suc, ◌<◌, ◌==◌, Bool, true, false, not, ◌&&◌, ◌||◌, cond, Option, Some, None, inl, inr, is_none, unwrap_or, List, [], ◌∷◌, length, map, option_map, nat_lt, nat_le, refl, sym, ◌∙◌, ap, arith, length-append}
 use Rattle.std.specs.List.{slice_get}
 use Rattle.std.proofs.lemmas.Bool.{ltb-false, leb-false, or_parts, eqb-false}
 use Rattle.std.proofs.lemmas.Option.{slice_get_within}

@@ -132,7 +132,7 @@ received-after places t given (reply.List kind) within runs = absurd runs
 -- ---- the thread that runs
 
 -- the place that is kept of the thread on a processor is that of its work
-module _ (program : Program) (w : World) (s : State) (places : List Place) (seeds : List ℕ) (spent : ℕ) (held : IsHeld program w s places seeds spent) (p : ℕ) (running : Running) (other : Place) (is : IsWork program w p (work_at running other)) where
+module _ (program : Program) (w : World) (s : State) (places : List Place) (seeds tickets : List ℕ) (spent : ℕ) (held : IsHeld program w s places seeds tickets spent) (p : ℕ) (running : Running) (other : Place) (is : IsWork program w p (work_at running other)) where
   pub thread-kept : IsBetween 1 (length places) running.thread
   thread-kept =
       let between = there-between w.state.records p running.thread is.runs in
@@ -186,7 +186,7 @@ module _ (program : Program) (w : World) (s : State) (places : List Place) (seed
     is-exact = exact
 
     pub run-answer : (system_turn program w p).answer ≡ Answered e r
-    run-answer = turn-answer program w s places seeds spent held p between.0 between.1 drawn (Some work) (Some given) is-work of is-exact number e its-event after r state replied
+    run-answer = turn-answer program w s places seeds tickets spent held p between.0 between.1 drawn (Some work) (Some given) is-work of is-exact number e its-event after r state replied
 
     -- who goes to sleep with it
     pub run-sleeper : sleeper_on w p ≡ sleeper_by running.thread done.trap
@@ -207,7 +207,7 @@ module _ (program : Program) (w : World) (s : State) (places : List Place) (seed
         (running.thread, ((omega (arith, within.0), omega (arith, within.1, long)), runs-names running.thread r runs))
 
     pub run-held : (end : List Place) (passed : List ℕ) → end ≡ places_received now r → passed ≡ (if takes_number e then set_number seeds p (seed_from (is_some program.duration) (unwrap_or (at_number seeds p) 0)) else seeds)
-        → IsHeld program (system_turn program w p).world after end passed spent
+        → IsHeld program (system_turn program w p).world after end passed tickets spent
     run-held end passed received numbers =
         let follows : end ≡ places_after places (Some given) r = received ∙ ap (λ ps. places_received ps r) moved ∙ received-after places running.thread given r thread-kept runs in
-        turn-held program w s places seeds spent held p between.0 between.1 drawn (Some work) (Some given) is-work of is-exact number e its-event after r state replied end passed follows numbers
+        turn-held program w s places seeds tickets spent held p between.0 between.1 drawn (Some work) (Some given) is-work of is-exact number e its-event after r state replied end passed follows numbers

@@ -2,6 +2,7 @@
 use Rattle.std.proofs.Common.{◌≡◌, ◌↔◌, ℕ, suc, ◌+◌, ◌-◌, ◌<◌, ◌≤◌, ◌==◌, ◌⊎◌, inl, inr, Bool, true, false, Option, Some, None, List, [], ◌∷◌, ◌++◌, length, drop, get_or, unwrap_or, option_map, refl, sym, ◌∙◌, ap, subst, arith, length-append, ne_eqb}
 use Rattle.std.specs.Prelude.{if◌then◌else◌, nat_lt, count_by, is_some}
 use Rattle.std.proofs.Math.Seq.{drop-cons}
+use Rattle.std.proofs.lemmas.List.{drop-drop}
 use Rattle.std.proofs.Math.ListN.{drop_of_length-le, length-set}
 use Rattle.std.proofs.lemmas.Bool.{le-leb, ltb-true, ltb-false}
 use Rattle.std.proofs.lemmas.List.Sums.{sum_by_push}
@@ -29,7 +30,7 @@ use Rattle.lot_machine.specs.Commands.{command_step, newborn}
 use Rattle.lot_machine.specs.State.{State, free_threads, status_of, thread_at, thread_on, used_by}
 use Rattle.lot_machine.specs.Order.{IsInOrder}
 use Rattle.lot_machine.specs.Step.{step, thread_there, used_there}
-use Rattle.lot_simulation.specs.World.{Program, World, action_of, event_of_slice, generator_of, number_from, seed_from, number_of, context_of, slice_on, processor_event, takes_number, delivered_to, number_delivered, contexts_after, contexts_after_command, console_turn, processor_turn, system_turn, system_run, IsLegal, IsLegalInTime}
+use Rattle.lot_simulation.specs.World.{Program, World, action_of, event_of_slice, generator_of, number_from, seed_from, number_of, context_of, slice_on, processor_event, takes_number, delivered_to, number_delivered, contexts_after, contexts_after_command, command_turn, console_turn, next_name, processor_turn, resolved, system_turn, system_run, tickets_after, IsLegal, IsLegalInTime}
 use Rattle.lot_simulation.specs.World.Answer.{Answered}
 use Rattle.lot_machine.proofs.RecordsKept.{found-runs}
 use Rattle.lot_script.specs.Drafts.{IsScript}
@@ -73,7 +74,7 @@ kept-made program s after r kept makes = kept-in program s after (thread_given r
 
 -- ---- the console
 
-module _ (program : Program) (w : World) (s : State) (places : List Place) (seeds : List ℕ) (spent : ℕ) (held : IsHeld program w s places seeds spent) where
+module _ (program : Program) (w : World) (s : State) (places : List Place) (seeds tickets : List ℕ) (spent : ℕ) (held : IsHeld program w s places seeds tickets spent) where
   -- a command is left if the world has one
   pub command-left : ¬ (◌≡◌ {A = ℕ} 0 0 × (w.commands ≡ [])) → spent < length program.commands
   command-left some = at (nat_lt spent (length program.commands)) refl
@@ -105,27 +106,36 @@ module _ (program : Program) (w : World) (s : State) (places : List Place) (seed
       let first : c ≡ get_or program.commands spent c = sym (get_or_from_slice_get commands spent c c is) ∙ ap (λ (cs : List Command). get_or cs spent c) same in
       sym held.commands ∙ drop-cons program.commands spent c below ∙ ap (λ (x : Command). x ∷ drop (suc spent) program.commands) (sym first) ∙ ap (λ n. c ∷ drop n program.commands) (sym next)
 
-  module _ (c : Command) (cs : List Command) (is : w.commands ≡ c ∷ cs) (after : State) (r : Reply) (state : after ≡ (step s (event.Command c)).state) (replied : r ≡ (step s (event.Command c)).reply) where
+  -- the next command, for the ticket that it names
+  module _ (next : Command) (cs : List Command) (is : w.commands ≡ next ∷ cs) (c : Command) (resolves : c ≡ resolved tickets (next_name w) next) (after : State) (r : Reply) (state : after ≡ (step s (event.Command c)).state) (replied : r ≡ (step s (event.Command c)).reply) where
     pub command-made : IsInOrder s → MakesThread s after r
     command-made order = rw (state, replied) (command-makes s c order)
 
+    its-command : c ≡ resolved w.tickets (next_name w) next
+    its-command = resolves ∙ ap (λ (ts : List ℕ). resolved ts (next_name w) next) held.tickets_are
+
+    command-turn : system_turn program w 0 ≡ command_turn program w c cs
+    command-turn = let world : system_turn program w 0 ≡ console_turn program w (next ∷ cs) = rw is refl in world ∙ ap (λ x. command_turn program w x cs) (sym its-command)
+
     pub command-answer : (system_turn program w 0).answer ≡ Answered (event.Command c) r
-    command-answer = let world : system_turn program w 0 ≡ console_turn program w (c ∷ cs) = rw is refl in rw (world, replied, held.state) refl
+    command-answer = rw (command-turn, replied, held.state) refl
 
     pub command-held : IsInOrder s → cs ≡ drop (spent + 1) program.commands → (now : List Place) → AreAt program after.threads now (contexts_with program s after w.contexts (thread_given r))
-        → IsHeld program (system_turn program w 0).world after now seeds (spent + 1)
-    command-held order left now at =
-        let world : system_turn program w 0 ≡ console_turn program w (c ∷ cs) = rw is refl in
+        → (named : List ℕ) → named ≡ tickets_after tickets (next_name w) c r → IsHeld program (system_turn program w 0).world after now seeds named (spent + 1)
+    command-held order left now at named follows =
         let ends : after ≡ (step w.state (event.Command c)).state = state ∙ ap (λ (x : State). (step x (event.Command c)).state) held.state in
+        let replies : r ≡ (step w.state (event.Command c)).reply = replied ∙ ap (λ (x : State). (step x (event.Command c)).reply) held.state in
         let same : contexts_with program s after w.contexts (thread_given r) ≡ contexts_after_command program w c (command_step w.state c).reply =
         rw (state, replied, held.state) (command-contexts program w c (subst IsInOrder held.state order)) in
-        rw world (record {
+        rw command-turn (record {
           state = ends;
           kept = kept-made program s after r held.kept (command-made order);
           places_at = subst (AreAt program after.threads now) same at;
           seeds = held.seeds;
           wide = held.wide;
           commands = sym left;
+          names = sym (drop-drop 1 spent program.names) ∙ ap (drop 1) held.names;
+          tickets_are = follows ∙ ap (λ (ts : List ℕ). tickets_after ts (next_name w) c r) held.tickets_are ∙ ap (tickets_after w.tickets (next_name w) c) replies;
         })
 
 -- ---- processors
@@ -167,7 +177,7 @@ slice-names s p drawn given (Some trap) is = rw is (trap-names s p given.ticks (
 -- ---- work
 
 -- what a system answers for the thread on a processor is its work
-module _ (program : Program) (w : World) (s : State) (places : List Place) (seeds : List ℕ) (spent : ℕ) (held : IsHeld program w s places seeds spent) (p : ℕ) where
+module _ (program : Program) (w : World) (s : State) (places : List Place) (seeds tickets : List ℕ) (spent : ℕ) (held : IsHeld program w s places seeds tickets spent) (p : ℕ) where
   -- the thread's script is one of the program's
   pub script-there : (t script : ℕ) → IsBetween 1 (length s.records) t → option_map (λ t. t.script) (thread_at s.threads t) ≡ Some script → IsBetween 1 (length program.scripts) script
   script-there t script between is =
@@ -287,7 +297,7 @@ module _ (program : Program) (w : World) (p : ℕ) (threads : List (Option Threa
     slice-follows reply.Done names = absurd names
     slice-follows (reply.List kind) names = absurd names
 
-module _ (program : Program) (w : World) (s : State) (places : List Place) (seeds : List ℕ) (spent : ℕ) (held : IsHeld program w s places seeds spent) (p : ℕ) (some : 0 < p) (few : p ≤ program.limits.processors) where
+module _ (program : Program) (w : World) (s : State) (places : List Place) (seeds tickets : List ℕ) (spent : ℕ) (held : IsHeld program w s places seeds tickets spent) (p : ℕ) (some : 0 < p) (few : p ≤ program.limits.processors) where
   module _ (drawn : ℕ) (work : Option Work) (given : Option Parts) (is : IsWorkIn program w p work) (matches : Matches program work given) (exact : IfSome given IsSlice) (number : drawn ≡ number_from (is_some program.duration) (unwrap_or (at_number seeds p) 0)) where
     module _ (e : Event) (event_is : e ≡ event_given p drawn given) (after : State) (r : Reply) (state : after ≡ (step s e).state) (replied : r ≡ (step s e).reply) where
       its-event : processor_event w p ≡ e
@@ -327,7 +337,7 @@ module _ (program : Program) (w : World) (s : State) (places : List Place) (seed
               (rw told (subst (λ t. OfRun t (step s (event_given p drawn (Some g))).reply) (there-is program w s p held.state wk.thread a.1.runs) named))
 
       pub turn-held : (now : List Place) (passed : List ℕ) → now ≡ places_after places given r → passed ≡ (if takes_number e then set_number seeds p (seed_from (is_some program.duration) (unwrap_or (at_number seeds p) 0)) else seeds)
-          → IsHeld program (system_turn program w p).world after now passed spent
+          → IsHeld program (system_turn program w p).world after now passed tickets spent
       turn-held now passed at numbers =
           let replies : r ≡ (step w.state e).reply = replied ∙ ap (λ (x : State). (step x e).reply) held.state in
           let places_now : AreAt program after.threads now (contexts_after w p r) = rw (at, same-threads.threads) turn-places in
@@ -339,6 +349,8 @@ module _ (program : Program) (w : World) (s : State) (places : List Place) (seed
                 ∙ ap (λ wide. if takes_number e then set_number w.generators p (seed_from wide (generator_of w p)) else w.generators) (sym held.wide);
             wide = held.wide;
             commands = held.commands;
+            names = held.names;
+            tickets_are = held.tickets_are;
           })
 
 -- ---- histories

@@ -1,7 +1,6 @@
 -- A turn of the timer.
-use Rattle.std.proofs.Common.{◌≡◌, ℕ, ◌+◌, ◌-◌, ◌<◌, ◌≤◌, ◌==◌, false, inl, Option, Some, None, List, length, refl, sym, ◌∙◌, ap, arith, ne_eqb, nat_le}
+use Rattle.std.proofs.Common.{◌≡◌, ℕ, ◌+◌, ◌-◌, ◌<◌, ◌==◌, false, inl, Option, Some, None, List, length, refl, ◌∙◌, ap, arith, ne_eqb, nat_le}
 use Rattle.std.proofs.lemmas.Bool.{lt-leb}
-use Rattle.lot_machine.specs.declared.event.Event.{Event}
 use Rattle.lot_machine.specs.declared.event.Event.TheVariants as event
 use Rattle.lot_machine.specs.declared.refusal.Refusal.{Refusal}
 use Rattle.lot_machine.specs.declared.reply.Reply.{Reply}
@@ -9,7 +8,6 @@ use Rattle.lot_machine.specs.State.{State}
 use Rattle.lot_machine.specs.Commands.{unless_refused}
 use Rattle.lot_machine.specs.Step.{event_refusal, step, wake}
 use Rattle.lot_machine.proofs.StepSizes.{other-sizes}
-use Rattle.lot_simulation.specs.Script.{Context}
 use Rattle.lot_simulation.specs.World.{Program, World, contexts_after, processor_turn, system_turn}
 use Rattle.lot_simulation.specs.World.Answer.{Answered}
 use Rattle.lot_script.specs.Places.{Place}
@@ -36,8 +34,8 @@ module _ (program : Program) (w : World) (t : ℕ) (some : 0 < t) where
   pub wake-answer : (r : Reply) → r ≡ (step w.state (event.Wake t)).reply → (system_turn program w (program.limits.processors + t)).answer ≡ Answered (event.Wake t) r
   wake-answer r replied = rw (wake-turn, replied) refl
 
-module _ (program : Program) (w : World) (s : State) (places : List Place) (seeds : List ℕ) (spent : ℕ) (held : IsHeld program w s places seeds spent) (t : ℕ) (some : 0 < t) where
-  pub wake-held : (after : State) → after ≡ (step s (event.Wake t)).state → IsHeld program (system_turn program w (program.limits.processors + t)).world after places seeds spent
+module _ (program : Program) (w : World) (s : State) (places : List Place) (seeds tickets : List ℕ) (spent : ℕ) (held : IsHeld program w s places seeds tickets spent) (t : ℕ) (some : 0 < t) where
+  pub wake-held : (after : State) → after ≡ (step s (event.Wake t)).state → IsHeld program (system_turn program w (program.limits.processors + t)).world after places seeds tickets spent
   wake-held after state =
       let actor : ℕ = program.limits.processors + t in
       let sizes = other-sizes s (event.Wake t) (λ same. cc) in
@@ -51,4 +49,6 @@ module _ (program : Program) (w : World) (s : State) (places : List Place) (seed
         seeds = held.seeds;
         wide = held.wide;
         commands = held.commands;
+        names = held.names;
+        tickets_are = held.tickets_are;
       })

@@ -31,12 +31,14 @@ pub record IsKept (program : Program) (s : State) : Type 0 where
   pub records : length s.records ≡ length s.threads
   pub count : length s.threads ≤ s.limits.threads
 
--- The kernel's state, the threads' places, the generators' values and the number of commands made are those of the
--- world, which draws wide numbers if the program has a duration.
-pub record IsHeld (program : Program) (w : World) (s : State) (places : List Place) (generators : List ℕ) (spent : ℕ) : Type 0 where
+-- The kernel's state, the threads' places, the generators' values, the tickets with names and the number of commands
+-- made are those of the world, which draws wide numbers if the program has a duration.
+pub record IsHeld (program : Program) (w : World) (s : State) (places : List Place) (generators tickets : List ℕ) (spent : ℕ) : Type 0 where
   pub state : s ≡ w.state
   pub kept : IsKept program s
   pub places_at : AreAt program s.threads places w.contexts
   pub seeds : generators ≡ w.generators
   pub wide : w.is_wide ≡ is_some program.duration
   pub commands : drop spent program.commands ≡ w.commands
+  pub names : drop spent program.names ≡ w.names
+  pub tickets_are : tickets ≡ w.tickets

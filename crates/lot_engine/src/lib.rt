@@ -11,6 +11,7 @@ pub mod laws;
 mod places;
 mod slices;
 mod system;
+mod tickets;
 mod turn;
 
 pub use counts::Counts;

@@ -11,7 +11,7 @@ ghost use Rattle.lot_machine.specs.Rows as rows;
 ghost use Rattle.lot_machine.specs.State.{live_of, sizes_of, status_of, value_of};
 ghost use Rattle.lot_simulation.specs.Formats.{unit_of};
 ghost use Rattle.lot_simulation.specs.World.Answer.{Answered};
-ghost use Rattle.lot_simulation.specs.World.{IsLegal, sleeper_on, system_turn};
+ghost use Rattle.lot_simulation.specs.World.{IsLegal, next_name, sleeper_on, system_turn};
 ghost use Rattle.lot_simulation.specs.Report.{ticks_in, total_of, turns_made, turns_of};
 ghost use Rattle.lot_engine.specs.Counted.{counted};
 ghost use Rattle.lot_engine.specs.Histories.{woken_in};
@@ -28,6 +28,7 @@ use crate::history::History;
 use crate::known::known;
 use crate::places::{follow_command, follow_turn, pass_slice, places_for, receive};
 use crate::slices::script_numbered;
+use crate::tickets::NamedTickets;
 use crate::turn::{
     Answer, KeptWork, Running, TurnFaultKind, Work, done_in, matches_work, sleeper_by,
 };
@@ -52,6 +53,8 @@ pub struct System {
     program: Program,
     /// The number of commands made.
     spent: usize,
+    /// The tickets that have names.
+    tickets: NamedTickets,
     /// Each processor's generator.
     generators: Vec<ParkMiller>,
     /// Whether it gives wide numbers, which the program's format determines; kept here since each draw needs it.
@@ -75,6 +78,7 @@ impl Drop for System {
             kernel: _,
             program: _,
             spent: _,
+            tickets: _,
             generators: _,
             is_wide: _,
             places: _,
@@ -109,7 +113,7 @@ impl Model for System {
       legal : s.has_timer ≡ false → IsLegal s.program s.room s.history.items;
       in_time : IsLegalInTime s.program s.room s.history.items;
       held : IsHeld s.program
-          (system_run s.program s.history.items) s.kernel.state s.places.items s.generators.items s.spent;
+          (system_run s.program s.history.items) s.kernel.state s.places.items s.generators.items s.tickets s.spent;
       generators : vec_len s.generators ≡ s.program.limits.processors;
       wide : s.is_wide ≡ is_some s.program.duration;
       past : (system_run s.program s.history.items).history ≡ s.history.items;
@@ -157,6 +161,7 @@ impl System {
             kernel: Kernel::new(alloc, limits)?,
             program: program.copied(alloc)?,
             spent: 0,
+            tickets: NamedTickets::new(alloc, program.ticket_names())?,
             generators: generators_of(alloc, program)?,
             is_wide: program.format().draws_wide_numbers(),
             places: places_for(alloc, limits.threads)?,
@@ -379,7 +384,8 @@ impl System {
         self.history.push(actor);
     }
 
-    /// Makes the console's next command. It stores the event and the kernel's reply in `event` and `reply`.
+    /// Makes the console's next command, for the ticket that it names, if it does. It stores the event and the
+    /// kernel's reply in `event` and `reply`.
     fn console_turn(&mut self, event: &mut Event, reply: &mut Reply)
         requires left { ¬ IsEnded self.old 0 }
         requires room { length self.old.history < self.old.setting.room }
@@ -387,13 +393,24 @@ impl System {
         ensures answer { (system_turn self.old.setting.program (world_of self.old) 0).answer
             ≡ Answered event.new reply.new }
     {
-        *event = Event::Command(self.program.commands().at(self.spent));
+        let name = self.next_name();
+        let command = self.program.commands().at(self.spent);
+        *event = Event::Command(self.tickets.resolve(name, command));
         self.kernel.answer(event, reply);
         let told = *reply;
         self.spent += 1;
+        self.tickets.follow(name, event, told);
         follow_command(&mut self.places, &self.program, &self.kernel, told);
         count_turn(&mut self.counts, &mut self.total, 0, told);
         self.history.push(0);
+    }
+
+    /// The name that the console's next command has for its ticket, if it has one.
+    #[inline(always)]
+    fn next_name(&self) -> Option<u16>
+        ensures { result ≡ next_name (world_of self.now) }
+    {
+        self.program.names().get(self.spent).copied().flatten()
     }
 
     /// Makes the slice of the thread that runs on the processor. It advances the thread's place in the system's

@@ -1,5 +1,5 @@
 -- Without a timer the actors are the console and processors, so they are printed as they are.
-use Rattle.std.proofs.Common.{◌≡◌, ◌+◌, false, ap, sym, ◌∙◌, subst, map}
+use Rattle.std.proofs.Common.{◌+◌, ap, ◌∙◌, map}
 use Rattle.std.specs.Prelude.{min}
 use Rattle.lot_engine.specs.Seen.{Seen, shown_history}
 use Rattle.lot_engine.proofs.HistoryFacts.{shown-own}

@@ -1,13 +1,12 @@
 -- The timer's turn leaves the threads' places and the counters of the others.
 use Rattle.std.proofs.Common.{◌≡◌, ℕ, ◌+◌, ◌++◌, List, [], ◌∷◌, length, ap, sym, ◌∙◌, subst, arith}
 use Rattle.lot_machine.specs.declared.event.Event.TheVariants as event
-use Rattle.lot_machine.specs.declared.sizes.Sizes.{Sizes}
 use Rattle.lot_machine.specs.State.{State}
 use Rattle.lot_machine.specs.Step.{step}
-use Rattle.lot_simulation.specs.World.{system_turn, system_run}
+use Rattle.lot_simulation.specs.World.{system_run}
 use Rattle.lot_simulation.specs.World.Answer.{Answered}
 use Rattle.lot_engine.specs.Playing.{IsPlayed, turn_in}
-use Rattle.lot_engine.specs.Seen.{Seen, after_turn, timer_for, world_of}
+use Rattle.lot_engine.specs.Seen.{Seen, after_turn, timer_for}
 use Rattle.lot_engine.proofs.OneMore.{timer-more}
 use Rattle.lot_engine.proofs.PlayingFacts.{played-after}
 use Rattle.lot_engine.proofs.WakeFacts.{wake-answer}
@@ -18,7 +17,7 @@ invariant_of-self c =
     let s = c.self.inside in
     let i = c.self.invariant in
     let requires = rw (← c.self.view_is) at c.requires in
-    rw (c.push_wake.ensures.items, i.processors) (timer-more s.program s.room s.is_wide s.has_timer s.history.items s.kernel.state s.places.items s.generators.items _ s.spent s.counts.items _ s.total _ _ i c.args.thread (omega (arith, requires.there.0)) requires.timer requires.room (omega (arith, s.counts.ok.0))
+    rw (c.push_wake.ensures.items, i.processors) (timer-more s.program s.room s.is_wide s.has_timer s.history.items s.kernel.state s.places.items s.generators.items _ s.tickets s.spent s.counts.items _ s.total _ _ i c.args.thread (omega (arith, requires.there.0)) requires.timer requires.room (omega (arith, s.counts.ok.0))
     c.answer.new.self.state c.answer.new.reply c.answer.ensures.state c.answer.ensures.reply
     _ c.add_turn.ensures.exact (c.add_turn.ensures.small (length s.history.items) i.total_counted.small) _ c.push_wake.ensures.size)
 
