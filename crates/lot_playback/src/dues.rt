@@ -1,4 +1,4 @@
-//! What threads are due: their shares, by value, of the ticks used.
+//! What threads are due: their shares, by value, of the time in which live threads are worth anything.
 ghost use Rattle.std.specs.Prelude.{◌≡◌, ℕ, ◌+◌, ◌-◌, ◌*◌, ◌<◌, ◌≤◌, ◌^◌, [], ◌∷◌, ◌++◌, List, length};
 ghost use Rattle.std.specs.Prelude.{slice_index_or, IfOk, IsTrue, ◌↔◌, vec_len, if◌then◌else◌, ◌/◌, ◌==◌};
 ghost use Rattle.lot_machine.specs.Bounds.{IsBetween};

@@ -215,8 +215,8 @@ life_text lives = text lives.since lives.last
     text None None = []
 
 -- A thread's line: its name, the draws it has won, the ticks it has used and their share of all ticks, what it was due
--- of the time in which threads were live, its share of the live value, its waits to run, for mutexes and for replies, its refused traps, and when
--- it was made and ended.
+-- of the time in which threads were live, its share of the live value, its waits to run, for mutexes and for replies,
+-- its refused traps, and when it was made and ended.
 abbrev pub timed_thread_total : State → List TimedTurn → ℕ → ℕ → ThreadRow → List ℕ
 timed_thread_total s turns all t row =
     codes "thread " ++ (decimal t ++ (codes " " ++ (row.name ++ (codes " quanta " ++ (decimal row.quanta
