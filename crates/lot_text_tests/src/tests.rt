@@ -40,6 +40,9 @@ struct Said<'a> {
     schedule: &'a [u8],
     duration: Option<u32>,
     times: &'a [u32],
+    ticket_names: u32,
+    names: &'a [Option<u16>],
+    strict: bool,
 }
 
 fn name(rt: &impl Abort, text: &str) -> Name {
@@ -125,6 +128,13 @@ fn check_times(rt: &impl Abort, program: &Program, said: &Said<'_>) {
     check_same(rt, &program.duration(), &said.duration);
 }
 
+/// Compares the names of tickets, and whether a refusal ends the play.
+fn check_names(rt: &impl Abort, program: &Program, said: &Said<'_>) {
+    check_same(rt, &program.ticket_names(), &said.ticket_names);
+    check_items(rt, program.names(), said.names);
+    check_same(rt, &program.is_strict(), &said.strict);
+}
+
 fn check_scripts(rt: &impl Abort, scripts: &[Script], wanted: &[&[Line]]) {
     check_same(rt, &scripts.len(), &wanted.len());
     for (script, lines) in scripts.iter().zip(wanted) {
@@ -147,6 +157,7 @@ fn check_commands(rt: &impl Abort, commands: &Commands, wanted: &[Asked<'_>]) {
 fn check_program(rt: &impl Abort, program: &Program, said: &Said<'_>) {
     check_numbers(rt, program, said);
     check_times(rt, program, said);
+    check_names(rt, program, said);
     check_scripts(rt, program.scripts(), said.scripts);
     check_commands(rt, program.commands(), said.commands);
 }
@@ -191,6 +202,9 @@ const FIRST_RUN_SAYS: Said<'_> = Said {
     schedule: &[0, 0, 0, 1, 1, 0],
     duration: None,
     times: &[],
+    ticket_names: 0,
+    names: &[],
+    strict: false,
 };
 
 #[test]
@@ -238,6 +252,9 @@ const HEADERS_SAY: Said<'_> = Said {
     schedule: &[],
     duration: None,
     times: &[],
+    ticket_names: 0,
+    names: &[],
+    strict: false,
 };
 
 #[test]
@@ -303,6 +320,9 @@ const WHOLE_GRAMMAR_SAYS: Said<'_> = Said {
     schedule: &[0, 0, 2, 1, 0],
     duration: None,
     times: &[],
+    ticket_names: 0,
+    names: &[],
+    strict: false,
 };
 
 #[test]
@@ -359,6 +379,9 @@ const TIMED_SAYS: Said<'_> = Said {
     schedule: &[],
     duration: Some(4294967295),
     times: &[0, 20, 20, 20, 20, 20, 20, 20, 20, 20],
+    ticket_names: 0,
+    names: &[None; 10],
+    strict: false,
 };
 
 #[test]
@@ -368,9 +391,12 @@ fn reads_turns_in_the_order_of_time(rt: HostRuntime) {
 
 /// One header of a timed input in three orders.
 const HEADER_ORDERS: [&str; 3] = [
-    "processors 2\nquantum 50\nturns 5\nfor 9\nseed 7 8\nlimits 4 3 2\nreuse\nwithout lending\nwithout compensation",
-    "without compensation\nreuse\nlimits 4 3 2\nwithout lending\nprocessors 2\nseed 7 8\nfor 9\nturns 5\nquantum 50",
-    "for 9\nwithout lending\nprocessors 2\nreuse\nturns 5\nwithout compensation\nlimits 4 3 2\nquantum 50\nseed 7 8",
+    "processors 2\nquantum 50\nturns 5\nfor 9\nseed 7 8\nlimits 4 3 2\nreuse\nwithout lending\nwithout compensation\n\
+     strict",
+    "strict\nwithout compensation\nreuse\nlimits 4 3 2\nwithout lending\nprocessors 2\nseed 7 8\nfor 9\nturns 5\n\
+     quantum 50",
+    "for 9\nstrict\nwithout lending\nprocessors 2\nreuse\nturns 5\nwithout compensation\nlimits 4 3 2\nquantum 50\n\
+     seed 7 8",
 ];
 
 const HEADER_ORDERS_SAY: Said<'_> = Said {
@@ -396,6 +422,9 @@ const HEADER_ORDERS_SAY: Said<'_> = Said {
     schedule: &[],
     duration: Some(9),
     times: &[],
+    ticket_names: 0,
+    names: &[],
+    strict: true,
 };
 
 #[test]
@@ -406,10 +435,80 @@ fn reads_timed_headers_in_any_order(rt: HostRuntime) {
     }
 }
 
+/// Two tickets have names, and one has none.
+const NAMED: &str = "lottery 3
+for 9
+script s
+endscript
+mktkt 5 base as gift
+fundx 2 base a s as wage
+mktkt 7 base
+fund gift a
+fund 3 a
+at 4
+settkt wage 4
+unfund gift
+rmtkt gift
+lstkt
+";
+
+const NAMED_SAYS: Said<'_> = Said {
+    sizes: Sizes {
+        tickets: 65535,
+        currencies: 4096,
+        threads: 4096,
+        ports: 0,
+        mutexes: 0,
+        processors: 1,
+        scripts: 1,
+        quantum: 100,
+        unit: 256,
+        reuse: false,
+        plain_names: false,
+        without_compensation: false,
+        without_lending: false,
+    },
+    seeds: &[48271],
+    turns: 0,
+    scripts: &[&[]],
+    commands: &[
+        Asked::MakeTicket(5, "base"),
+        Asked::MakeFunded(2, "base", "a", 1),
+        Asked::MakeTicket(7, "base"),
+        Asked::Fund(0, "a"),
+        Asked::Fund(3, "a"),
+        Asked::SetTicket(0, 4),
+        Asked::Unfund(0),
+        Asked::RemoveTicket(0),
+        Asked::List(Kind::Tickets),
+    ],
+    schedule: &[],
+    duration: Some(9),
+    times: &[0, 0, 0, 0, 0, 4, 4, 4, 4],
+    ticket_names: 2,
+    names: &[
+        Some(1),
+        Some(2),
+        None,
+        Some(1),
+        None,
+        Some(2),
+        Some(1),
+        Some(1),
+        None,
+    ],
+    strict: false,
+};
+
+#[test]
+fn reads_names_of_tickets(rt: HostRuntime) {
+    check_said(&rt, rt.alloc(), NAMED, &NAMED_SAYS);
+}
+
 // For runs in which one allocation is refused: the tests above fail in those that refuse one of these.
 #[test]
 fn reads_or_lacks_memory(rt: HostRuntime) {
-    for text in [WHOLE_GRAMMAR, TIMED] {
+    for text in [WHOLE_GRAMMAR, TIMED, NAMED] {
         let result = parse(rt.alloc(), text.as_bytes());
         assert!(rt; matches!(&result, Ok(_) | Err(ParseFault::Memory)));
     }
@@ -787,7 +886,7 @@ const REFUSED_TIMES: [Refusals<'_>; 5] = [
             "settkt 1 18446744073709551616",
             "settkt 007 5",
             "settkt 1 -5",
-            "settkt x 5",
+            "settkt X 5",
         ],
     },
     Refusals {
@@ -848,6 +947,91 @@ fn refuses_durations(rt: HostRuntime) {
 #[test]
 fn refuses_times(rt: HostRuntime) {
     check_table(&rt, rt.alloc(), "lottery 3\nfor 5\n", &REFUSED_TIMES);
+}
+
+/// Lines after one that names a ticket `gift`.
+const REFUSED_NAMES: [Refusals<'_>; 4] = [
+    Refusals {
+        line: 4,
+        refusal: InputRefusal::UnknownName,
+        ends: &[
+            "rmtkt gitf",
+            "unfund abcdefghijklmnopq",
+            "settkt wage 5\nmktkt 5 base as wage",
+            "fund a gift",
+        ],
+    },
+    Refusals {
+        line: 4,
+        refusal: InputRefusal::BadNumber,
+        ends: &[
+            "unfund Gift",
+            "rmtkt 01",
+            "settkt gift five",
+            "mktkt 05 base as Gift",
+        ],
+    },
+    Refusals {
+        line: 4,
+        refusal: InputRefusal::BadLine,
+        ends: &[
+            "mktkt 5 base as gift",
+            "fundx 5 base a s as gift",
+            "mktkt 5 base as Wage",
+            "mktkt 05 base is wage",
+            "mktkt 5 base as",
+            "fundx 5 base a s as",
+            "fundx 5 base a s as wage now",
+        ],
+    },
+    Refusals {
+        line: 4,
+        refusal: InputRefusal::TooLong,
+        ends: &["mktkt 5 base as abcdefghijklmnopq"],
+    },
+];
+
+/// In the other formats.
+const NAMES_OF_OTHERS: [Refusals<'_>; 2] = [
+    Refusals {
+        line: 2,
+        refusal: InputRefusal::BadLine,
+        ends: &["mktkt 5 base as gift", "fundx 5 base a s as gift"],
+    },
+    Refusals {
+        line: 3,
+        refusal: InputRefusal::BadNumber,
+        ends: &["mkcur gift\nrmtkt gift"],
+    },
+];
+
+#[test]
+fn refuses_names_of_tickets(rt: HostRuntime) {
+    let named = "lottery 3\nfor 5\nmktkt 5 base as gift\n";
+    check_table(&rt, rt.alloc(), named, &REFUSED_NAMES);
+    for beginning in ["lottery 1\n", "lottery 2\n"] {
+        check_table(&rt, rt.alloc(), beginning, &NAMES_OF_OTHERS);
+    }
+}
+
+#[test]
+fn refuses_strict(rt: HostRuntime) {
+    for (text, line, refusal) in [
+        ("lottery 2\nstrict", 2, InputRefusal::BadLine),
+        ("lottery 3\nfor 5\nstrict 1", 3, InputRefusal::BadLine),
+        (
+            "lottery 3\nstrict\nfor 5\nstrict",
+            4,
+            InputRefusal::BadHeader,
+        ),
+        (
+            "lottery 3\nfor 5\nlstkt\nstrict",
+            4,
+            InputRefusal::BadHeader,
+        ),
+    ] {
+        check_refused(&rt, rt.alloc(), text, line, refusal);
+    }
 }
 
 /// A first line, and then a line of this many bytes.

@@ -1,6 +1,6 @@
 //! The lines of an input's commands.
 
-use crate::forms::place_of;
+use crate::forms::{is_command, place_of};
 use crate::input::{OpenScript, words_of};
 use crate::keywords::row_spelled;
 use crate::phrases::after_line;
@@ -32,10 +32,10 @@ impl<'a> CommandLine<'a> {
             }
             match row_spelled(&BODY_WORDS, words_of(line).next().unwrap_or("")) {
                 Some((_, BodyWord::Script, _)) => script = Some(OpenScript::opened(number)),
-                Some((_, _, form @ Form::Command(_))) if before == place => {
+                Some((_, _, form)) if is_command(form) && before == place => {
                     return Some(CommandLine { number, line, form });
                 }
-                Some((_, _, Form::Command(_))) => before = before.saturating_add(1),
+                Some((_, _, form)) if is_command(form) => before = before.saturating_add(1),
                 _ => {}
             }
         }

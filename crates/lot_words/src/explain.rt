@@ -1,21 +1,24 @@
 //! The problem with the refused line, in the order in which the reader finds it: first its bytes, then its first
 //! word, then its number of words, then each of them, and then the limit that it exceeds.
 
-use crate::forms::{Shape, WordCount, argument_at, form_outside, has_room_for};
+use crate::forms::{
+    Shape, WordCount, argument_at, form_in, form_outside, has_room_for, words_at_end,
+};
 use crate::header::HeaderLines;
 use crate::input::{OpenScript, Refused, words_of};
 use crate::keywords::{body_word, header_word, is_only_timed, script_row};
+use crate::names::{Named, name_numbered};
 use crate::nearest::nearest_word;
 use crate::phrases::phrases_problem;
 use crate::problem::{
     ByteProblem, FormProblem, HeaderProblem, KeywordProblem, LateProblem, LimitProblem,
-    NumberProblem, Problem,
+    NameProblem, NumberProblem, Problem,
 };
-use crate::word::word_problem;
+use crate::word::{new_problem, word_problem};
 use lot_machine::is_good_name;
 use lot_simulation::{
-    BODY_WORDS, BodyWord, FIRST_WORD, Form, Format, HeaderWord, InputRefusal, SCRIPT_WORDS,
-    ScriptWord,
+    AS_WORD, BODY_WORDS, BodyWord, FIRST_WORD, Form, Format, HeaderWord, InputRefusal,
+    SCRIPT_WORDS, ScriptWord,
 };
 use std::alloc::Global;
 
@@ -171,8 +174,11 @@ fn body_problem<'a>(alloc: Global, refused: &Refused<'a>, word: &'a str) -> Opti
     if let Some(problem) = format_problem(refused.format, word) {
         return Some(Problem::Keyword(problem));
     }
+    if !refused.is_timed() && Named::Ticket.given_by(refused.line).is_some() {
+        return Some(Problem::Keyword(KeywordProblem::OnlyTimed("as")));
+    }
     if let Some(form) = form_outside(word) {
-        return form_problem(alloc, refused, word, form);
+        return form_problem(alloc, refused, word, form_in(refused.is_timed(), form));
     }
     if script_row(word).is_some() {
         return Some(Problem::Keyword(KeywordProblem::OutsideScript(word)));
@@ -206,31 +212,69 @@ fn form_problem<'a>(
     word: &'a str,
     form: Form,
 ) -> Option<Problem<'a>> {
+    let shape = Shape { word, form };
+    if let Some(problem) = shape_problem(refused, shape) {
+        return Some(Problem::Form(problem));
+    }
+    let problem = argument_problem(alloc, refused, shape);
+    if problem.is_some() {
+        return problem;
+    }
+    let (_, name) = words_at_end(form, refused.line)?;
+    new_problem(refused, name, Named::Ticket)
+}
+
+/// The problem with the words together of a line that must have this shape, if there is one.
+fn shape_problem<'a>(refused: &Refused<'a>, shape: Shape<'a>) -> Option<FormProblem<'a>> {
     let mut words = words_of(refused.line);
     let count = words.count().saturating_sub(1);
-    if !has_room_for(form, count, refused.processors) {
-        let shape = Shape { word, form };
-        return Some(Problem::Form(count_problem(refused, shape, count)));
+    if !has_room_for(shape.form, count, refused.processors) {
+        return Some(count_problem(refused, shape, count));
     }
+    let (word, _) = words_at_end(shape.form, refused.line)?;
+    if word.as_bytes() == AS_WORD {
+        None
+    } else if has_comment(refused.line) {
+        Some(FormProblem::TrailingComment(shape))
+    } else {
+        Some(FormProblem::NoAs { word, shape })
+    }
+}
+
+/// The problem with one of the arguments of a line that has this shape, if there is one.
+fn argument_problem<'a>(
+    alloc: Global,
+    refused: &Refused<'a>,
+    shape: Shape<'a>,
+) -> Option<Problem<'a>> {
     let mut arguments = words_of(refused.line);
     let _ = arguments.next();
     let mut place = 0usize;
     for given in arguments {
-        let argument = argument_at(form, place)?;
+        let argument = argument_at(shape.form, place)?;
         if let Some(problem) = word_problem(alloc, refused, given, argument) {
-            return Some(in_line(problem, Shape { word, form }));
+            return Some(in_line(problem, shape));
         }
         place = place.saturating_add(1);
     }
     None
 }
 
-/// The problem with a word of a line that must have this shape. A name in place of a number tells that the arguments
-/// may be in a wrong order.
+/// The problem with a word of a line that must have this shape. A name in place of a number, or an unknown one in place
+/// of a ticket, tells that the arguments may be in a wrong order.
 fn in_line<'a>(problem: Problem<'a>, shape: Shape<'a>) -> Problem<'a> {
     match problem {
         Problem::Number(NumberProblem::NoNumber(name)) if is_good_name(name.as_bytes()) => {
             Problem::Number(NumberProblem::NameForNumber { name, shape })
+        }
+        Problem::Name(
+            NameProblem::Unknown {
+                word,
+                kind: Named::Ticket,
+                nearest,
+            },
+        ) if nearest.text().unwrap_or("").is_empty() => {
+            Problem::Name(NameProblem::NameForTicket { word, shape })
         }
         _ => problem,
     }
@@ -238,13 +282,18 @@ fn in_line<'a>(problem: Problem<'a>, shape: Shape<'a>) -> Problem<'a> {
 
 /// The problem with a line that must have this shape and has this many words after the first.
 fn count_problem<'a>(refused: &Refused<'a>, shape: Shape<'a>, count: usize) -> FormProblem<'a> {
-    if words_of(refused.line).any(|word| word.starts_with('#')) {
+    if has_comment(refused.line) {
         return FormProblem::TrailingComment(shape);
     }
     FormProblem::WrongCount {
         shape,
         count: WordCount(count.saturating_add(1)),
     }
+}
+
+/// Whether one of the line's words begins like a comment.
+fn has_comment(line: &[u8]) -> bool {
+    words_of(line).any(|word| word.starts_with('#'))
 }
 
 /// The limit that a line beginning with this word exceeds, if it has no other problem.
@@ -263,7 +312,14 @@ fn too_many<'a>(refused: &Refused<'a>, word: &str, refusal: InputRefusal) -> Pro
         Some(BodyWord::Mutex) => ("mutex", 256),
         Some(BodyWord::Script) => ("script", 256),
         Some(BodyWord::Schedule | BodyWord::Runs) => ("turn of the schedule", 1000000),
+        Some(_) if lacks_room_for_name(refused) => ("name of a ticket", 4096),
         _ => ("command", 100000),
     };
     Problem::Limit(LimitProblem::TooMany { what, most })
+}
+
+/// Whether the line names a ticket, and as many have names as can.
+fn lacks_room_for_name(refused: &Refused<'_>) -> bool {
+    Named::Ticket.given_by(refused.line).is_some()
+        && name_numbered(refused.before, Named::Ticket, 4096).is_some()
 }

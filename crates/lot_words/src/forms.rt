@@ -1,5 +1,6 @@
 //! The forms of lines.
 
+use crate::input::words_of;
 use crate::keywords::{header_word, row_spelled};
 use lot_simulation::{Argument, BODY_WORDS, Form, HEADER_WORDS, HeaderWord};
 use std::fmt;
@@ -24,6 +25,7 @@ impl fmt::Display for Shape<'_> {
         }
         match self.form {
             Form::Repeated(_) => f.write_str(" .."),
+            Form::Naming(_) => f.write_str(" [as NAME]"),
             _ => Ok(()),
         }
     }
@@ -42,12 +44,39 @@ impl fmt::Display for WordCount {
     }
 }
 
-/// The argument at this index after the first word, from 0.
+/// The argument at this index after the first word, from 0. The name of a new ticket is none.
 pub(crate) fn argument_at(form: Form, place: usize) -> Option<Argument> {
     let arguments = form.arguments();
-    match arguments.len() {
-        0 => None,
-        len => Some(arguments[place % len].1),
+    match (form, arguments.len()) {
+        (_, 0) => None,
+        (Form::Naming(_), len) if len <= place => None,
+        (_, len) => Some(arguments[place % len].1),
+    }
+}
+
+/// The two words after the arguments of a line of this form, if it can name a ticket and has them: `as` and the name.
+pub(crate) fn words_at_end(form: Form, line: &[u8]) -> Option<(&str, &str)> {
+    let Form::Naming(arguments) = form else {
+        return None;
+    };
+    let mut words = words_of(line);
+    let before = words.nth(arguments.len().saturating_add(1))?;
+    Some((before, words.next()?))
+}
+
+/// Whether a line of this form is a command.
+pub(crate) fn is_command(form: Form) -> bool {
+    match form {
+        Form::Command(_) | Form::Naming(_) => true,
+        _ => false,
+    }
+}
+
+/// The form in an input that is timed or isn't. Only a timed one has names of tickets.
+pub(crate) fn form_in(is_timed: bool, form: Form) -> Form {
+    match form {
+        Form::Naming(arguments) if !is_timed => Form::Command(arguments),
+        _ => form,
     }
 }
 
@@ -62,6 +91,8 @@ pub(crate) fn has_room_for(form: Form, count: usize, processors: u32) -> bool {
     let len = form.arguments().len();
     match form {
         Form::Once(_) | Form::Command(_) => count == len,
+        // With `as` and a name.
+        Form::Naming(_) => count == len || count == len.saturating_add(2),
         Form::PerProcessor(_) => count == processors as usize,
         Form::Repeated(_) => count > 0 && len > 0 && count % len == 0,
     }

@@ -56,6 +56,7 @@ pub fn write_words<W: Write>(
 /// - a line that begins with `script`, `port` or `mutex`, and a line of a script with one of these words or with
 ///   `loop`, `end` or `endscript`; a misspelt word counts as the nearest one;
 /// - a script that isn't closed, a word of the header or the body inside a script, or a word of a script outside one;
+/// - a line of `lottery 3` that begins with `mktkt` or `fundx`, if it has `as` or more words than without a name;
 /// - a word of another format;
 /// - a line that is too long, the first line above a limit, or the line at which an input gets too long.
 ///

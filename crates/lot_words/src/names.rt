@@ -1,25 +1,47 @@
 //! The names that an input declares.
 
-use crate::forms::{form_outside, place_of};
+use crate::forms::{form_outside, place_of, words_at_end};
 use crate::input::words_of;
 use crate::keywords::body_word;
 use crate::nearest::text_of;
-use lot_simulation::{BODY_WORDS, BodyWord};
+use lot_simulation::{AS_WORD, BODY_WORDS, BodyWord};
 use std::fmt;
 
-/// A kind of named declaration, given by the first word of its lines.
+/// A kind of things that have names.
 #[derive(Clone, Copy, Debug)]
-pub(crate) struct Declared(pub(crate) BodyWord);
+pub(crate) enum Named {
+    /// Those whose lines begin with this word.
+    ByWord(BodyWord),
+    Ticket,
+}
 
-impl fmt::Display for Declared {
-    fn fmt<W: fmt::Write>(&self, f: &mut fmt::Formatter<W>) -> fmt::Result {
-        for (spelling, word, _) in &BODY_WORDS {
-            if *word == self.0 {
-                return f.write_str(text_of(spelling));
-            }
+impl Named {
+    /// The name that the line gives to a thing of this kind, if it gives one.
+    pub(crate) fn given_by<'a>(self, line: &'a [u8]) -> Option<&'a str> {
+        match self {
+            Named::ByWord(word) => name_given(&[word], line),
+            Named::Ticket => ticket_name_given(line),
         }
-        Ok(())
     }
+}
+
+impl fmt::Display for Named {
+    fn fmt<W: fmt::Write>(&self, f: &mut fmt::Formatter<W>) -> fmt::Result {
+        match self {
+            Named::ByWord(word) => f.write_str(spelling_of(*word)),
+            Named::Ticket => f.write_str("ticket"),
+        }
+    }
+}
+
+/// The spelling of a word of the body.
+fn spelling_of(word: BodyWord) -> &'static str {
+    for (spelling, other, _) in &BODY_WORDS {
+        if *other == word {
+            return text_of(*spelling);
+        }
+    }
+    ""
 }
 
 /// The name that the line gives, if it begins with one of these words: each is a word of lines that give a name.
@@ -41,21 +63,32 @@ pub(crate) fn argument_given<'a>(
     }
 }
 
-/// Whether one of these lines begins with this word and declares this name.
-pub(crate) fn is_declared(lines: &[u8], keyword: BodyWord, name: &str) -> bool {
+/// The name that the line gives to the ticket that it makes, if it gives one.
+fn ticket_name_given(line: &[u8]) -> Option<&str> {
+    let word = words_of(line).next()?;
+    let (before, name) = words_at_end(form_outside(word)?, line)?;
+    if before.as_bytes() == AS_WORD {
+        Some(name)
+    } else {
+        None
+    }
+}
+
+/// Whether one of these lines gives this name to a thing of this kind.
+pub(crate) fn is_given(lines: &[u8], kind: Named, name: &str) -> bool {
     for line in lines.split(|byte| *byte == b'\n') {
-        if name_given(&[keyword], line) == Some(name) {
+        if kind.given_by(line) == Some(name) {
             return true;
         }
     }
     false
 }
 
-/// The name that the line with this number declares, from 1, among the lines that begin with this word.
-pub(crate) fn name_numbered(lines: &[u8], keyword: BodyWord, number: u32) -> Option<&str> {
+/// The name with this number, from 1, among those that these lines give to things of this kind.
+pub(crate) fn name_numbered(lines: &[u8], kind: Named, number: u32) -> Option<&str> {
     let mut before = 0u32;
     for line in lines.split(|byte| *byte == b'\n') {
-        let name = name_given(&[keyword], line);
+        let name = kind.given_by(line);
         if name.is_some() {
             before = before.saturating_add(1);
         }

@@ -1,8 +1,8 @@
 //! Suggestions for misspelt words.
 
 use crate::keywords::Keyword;
-use crate::names::name_given;
-use lot_simulation::{BodyWord, Format, WordRow};
+use crate::names::Named;
+use lot_simulation::{Format, WordRow};
 use std::alloc::Global;
 use std::{fmt, str};
 use strsim::levenshtein;
@@ -99,18 +99,29 @@ pub(crate) fn text_of(spelling: &'static [u8]) -> &'static str {
     str::from_utf8(spelling).unwrap_or("")
 }
 
-/// The name nearest to this one that one of these lines gives, among those that begin with one of these words.
+/// The name nearest to this one that one of these lines gives, among the names of these kinds.
 pub(crate) fn nearest_name<'a>(
     alloc: Global,
     lines: &'a [u8],
-    keywords: &[BodyWord],
+    kinds: &[Named],
     misspelt: &str,
 ) -> Nearest<'a> {
     let mut nearest = Nearest::NONE;
     for line in lines.split(|byte| *byte == b'\n') {
-        if let Some(name) = name_given(keywords, line) {
+        if let Some(name) = name_of_kinds(kinds, line) {
             nearest = nearest.or(alloc, misspelt, name);
         }
     }
     nearest
+}
+
+/// The name of one of these kinds that the line gives, if it gives one.
+fn name_of_kinds<'a>(kinds: &[Named], line: &'a [u8]) -> Option<&'a str> {
+    for kind in kinds {
+        let name = kind.given_by(line);
+        if name.is_some() {
+            return name;
+        }
+    }
+    None
 }

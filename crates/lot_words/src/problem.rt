@@ -2,7 +2,7 @@
 
 use crate::forms::{Shape, WordCount};
 use crate::header::HeaderLines;
-use crate::names::Declared;
+use crate::names::Named;
 use crate::nearest::Nearest;
 use lot_simulation::InputRefusal;
 use thiserror::Error;
@@ -103,6 +103,8 @@ pub(crate) enum FormProblem<'a> {
     BehindEnd(&'a str),
     #[error("this line is written '{shape}', and here {count}")]
     WrongCount { shape: Shape<'a>, count: WordCount },
+    #[error("'{word}' stands in the place of 'as': this line is written '{shape}'")]
+    NoAs { word: &'a str, shape: Shape<'a> },
     #[error("'end' closes a loop, and none is open")]
     NoLoop,
     #[error("'endscript' stands inside a loop: 'end' closes it")]
@@ -145,13 +147,20 @@ pub(crate) enum NameProblem<'a> {
     #[error("'{word}' is the name of an earlier {kind}")]
     Taken {
         word: &'a str,
-        kind: Declared,
+        kind: Named,
     },
     #[error("'{word}' is no {kind} of an earlier line{nearest}")]
     Unknown {
         word: &'a str,
-        kind: Declared,
+        kind: Named,
         nearest: Nearest<'a>,
+    },
+    #[error("'{0}' is no ticket: it has a number, or a name that 'as' gave it")]
+    NoTicket(&'a str),
+    #[error("'{word}' is no ticket of an earlier line; this line is written '{shape}'")]
+    NameForTicket {
+        word: &'a str,
+        shape: Shape<'a>,
     },
 }
 

@@ -1,8 +1,9 @@
 //! The reasons why commands are refused.
 
 use crate::commands::CommandLine;
+use crate::names::Named;
 use crate::nearest::{Nearest, nearest_name};
-use lot_machine::Refusal;
+use lot_machine::{Refusal, is_good_name};
 use lot_simulation::BodyWord;
 use std::alloc::Global;
 use std::fmt;
@@ -44,6 +45,9 @@ impl fmt::Display for Reason<'_> {
             word,
             nearest,
         } = *self;
+        if refusal == Refusal::NoTicket && is_good_name(word.as_bytes()) {
+            return write!(f, "no ticket has the name '{word}' now");
+        }
         f.write_str(text_of(refusal))?;
         match refusal {
             _ if word.is_empty() => Ok(()),
@@ -67,28 +71,31 @@ fn argument_of(refusal: Refusal) -> Option<&'static str> {
     }
 }
 
-/// The words that begin the lines which give names of the kind that this refusal misses, if it misses a name.
-fn givers(refusal: Refusal) -> &'static [BodyWord] {
+/// The kinds of names that this refusal misses one of, if it misses a name.
+fn missing_kinds(refusal: Refusal) -> &'static [Named] {
     match refusal {
-        Refusal::NoCurrency => &[BodyWord::MakeCurrency],
-        Refusal::NoThread => &[BodyWord::MakeThread, BodyWord::MakeFunded],
-        Refusal::NoTarget => &[
-            BodyWord::MakeCurrency,
-            BodyWord::MakeThread,
-            BodyWord::MakeFunded,
+        Refusal::NoCurrency => &[Named::ByWord(BodyWord::MakeCurrency)],
+        Refusal::NoThread => &[
+            Named::ByWord(BodyWord::MakeThread),
+            Named::ByWord(BodyWord::MakeFunded),
         ],
-        Refusal::NoScript => &[BodyWord::Script],
+        Refusal::NoTarget => &[
+            Named::ByWord(BodyWord::MakeCurrency),
+            Named::ByWord(BodyWord::MakeThread),
+            Named::ByWord(BodyWord::MakeFunded),
+        ],
+        Refusal::NoScript => &[Named::ByWord(BodyWord::Script)],
         _ => &[],
     }
 }
 
 /// The name nearest to this word among those of the kind that this refusal misses, if it misses a name.
 fn nearest_made<'a>(alloc: Global, input: &'a [u8], refusal: Refusal, word: &str) -> Nearest<'a> {
-    let keywords = givers(refusal);
-    if keywords.is_empty() {
+    let kinds = missing_kinds(refusal);
+    if kinds.is_empty() {
         return Nearest::NONE;
     }
-    let nearest = nearest_name(alloc, input, keywords, word);
+    let nearest = nearest_name(alloc, input, kinds, word);
     if refusal == Refusal::NoCurrency {
         nearest.or(alloc, word, "base")
     } else {

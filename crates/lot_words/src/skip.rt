@@ -1,10 +1,11 @@
 //! Whether a refused line can be skipped, since its fault has no consequences for other lines.
 
+use crate::forms::form_outside;
 use crate::input::{Refused, words_of};
 use crate::keywords::{body_word, header_word, script_row};
 use crate::nearest::{Nearest, nearer_word};
 use crate::problem::{ByteProblem, KeywordProblem, Problem};
-use lot_simulation::{BODY_WORDS, BodyWord, HEADER_WORDS, SCRIPT_WORDS, ScriptWord};
+use lot_simulation::{AS_WORD, BODY_WORDS, BodyWord, Form, HEADER_WORDS, SCRIPT_WORDS, ScriptWord};
 use std::alloc::Global;
 use std::str;
 
@@ -42,7 +43,8 @@ fn can_skip_body_line(alloc: Global, refused: &Refused<'_>) -> bool {
     match nearest.text() {
         Some(meant) => {
             let is_elsewhere = header_word(meant).is_some() || script_row(meant).is_some();
-            is_plain(word) && !is_elsewhere && !others_depend_on(meant)
+            let is_needed = others_depend_on(meant) || may_name_ticket(refused, meant);
+            is_plain(word) && !is_elsewhere && !is_needed
         }
         None => false,
     }
@@ -79,6 +81,18 @@ fn has_argument(alloc: Global, is_timed: bool, word: &str) -> Option<bool> {
         Some(meant) if is_plain(word) && !others_depend_on(meant) => Some(takes_argument(meant)),
         _ => None,
     }
+}
+
+/// Whether the line, which is meant to begin with this word, may give a name to a ticket. Lines after it may have the
+/// name.
+fn may_name_ticket(refused: &Refused<'_>, meant: &str) -> bool {
+    let Some(Form::Naming(arguments)) = form_outside(meant) else {
+        return false;
+    };
+    let has_as = words_of(refused.line).any(|word| word.as_bytes() == AS_WORD);
+    let mut words = words_of(refused.line);
+    let is_longer = words.count() > arguments.len().saturating_add(1);
+    refused.is_timed() && (has_as || is_longer)
 }
 
 /// Whether each byte of the word may stand in an input. Otherwise the word may be several, with a space between them

@@ -1,6 +1,6 @@
 //! Threads that can never make progress again.
 
-use crate::names::name_numbered;
+use crate::names::{Named, name_numbered};
 use lot_machine::{Name, Status};
 use lot_play::{Owner, StuckThread};
 use lot_simulation::BodyWord;
@@ -26,13 +26,13 @@ impl<'a> Called<'a> {
 
     fn port(input: &'a [u8], number: u32) -> Called<'a> {
         let kind = "port";
-        let name = name_numbered(input, BodyWord::Port, number);
+        let name = name_numbered(input, Named::ByWord(BodyWord::Port), number);
         Called { kind, name, number }
     }
 
     fn mutex(input: &'a [u8], number: u32) -> Called<'a> {
         let kind = "mutex";
-        let name = name_numbered(input, BodyWord::Mutex, number);
+        let name = name_numbered(input, Named::ByWord(BodyWord::Mutex), number);
         Called { kind, name, number }
     }
 }

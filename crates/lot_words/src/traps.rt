@@ -2,7 +2,7 @@
 
 use crate::input::{OpenScript, words_of};
 use crate::keywords::script_row;
-use crate::names::{argument_given, name_given, name_numbered};
+use crate::names::{Named, argument_given, name_given, name_numbered};
 use crate::nearest::text_of;
 use crate::phrases::after_line;
 use crate::stuck::Called;
@@ -24,11 +24,11 @@ impl<'a> TrapWords<'a> {
         let (word, name) = match trap {
             ScriptTrap::AtPort(kind, port) => (
                 ScriptWord::AtPort(kind),
-                name_numbered(input, BodyWord::Port, port),
+                name_numbered(input, Named::ByWord(BodyWord::Port), port),
             ),
             ScriptTrap::OnMutex(kind, mutex) => (
                 ScriptWord::OnMutex(kind),
-                name_numbered(input, BodyWord::Mutex, mutex),
+                name_numbered(input, Named::ByWord(BodyWord::Mutex), mutex),
             ),
             ScriptTrap::Reply => (ScriptWord::Reply, None),
             ScriptTrap::Yield => (ScriptWord::Yield, None),

@@ -1,12 +1,13 @@
 //! The warnings of a run, in words.
 
 use crate::commands::CommandLine;
+use crate::input::has_header_line;
 use crate::line_of_command;
 use crate::reason::Reason;
 use crate::stuck::{Waiting, Weightless};
 use crate::traps::RefusedWords;
 use lot_play::{FirstFew, RefusedCommand, RefusedTrap, Warnings};
-use lot_simulation::EarlyEnd;
+use lot_simulation::{EarlyEnd, HeaderWord};
 use std::alloc::Global;
 use std::io::Write;
 use std::{fmt, io};
@@ -19,11 +20,13 @@ pub fn write_warnings<W: Write>(
     warnings: &Warnings,
     input: &[u8],
 ) -> io::Result<()> {
+    let by_refusal = is_ended_by_refusal(warnings, input);
     if let Some(early) = warnings.early {
-        writeln!(writer, "{}", Early(early))?;
+        writeln!(writer, "{}", Early { early, by_refusal })?;
     }
     write_refused(warnings.allocator(), writer, &warnings.refused, input)?;
-    write_unmade(writer, warnings, input)?;
+    let ending = if by_refusal { REFUSAL } else { LAST_TURN };
+    write_unmade(writer, warnings, input, ending)?;
     write_refused_traps(writer, &warnings.refused_traps, input)?;
     for thread in warnings.weightless.first() {
         writeln!(writer, "{}", Weightless(thread))?;
@@ -37,6 +40,15 @@ pub fn write_warnings<W: Write>(
         writeln!(writer, "{}", Waiting { thread, input })?;
     }
     write_others(writer, &warnings.waiting, "threads that wait for good")
+}
+
+/// Whether a refused command or trap ended the run before its time, as it does with a strict input.
+fn is_ended_by_refusal(warnings: &Warnings, input: &[u8]) -> bool {
+    let has_commands = !warnings.refused.first().is_empty();
+    let has_traps = !warnings.refused_traps.first().is_empty();
+    warnings.early.is_some()
+        && (has_commands || has_traps)
+        && has_header_line(input, HeaderWord::Strict)
 }
 
 /// Writes the refused commands, and the reasons.
@@ -57,21 +69,28 @@ fn write_refused<W: Write>(
     write_others(writer, refused, "commands that were refused")
 }
 
-/// Writes the number of commands never made, if there are any.
-fn write_unmade<W: Write>(writer: &mut W, warnings: &Warnings, input: &[u8]) -> io::Result<()> {
+/// Why commands are left after the last turn.
+const LAST_TURN: &str = "each 0 in a schedule makes one, and lottery 3 makes those up to its end";
+
+/// Why they are left after a refusal that ended the run.
+const REFUSAL: &str = "the refusal ended the run";
+
+/// Writes the number of commands never made and why, if there are any.
+fn write_unmade<W: Write>(
+    writer: &mut W,
+    warnings: &Warnings,
+    input: &[u8],
+    ending: &str,
+) -> io::Result<()> {
     if warnings.unmade == 0 {
         return Ok(());
     }
     let line = Line(line_of_command(input, warnings.made));
     match warnings.unmade {
-        1 => writeln!(
-            writer,
-            "{line}this command was never made: each 0 in a schedule makes one, and lottery 3 makes those up to its end"
-        ),
+        1 => writeln!(writer, "{line}this command was never made: {ending}"),
         count => writeln!(
             writer,
-            "{line}this command and those after it, {count} in all, were never made: \
-            each 0 in a schedule makes one, and lottery 3 makes those up to its end"
+            "{line}this command and those after it, {count} in all, were never made: {ending}"
         ),
     }
 }
@@ -115,11 +134,21 @@ impl fmt::Display for Line {
 
 /// The early end of a timed run.
 #[derive(Clone, Copy)]
-struct Early(EarlyEnd);
+struct Early {
+    early: EarlyEnd,
+    /// Whether the run ended by a refusal, as that of a strict input does.
+    by_refusal: bool,
+}
 
 impl fmt::Display for Early {
     fn fmt<W: fmt::Write>(&self, f: &mut fmt::Formatter<W>) -> fmt::Result {
-        let EarlyEnd { time, end, turns } = self.0;
+        let EarlyEnd { time, end, turns } = self.early;
+        if self.by_refusal {
+            return write!(
+                f,
+                "the run ended at tick {time} of {end}: the input is strict, and turn {turns} was refused"
+            );
+        }
         write!(
             f,
             "the run was cut at tick {time} of {end}: it made {turns} turns, and a run makes no more"

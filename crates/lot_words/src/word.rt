@@ -1,11 +1,11 @@
 //! The problem with one word of a line.
 
 use crate::input::Refused;
-use crate::names::{Declared, is_declared};
+use crate::names::{Named, is_given};
 use crate::nearest::nearest_name;
 use crate::problem::{NameProblem, NumberProblem, Problem};
 use lot_machine::is_good_name;
-use lot_simulation::{Argument, BodyWord, Range};
+use lot_simulation::{Argument, Range};
 use std::alloc::Global;
 
 /// The problem with a word of the refused line that must be this argument.
@@ -19,8 +19,11 @@ pub(crate) fn word_problem<'a>(
         Argument::AnyNumber => number_problem(word),
         Argument::Number(range) => range_problem(word, range),
         Argument::AnyName => long_name(word),
-        Argument::NewName(keyword) => new_problem(refused, word, keyword),
-        Argument::KnownName(keyword) => known_problem(alloc, refused, word, keyword),
+        Argument::Ticket => ticket_problem(alloc, refused, word),
+        Argument::NewName(keyword) => new_problem(refused, word, Named::ByWord(keyword)),
+        Argument::KnownName(keyword) => {
+            known_problem(alloc, refused, word, Named::ByWord(keyword))
+        }
         Argument::Actor => actor_problem(refused, word),
         Argument::Time(range) => {
             let first = refused.now;
@@ -72,7 +75,30 @@ fn long_name(word: &str) -> Option<Problem<'_>> {
     }
 }
 
-fn new_problem<'a>(refused: &Refused<'a>, word: &'a str, keyword: BodyWord) -> Option<Problem<'a>> {
+/// The problem with a word that must be a ticket: its number, or in a timed input a name that an earlier line gave.
+fn ticket_problem<'a>(alloc: Global, refused: &Refused<'a>, word: &'a str) -> Option<Problem<'a>> {
+    if !refused.is_timed() || begins_with_digit(word) {
+        return number_problem(word);
+    }
+    if !is_good_name(word.as_bytes()) {
+        return Some(Problem::Name(NameProblem::NoTicket(word)));
+    }
+    known_problem(alloc, refused, word, Named::Ticket)
+}
+
+fn begins_with_digit(word: &str) -> bool {
+    match word.as_bytes().first() {
+        Some(byte) => byte.is_ascii_digit(),
+        None => false,
+    }
+}
+
+/// The problem with a word that must be a new name of this kind.
+pub(crate) fn new_problem<'a>(
+    refused: &Refused<'a>,
+    word: &'a str,
+    kind: Named,
+) -> Option<Problem<'a>> {
     let problem = long_name(word);
     if problem.is_some() {
         return problem;
@@ -80,27 +106,27 @@ fn new_problem<'a>(refused: &Refused<'a>, word: &'a str, keyword: BodyWord) -> O
     if !is_good_name(word.as_bytes()) {
         return Some(Problem::Name(NameProblem::BadName(word)));
     }
-    if is_declared(refused.before, keyword, word) {
-        let kind = Declared(keyword);
+    if is_given(refused.before, kind, word) {
         return Some(Problem::Name(NameProblem::Taken { word, kind }));
     }
     None
 }
 
+/// The problem with a word that must be a name of this kind on an earlier line.
 fn known_problem<'a>(
     alloc: Global,
     refused: &Refused<'a>,
     word: &'a str,
-    keyword: BodyWord,
+    kind: Named,
 ) -> Option<Problem<'a>> {
     let problem = long_name(word);
-    if problem.is_some() || is_declared(refused.before, keyword, word) {
+    if problem.is_some() || is_given(refused.before, kind, word) {
         return problem;
     }
-    let nearest = nearest_name(alloc, refused.before, &[keyword], word);
+    let nearest = nearest_name(alloc, refused.before, &[kind], word);
     Some(Problem::Name(NameProblem::Unknown {
         word,
-        kind: Declared(keyword),
+        kind,
         nearest,
     }))
 }

@@ -80,6 +80,36 @@ fn lines_with_others(rt: HostRuntime) {
     }
 }
 
+/// Checks the third line of `lottery 3` inputs.
+fn check_timed<H: Abort>(rt: &H, alloc: Global, line: &str, expected: Option<usize>) {
+    let input = format!(in alloc; "lottery 3\nfor 5\n{line}\n").expect(rt, "memory");
+    check(rt, alloc, input.as_bytes(), expected);
+}
+
+// Lines after one that names a ticket may have the name.
+#[test]
+fn lines_that_name_tickets(rt: HostRuntime) {
+    for line in [
+        "mktkt 05 base",
+        "mktk 5 base",
+        "rmtkt gift",
+        "fundx 5 base a",
+    ] {
+        check_timed(&rt, rt.alloc(), line, Some(16));
+    }
+    for line in [
+        "mktkt 05 base as gift",
+        "mktkt 5 base gift",
+        "mktk 5 base as gift",
+        "fundx 5 as gift",
+        "strct",
+    ] {
+        check_timed(&rt, rt.alloc(), line, None);
+    }
+    check_second(&rt, rt.alloc(), "mktkt 5 base as", Some(10));
+    check_second(&rt, rt.alloc(), "mktkt 5 base as gift", None);
+}
+
 const INPUTS_WITHOUT: [&[u8]; 10] = [
     b"",
     b"mktk 5 base\n",

@@ -148,6 +148,68 @@ fn words_that_are_the_cause(rt: HostRuntime) {
     }
 }
 
+#[test]
+fn tickets_by_name(rt: HostRuntime) {
+    for (commands, expected) in [
+        (
+            "mktkt 5 base as gift\nrmtkt gift\nrmtkt gift\n",
+            "line 9: the command was refused: no ticket has the name 'gift' now\n",
+        ),
+        (
+            "mktkt 0 base as gift\nfund gift base\n",
+            "line 7: the command was refused: an amount is a number from 1 to 4294967295, and not 0
+line 8: the command was refused: no ticket has the name 'gift' now
+",
+        ),
+        (
+            "mktkt 5 base as gift\nunfund gift\n",
+            "line 8: the command was refused: the ticket funds nothing\n",
+        ),
+    ] {
+        check_commands(&rt, rt.alloc(), commands, expected);
+    }
+}
+
+/// The second command is refused, so the third is never made.
+const STRICT: &str = "lottery 3
+for 9
+strict
+mktkt 5 base
+fund 1 alice
+mkcur alice
+";
+
+/// Thread `a` unlocks a mutex that it doesn't own.
+const STRICT_TRAP: &str = "lottery 3
+for 9
+strict
+mutex m
+script unlocks
+unlock m yield endscript
+fundx 5 base a unlocks
+";
+
+#[test]
+fn strict_inputs(rt: HostRuntime) {
+    for (input, expected) in [
+        (
+            STRICT,
+            "the run ended at tick 0 of 9: the input is strict, and turn 2 was refused
+line 5: the command was refused: no currency and no thread has the name 'alice'
+line 6: this command was never made: the refusal ended the run
+",
+        ),
+        (
+            STRICT_TRAP,
+            "the run ended at tick 1 of 9: the input is strict, and turn 3 was refused
+line 6: 'unlock m' in script 'unlocks' was refused to thread 'a' once: the thread doesn't own the mutex
+",
+        ),
+    ] {
+        check(&rt, rt.alloc(), input, expected);
+    }
+}
+
 /// Nobody serves at port `print`, the second. Thread `own` ends with mutex `gate`, the second, and with the client
 /// `ask`, whose call at port `mail` it took.
 const WAITING: &str = "lottery 3

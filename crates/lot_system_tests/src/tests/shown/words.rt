@@ -401,6 +401,144 @@ fn numbers_given_again(rt: HostRuntime) {
 }
 
 #[test]
+fn strict_inputs(rt: HostRuntime) {
+    for (input, expected) in [
+        (
+            "lottery 2\nstrict\n",
+            "line 2: 'strict' is for 'lottery 3', whose turns come in the order of time\n",
+        ),
+        (
+            "lottery 3\nfor 5\nstrict 1\n",
+            "line 3: this line is written 'strict', and here are 2 words\n",
+        ),
+        (
+            "lottery 3\nstrict\nfor 5\nstrict\n",
+            "line 4: 'strict' begins an earlier line: each header line comes at most once\n",
+        ),
+        (
+            "lottery 3\nfor 5\nport p\nstrict\n",
+            "line 4: 'strict' stands after a body line: header lines come before all else\n",
+        ),
+    ] {
+        check(&rt, rt.alloc(), input.as_bytes(), expected);
+    }
+}
+
+/// Checks, like `check`, an input of a named ticket and this line.
+fn check_named<H: Abort>(rt: &H, alloc: Global, line: &str, expected: &str) {
+    let input = format!(in alloc; "lottery 3\nfor 5\nmktkt 5 base as gift\n{line}\n");
+    let input = input.expect(rt, "memory");
+    check(rt, alloc, input.as_bytes(), expected);
+}
+
+#[test]
+fn tickets_by_name(rt: HostRuntime) {
+    for (line, expected) in [
+        (
+            "rmtkt gitf",
+            "line 4: 'gitf' is no ticket of an earlier line; did you mean 'gift'?\n",
+        ),
+        (
+            "fund alice 1",
+            "line 4: 'alice' is no ticket of an earlier line; this line is written 'fund TICKET TARGET'\n",
+        ),
+        (
+            "settkt Gift 5",
+            "line 4: 'Gift' is no ticket: it has a number, or a name that 'as' gave it\n",
+        ),
+        (
+            "settkt 007 5",
+            "line 4: '007' is no number: digits, without a 0 before others, at most 18446744073709551615\n",
+        ),
+        (
+            "settkt gift five",
+            "line 4: 'five' is no number; this line is written 'settkt TICKET AMOUNT'\n",
+        ),
+        (
+            "unfund gift now",
+            "line 4: this line is written 'unfund TICKET', and here are 3 words\n",
+        ),
+    ] {
+        check_named(&rt, rt.alloc(), line, expected);
+    }
+}
+
+#[test]
+fn names_of_tickets(rt: HostRuntime) {
+    for (line, expected) in [
+        (
+            "mktkt 5 base as gift",
+            "line 4: 'gift' is the name of an earlier ticket\n",
+        ),
+        (
+            "fundx 5 base a s as gift",
+            "line 4: 'gift' is the name of an earlier ticket\n",
+        ),
+        (
+            "mktkt 5 base as Wage",
+            "line 4: 'Wage' is no name: a letter a to z, and then letters a to z, digits, '_' or '-'\n",
+        ),
+        (
+            "mktkt 5 base as abcdefghijklmnopq",
+            "line 4: 'abcdefghijklmnopq' has 17 bytes, and a name at most 16\n",
+        ),
+        (
+            "mktkt base 5 as Wage",
+            "line 4: 'base' is no number; this line is written 'mktkt AMOUNT CURRENCY [as NAME]'\n",
+        ),
+        (
+            "mktkt base 5 is wage",
+            "line 4: 'is' stands in the place of 'as': this line is written 'mktkt AMOUNT CURRENCY [as NAME]'\n",
+        ),
+        (
+            "mktkt 5 base # wage",
+            "line 4: a comment has a line of its own; 'mktkt AMOUNT CURRENCY [as NAME]' has no room for one\n",
+        ),
+        (
+            "mktkt 5 base as",
+            "line 4: this line is written 'mktkt AMOUNT CURRENCY [as NAME]', and here are 4 words\n",
+        ),
+        (
+            "fundx 5 base a s as",
+            "line 4: this line is written 'fundx AMOUNT CURRENCY NAME SCRIPT [as NAME]', and here are 6 words\n",
+        ),
+    ] {
+        check_named(&rt, rt.alloc(), line, expected);
+    }
+}
+
+#[test]
+fn names_of_tickets_in_other_formats(rt: HostRuntime) {
+    for (input, expected) in [
+        (
+            "lottery 2\nfundx 5 base a s as gift\n",
+            "line 2: 'as' is for 'lottery 3', whose turns come in the order of time\n",
+        ),
+        (
+            "lottery 1\nmktkt 5 base as\n",
+            "line 2: this line is written 'mktkt AMOUNT CURRENCY', and here are 4 words\n",
+        ),
+        (
+            "lottery 1\nrmtkt gift\n",
+            "line 2: 'gift' is no number; this line is written 'rmtkt TICKET'\n",
+        ),
+    ] {
+        check(&rt, rt.alloc(), input.as_bytes(), expected);
+    }
+}
+
+#[test]
+fn too_many_names_of_tickets(rt: HostRuntime) {
+    let mut input = String::from_str(rt.alloc(), "lottery 3\nfor 5\n").expect(&rt, "memory");
+    for number in 0..4097u32 {
+        let line = format!(in rt.alloc(); "mktkt 1 base as n{number}\n").expect(&rt, "memory");
+        input.push_str(line.as_str()).expect(&rt, "memory");
+    }
+    let expected = "line 4099: one name of a ticket too many, at most 4096\n";
+    check(&rt, rt.alloc(), input.as_bytes(), expected);
+}
+
+#[test]
 fn commands_of_one_format(rt: HostRuntime) {
     for (input, expected) in [
         (
@@ -562,14 +700,16 @@ yield call endscript
 yield endscript
 lstkt
 
-lscur
+mktkt 5 base as gift
+fundx 5 base a s
 lsthr
 ";
     for (place, line) in [
         (0usize, Some(8u32)),
         (1, Some(10)),
         (2, Some(11)),
-        (3, None),
+        (3, Some(12)),
+        (4, None),
     ] {
         check_same_at(&rt, &place, &line_of_command(input, place), &line);
     }
