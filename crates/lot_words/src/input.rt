@@ -85,7 +85,12 @@ impl<'a> Refused<'a> {
 
     /// Whether one of the lines before it begins with this word of the header.
     pub(crate) fn has_header_line(&self, word: HeaderWord) -> bool {
-        has_header_line(self.before, word)
+        for line in self.before.split(|byte| *byte == b'\n') {
+            if header_word(words_of(line).next().unwrap_or("")) == Some(word) {
+                return true;
+            }
+        }
+        false
     }
 
     /// Records the content of the line with this number.
@@ -157,16 +162,6 @@ impl OpenScript {
             _ => Some(self),
         }
     }
-}
-
-/// Whether one of these lines begins with this word of the header.
-pub(crate) fn has_header_line(lines: &[u8], word: HeaderWord) -> bool {
-    for line in lines.split(|byte| *byte == b'\n') {
-        if header_word(words_of(line).next().unwrap_or("")) == Some(word) {
-            return true;
-        }
-    }
-    false
 }
 
 /// The words of a line. A line that isn't text has none.

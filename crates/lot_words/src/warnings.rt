@@ -1,13 +1,12 @@
 //! The warnings of a run, in words.
 
 use crate::commands::CommandLine;
-use crate::input::has_header_line;
 use crate::line_of_command;
 use crate::reason::Reason;
 use crate::stuck::{Waiting, Weightless};
 use crate::traps::RefusedWords;
 use lot_play::{FirstFew, RefusedCommand, RefusedTrap, Warnings};
-use lot_simulation::{EarlyEnd, HeaderWord};
+use lot_simulation::EarlyEnd;
 use std::alloc::Global;
 use std::io::Write;
 use std::{fmt, io};
@@ -20,7 +19,7 @@ pub fn write_warnings<W: Write>(
     warnings: &Warnings,
     input: &[u8],
 ) -> io::Result<()> {
-    let by_refusal = is_ended_by_refusal(warnings, input);
+    let by_refusal = warnings.stopped;
     if let Some(early) = warnings.early {
         writeln!(writer, "{}", Early { early, by_refusal })?;
     }
@@ -40,15 +39,6 @@ pub fn write_warnings<W: Write>(
         writeln!(writer, "{}", Waiting { thread, input })?;
     }
     write_others(writer, &warnings.waiting, "threads that wait for good")
-}
-
-/// Whether a refused command or trap ended the run before its time, as it does with a strict input.
-fn is_ended_by_refusal(warnings: &Warnings, input: &[u8]) -> bool {
-    let has_commands = !warnings.refused.first().is_empty();
-    let has_traps = !warnings.refused_traps.first().is_empty();
-    warnings.early.is_some()
-        && (has_commands || has_traps)
-        && has_header_line(input, HeaderWord::Strict)
 }
 
 /// Writes the refused commands, and the reasons.
