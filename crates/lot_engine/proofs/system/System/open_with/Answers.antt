@@ -18,7 +18,7 @@ invariant_of-result c =
     let limits : sizes_of c.limits-limits.result ≡ program.limits = c.limits-limits.ensures.limits ∙ ap (λ p. p.limits) (sym copied) in
     let is : state ≡ opening program.limits = ap (λ k. k.state) c.in_ok-new.ensures.opening ∙ ap opening limits in
     let seeded : generators ≡ program.seeds = c.in_ok-generators_of.ensures.seeds ∙ ap (λ p. p.seeds) (sym copied) in
-    let unnamed : tickets ≡ replicate program.ticket_names 0 = c.in_ok-new-2.ensures ∙ ap (λ n. replicate n 0) (c.ticket_names.ensures.names ∙ ap (λ p. p.ticket_names) (sym copied)) in
+    let unnamed : tickets ≡ replicate program.ticket_names 0 = c.in_ok-new-2.ensures ∙ ap (λ n. replicate n 0) (c.ticket_names.ensures.ticket_names ∙ ap (λ p. p.ticket_names) (sym copied)) in
     let counted = subst (λ h. IsCount (turns_made program h) (length h) (record { turns = 0; quanta = 0; idles = 0; ticks = 0 })) (sym none) nothing-counted in
     let each = subst (λ h. AreCounts (turns_made program h) (length h) c.in_ok-no_counts.field-0.items) (sym none) c.in_ok-no_counts.ensures.none in
     record {
