@@ -16,7 +16,7 @@ use Rattle.lot_machine.specs.State.{State}
 use Rattle.lot_machine.specs.Step.{step}
 use Rattle.lot_machine.proofs.NamesKept.{AreOwn, opening-own, step-own}
 use Rattle.lot_machine.proofs.StepSizes.{step-limits}
-use Rattle.lot_simulation.specs.World.{Program, Turn, World, console_turn, opening_world, actor_event, processor_turn, system_after, system_run, system_turn}
+use Rattle.lot_simulation.specs.World.{Program, Turn, World, console_turn, next_name, opening_world, actor_event, processor_turn, resolved, system_after, system_run, system_turn}
 use Rattle.lot_curves.specs.Curves.{name_in}
 
 -- ---- names in a run
@@ -31,7 +31,7 @@ module _ (program : Program) where
 
   console-named : (w : World) (commands : List Command) → AreNamed w.state → AreNamed (console_turn program w commands).world.state
   console-named w [] named = named
-  console-named w (c ∷ cs) named = step-named w.state (event.Command c) named
+  console-named w (c ∷ cs) named = step-named w.state (event.Command (resolved w.tickets (next_name w) c)) named
 
   turn-named : (w : World) (actor : ℕ) → AreNamed w.state → AreNamed (system_turn program w actor).world.state
   turn-named w actor named = by (actor == 0)

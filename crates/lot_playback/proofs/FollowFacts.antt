@@ -11,7 +11,7 @@ use Rattle.std.proofs.lemmas.List.Sums.{sum_by_push}
 use Rattle.lot_simulation.specs.Report.{ActorTurn, count_in, total_of}
 use Rattle.lot_simulation.specs.Timed.{Moment, TimedTurn, turns_from, timed_turns, timed_room, next_due, due_first, turn_due, moment_after, moment_after_all, opening_moment, alarms_after, clocks_after, is_idle_draw, is_refusal}
 use Rattle.lot_simulation.specs.TimedReport.{actor_turns, refusals_in}
-use Rattle.lot_simulation.specs.World.{Program, World, Answer, actor_event, console_turn, processor_turn, system_turn}
+use Rattle.lot_simulation.specs.World.{Program, World, Answer, actor_event, console_turn, next_name, processor_turn, resolved, system_turn}
 use Rattle.lot_simulation.specs.World.Answer.{Answered, Ended}
 use Rattle.lot_simulation.proofs.OtherTurns.{turn-grows}
 use Rattle.lot_simulation.proofs.TimedRuns.{turns-few}
@@ -87,7 +87,7 @@ turn-answers program w actor e r is = by (actor == 0) is
 
     from : (cs : List Command) → (console_turn program w cs).answer ≡ Answered e r → Answers w.state e r (console_turn program w cs).world.state
     from [] same = cc
-    from (c ∷ cs) same = made (event.Command c) same
+    from (c ∷ cs) same = made (event.Command (resolved w.tickets (next_name w) c)) same
 
     by : (b : Bool) → (if b then console_turn program w w.commands else processor_turn w actor (actor_event program w actor)).answer ≡ Answered e r
         → Answers w.state e r (if b then console_turn program w w.commands else processor_turn w actor (actor_event program w actor)).world.state

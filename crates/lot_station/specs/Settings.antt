@@ -48,6 +48,9 @@ no_setting = record {
     schedule = [];
     duration = None;
     times = [];
+    ticket_names = 0;
+    names = [];
+    strict = false;
   };
   room = 0;
   timer = false;
