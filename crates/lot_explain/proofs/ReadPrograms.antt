@@ -24,10 +24,11 @@ use Rattle.lot_simulation.specs.declared.input.ScriptWord.TheVariants as script
 use Rattle.lot_simulation.specs.declared.script.Line.{Line}
 use Rattle.lot_simulation.specs.declared.script.Line.TheVariants as line
 use Rattle.lot_simulation.specs.declared.script.ScriptTrap.TheVariants as trap
+use Rattle.lot_simulation.specs.declared.input.TicketRef.{TicketRef}
 use Rattle.lot_simulation.specs.declared.separators.Separators.{Separators}
-use Rattle.lot_simulation.specs.Grammar.{ActorRun, Phrase, actors_of, add_command, add_line, add_runs, body_after_header, body_line, body_words_of, closed_program, first_line, fitting_line, header_in_order, header_line, header_words_of, is_full, is_late, lacks_duration, later_line, line_inside, line_outside, phrase_inside, phrases_inside, phrases_of, program_in, program_of, read_line, read_lines, refused_on, run_of, script_line, script_names, separators_of, time_of_next, token_line, whole_program, with_header_word, with_line}
+use Rattle.lot_simulation.specs.Grammar.{ActorRun, Phrase, actors_of, add_command, add_for_ticket, add_line, add_named, add_naming, add_runs, body_after_header, body_line, body_words_of, closed_program, first_line, fitting_line, header_in_order, header_line, header_words_of, in_time, is_full, is_late, lacks_duration, later_line, line_inside, line_outside, names_ticket, phrase_inside, phrases_inside, phrases_of, program_in, program_of, read_line, read_lines, refused_on, run_of, script_line, script_names, separators_of, ticket_name, ticket_number, token_line, whole_program, with_header_word, with_line}
 use Rattle.lot_simulation.specs.Lines.{is_ignored, lines_of, number_of, tokens_of, without_end}
-use Rattle.lot_simulation.specs.Reading.{OpenScript, Reading, ◌>>=◌, actor_below, any_name, any_number, checked, each, each_pair, is_long_name, number_between, opening_reading, script_number}
+use Rattle.lot_simulation.specs.Reading.{OpenScript, Reading, ◌>>=◌, actor_below, any_name, any_number, any_ticket, checked, each, each_pair, is_long_name, new_name, number_between, opening_reading, script_number}
 use Rattle.lot_simulation.specs.Timed.{end_of}
 use Rattle.lot_simulation.specs.Words.{script_words, timed_script_words, word_in}
 use Rattle.lot_simulation.specs.World.{Program}
@@ -134,6 +135,12 @@ opening-read is_timed unit is = (
   All-nil HasShortName,
 )
 
+-- one command more, with a short name
+naming-kept : (r : Reading) → IsRead r → (name : Option ℕ) (c : Command) → HasShortName c → Reads (add_naming r name c) IsRead
+naming-kept r kept name c short =
+    if-passes IsRead ((nat_le 100000 (length r.commands), TooLong) ∷ []) (record r { commands = r.commands ++ c ∷ []; names = r.names ++ in_time r name; times = r.times ++ in_time r r.time })
+    (λ _. (kept.0, kept.1, kept.2, kept.3, All-push HasShortName r.commands c kept.4 short))
+
 module _ (r : Reading) (kept : IsRead r) where
   -- ---- the header
 
@@ -181,6 +188,7 @@ module _ (r : Reading) (kept : IsRead r) where
           else Err BadLine) IsRead
       compensates true = if-passes IsRead ((not r.is_timed, BadLine) ∷ (r.without_compensation, BadHeader) ∷ []) (record r { without_compensation = true }) (λ _. kept)
       compensates false = lends (bytes_eq mechanism (codes "lending"))
+  header-kept header.Strict [] = if-passes IsRead ((not r.is_timed, BadLine) ∷ []) (record r { strict = true }) (λ _. kept)
   header-kept header.Reuse [] = if-passes IsRead ((not r.is_timed, BadLine) ∷ []) (record r { reuse = true }) (λ _. kept)
   header-kept word tokens = refuses IsRead BadLine
 
@@ -229,11 +237,20 @@ module _ (r : Reading) (kept : IsRead r) where
 
   -- ---- the body
 
-  -- one command more, with a short name
+  -- one command more that names no ticket
   command-kept : (c : Command) → HasShortName c → Reads (add_command r c) IsRead
-  command-kept c short =
-      if-passes IsRead ((nat_le 100000 (length r.commands), TooLong) ∷ []) (record r { commands = r.commands ++ c ∷ []; times = r.times ++ time_of_next r })
-      (λ _. (kept.0, kept.1, kept.2, kept.3, All-push HasShortName r.commands c kept.4 short))
+  command-kept c short = naming-kept r kept None c short
+
+  -- one for this ticket
+  for_ticket-kept : (ticket : TicketRef) (c : ℕ → Command) → ((number : ℕ) → HasShortName (c number)) → Reads (add_for_ticket r ticket c) IsRead
+  for_ticket-kept ticket c short = naming-kept r kept (ticket_name ticket) (c (ticket_number ticket)) (short (ticket_number ticket))
+
+  -- one that makes a ticket with a name
+  named-kept : (token : List ℕ) (c : Command) → HasShortName c → Reads (add_named r token c) IsRead
+  named-kept token c short =
+      then-read IsRead IsRead
+      (any-read (new_name r.ticket_names token) IsRead (λ name. if-passes IsRead ((nat_le 4096 (length r.ticket_names), TooLong) ∷ []) (record r { ticket_names = r.ticket_names ++ name ∷ [] }) (λ _. kept)))
+      (λ named is. naming-kept named is (Some (length named.ticket_names)) c short)
 
   -- a schedule that goes on by runs
   runs-kept : (runs : List ActorRun) → Reads (add_runs r runs) IsRead
@@ -251,12 +268,15 @@ module _ (r : Reading) (kept : IsRead r) where
       any-read _ IsRead (λ name. if-passes IsRead ((nat_le 256 (length r.scripts), TooLong) ∷ []) (record r { unclosed = Some (record { name = name; begins = n; lines = []; loops = 0 }) }) (λ passes.
       (kept.0, kept.1, kept.2, (kept.3.0, room-for (length r.scripts) passes), kept.4)))
   body-kept n body.MakeTicket (a ∷ c ∷ []) = any-read (any_number a) IsRead (λ amount. any-read (any_name c) IsRead (λ currency. command-kept (MakeTicket amount (currency_ref.Named currency)) tt))
-  body-kept n body.RemoveTicket (t ∷ []) = any-read _ IsRead (λ ticket. command-kept (RemoveTicket ticket) tt)
+  body-kept n body.MakeTicket (a ∷ c ∷ word ∷ token ∷ []) =
+      any-read (checked ((not (names_ticket r word), BadLine) ∷ []) a) IsRead (λ given. any-read (any_number given) IsRead (λ amount. any-read (any_name c) IsRead (λ currency.
+      named-kept token (MakeTicket amount (currency_ref.Named currency)) tt)))
+  body-kept n body.RemoveTicket (t ∷ []) = any-read (any_ticket r t) IsRead (λ ticket. for_ticket-kept ticket RemoveTicket (λ _. tt))
   body-kept n body.MakeCurrency (token ∷ []) = any-read _ IsRead (λ name. command-kept (MakeCurrency name) tt)
   body-kept n body.RemoveCurrency (c ∷ []) = any-read _ IsRead (λ currency. command-kept (RemoveCurrency (currency_ref.Named currency)) tt)
-  body-kept n body.Fund (t ∷ to ∷ []) = any-read (any_number t) IsRead (λ ticket. any-read (any_name to) IsRead (λ target. command-kept (Fund ticket (target_ref.Named target)) tt))
-  body-kept n body.Unfund (t ∷ []) = any-read _ IsRead (λ ticket. command-kept (Unfund ticket) tt)
-  body-kept n body.SetTicket (t ∷ a ∷ []) = any-read (any_number t) IsRead (λ ticket. any-read (any_number a) IsRead (λ amount. command-kept (SetTicket ticket amount) tt))
+  body-kept n body.Fund (t ∷ to ∷ []) = any-read (any_ticket r t) IsRead (λ ticket. any-read (any_name to) IsRead (λ target. for_ticket-kept ticket (λ number. Fund number (target_ref.Named target)) (λ _. tt)))
+  body-kept n body.Unfund (t ∷ []) = any-read (any_ticket r t) IsRead (λ ticket. for_ticket-kept ticket Unfund (λ _. tt))
+  body-kept n body.SetTicket (t ∷ a ∷ []) = any-read (any_ticket r t) IsRead (λ ticket. any-read (any_number a) IsRead (λ amount. for_ticket-kept ticket (λ number. SetTicket number amount) (λ _. tt)))
   body-kept n body.RemoveThread (c ∷ []) = any-read _ IsRead (λ thread. command-kept (RemoveThread (thread_ref.Named thread)) tt)
   body-kept n body.Kill (c ∷ []) = any-read _ IsRead (λ thread. command-kept (Kill (thread_ref.Named thread)) tt)
   body-kept n body.MakeThread (token ∷ s ∷ []) =
@@ -264,6 +284,9 @@ module _ (r : Reading) (kept : IsRead r) where
   body-kept n body.MakeFunded (a ∷ c ∷ token ∷ s ∷ []) =
       any-read (any_number a) IsRead (λ amount. any-read (any_name c) IsRead (λ currency. then-read IsShortName IsRead (name-short token) (λ name short.
       any-read (script_number (script_names r) s) IsRead (λ number. command-kept (MakeFunded amount (currency_ref.Named currency) name number) short))))
+  body-kept n body.MakeFunded (a ∷ c ∷ token ∷ s ∷ word ∷ ticket ∷ []) =
+      any-read (checked ((not (names_ticket r word), BadLine) ∷ []) a) IsRead (λ given. any-read (any_number given) IsRead (λ amount. any-read (any_name c) IsRead (λ currency.
+      then-read IsShortName IsRead (name-short token) (λ name short. any-read (script_number (script_names r) s) IsRead (λ number. named-kept ticket (MakeFunded amount (currency_ref.Named currency) name number) short)))))
   body-kept n body.ListTickets [] = command-kept (Listing Tickets) tt
   body-kept n body.ListCurrencies [] = command-kept (Listing Currencies) tt
   body-kept n body.ListThreads [] = command-kept (Listing Threads) tt

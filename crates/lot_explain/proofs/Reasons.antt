@@ -14,7 +14,7 @@ use Rattle.lot_machine.specs.State.{State, value_of, weight_of}
 use Rattle.lot_machine.proofs.StepSizes.{step-limits}
 use Rattle.lot_machine.proofs.Tickets.{some-injective}
 use Rattle.lot_print.specs.declared.lots.Compensation.{Compensation}
-use Rattle.lot_simulation.specs.World.{Program, World, actor_event, console_turn, opening_world, processor_turn, system_after, system_run, system_turn}
+use Rattle.lot_simulation.specs.World.{Program, World, actor_event, console_turn, next_name, opening_world, processor_turn, resolved, system_after, system_run, system_turn}
 use Rattle.lot_explain.specs.Lots.{compensation_of}
 use Rattle.lot_explain.proofs.PartQuanta.{AreParts, IsPart, command-parts, part-at, step-parts}
 use Rattle.lot_explain.proofs.ShortTurns.{actor-on_time}
@@ -26,7 +26,9 @@ record HasParts (sizes : Sizes) (w : World) : Type 0 where
 
 console-parts : (program : Program) (w : World) (commands : List Command) → HasParts program.limits w → HasParts program.limits (console_turn program w commands).world
 console-parts program w [] has = has
-console-parts program w (c ∷ cs) has = record { limits = step-limits w.state (event.Command c) ∙ has.limits; parts = command-parts program.limits.quantum w.state c has.parts }
+console-parts program w (next ∷ cs) has =
+    let c : Command = resolved w.tickets (next_name w) next in
+    record { limits = step-limits w.state (event.Command c) ∙ has.limits; parts = command-parts program.limits.quantum w.state c has.parts }
 
 turn-parts : (program : Program) (w : World) (actor : ℕ) → HasParts program.limits w → HasParts program.limits (system_turn program w actor).world
 turn-parts program w actor has = at (actor == 0)

@@ -7,7 +7,7 @@ use Rattle.std.proofs.lemmas.List.Elements.{All-head, All-tail, All-nil, All-pus
 use Rattle.std.proofs.Math.Nat.{mul-le-mul_right}
 use Rattle.lot_machine.specs.declared.action.Action.TheVariants as action
 use Rattle.lot_machine.specs.declared.command.Command.{Command}
-use Rattle.lot_machine.specs.declared.command.Command.TheVariants.{MakeThread, RemoveThread, MakeFunded}
+use Rattle.lot_machine.specs.declared.command.Command.TheVariants.{RemoveTicket, Fund, Unfund, SetTicket, MakeThread, RemoveThread, MakeFunded}
 use Rattle.lot_machine.specs.declared.event.Event.{Event}
 use Rattle.lot_machine.specs.declared.event.Event.TheVariants as event
 use Rattle.lot_machine.specs.declared.record.Thread.{Thread}
@@ -30,7 +30,7 @@ use Rattle.lot_machine.proofs.StepSizes.{command-grown, other-sizes, step-sizes}
 use Rattle.lot_simulation.specs.declared.style.LineStyle.{LineStyle}
 use Rattle.lot_simulation.specs.declared.script.ScriptTrap.{ScriptTrap}
 use Rattle.lot_simulation.specs.Script.{Slice}
-use Rattle.lot_simulation.specs.World.{Program, World, number_of, slice_on, event_of_slice, actor_event, processor_event, console_turn, opening_world, processor_turn, system_turn}
+use Rattle.lot_simulation.specs.World.{Program, World, number_of, slice_on, event_of_slice, actor_event, processor_event, console_turn, next_name, opening_world, processor_turn, resolved, system_turn}
 use Rattle.lot_explain.specs.declared.won.Won.{Won}
 use Rattle.lot_explain.specs.Explained.{lots_text}
 use Rattle.lot_explain.specs.Loans.{loan_lines}
@@ -207,13 +207,23 @@ processor-keeps limits w p e on_time sizes short =
       commands = short.commands;
     }
 
+-- a command for a ticket that it names is one with as short a name
+resolved-short : (tickets : List ℕ) (name : Option ℕ) (c : Command) → HasShortName c → HasShortName (resolved tickets name c)
+resolved-short tickets None c short = short
+resolved-short tickets (Some name) (RemoveTicket ticket) short = tt
+resolved-short tickets (Some name) (Fund ticket target) short = tt
+resolved-short tickets (Some name) (Unfund ticket) short = tt
+resolved-short tickets (Some name) (SetTicket ticket amount) short = tt
+resolved-short tickets (Some name) c short = short
+
 -- and one of the console
 console-keeps : (program : Program) (w : World) (commands : List Command) → All HasShortName commands → IsShort program.limits w → IsShort program.limits (console_turn program w commands).world
 console-keeps program w [] left short = short
-console-keeps program w (c ∷ cs) left short =
+console-keeps program w (next ∷ cs) left short =
+    let c : Command = resolved w.tickets (next_name w) next in
     let grown = command-grown w.state c in
     let same = ap (λ (l : Sizes). l.threads) short.limits in
-    let made = command-threads w.state c (All-head HasShortName c cs left) short.names (omega (arith, short.room, same)) in
+    let made = command-threads w.state c (resolved-short w.tickets (next_name w) next (All-head HasShortName next cs left)) short.names (omega (arith, short.room, same)) in
     record {
       order = step-order w.state (event.Command c) short.order;
       limits = grown.0 ∙ short.limits;
@@ -221,7 +231,7 @@ console-keeps program w (c ∷ cs) left short =
       room = omega (arith, made.1, same);
       names = made.0;
       parts = command-parts program.limits.quantum w.state c short.parts;
-      commands = All-tail HasShortName c cs left;
+      commands = All-tail HasShortName next cs left;
     }
 
 -- and any turn

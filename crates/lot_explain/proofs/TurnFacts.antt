@@ -19,7 +19,7 @@ use Rattle.lot_print.proofs.PageFacts.{puts-both, puts-stop}
 use Rattle.lot_simulation.specs.declared.style.LineStyle.{LineStyle}
 use Rattle.lot_simulation.specs.Output.{answer_text, printed_actor}
 use Rattle.lot_simulation.specs.Texts.{front, newline, refused, reply_text}
-use Rattle.lot_simulation.specs.World.{Program, World, Answer, Turn, console_turn, opening_world, actor_event, processor_turn, system_turn}
+use Rattle.lot_simulation.specs.World.{Program, World, Answer, Turn, console_turn, next_name, opening_world, actor_event, processor_turn, resolved, system_turn}
 use Rattle.lot_simulation.specs.World.Answer.{Answered, Ended}
 use Rattle.lot_engine.specs.Seen.{Seen, world_of}
 use Rattle.lot_playback.specs.declared.turn.Turn.{Turn as ATurn}
@@ -54,7 +54,7 @@ turn-limits program w actor = at (actor == 0)
   where
     console : (commands : List Command) → (console_turn program w commands).world.state.limits ≡ w.state.limits
     console [] = refl
-    console (c ∷ cs) = step-limits w.state (event.Command c)
+    console (c ∷ cs) = step-limits w.state (event.Command (resolved w.tickets (next_name w) c))
 
     at : (b : Bool) → (cond b (console_turn program w w.commands) (processor_turn w actor (actor_event program w actor))).world.state.limits ≡ w.state.limits
     at true = console w.commands

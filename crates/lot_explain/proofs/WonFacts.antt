@@ -20,7 +20,7 @@ use Rattle.lot_machine.specs.Step.{checked_effect, draw, ends_quantum, event_eff
 use Rattle.lot_machine.proofs.Draws.{winner-is}
 use Rattle.lot_print.specs.declared.lots.Compensation.{Compensation}
 use Rattle.lot_print.specs.declared.lots.Lot.{Lot}
-use Rattle.lot_simulation.specs.World.{Program, World, console_turn, actor_event, system_turn}
+use Rattle.lot_simulation.specs.World.{Program, World, console_turn, actor_event, next_name, resolved, system_turn}
 use Rattle.lot_simulation.specs.World.Answer.{Answered}
 use Rattle.lot_explain.specs.declared.won.Won.{Won}
 use Rattle.lot_explain.specs.Numbers.{HasNumber, number_in}
@@ -208,7 +208,7 @@ turn-reply program w actor e r is = at (actor == 0) refl
 -- and leads to the state after it
 console-state : (program : Program) (w : World) (commands : List Command) (e : Event) (r : Reply) → (console_turn program w commands).answer ≡ Answered e r → (console_turn program w commands).world.state ≡ (step w.state e).state
 console-state program w [] e r is = cc
-console-state program w (c ∷ cs) e r is = let same : event.Command c ≡ e = cc in ap (λ x. (step w.state x).state) same
+console-state program w (c ∷ cs) e r is = let same : event.Command (resolved w.tickets (next_name w) c) ≡ e = cc in ap (λ x. (step w.state x).state) same
 
 pub turn-state : (program : Program) (w : World) (actor : ℕ) (e : Event) (r : Reply) → (system_turn program w actor).answer ≡ Answered e r → (system_turn program w actor).world.state ≡ (step w.state e).state
 turn-state program w actor e r is = at (actor == 0) refl
