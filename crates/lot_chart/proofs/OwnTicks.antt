@@ -34,7 +34,7 @@ use Rattle.lot_machine.proofs.OrderKept.{opening-order, step-order}
 use Rattle.lot_machine.proofs.CommandsKept.{all-pass}
 use Rattle.lot_machine.proofs.StepChanges.{Console, Keeps, kept, command-leads}
 use Rattle.lot_machine.proofs.StepSizes.{checked-sizes, step-limits}
-use Rattle.lot_simulation.specs.World.{Program, World, Turn, Answer, IsLegal, console_turn, processor_turn, actor_event, opening_world, system_turn, system_after, system_answers, system_run}
+use Rattle.lot_simulation.specs.World.{Program, World, Turn, Answer, IsLegal, console_turn, next_name, processor_turn, actor_event, opening_world, resolved, system_turn, system_after, system_answers, system_run}
 use Rattle.lot_simulation.specs.World.Answer.{Answered}
 use Rattle.lot_simulation.specs.Timed.{TimedTurn, last_moment, timed_schedule, timed_turns}
 use Rattle.lot_simulation.specs.TimedReport.{actor_turns}
@@ -246,7 +246,7 @@ module _ (program : Program) (i : ℕ) where
 
       console : (commands : List Command) → AddsTurn w i (console_turn program w commands)
       console [] = record { own = as-much w.state _ _ (omega (arith, cond-none (0 == suc i))); short = omega arith; order = order; limits = refl }
-      console (c ∷ cs) = of_step (event.Command c) (console_turn program w (c ∷ cs)) tt refl refl
+      console (c ∷ cs) = of_step (event.Command (resolved w.tickets (next_name w) c)) (console_turn program w (c ∷ cs)) tt refl refl
 
       at : (b : Bool) → AddsTurn w i (if b then console_turn program w w.commands else processor_turn w actor (actor_event program w actor))
       at true = console w.commands
