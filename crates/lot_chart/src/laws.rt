@@ -2,13 +2,14 @@
 //! executable code.
 ghost use Rattle.std.specs.Prelude.{◌≡◌, ◌==◌, ◌≤◌, ◌<◌, ◌+◌, ◌-◌, ◌*◌, ◌^◌, ℕ, [], ◌∷◌, false};
 ghost use Rattle.std.specs.Prelude.{All, AllPairs, Contains, List, true, filter, length, map};
-ghost use Rattle.std.specs.Prelude.{slice_get, slice_index, Some, unwrap_or};
+ghost use Rattle.std.specs.Prelude.{slice_get, slice_index, None, Option, Some, unwrap_or};
 ghost use Rattle.lot_machine.specs.Bounds.{IsBetween, IsWithinBounds};
 ghost use Rattle.lot_curves.specs.declared.stretch.Measure.{Measure as Measured};
 ghost use Rattle.lot_curves.specs.Curves as curves;
 ghost use Rattle.lot_curves.specs.Stretches.{last_end, had_at, stretches_of};
 ghost use Rattle.lot_chart.specs.declared.standings.Standing.{Standing as StandingRecord};
 ghost use Rattle.lot_chart.specs.Charts.{chart};
+ghost use Rattle.lot_chart.specs.Dues.{Dues};
 ghost use Rattle.lot_chart.specs.Lines.{lines_of};
 ghost use Rattle.lot_chart.specs.Marks.{column_of, is_within, marked, stands_in};
 ghost use Rattle.lot_chart.specs.Ranking.{IsBefore};
@@ -54,15 +55,19 @@ pub fn marks_are_of_commands()
 {}
 
 /// A picture of threads whose names have at most 16 bytes, as all names do, has at most 107000 bytes plus ten for each
-/// byte of its title, however many commands there are, and at most 34000 plus these ten if there are none. Any `Curves`
+/// byte of its title, however many commands there are, and at most 34000 plus these ten if there are none; with what is due at most 137000
+/// plus these ten. Any `Curves`
 /// meets the other premises too: it begins before 2 ^ 56, and its window and the times of its commands are `u32`.
 pub fn pictures_are_short()
     ensures marked { (title : List ℕ) (curves : curves.Curves) → All (λ time. time < 2 ^ 32) curves.commands
         → All (λ name. length name ≤ 16) curves.names → curves.origin < 2 ^ 56
-        → unwrap_or curves.window 0 < 2 ^ 32 → length (chart title curves) ≤ 107000 + 10 * length title }
+        → unwrap_or curves.window 0 < 2 ^ 32 → length (chart title None curves) ≤ 107000 + 10 * length title }
     ensures plain { (title : List ℕ) (curves : curves.Curves) → curves.commands ≡ []
         → All (λ name. length name ≤ 16) curves.names → curves.origin < 2 ^ 56
-        → unwrap_or curves.window 0 < 2 ^ 32 → length (chart title curves) ≤ 34000 + 10 * length title }
+        → unwrap_or curves.window 0 < 2 ^ 32 → length (chart title None curves) ≤ 34000 + 10 * length title }
+    ensures due { (title : List ℕ) (dues : Option Dues) (curves : curves.Curves) → All (λ time. time < 2 ^ 32) curves.commands
+        → All (λ name. length name ≤ 16) curves.names → curves.origin < 2 ^ 56
+        → unwrap_or curves.window 0 < 2 ^ 32 → length (chart title dues curves) ≤ 137000 + 10 * length title }
 {}
 
 /// A table of threads whose names have at most 16 bytes, as all names do, has at most 4226 bytes plus 4238 for each

@@ -5,11 +5,14 @@
 
 mod axes;
 mod charts;
+mod due_lines;
 mod escapes;
 mod gathering;
+mod gauges;
 pub mod laws;
 mod lines;
 mod marks;
+mod metering;
 pub mod rows;
 mod shares;
 mod showing;
@@ -17,7 +20,7 @@ mod standings;
 mod tables;
 mod text;
 
-pub use charts::chart_of;
+pub use charts::{chart_of, program_chart};
 pub use gathering::gather;
 pub use lines::Line;
 pub use showing::{chart_bytes, chart_program, shares_bytes, shares_program};

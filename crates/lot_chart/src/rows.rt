@@ -7,7 +7,8 @@ ghost use Rattle.lot_simulation.specs.Samples.{text};
 ghost use Rattle.lot_chart.specs.Axes.{time_marks};
 ghost use Rattle.lot_chart.specs.Charts.{chart, command_marks};
 ghost use Rattle.lot_chart.specs.Samples.{commanded_curves, commanded_marks, commanded_marks_within};
-ghost use Rattle.lot_chart.specs.Samples.{seven_tick_curves, three_tick_curves, three_tick_picture};
+ghost use Rattle.lot_chart.specs.Dues.{dues_of};
+ghost use Rattle.lot_chart.specs.Samples.{seven_tick_curves, three_tick_curves, three_tick_picture, three_ticks};
 ghost use Rattle.lot_chart.specs.Samples.{three_tick_window_picture};
 ghost use Rattle.lot_chart.specs.Shown.{shares_output};
 ghost use Rattle.lot_chart.specs.Tables.{table};
@@ -52,11 +53,12 @@ pub fn windows()
         ∷ []) }
 {}
 
-/// The run as a picture, with a title that needs escapes; and its shares of the last two ticks.
+/// The run as a picture, with a title that needs escapes; and its shares of the last two ticks. It has a schedule, so
+/// its picture doesn't show what is due.
 #[tactic(auto, unfolding(crate::specs::OnLiterals::pictures_on_literals))]
 pub fn pictures()
-    ensures whole { chart (codes "a < b") three_tick_curves ≡ three_tick_picture }
-    ensures window { chart (codes "a < b") (windowed (Some 2) three_tick_curves) ≡ three_tick_window_picture }
+    ensures whole { chart (codes "a < b") (dues_of three_ticks) three_tick_curves ≡ three_tick_picture }
+    ensures window { chart (codes "a < b") (dues_of three_ticks) (windowed (Some 2) three_tick_curves) ≡ three_tick_window_picture }
 {}
 
 /// The commands at 11, 12 and 20 stand in one column and share a mark, and so do the two at 3500. The one at tick 0,

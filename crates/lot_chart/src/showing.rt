@@ -7,10 +7,11 @@ ghost use Rattle.lot_curves.specs.Curves.{curves_of, windowed};
 ghost use Rattle.lot_curves.specs.Intervals.{curves_within};
 ghost use Rattle.lot_play.specs.declared.inputs.Played.TheVariants.{Done};
 ghost use Rattle.lot_chart.specs.Charts as charts;
+ghost use Rattle.lot_chart.specs.Dues.{dues_of};
 ghost use Rattle.lot_chart.specs.Shown.{Shows, chart_output, shares_output};
 ghost use Rattle.lot_chart.specs.Tables as tables;
 
-use crate::{chart_of, gather, table};
+use crate::{gather, program_chart, table};
 use lot_curves::{Interval, Measure};
 use lot_io::{IoFault, Watched, flush, write_bytes};
 use lot_play::{Played, Warnings, refuse};
@@ -101,12 +102,12 @@ pub fn chart_program<W: Write>(
     requires { writer.old.failed ≡ false }
     ensures flushed { OnOk result (writer.new.flushed ≡ true) }
     ensures shown { Plays W.contents writer.old writer.new result Done
-        (charts.chart title.now (windowed window (curves_within interval (curves_of program.now)))) }
+        (charts.chart title.now (dues_of program.now) (windowed window (curves_within interval (curves_of program.now)))) }
 {
     match gather(alloc, program, warnings) {
         Ok(curves) => {
             let curves = curves.within(interval).with_window(window);
-            write_text(chart_of(alloc, &curves, title), writer)
+            write_text(program_chart(alloc, program, &curves, title), writer)
         }
         Err(_) => Err(IoFault::Memory),
     }
