@@ -14,3 +14,4 @@ pub mod OwnTicks
 pub mod Shows
 pub mod Readings
 pub mod MeterFacts
+pub mod DueEnds

@@ -1,23 +1,21 @@
 -- What is due in the turns of a program.
-use Rattle.std.proofs.Common.{◌≡◌, ◌≢◌, ℕ, zero, suc, ◌+◌, ◌-◌, ◌*◌, ◌/◌, ◌^◌, ◌<◌, ◌≤◌, ◌==◌, Bool, true, false, cond, max, Option, Some, None, is_some, List, [], ◌∷◌, ◌++◌, length, map, ◌⊎◌, inl, inr, get_or, sum_by, refl, sym, ◌∙◌, ap, subst, arith, append-nil, zero-add}
-use Rattle.std.specs.Prelude.{slice_index, slice_index_or, unwrap_or, if◌then◌else◌, IsSome}
+use Rattle.std.proofs.Common.{◌≡◌, ℕ, zero, suc, ◌+◌, ◌-◌, ◌*◌, ◌^◌, ◌<◌, ◌≤◌, false, max, Option, Some, None, List, [], ◌∷◌, ◌++◌, length, map, ◌⊎◌, inl, inr, get_or, sum_by, refl, sym, ◌∙◌, ap, subst, arith, zero-add}
+use Rattle.std.specs.Prelude.{slice_index, unwrap_or, if◌then◌else◌}
 use Rattle.std.specs.List.{range_with_len}
-use Rattle.std.proofs.lemmas.Bool.{cases_eq, cases_lt}
+use Rattle.std.proofs.lemmas.Bool.{cases_lt}
 use Rattle.std.proofs.lemmas.List.{get_or_append_left, get_or_push, length_push, map_push}
 use Rattle.std.proofs.lemmas.List.FromFn.{get_or-map-range_with_len, length-map-range_with_len}
 use Rattle.std.proofs.lemmas.List.Sums.{sum_by-cons}
 use Rattle.std.proofs.lemmas.Nat.{le-div}
 use Rattle.std.proofs.Math.Nat.{div-mul-le_self, mul-le-mul_right}
-use Rattle.lot_machine.specs.declared.event.Event.{Event}
-use Rattle.lot_machine.specs.declared.reply.Reply.{Reply}
 use Rattle.lot_machine.specs.Facts.{live_value}
 use Rattle.lot_machine.specs.Lends.{is_live}
-use Rattle.lot_machine.specs.Numbered.{at_number, option_any}
-use Rattle.lot_machine.specs.State.{State, live_of, opening, value_of}
+use Rattle.lot_machine.specs.Numbered.{option_any}
+use Rattle.lot_machine.specs.State.{State, opening, value_of}
 use Rattle.lot_machine.proofs.Tickets.{at_number-suc}
 use Rattle.lot_simulation.specs.Timed.{TimedTurn, timed_turns}
 use Rattle.lot_simulation.specs.TimedReport.{live_part}
-use Rattle.lot_simulation.specs.World.{Program, World, Answer, Turn, opening_world, system_turn}
+use Rattle.lot_simulation.specs.World.{Program, World, Turn, opening_world, system_turn}
 use Rattle.lot_simulation.specs.World.Answer.{Answered}
 use Rattle.lot_curves.specs.Curves.{Curves, sample_count, sample_tick}
 use Rattle.lot_curves.specs.Stretches.{last_end}
@@ -25,7 +23,7 @@ use Rattle.lot_engine.specs.Seen.{Seen, world_of}
 use Rattle.lot_playback.specs.declared.turn.Turn.{Turn as ATurn}
 use Rattle.lot_playback.specs.Owed.{Answers, IsDispatch, time_after}
 use Rattle.lot_playback.specs.Stages.{HasJustMade, answer_in}
-use Rattle.lot_playback.specs.Turns.{MadeTurn, program_turns, turn_in_time, turns_by, turns_in_time, world_after_turns}
+use Rattle.lot_playback.specs.Turns.{MadeTurn, program_turns, turns_by, turns_in_time}
 use Rattle.lot_playback.proofs.DispatchFacts.{part-kept, values-kept}
 use Rattle.lot_playback.proofs.DueFacts.{time-more}
 use Rattle.lot_playback.proofs.FollowFacts.{turn-answers}
@@ -38,9 +36,9 @@ use Rattle.lot_chart.specs.declared.lines.Line.{Line}
 use Rattle.lot_chart.specs.declared.metering.LineDues.{LineDues}
 use Rattle.lot_chart.specs.declared.metering.Meter.{Meter}
 use Rattle.lot_chart.specs.declared.standings.Standing.{Standing}
-use Rattle.lot_chart.specs.Dues.{Dues, dues_in, dues_of, due_to, grown_at, start_of, sum_until}
+use Rattle.lot_chart.specs.Dues.{Dues, dues_in, dues_of, due_to, start_of, sum_until}
 use Rattle.lot_chart.specs.Lines.{height_of, lines_after, lines_of, place_of}
-use Rattle.lot_chart.specs.Gauges.{AreDues, AreLinesOf, AreNew, AreRenewed, EachGauge, HasPassed, HasPassedAll, HasRenewed, HaveAllPassed, HaveDues, HaveReadAll, IsAscending, IsAwaiting, IsGauge, IsGaugeOf, IsMeter, IsNew, IsNewMeter, IsNow, IsRead, IsRenewed, IsSampled, IsWithin, KeepThreads, amount_for, end_tick, end_ticks, flow_at, flow_of, most_of, start_tick, start_ticks, state_of, step_of, thread_of, timed_turn}
+use Rattle.lot_chart.specs.Gauges.{AreDues, AreLinesOf, EachGauge, HasPassed, HasPassedAll, HasRenewed, HaveDues, IsAscending, IsAwaiting, IsGauge, IsGaugeOf, IsMeter, IsNew, IsNewMeter, IsNow, IsRead, IsSampled, IsWithin, KeepThreads, amount_for, end_tick, flow_at, flow_of, most_of, start_tick, state_of, thread_of, timed_turn}
 use Rattle.lot_chart.proofs.TableSizes.{sample-early}
 use Rattle.lot_chart.proofs.Readings.{flow-is, gauge-more, gauge-renewed, last-read, now-within}
 
@@ -268,7 +266,7 @@ module _ (program : Program) (turns : List MadeTurn) (made : MadeTurn) (turn : A
     own = λ place d below. subst (λ (x : State). IsNow x (get_or new.threads.items place d).growth) seen-is (renews.threads.each place d (there place d below)).now;
     live = λ few. subst (λ (g : Gauge). IsGaugeOf program all first.marks g) (sym renews.live) (live-then few);
     each = λ few place d below. gauge-renewed first.marks (opening program.limits) (map timed_turn all) (length all) (state_of program all) (world_of seen).state (time_after 0 (map timed_turn all)) (get_or passed.threads.items place d) (get_or new.threads.items place d) (renews.threads.each place d (there place d below))
-    (each-then few place d (there place d below));
+        (each-then few place d (there place d below));
   }
     where
       there : (place : ℕ) (d : Gauge) → place < length new.threads.items → place < length passed.threads.items

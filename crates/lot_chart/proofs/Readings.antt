@@ -1,14 +1,13 @@
 -- Sums that are read while turns go by.
-use Rattle.std.proofs.Common.{◌≡◌, ℕ, suc, ◌+◌, ◌-◌, ◌*◌, ◌/◌, ◌^◌, ◌<◌, ◌≤◌, ◌==◌, min, Bool, true, false, cond, nat_le, Option, Some, None, List, [], ◌∷◌, ◌++◌, length, map, ◌⊎◌, inl, inr, get_or, refl, sym, ◌∙◌, ap, subst, arith, append_assoc, append-nil}
+use Rattle.std.proofs.Common.{◌≡◌, ℕ, ◌+◌, ◌-◌, ◌*◌, ◌/◌, ◌^◌, ◌<◌, ◌≤◌, ◌==◌, min, Bool, true, false, Option, Some, None, List, [], ◌∷◌, ◌++◌, length, ◌⊎◌, inl, inr, sym, ◌∙◌, ap, subst, arith, append_assoc, append-nil}
 use Rattle.std.specs.Prelude.{slice_index, if◌then◌else◌}
-use Rattle.std.proofs.lemmas.Bool.{cases_eq, cases_lt, eq-eqb, le-leb, lt-leb}
+use Rattle.std.proofs.lemmas.Bool.{cases_lt, le-leb, lt-leb}
 use Rattle.std.proofs.Math.Nat.{mul-div-le, mul-le-mul_right}
 use Rattle.lot_machine.specs.Facts.{live_value}
-use Rattle.lot_machine.specs.State.{State, value_of}
+use Rattle.lot_machine.specs.State.{State}
 use Rattle.lot_simulation.specs.Timed.{TimedTurn}
-use Rattle.lot_simulation.specs.TimedReport.{due_part, due_rate, live_part, live_ticks, tick_parts}
+use Rattle.lot_simulation.specs.TimedReport.{due_rate, live_ticks, tick_parts}
 use Rattle.lot_playback.proofs.DueFacts.{part-few, part-within}
-use Rattle.lot_chart.specs.declared.gauges.Flow.{Flow}
 use Rattle.lot_chart.specs.declared.gauges.Gauge.{Gauge}
 use Rattle.lot_chart.specs.declared.gauges.Growth.{Growth}
 use Rattle.lot_chart.specs.declared.gauges.Growth.TheVariants.{Live, Due}

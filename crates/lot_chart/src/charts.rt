@@ -3,8 +3,8 @@ ghost use Rattle.std.specs.Prelude.{◌≡◌, ◌+◌, ◌<◌, ◌≤◌, ◌^
 ghost use Rattle.std.specs.List.{flat_map};
 ghost use Rattle.lot_chart.specs.Charts as definitions;
 ghost use Rattle.lot_chart.specs.Charts.{axes, column_mark, command_mark, command_marks, curve, drawn_of, frame, head};
-ghost use Rattle.lot_chart.specs.Charts.{height_mark, heights_label, label, leader, name_text, picture, point, point_at};
-ghost use Rattle.lot_chart.specs.Charts.{points, stroke, time_mark};
+ghost use Rattle.lot_chart.specs.Charts.{height_mark, heights_label, label, leader, name_text, picture, point};
+ghost use Rattle.lot_chart.specs.Charts.{point_at, points, stroke, time_mark};
 ghost use Rattle.lot_chart.specs.Axes.{marks, time_marks};
 ghost use Rattle.lot_chart.specs.Dues.{Dues as DuesRecord, dues_of};
 ghost use Rattle.lot_chart.specs.Gauges.{AreLinesOf, HaveDues};
@@ -12,6 +12,7 @@ ghost use Rattle.lot_chart.specs.Standings as standings;
 ghost use Rattle.lot_curves.specs.Curves.{sample_count};
 ghost use Rattle.lot_curves.specs.Stretches.{last_end};
 
+use crate::Line;
 use crate::axes::{axis_step, lead, mark_count, time_mark_count};
 use crate::due_lines::push_due_curves;
 use crate::escapes::push_escaped;
@@ -21,7 +22,6 @@ use crate::metering::LineDues;
 use crate::shares::{share_of, whole_at};
 use crate::standings::{Selection, select, stretches_of_thread};
 use crate::text::Text;
-use crate::Line;
 use lot_curves::{Curves, Measure, Stretch, had_in};
 use lot_machine::{Name, index_of};
 use lot_text::Program;

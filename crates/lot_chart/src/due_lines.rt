@@ -1,7 +1,6 @@
 //! What the lines of a picture are due, as thin lines behind them.
-ghost use Rattle.std.specs.Prelude.{◌≡◌, ◌+◌, ◌*◌, ◌<◌, ◌≤◌, ◌^◌, ◌++◌, List, Option, Some, IfOk, OnOk, length, map, slice_index};
+ghost use Rattle.std.specs.Prelude.{◌≡◌, ◌+◌, ◌*◌, ◌≤◌, ◌^◌, ◌++◌, List, Option, Some, IfOk, OnOk, length, map};
 ghost use Rattle.std.specs.List.{flat_map};
-ghost use Rattle.lot_machine.specs.Bounds.{IsBetween};
 ghost use Rattle.lot_curves.specs.declared.stretch.Measure.TheVariants.{Ticks};
 ghost use Rattle.lot_curves.specs.Curves.{sample_count, sample_ticks, total_at};
 ghost use Rattle.lot_curves.specs.Stretches.{last_end};

@@ -4,8 +4,9 @@ ghost use Rattle.lot_simulation.specs.TimedReport.{tick_parts};
 ghost use Rattle.lot_engine.specs.Seen.{world_of};
 ghost use Rattle.lot_curves.specs.Stretches.{last_end};
 ghost use Rattle.lot_chart.specs.Dues as dues;
-ghost use Rattle.lot_chart.specs.Gauges.{HasPassed, HaveAllPassed, HaveReadAll, AreRenewed, IsNow, IsRenewed, IsWithin};
-ghost use Rattle.lot_chart.specs.Gauges.{EachGauge, end_ticks, flow_at, grown, grown_in, start_ticks, thread_of};
+ghost use Rattle.lot_chart.specs.Gauges.{AreRenewed, EachGauge, HasPassed, HaveAllPassed, HaveReadAll, IsNow};
+ghost use Rattle.lot_chart.specs.Gauges.{IsRenewed, IsWithin, end_ticks, flow_at, grown, grown_in, start_ticks};
+ghost use Rattle.lot_chart.specs.Gauges.{thread_of};
 
 use lot_curves::Curves;
 use lot_engine::System;
@@ -75,7 +76,8 @@ pub struct Flow {
 }
 
 impl Flow {
-    /// The sum at this tick, if no turn comes before it. No sum of a program's turns comes near the largest number.
+    /// The sum at this tick, if no turn comes before it. It ends at the largest number, since it isn't known here how
+    /// many turns there are; no program has enough for it.
     fn at(self, tick: u64) -> u128
         requires small { self.live_value < 2 ^ 96 }
         requires within { IsWithin self.live_value self.growth }
@@ -215,12 +217,7 @@ impl Gauge {
 }
 
 /// Reads the sum at the further ticks up to this time.
-fn read_until(
-    read: &mut Vec<u128>,
-    ticks: &[u64],
-    flow: Flow,
-    time: u64,
-) -> Result<(), AllocError>
+fn read_until(read: &mut Vec<u128>, ticks: &[u64], flow: Flow, time: u64) -> Result<(), AllocError>
     requires small { flow.live_value < 2 ^ 96 }
     requires within { IsWithin flow.live_value flow.growth }
     ensures { OnOk result (HaveReadAll (flow_at flow) ticks.now time read.old.items read.new.items) }

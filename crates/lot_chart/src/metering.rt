@@ -1,6 +1,5 @@
 //! What is due to the lines of a picture: the program is played again, now that its lines and samples are known.
-ghost use Rattle.std.specs.Prelude.{◌≡◌, ◌-◌, ◌*◌, ◌<◌, ◌≤◌, ◌^◌, ⊤, List, IfOk, IsSome, OnOk, Some, length};
-ghost use Rattle.std.specs.Prelude.{sum_by};
+ghost use Rattle.std.specs.Prelude.{◌≡◌, ◌-◌, ◌*◌, ◌<◌, ◌≤◌, ◌^◌, ⊤, List, IfOk, IsSome, OnOk, Some, length, sum_by};
 ghost use Rattle.lot_simulation.specs.TimedReport.{tick_parts};
 ghost use Rattle.lot_curves.specs.Curves.{Curves as CurvesRecord, sample_count, sample_tick};
 ghost use Rattle.lot_curves.specs.Stretches.{last_end};
@@ -9,8 +8,8 @@ ghost use Rattle.lot_text.specs.Programs.{IsProgram};
 ghost use Rattle.lot_chart.specs.declared.standings.Standing.{Standing as StandingRecord};
 ghost use Rattle.lot_chart.specs.Dues as definitions;
 ghost use Rattle.lot_chart.specs.Dues.{Dues as DuesRecord};
-ghost use Rattle.lot_chart.specs.Gauges.{AreDues, AreNew, EachGauge, HasPassedAll, HasRenewed, HaveDues, IsAwaiting, IsMeter};
-ghost use Rattle.lot_chart.specs.Gauges.{IsLineOf, IsNewMeter, IsWithin, grown_in};
+ghost use Rattle.lot_chart.specs.Gauges.{AreDues, AreNew, EachGauge, HasPassedAll, HasRenewed, HaveDues, IsAwaiting};
+ghost use Rattle.lot_chart.specs.Gauges.{IsLineOf, IsMeter, IsNewMeter, IsWithin, grown_in};
 
 use crate::Standing;
 use crate::gauges::{Gauge, Growth, Marks, pass_all, renew_all};
@@ -56,9 +55,11 @@ impl Observer for Meter {
         system: &mut System,
         turn: &Turn,
     ) -> Result<(), AllocError> {
+        // Turns of a schedule have no time, and no picture of them shows what is due.
         let time = turn.time.unwrap_or(0);
         self.pass(u64::from(time))?;
         self.time = time;
+        // A draw and the end of a quantum change no value, and a turn without a command has no event.
         if !turn.has_ended && is_dispatch(&turn.event) {
             return Ok(());
         }
@@ -172,7 +173,8 @@ impl LineDues {
         ensures share { (curves : CurvesRecord) (dues : DuesRecord) (shown : List StandingRecord)
             → AreDues curves dues shown self.now → IsLineOf shown place thread
             → sample ≤ sample_count (last_end curves.stretches)
-            → result ≡ definitions.line_share curves dues shown thread (sample_tick (last_end curves.stretches) sample) }
+            → result
+            ≡ definitions.line_share curves dues shown thread (sample_tick (last_end curves.stretches) sample) }
         ensures few { result ≤ 10 ^ 9 }
     {
         let live = self.live.grown_in(sample);
@@ -209,7 +211,5 @@ fn due_share(live: u128, parts: u128) -> u64
     ensures few { result ≤ 10 ^ 9 }
 {
     let billionth = live * u128::from(BILLION);
-    parts
-        .div_ceil(billionth.max(1))
-        .min(u128::from(BILLION)) as u64
+    parts.div_ceil(billionth.max(1)).min(u128::from(BILLION)) as u64
 }

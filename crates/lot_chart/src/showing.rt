@@ -102,7 +102,8 @@ pub fn chart_program<W: Write>(
     requires { writer.old.failed ≡ false }
     ensures flushed { OnOk result (writer.new.flushed ≡ true) }
     ensures shown { Plays W.contents writer.old writer.new result Done
-        (charts.chart title.now (dues_of program.now) (windowed window (curves_within interval (curves_of program.now)))) }
+        (charts.chart title.now (dues_of program.now)
+        (windowed window (curves_within interval (curves_of program.now)))) }
 {
     match gather(alloc, program, warnings) {
         Ok(curves) => {

@@ -1,6 +1,5 @@
 use Rattle.std.proofs.Common.{List, ap, subst, sym, ◌∙◌}
 use Rattle.lot_chart.specs.declared.lines.Line.{Line}
-use Rattle.lot_chart.specs.declared.standings.Standing.{Standing}
 use Rattle.lot_chart.specs.Charts.{top_at}
 use Rattle.lot_chart.specs.Gauges.{AreLinesOf}
 use Rattle.lot_chart.specs.Lines.{lines_of, most_in}

@@ -1,4 +1,4 @@
-use Rattle.std.proofs.Common.{◌≡◌, ap, arith}
+use Rattle.std.proofs.Common.{ap, arith}
 use Rattle.std.proofs.lemmas.List.{get_or_default}
 use Rattle.lot_chart.specs.declared.standings.Standing.{Standing}
 use Rattle.lot_chart.proofs.MeterFacts.{new-one}
@@ -11,5 +11,5 @@ loop-standing-preserved c =
     record {
       count = omega (arith, c.in_ok-push.ensures.len, i.count);
       each = new-one c.args.shown.now c.loop-standing.gauges.items c.push.new.self.items index c.new.result _ c.in_ok-push.ensures.items i.count (record { growth_is = c.new.ensures.growth; sum = c.new.ensures.none; starts = c.new.ensures.starts; ends = c.new.ensures.ends })
-      (λ e. ap (λ (s : Standing). s.thread) (get_or_default c.args.shown.now index _ e c.loop-standing-test.true)) i.each;
+          (λ e. ap (λ (s : Standing). s.thread) (get_or_default c.args.shown.now index _ e c.loop-standing-test.true)) i.each;
     }

@@ -1,6 +1,5 @@
-use Rattle.std.proofs.Common.{◌≡◌, ◌+◌, ◌-◌, ◌*◌, ◌<◌, ◌≤◌, ◌==◌, ◌≢◌, cond, false, true, ℕ, List, length, get_or, sum_by, ne_eqb, sym, ap, ◌∙◌, subst, arith}
+use Rattle.std.proofs.Common.{◌≡◌, ◌-◌, ◌*◌, ◌<◌, ◌≤◌, cond, ℕ, List, length, get_or, sum_by, ne_eqb, sym, ap, ◌∙◌, subst, arith}
 use Rattle.std.proofs.lemmas.Bool.{eq-eqb}
-use Rattle.std.proofs.lemmas.List.{get_or_default}
 use Rattle.lot_simulation.specs.TimedReport.{tick_parts}
 use Rattle.lot_curves.specs.Curves.{Curves, sample_count, sample_tick}
 use Rattle.lot_curves.specs.Stretches.{last_end}
@@ -8,7 +7,7 @@ use Rattle.lot_chart.specs.declared.gauges.Gauge.{Gauge}
 use Rattle.lot_chart.specs.declared.metering.LineDues.{LineDues}
 use Rattle.lot_chart.specs.declared.standings.Standing.{Standing}
 use Rattle.lot_chart.specs.Dues.{Dues, due_share, grown_at, line_parts}
-use Rattle.lot_chart.specs.Gauges.{AreDues, IsLineOf, grown_in}
+use Rattle.lot_chart.specs.Gauges.{AreDues, grown_in}
 use Rattle.lot_chart.proofs.MeterFacts.{sums-same}
 use Rattle.lot_chart.proofs.metering.LineDues.share.Goals.{then-thread-eq0, else-thread-eq0}
 use Rattle.lot_chart.proofs.metering.LineDues.share.Goals as goal
@@ -53,9 +52,9 @@ returns-clause-share c curves dues shown are line within =
     let own = grown_at curves (dues.parts c.args.thread) tick in
     let parts : c.if-thread-eq0.parts ≡ line_parts curves dues shown c.args.thread tick =
     elim c.if-thread-eq0.branch [
-      then-thread-eq0 w ↦ w.parts-is ∙ left-is curves dues shown c.args.self.now are sample within w.left_in-parts.result w.left_in-parts.ensures.left
+      | then-thread-eq0 w ↦ w.parts-is ∙ left-is curves dues shown c.args.self.now are sample within w.left_in-parts.result w.left_in-parts.ensures.left
           ∙ sym (ap (λ b. cond b others own) (eq-eqb c.args.thread 0 w.if-thread-eq0.true))
-    | else-thread-eq0 w ↦ w.parts-is ∙ w.grown_in-parts.ensures ∙ ap (λ (g : Gauge). grown_in g sample) w.index.ensures
+      | else-thread-eq0 w ↦ w.parts-is ∙ w.grown_in-parts.ensures ∙ ap (λ (g : Gauge). grown_in g sample) w.index.ensures
           ∙ (are.each c.args.place w.index.result.now none line.there).exact sample within ∙ ap (λ t. grown_at curves (dues.parts t) tick) (sym (line.same none))
           ∙ sym (ap (λ b. cond b others own) (ne_eqb c.args.thread 0 w.if-thread-eq0.false))
     ] in

@@ -1,5 +1,5 @@
-use Rattle.std.proofs.Common.{◌≡◌, ◌<◌, ◌^◌, false, rules, arith}
-use Rattle.lot_chart.proofs.MeterFacts.{clock-within, meter-kept, meter-renewed, meter-within}
+use Rattle.std.proofs.Common.{rules}
+use Rattle.lot_chart.proofs.MeterFacts.{meter-kept, meter-renewed, meter-within}
 use Rattle.lot_chart.proofs.metering.MeterObserver.after.Goals as goal
 
 pub pass-requires-clause-within : goal.pass-requires-clause-within
