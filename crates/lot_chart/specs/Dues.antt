@@ -11,7 +11,7 @@ use Rattle.lot_chart.specs.declared.standings.Standing.{Standing}
 use Rattle.lot_chart.specs.Lines.{height_of}
 
 -- The sum, up to a tick, of what each state comes to in the ticks that it lasts: this one since this time, and then the
--- one after each of these turns.
+-- one after each of these turns. The first turn that isn't before the tick ends it.
 abbrev pub sum_until : (State → ℕ → ℕ) → State → ℕ → List TimedTurn → ℕ → ℕ
 sum_until amount s time [] tick = amount s (tick - time)
 sum_until amount s time (done ∷ others) tick =
@@ -46,12 +46,13 @@ abbrev pub start_of : Option ℕ → ℕ → ℕ
 start_of None tick = 0
 start_of (Some window) tick = tick - window
 
--- what a sum grows by in the window that ends at this tick, or since the curves begin; the tick counts from their origin
+-- What a sum grows by in the window that ends at this tick, or since the curves begin. The tick counts from their
+-- origin.
 abbrev pub grown_at : Curves → (ℕ → ℕ) → ℕ → ℕ
 grown_at curves sum tick = sum (curves.origin + tick) - sum (curves.origin + start_of curves.window tick)
 
--- The parts due to a line: to the threads with its number, or to the others, which is thread 0, what those leave of all
--- ticks.
+-- The parts due to a line: to the threads with its number, or to the others, who are thread 0, what those leave of all
+-- ticks. No thread has number 0, so the others' own line takes nothing from that.
 abbrev pub line_parts : Curves → Dues → List Standing → ℕ → ℕ → ℕ
 line_parts curves dues shown thread tick =
     if thread == 0 then grown_at curves dues.live tick * tick_parts - sum_by (λ s. grown_at curves (dues.parts s.thread) tick) shown
@@ -66,6 +67,7 @@ due_share live parts = min (div_ceil parts (max 1 (live * 10 ^ 9))) (10 ^ 9)
 abbrev pub line_share : Curves → Dues → List Standing → ℕ → ℕ → ℕ
 line_share curves dues shown thread tick = due_share (grown_at curves dues.live tick) (line_parts curves dues shown thread tick)
 
--- the height of what a line is due at a tick, its share of all ticks run, given the ticks at the top of the plot
+-- The height of what a line is due at a tick, given the ticks at the top of the plot: its share of the ticks that all
+-- threads have run.
 abbrev pub due_height : Curves → ℕ → Dues → List Standing → ℕ → ℕ → ℕ
 due_height curves top dues shown thread tick = height_of (top * 10 ^ 9) (total_at Ticks curves tick * line_share curves dues shown thread tick)

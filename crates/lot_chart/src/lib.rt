@@ -1,6 +1,6 @@
 //! Shows an input: `shares` writes a table of each thread's ticks or draws over time, and `chart` a picture of the
-//! ticks; with a window, both show shares of those in the last ticks. If numbers are given again, all threads that had
-//! one number share a column, and a line.
+//! ticks, in which a timed program also has what each line is due; with a window, both show shares of those in the last
+//! ticks. If numbers are given again, all threads that had one number share a column, and a line.
 #![tactic(auto)]
 
 mod axes;

@@ -40,8 +40,9 @@ pub fn shares_bytes<W: Write>(
     }
 }
 
-/// Makes the turns of the input in `bytes`, and writes a picture with this title of each thread's ticks over time; or
-/// one line, if the input is refused. It stores the run's warnings in `warnings`. If out of memory, it writes nothing.
+/// Makes the turns of the input in `bytes`, and writes a picture with this title of each thread's ticks over time, and,
+/// if the program is timed, of what each was due; or one line, if the input is refused. It stores the run's warnings in
+/// `warnings`. If out of memory, it writes nothing.
 pub fn chart_bytes<W: Write>(
     alloc: Global,
     title: &str,
@@ -88,8 +89,9 @@ pub fn shares_program<W: Write>(
 }
 
 /// Makes the program's turns, and writes a picture with this title of each thread's ticks over time, or in this
-/// interval of it; with a window, of the shares of the last ticks. It stores the run's warnings in `warnings`. If out
-/// of memory, it writes nothing.
+/// interval of it; with a window, of the shares of the last ticks. A picture of a timed program also shows what each
+/// was due, for which its turns are made a second time. It stores the run's warnings in `warnings`. If out of memory,
+/// it writes nothing.
 pub fn chart_program<W: Write>(
     alloc: Global,
     title: &str,
