@@ -1,5 +1,6 @@
 pub mod FirstMarks
 pub mod Lengths
+pub mod Loops
 pub mod Parts
 pub mod Places
 pub mod Sizes
@@ -11,3 +12,6 @@ pub mod NotedFacts
 pub mod Notes
 pub mod OwnTicks
 pub mod Shows
+pub mod Readings
+pub mod MeterFacts
+pub mod DueEnds

@@ -36,3 +36,9 @@ parts-seven old a b c d e f g one two three four five six seven first second thi
     last ∙ ap (λ xs. xs ++ g) sixth ∙ append_assoc five f g ∙ ap (λ xs. xs ++ (f ++ g)) fifth ∙ append_assoc four e (f ++ g) ∙ ap (λ xs. xs ++ (e ++ (f ++ g))) fourth ∙ append_assoc three d (e ++ (f ++ g))
     ∙ ap (λ xs. xs ++ (d ++ (e ++ (f ++ g)))) third ∙ append_assoc two c (d ++ (e ++ (f ++ g))) ∙ ap (λ xs. xs ++ (c ++ (d ++ (e ++ (f ++ g))))) second ∙ append_assoc one b (c ++ (d ++ (e ++ (f ++ g))))
     ∙ ap (λ xs. xs ++ (b ++ (c ++ (d ++ (e ++ (f ++ g)))))) first ∙ append_assoc old a (b ++ (c ++ (d ++ (e ++ (f ++ g)))))
+
+-- eight parts
+pub parts-eight : (old a b c d e f g h one two three four five six seven eight : List ℕ) → one ≡ old ++ a → two ≡ one ++ b → three ≡ two ++ c → four ≡ three ++ d → five ≡ four ++ e → six ≡ five ++ f → seven ≡ six ++ g → eight ≡ seven ++ h
+    → eight ≡ old ++ (a ++ (b ++ (c ++ (d ++ (e ++ (f ++ (g ++ h)))))))
+parts-eight old a b c d e f g h one two three four five six seven eight first second third fourth fifth sixth seventh last =
+    parts-seven old a b c d e f (g ++ h) one two three four five six eight first second third fourth fifth sixth (last ∙ ap (λ xs. xs ++ h) seventh ∙ append_assoc six g h)

@@ -16,7 +16,8 @@ use Rattle.lot_curves.specs.Stretches.{last_end}
 use Rattle.lot_curves.specs.Windows.{had_in}
 use Rattle.lot_chart.specs.declared.lines.Line.{Line}
 use Rattle.lot_chart.specs.Axes.{axis_step, lead, mark_count, marks, steps, time_mark_count, time_marks}
-use Rattle.lot_chart.specs.Charts.{across, axes, chart, colour, column_mark, command_mark, command_marks, curve, drawn_of, frame, head, height_mark, heights_label, highest, label, leader, lines_in, longest_name, name_of, name_text, picture, point, points, sample_point, strokes, time_mark, top_at, tops, total, width_for}
+use Rattle.lot_chart.specs.Dues.{Dues, due_height}
+use Rattle.lot_chart.specs.Charts.{across, axes, chart, colour, column_mark, command_mark, command_marks, curve, drawn_of, due_curve, due_curves, due_point, due_points, frame, head, height_mark, heights_label, highest, label, leader, lines_in, longest_name, name_of, name_text, picture, point, point_at, points, sample_point, stroke, strokes, time_mark, top_at, tops, total, width_for}
 use Rattle.lot_chart.specs.Escapes.{escaped, escaped_byte}
 use Rattle.lot_chart.specs.Lines.{height_of, lines_after, most_in, place_of}
 use Rattle.lot_chart.specs.Marks.{first_in, marked, stands_in}
@@ -211,13 +212,15 @@ strokes-short style = at (nat_le 8 style)
     at true = omega arith
     at false = omega arith
 
-point-short : (curves : Curves) (top : ℕ) (stretches : List Stretch) (tick : ℕ) → length (point curves top stretches tick) ≤ 12
-point-short curves top stretches tick =
+point_at-short : (curves : Curves) (tick height : ℕ) → height ≤ 4600 → length (point_at curves tick height) ≤ 12
+point_at-short curves tick height within =
     let last = last_end curves.stretches in
-    let height = height_of top (had_in Ticks curves.window tick stretches) in
     both 1 11 (codes " ") (tenths (across last tick) ++ (codes "," ++ tenths height)) (omega arith)
     (both 5 6 (tenths (across last tick)) (codes "," ++ tenths height) (tenths-short (across last tick) (omega arith))
-    (both 1 5 (codes ",") (tenths height) (omega arith) (tenths-short height (omega arith))))
+    (both 1 5 (codes ",") (tenths height) (omega arith) (tenths-short height (omega (arith, within)))))
+
+point-short : (curves : Curves) (top : ℕ) (stretches : List Stretch) (tick : ℕ) → length (point curves top stretches tick) ≤ 12
+point-short curves top stretches tick = point_at-short curves tick (height_of top (had_in Ticks curves.window tick stretches)) (omega arith)
 
 points-short : (curves : Curves) (heads : List ℕ) (stretches : List Stretch) → length (points curves heads stretches) ≤ 2412
 points-short curves heads stretches =
@@ -226,14 +229,38 @@ points-short curves heads stretches =
     let each = λ (k d : ℕ) (below : k < length samples). point-short curves (get_or heads (get_or samples k d) 0) stretches (sample_tick last (get_or samples k d)) in
     omega (arith, all-short (sample_point curves heads stretches) 12 samples each, length-range_with_len 0 (sample_count last + 1))
 
+-- a line of these points
+line-short : (own : List ℕ) (style : ℕ) → length own ≤ 2412 → length (codes "<polyline points='" ++ (own ++ stroke style)) ≤ 2474
+line-short own style short =
+    both 18 2456 (codes "<polyline points='") (own ++ stroke style) (omega arith)
+    (both 2412 44 own (stroke style) short
+    (both 10 34 (codes "' stroke='") (colour style ++ (codes "'" ++ (strokes style ++ codes "/>\n"))) (omega arith)
+    (both 7 27 (colour style) (codes "'" ++ (strokes style ++ codes "/>\n")) (colour-short style)
+    (both 1 26 (codes "'") (strokes style ++ codes "/>\n") (omega arith) (both 23 3 (strokes style) (codes "/>\n") (strokes-short style) (omega arith))))))
+
 curve-short : (curves : Curves) (others : List Stretch) (heads : List ℕ) (line : Line) → length (curve curves others heads line) ≤ 2474
 curve-short curves others heads line =
-    let own = points curves heads (drawn_of curves others line.thread) in
-    both 18 2456 (codes "<polyline points='") (own ++ (codes "' stroke='" ++ (colour line.style ++ (codes "'" ++ (strokes line.style ++ codes "/>\n"))))) (omega arith)
-    (both 2412 44 own (codes "' stroke='" ++ (colour line.style ++ (codes "'" ++ (strokes line.style ++ codes "/>\n")))) (points-short curves heads (drawn_of curves others line.thread))
-    (both 10 34 (codes "' stroke='") (colour line.style ++ (codes "'" ++ (strokes line.style ++ codes "/>\n"))) (omega arith)
-    (both 7 27 (colour line.style) (codes "'" ++ (strokes line.style ++ codes "/>\n")) (colour-short line.style)
-    (both 1 26 (codes "'") (strokes line.style ++ codes "/>\n") (omega arith) (both 23 3 (strokes line.style) (codes "/>\n") (strokes-short line.style) (omega arith))))))
+    line-short (points curves heads (drawn_of curves others line.thread)) line.style (points-short curves heads (drawn_of curves others line.thread))
+
+due_points-short : (curves : Curves) (dues : Dues) (shown : List Standing) (heads : List ℕ) (thread : ℕ) → length (due_points curves dues shown heads thread) ≤ 2412
+due_points-short curves dues shown heads thread =
+    let last = last_end curves.stretches in
+    let samples = range_with_len 0 (sample_count last + 1) in
+    let each = λ (k d : ℕ) (below : k < length samples). let sample = get_or samples k d in point_at-short curves (sample_tick last sample) (due_height curves (get_or heads sample 0) dues shown thread (sample_tick last sample)) (omega arith) in
+    omega (arith, all-short (due_point curves dues shown heads thread) 12 samples each, length-range_with_len 0 (sample_count last + 1))
+
+due_curve-short : (curves : Curves) (dues : Dues) (shown : List Standing) (heads : List ℕ) (line : Line) → length (due_curve curves dues shown heads line) ≤ 2474
+due_curve-short curves dues shown heads line =
+    line-short (due_points curves dues shown heads line.thread) line.style (due_points-short curves dues shown heads line.thread)
+
+-- all that is due, of at most twelve lines
+due_curves-short : (curves : Curves) (dues : Option Dues) (shown : List Standing) (heads : List ℕ) (lines : List Line) → length lines ≤ 12 → length (due_curves curves dues shown heads lines) ≤ 29771
+due_curves-short curves None shown heads lines few = omega arith
+due_curves-short curves (Some dues) shown heads lines few =
+    let thin : length (flat_map (due_curve curves dues shown heads) lines) ≤ 29688 =
+    omega (arith, all-short (due_curve curves dues shown heads) 2474 lines (λ k d below. due_curve-short curves dues shown heads (get_or lines k d)), few) in
+    both 78 29693 (codes "<g fill='none' stroke-width='1' stroke-opacity='0.5' stroke-linejoin='round'>\n") (flat_map (due_curve curves dues shown heads) lines ++ codes "</g>\n") (omega arith)
+    (both 29688 5 (flat_map (due_curve curves dues shown heads) lines) (codes "</g>\n") thin (omega arith))
 
 -- ---- their names
 
@@ -315,10 +342,10 @@ head-short width title narrow =
     let ten = both 47 (4 + (28 + (4 + (115 + (5 * t + (22 + (4 + (68 + (5 * t + 8))))))))) first (decimal width ++ (second ++ (decimal width ++ (third ++ named)))) (omega arith) nine in
     omega (arith, ten)
 
-chart-short : (title : List ℕ) (curves : Curves) (n : ℕ) → All (λ (name : List ℕ). length name ≤ 16) curves.names → curves.origin < 2 ^ 56 → unwrap_or curves.window 0 < 2 ^ 32 → length (command_marks curves) ≤ n
-    → length (chart title curves) ≤ 34000 + n + 10 * length title
+chart-short : (title : List ℕ) (dues : Option Dues) (curves : Curves) (n m : ℕ) → ((heads : List ℕ) (lines : List Line) → length lines ≤ 12 → length (due_curves curves dues (selection curves).shown heads lines) ≤ m) → All (λ (name : List ℕ). length name ≤ 16) curves.names → curves.origin < 2 ^ 56 → unwrap_or curves.window 0 < 2 ^ 32 → length (command_marks curves) ≤ n
+    → length (chart title dues curves) ≤ 34000 + n + m + 10 * length title
 unfolding picture
-chart-short title curves n short early narrow marks =
+chart-short title dues curves n m thin short early narrow marks =
     let shown = (selection curves).shown in
     let others = (selection curves).others in
     let most = most_in shown in
@@ -335,15 +362,25 @@ chart-short title curves n short early narrow marks =
     let four = both 5 2119 (codes "</g>\n") (flat_map (label curves.names (total curves)) lines ++ codes "</svg>\n") (omega arith) end in
     let three = both 29688 2124 (flat_map (curve curves others heads) lines) (codes "</g>\n" ++ (flat_map (label curves.names (total curves)) lines ++ codes "</svg>\n")) curved four in
     let two = both 57 31812 (codes "<g fill='none' stroke-width='2' stroke-linejoin='round'>\n") (flat_map (curve curves others heads) lines ++ (codes "</g>\n" ++ (flat_map (label curves.names (total curves)) lines ++ codes "</svg>\n"))) (omega arith) three in
-    let one = both (1621 + n) 31869 (axes curves most) (codes "<g fill='none' stroke-width='2' stroke-linejoin='round'>\n" ++ (flat_map (curve curves others heads) lines ++ (codes "</g>\n" ++ (flat_map (label curves.names (total curves)) lines ++ codes "</svg>\n")))) (axes-short curves most n early narrow marks) two in
+    let behind = due_curves curves dues shown heads lines in
+    let due = both m 31869 behind (codes "<g fill='none' stroke-width='2' stroke-linejoin='round'>\n" ++ (flat_map (curve curves others heads) lines ++ (codes "</g>\n" ++ (flat_map (label curves.names (total curves)) lines ++ codes "</svg>\n")))) (thin heads lines (omega (arith, many, few))) two in
+    let one = both (1621 + n) (m + 31869) (axes curves most) (behind ++ (codes "<g fill='none' stroke-width='2' stroke-linejoin='round'>\n" ++ (flat_map (curve curves others heads) lines ++ (codes "</g>\n" ++ (flat_map (label curves.names (total curves)) lines ++ codes "</svg>\n"))))) (axes-short curves most n early narrow marks) due in
     let width = width_for (longest_name curves.names lines) (length title) in
-    let whole = both (300 + 10 * length title) (1621 + n + 31869) (head width title) (axes curves most ++ (codes "<g fill='none' stroke-width='2' stroke-linejoin='round'>\n" ++ (flat_map (curve curves others heads) lines ++ (codes "</g>\n" ++ (flat_map (label curves.names (total curves)) lines ++ codes "</svg>\n"))))) (head-short width title (omega arith)) one in
+    let whole = both (300 + 10 * length title) (1621 + n + (m + 31869)) (head width title) (axes curves most ++ (behind ++ (codes "<g fill='none' stroke-width='2' stroke-linejoin='round'>\n" ++ (flat_map (curve curves others heads) lines ++ (codes "</g>\n" ++ (flat_map (label curves.names (total curves)) lines ++ codes "</svg>\n")))))) (head-short width title (omega arith)) one in
     omega (arith, whole)
 
+-- without what is due
+none-due : (curves : Curves) (shown : List Standing) (heads : List ℕ) (lines : List Line) → length lines ≤ 12 → length (due_curves curves None shown heads lines) ≤ 0
+none-due curves shown heads lines few = omega arith
+
 pub chart-plain : (title : List ℕ) (curves : Curves) → curves.commands ≡ [] → All (λ (name : List ℕ). length name ≤ 16) curves.names → curves.origin < 2 ^ 56 → unwrap_or curves.window 0 < 2 ^ 32
-    → length (chart title curves) ≤ 34000 + 10 * length title
-chart-plain title curves none short early narrow = omega (arith, chart-short title curves 0 short early narrow (marks-none curves none))
+    → length (chart title None curves) ≤ 34000 + 10 * length title
+chart-plain title curves none short early narrow = omega (arith, chart-short title None curves 0 0 (none-due curves (selection curves).shown) short early narrow (marks-none curves none))
 
 pub chart-marked : (title : List ℕ) (curves : Curves) → All (λ time. time < 2 ^ 32) curves.commands → All (λ (name : List ℕ). length name ≤ 16) curves.names → curves.origin < 2 ^ 56 → unwrap_or curves.window 0 < 2 ^ 32
-    → length (chart title curves) ≤ 107000 + 10 * length title
-chart-marked title curves small short early narrow = omega (arith, chart-short title curves 72468 short early narrow (marks-short_each curves small))
+    → length (chart title None curves) ≤ 107000 + 10 * length title
+chart-marked title curves small short early narrow = omega (arith, chart-short title None curves 72468 0 (none-due curves (selection curves).shown) short early narrow (marks-short_each curves small))
+
+pub chart-due : (title : List ℕ) (dues : Option Dues) (curves : Curves) → All (λ time. time < 2 ^ 32) curves.commands → All (λ (name : List ℕ). length name ≤ 16) curves.names → curves.origin < 2 ^ 56 → unwrap_or curves.window 0 < 2 ^ 32
+    → length (chart title dues curves) ≤ 137000 + 10 * length title
+chart-due title dues curves small short early narrow = omega (arith, chart-short title dues curves 72468 29771 (due_curves-short curves dues (selection curves).shown) short early narrow (marks-short_each curves small))

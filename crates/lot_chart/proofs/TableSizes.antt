@@ -64,7 +64,7 @@ module _ (measure : Measure) (curves : Curves) (turns : length curves.stretches 
 
 -- ---- no sample comes after the last tick
 
-sample-early : (last k : ℕ) → k ≤ sample_count last → sample_tick last k ≤ last
+pub sample-early : (last k : ℕ) → k ≤ sample_count last → sample_tick last k ≤ last
 sample-early last k within = div-le_of_le-mul (max 1 (sample_count last)) (mul-le-mul_right last (omega (arith, within)))
 
 samples-early : (last : ℕ) → All (λ tick. tick ≤ last) (sample_ticks last)

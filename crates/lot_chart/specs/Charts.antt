@@ -10,7 +10,9 @@ use Rattle.lot_curves.specs.Curves.{Curves, sample_count, sample_tick, sample_ti
 use Rattle.lot_curves.specs.Stretches.{last_end, stretches_of}
 use Rattle.lot_curves.specs.Windows.{had_in}
 use Rattle.lot_chart.specs.declared.lines.Line.{Line}
+use Rattle.lot_chart.specs.declared.standings.Standing.{Standing}
 use Rattle.lot_chart.specs.Axes.{marks, time_marks}
+use Rattle.lot_chart.specs.Dues.{Dues, due_height}
 use Rattle.lot_chart.specs.Escapes.{escaped}
 use Rattle.lot_chart.specs.Lines.{scaled, height_of, lines_of, most_in}
 use Rattle.lot_chart.specs.Marks.{marked}
@@ -103,11 +105,13 @@ top_at curves most tick = unwrap_or (whole_at Ticks curves tick) most
 abbrev pub tops : Curves → ℕ → List ℕ
 tops curves most = map (top_at curves most) (sample_ticks (last_end curves.stretches))
 
+-- a point at this tick and height
+abbrev pub point_at : Curves → ℕ → ℕ → List ℕ
+point_at curves tick height = codes " " ++ (tenths (across (last_end curves.stretches) tick) ++ (codes "," ++ tenths height))
+
 -- the point for the ticks of these stretches at this tick, given the ticks at the top of the plot
 abbrev pub point : Curves → ℕ → List Stretch → ℕ → List ℕ
-point curves top stretches tick =
-    codes " " ++ (tenths (across (last_end curves.stretches) tick)
-    ++ (codes "," ++ tenths (height_of top (had_in Ticks curves.window tick stretches))))
+point curves top stretches tick = point_at curves tick (height_of top (had_in Ticks curves.window tick stretches))
 
 -- the point of a sample, given the tops at all samples
 abbrev pub sample_point : Curves → List ℕ → List Stretch → ℕ → List ℕ
@@ -123,11 +127,36 @@ points curves tops stretches =
 abbrev pub drawn_of : Curves → List Stretch → ℕ → List Stretch
 drawn_of curves others thread = if thread == 0 then others else stretches_of thread curves.stretches
 
+-- the end of a line after its points: its colour and dash pattern
+abbrev pub stroke : ℕ → List ℕ
+stroke style = codes "' stroke='" ++ (colour style ++ (codes "'" ++ (strokes style ++ codes "/>\n")))
+
 -- a line, with a point for each sample
 abbrev pub curve : Curves → List Stretch → List ℕ → Line → List ℕ
-curve curves others tops line =
-    codes "<polyline points='" ++ (points curves tops (drawn_of curves others line.thread)
-    ++ (codes "' stroke='" ++ (colour line.style ++ (codes "'" ++ (strokes line.style ++ codes "/>\n")))))
+curve curves others tops line = codes "<polyline points='" ++ (points curves tops (drawn_of curves others line.thread) ++ stroke line.style)
+
+-- ---- what they are due
+
+-- the point of a sample for what a line is due, given the tops at all samples
+abbrev pub due_point : Curves → Dues → List Standing → List ℕ → ℕ → ℕ → List ℕ
+due_point curves dues shown tops thread sample =
+    point_at curves (sample_tick (last_end curves.stretches) sample) (due_height curves (slice_index tops sample) dues shown thread (sample_tick (last_end curves.stretches) sample))
+
+-- a point for each sample
+abbrev pub due_points : Curves → Dues → List Standing → List ℕ → ℕ → List ℕ
+due_points curves dues shown tops thread =
+    flat_map (due_point curves dues shown tops thread) (range_with_len 0 (sample_count (last_end curves.stretches) + 1))
+
+-- what a line is due, as a line of its own in the same colour
+abbrev pub due_curve : Curves → Dues → List Standing → List ℕ → Line → List ℕ
+due_curve curves dues shown tops line =
+    codes "<polyline points='" ++ (due_points curves dues shown tops line.thread ++ stroke line.style)
+
+-- what each line is due, as thin lines; nothing if the program isn't timed
+abbrev pub due_curves : Curves → Option Dues → List Standing → List ℕ → List Line → List ℕ
+due_curves curves None shown tops lines = []
+due_curves curves (Some dues) shown tops lines =
+    codes "<g fill='none' stroke-width='1' stroke-opacity='0.5' stroke-linejoin='round'>\n" ++ (flat_map (due_curve curves dues shown tops) lines ++ codes "</g>\n")
 
 -- ---- their names
 
@@ -167,13 +196,14 @@ longest_name names lines = fold (λ most line. max (length (name_of names line.t
 abbrev pub width_for : ℕ → ℕ → ℕ
 width_for name title = min 1040 (max (848 + 12 * name) (110 + 11 * title))
 
--- the picture with these lines
-unfoldable pub picture : List ℕ → Curves → Selected → List Line → List ℕ
-picture title curves selected lines =
+-- the picture with these lines, behind which is what they are due
+unfoldable pub picture : List ℕ → Curves → Option Dues → Selected → List Line → List ℕ
+picture title curves dues selected lines =
     head (width_for (longest_name curves.names lines) (length title)) title ++ (axes curves (most_in selected.shown)
+    ++ (due_curves curves dues selected.shown (tops curves (most_in selected.shown)) lines
     ++ (codes "<g fill='none' stroke-width='2' stroke-linejoin='round'>\n" ++ (flat_map (curve curves selected.others (tops curves (most_in selected.shown))) lines
-    ++ (codes "</g>\n" ++ (flat_map (label curves.names (total curves)) lines ++ codes "</svg>\n")))))
+    ++ (codes "</g>\n" ++ (flat_map (label curves.names (total curves)) lines ++ codes "</svg>\n"))))))
 
--- the picture of the curves, with this title
-abbrev pub chart : List ℕ → Curves → List ℕ
-chart title curves = picture title curves (selection curves) (lines_in curves (selection curves))
+-- the picture of the curves, with this title, and with what is due if it is given
+abbrev pub chart : List ℕ → Option Dues → Curves → List ℕ
+chart title dues curves = picture title curves dues (selection curves) (lines_in curves (selection curves))

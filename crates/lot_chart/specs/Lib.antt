@@ -14,6 +14,10 @@ pub mod Axes
 pub mod Marks
 -- Text within XML.
 pub mod Escapes
+-- What threads are due over time.
+pub mod Dues
+-- Sums that grow from turn to turn, and what was read of them at ticks.
+pub mod Gauges
 -- Curves as a picture.
 pub mod Charts
 -- A small run, and its curves as a table and as a picture.

@@ -14,3 +14,8 @@ outputs_on_literals = tt
 unfoldable pub pictures_on_literals : ⊤
 unfolding texts_on_literals picture marked
 pictures_on_literals = tt
+
+-- the same for a timed program
+unfoldable pub timed_pictures_on_literals : ⊤
+unfolding texts_on_literals timed_room picture marked
+timed_pictures_on_literals = tt

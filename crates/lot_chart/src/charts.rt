@@ -1,24 +1,30 @@
 //! Curves as a picture.
-ghost use Rattle.std.specs.Prelude.{◌≡◌, ◌+◌, ◌<◌, ◌≤◌, ◌^◌, ◌++◌, IfOk, OnOk, Some, length};
+ghost use Rattle.std.specs.Prelude.{◌≡◌, ◌+◌, ◌<◌, ◌≤◌, ◌^◌, ◌++◌, IfOk, OnOk, Option, None, Some, length};
 ghost use Rattle.std.specs.List.{flat_map};
 ghost use Rattle.lot_chart.specs.Charts as definitions;
 ghost use Rattle.lot_chart.specs.Charts.{axes, column_mark, command_mark, command_marks, curve, drawn_of, frame, head};
-ghost use Rattle.lot_chart.specs.Charts.{height_mark, heights_label, label, leader, name_text, picture, point, points};
-ghost use Rattle.lot_chart.specs.Charts.{time_mark};
+ghost use Rattle.lot_chart.specs.Charts.{height_mark, heights_label, label, leader, name_text, picture, point};
+ghost use Rattle.lot_chart.specs.Charts.{point_at, points, stroke, time_mark};
 ghost use Rattle.lot_chart.specs.Axes.{marks, time_marks};
+ghost use Rattle.lot_chart.specs.Dues.{Dues as DuesRecord, dues_of};
+ghost use Rattle.lot_chart.specs.Gauges.{AreLinesOf, HaveDues};
+ghost use Rattle.lot_chart.specs.Standings as standings;
 ghost use Rattle.lot_curves.specs.Curves.{sample_count};
 ghost use Rattle.lot_curves.specs.Stretches.{last_end};
 
+use crate::Line;
 use crate::axes::{axis_step, lead, mark_count, time_mark_count};
+use crate::due_lines::push_due_curves;
 use crate::escapes::push_escaped;
 use crate::lines::{height_of, lines_of, most_in, scaled};
 use crate::marks::marked;
+use crate::metering::LineDues;
 use crate::shares::{share_of, whole_at};
-use crate::standings::{select, stretches_of_thread};
+use crate::standings::{Selection, select, stretches_of_thread};
 use crate::text::Text;
-use crate::{Line, Standing};
 use lot_curves::{Curves, Measure, Stretch, had_in};
 use lot_machine::{Name, index_of};
+use lot_text::Program;
 use std::alloc::{AllocError, Global};
 
 /// The width of the widest picture, in whole units.
@@ -44,9 +50,43 @@ const FRAME: &str = "<path d='M100 60V460H770' fill='none' stroke='#222222'/>\n\
 /// and one for the others together. At each line's end are the thread's name and its share of all ticks. With a window,
 /// lines show shares of the last ticks, and the eleven are those that have run longest in the last window.
 pub fn chart_of(alloc: Global, curves: &Curves, title: &str) -> Result<Vec<u8>, AllocError>
-    ensures { IfOk result (λ text. text.items ≡ definitions.chart title.now curves.now) }
+    ensures { IfOk result (λ text. text.items ≡ definitions.chart title.now None curves.now) }
 {
     let selection = select(alloc, curves)?;
+    draw(alloc, curves, title, &selection, &None)
+}
+
+/// The same for these curves of the program; if it is timed, with a thin line behind each for what it is due.
+pub fn program_chart(
+    alloc: Global,
+    program: &Program,
+    curves: &Curves,
+    title: &str,
+) -> Result<Vec<u8>, AllocError>
+    ensures { IfOk result (λ text. text.items ≡ definitions.chart title.now (dues_of program.now) curves.now) }
+{
+    let selection = select(alloc, curves)?;
+    let dues = LineDues::of(alloc, program, curves, selection.shown.as_slice())?;
+    draw(alloc, curves, title, &selection, &dues)
+}
+
+/// The picture with these lines, and with what is due to them.
+fn draw(
+    alloc: Global,
+    curves: &Curves,
+    title: &str,
+    selection: &Selection,
+    dues: &Option<LineDues>,
+) -> Result<Vec<u8>, AllocError>
+    requires few { length selection.now.others.items < 2 ^ 32 }
+    requires lines { length selection.now.shown.items ≤ 12 }
+    requires selection { record { shown = selection.now.shown.items; others = selection.now.others.items }
+        ≡ standings.selection curves.now }
+    requires due { (due : Option DuesRecord) × HaveDues curves.now due selection.now.shown.items dues.now }
+    ensures { IfOk result (λ text. (due : Option DuesRecord)
+        → HaveDues curves.now due selection.now.shown.items dues.now
+        → text.items ≡ definitions.chart title.now due curves.now) }
+{
     let shown = selection.shown.as_slice();
     let top = top_at(curves, most_in(shown), curves.last());
     let lines = lines_of(alloc, top, shown)?;
@@ -56,35 +96,41 @@ pub fn chart_of(alloc: Global, curves: &Curves, title: &str) -> Result<Vec<u8>, 
         &mut text,
         title.as_bytes(),
         curves,
-        shown,
-        selection.others.as_slice(),
+        selection,
+        dues,
         lines.as_slice(),
     )?;
     Ok(text.into_bytes())
 }
 
-/// Adds the picture with these lines.
+/// Adds the picture with these lines, and with what is due to them.
 fn push_picture(
     alloc: Global,
     text: &mut Text,
     title: &[u8],
     curves: &Curves,
-    shown: &[Standing],
-    others: &[Stretch],
+    selection: &Selection,
+    dues: &Option<LineDues>,
     lines: &[Line],
 ) -> Result<(), AllocError>
-    requires { length others.now < 2 ^ 32 }
-    ensures { OnOk result (text.new ≡ text.old
-        ++ picture title.now curves.now (record { shown = shown.now; others = others.now }) lines.now) }
+    requires few { length selection.now.others.items < 2 ^ 32 }
+    requires lines { AreLinesOf selection.now.shown.items lines.now }
+    requires due { (due : Option DuesRecord) × HaveDues curves.now due selection.now.shown.items dues.now }
+    ensures { OnOk result ((due : Option DuesRecord) → HaveDues curves.now due selection.now.shown.items dues.now
+        → text.new ≡ text.old ++ picture title.now curves.now due
+        (record { shown = selection.now.shown.items; others = selection.now.others.items }) lines.now) }
 {
-    let most = most_in(shown);
+    let most = most_in(selection.shown.as_slice());
+    let others = selection.others.as_slice();
     let names = curves.names();
     let width = width_for(longest_name(names, lines), title.len());
     push_head(text, width, title)?;
     push_axes(alloc, text, curves, most)?;
+    let heads = tops_of(alloc, curves, most)?;
+    let tops = heads.as_slice();
+    push_due_curves(alloc, text, curves, dues, tops, lines)?;
     text.push("<g fill='none' stroke-width='2' stroke-linejoin='round'>\n")?;
-    let tops = tops_of(alloc, curves, most)?;
-    push_curves(alloc, text, curves, others, tops.as_slice(), lines)?;
+    push_curves(alloc, text, curves, others, tops, lines)?;
     text.push("</g>\n")?;
     push_labels(text, names, total_of(curves), lines)?;
     text.push("</svg>\n")?;
@@ -318,10 +364,17 @@ fn push_curve(
 {
     text.push("<polyline points='")?;
     push_points_of(alloc, text, curves, others, tops, line.thread)?;
+    push_stroke(text, line.style)
+}
+
+/// Adds the end of a line after its points: its colour and dash pattern.
+pub(crate) fn push_stroke(text: &mut Text, style: u32) -> Result<(), AllocError>
+    ensures { OnOk result (text.new ≡ text.old ++ stroke style) }
+{
     text.push("' stroke='")?;
-    text.push(colour(line.style))?;
+    text.push(colour(style))?;
     text.push("'")?;
-    text.push(strokes(line.style))?;
+    text.push(strokes(style))?;
     text.push("/>\n")?;
     Ok(())
 }
@@ -375,11 +428,23 @@ fn push_point(
     requires { length stretches.now < 2 ^ 32 }
     ensures { OnOk result (text.new ≡ text.old ++ point curves.now top stretches.now tick) }
 {
+    let ticks = had_in(Measure::Ticks, curves.window(), tick, stretches);
+    push_point_at(text, curves, tick, height_of(top, ticks))
+}
+
+/// Adds a point at this tick and height.
+pub(crate) fn push_point_at(
+    text: &mut Text,
+    curves: &Curves,
+    tick: u64,
+    height: u32,
+) -> Result<(), AllocError>
+    ensures { OnOk result (text.new ≡ text.old ++ point_at curves.now tick height) }
+{
     text.push(" ")?;
     text.push_tenths(across(curves.last(), tick))?;
     text.push(",")?;
-    let ticks = had_in(Measure::Ticks, curves.window(), tick, stretches);
-    text.push_tenths(height_of(top, ticks))?;
+    text.push_tenths(height)?;
     Ok(())
 }
 

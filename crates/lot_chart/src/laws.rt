@@ -2,13 +2,14 @@
 //! executable code.
 ghost use Rattle.std.specs.Prelude.{◌≡◌, ◌==◌, ◌≤◌, ◌<◌, ◌+◌, ◌-◌, ◌*◌, ◌^◌, ℕ, [], ◌∷◌, false};
 ghost use Rattle.std.specs.Prelude.{All, AllPairs, Contains, List, true, filter, length, map};
-ghost use Rattle.std.specs.Prelude.{slice_get, slice_index, Some, unwrap_or};
+ghost use Rattle.std.specs.Prelude.{slice_get, slice_index, None, Option, Some, unwrap_or};
 ghost use Rattle.lot_machine.specs.Bounds.{IsBetween, IsWithinBounds};
 ghost use Rattle.lot_curves.specs.declared.stretch.Measure.{Measure as Measured};
 ghost use Rattle.lot_curves.specs.Curves as curves;
 ghost use Rattle.lot_curves.specs.Stretches.{last_end, had_at, stretches_of};
 ghost use Rattle.lot_chart.specs.declared.standings.Standing.{Standing as StandingRecord};
 ghost use Rattle.lot_chart.specs.Charts.{chart};
+ghost use Rattle.lot_chart.specs.Dues.{Dues, dues_in};
 ghost use Rattle.lot_chart.specs.Lines.{lines_of};
 ghost use Rattle.lot_chart.specs.Marks.{column_of, is_within, marked, stands_in};
 ghost use Rattle.lot_chart.specs.Ranking.{IsBefore};
@@ -16,7 +17,10 @@ ghost use Rattle.lot_chart.specs.Standings.{ranked, selection};
 ghost use Rattle.lot_chart.specs.Tables.{table};
 ghost use Rattle.lot_machine.specs.declared.row.ThreadRow.{ThreadRow};
 ghost use Rattle.lot_machine.specs.Rows.{thread_row};
-ghost use Rattle.lot_simulation.specs.Timed.{last_moment};
+ghost use Rattle.lot_machine.specs.State.{opening};
+ghost use Rattle.lot_simulation.specs.Timed.{last_moment, timed_turns};
+ghost use Rattle.lot_simulation.specs.TimedReport.{due_in, live_time};
+ghost use Rattle.std.specs.List.Sorted.{IsNonDecreasing};
 ghost use Rattle.lot_simulation.specs.World.{IsLegal, Program, system_run};
 ghost use Rattle.lot_curves.specs.declared.stretch.Measure.TheVariants.{Ticks};
 ghost use Rattle.lot_curves.specs.Curves.{curves_of, stretches_made, timed_stretches};
@@ -54,15 +58,20 @@ pub fn marks_are_of_commands()
 {}
 
 /// A picture of threads whose names have at most 16 bytes, as all names do, has at most 107000 bytes plus ten for each
-/// byte of its title, however many commands there are, and at most 34000 plus these ten if there are none. Any `Curves`
-/// meets the other premises too: it begins before 2 ^ 56, and its window and the times of its commands are `u32`.
+/// byte of its title, however many commands there are, and at most 34000 plus these ten if there are none. With what is
+/// due it has at most 137000 plus these ten. Any `Curves` meets the other premises too: it begins before 2 ^ 56, and
+/// its window and the times of its commands are `u32`.
 pub fn pictures_are_short()
     ensures marked { (title : List ℕ) (curves : curves.Curves) → All (λ time. time < 2 ^ 32) curves.commands
         → All (λ name. length name ≤ 16) curves.names → curves.origin < 2 ^ 56
-        → unwrap_or curves.window 0 < 2 ^ 32 → length (chart title curves) ≤ 107000 + 10 * length title }
+        → unwrap_or curves.window 0 < 2 ^ 32 → length (chart title None curves) ≤ 107000 + 10 * length title }
     ensures plain { (title : List ℕ) (curves : curves.Curves) → curves.commands ≡ []
         → All (λ name. length name ≤ 16) curves.names → curves.origin < 2 ^ 56
-        → unwrap_or curves.window 0 < 2 ^ 32 → length (chart title curves) ≤ 34000 + 10 * length title }
+        → unwrap_or curves.window 0 < 2 ^ 32 → length (chart title None curves) ≤ 34000 + 10 * length title }
+    ensures due { (title : List ℕ) (dues : Option Dues) (curves : curves.Curves)
+        → All (λ time. time < 2 ^ 32) curves.commands → All (λ name. length name ≤ 16) curves.names
+        → curves.origin < 2 ^ 56
+        → unwrap_or curves.window 0 < 2 ^ 32 → length (chart title dues curves) ≤ 137000 + 10 * length title }
 {}
 
 /// A table of threads whose names have at most 16 bytes, as all names do, has at most 4226 bytes plus 4238 for each
@@ -103,4 +112,16 @@ pub fn timed_curves_end_at_the_report()
     ensures within { (program : Program) (t : ℕ) (row : ThreadRow) → IsWithinBounds program.limits
         → thread_row (last_moment program).world.state t ≡ Some row
         → row.ticks ≤ had_at Ticks (last_end (timed_stretches program)) (stretches_of t (timed_stretches program)) }
+{}
+
+/// For a timed program whose commands come in the order of time: at the end of its picture the time in which live
+/// threads were worth anything is the report's, and a thread has been due what the report says, or more if others had
+/// its number before.
+pub fn dues_end_at_the_report()
+    ensures live { (program : Program) → IsWithinBounds program.limits → IsNonDecreasing program.times
+        → (dues_in (opening program.limits) (timed_turns program)).live (last_end (timed_stretches program))
+        ≡ live_time (opening program.limits) (timed_turns program) }
+    ensures parts { (program : Program) → IsWithinBounds program.limits → IsNonDecreasing program.times → (t : ℕ)
+        → due_in (opening program.limits) (timed_turns program) t
+        ≤ (dues_in (opening program.limits) (timed_turns program)).parts t (last_end (timed_stretches program)) }
 {}

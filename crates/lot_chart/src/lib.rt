@@ -1,15 +1,18 @@
 //! Shows an input: `shares` writes a table of each thread's ticks or draws over time, and `chart` a picture of the
-//! ticks; with a window, both show shares of those in the last ticks. If numbers are given again, all threads that had
-//! one number share a column, and a line.
+//! ticks, in which a timed program also has what each line is due; with a window, both show shares of those in the last
+//! ticks. If numbers are given again, all threads that had one number share a column, and a line.
 #![tactic(auto)]
 
 mod axes;
 mod charts;
+mod due_lines;
 mod escapes;
 mod gathering;
+mod gauges;
 pub mod laws;
 mod lines;
 mod marks;
+mod metering;
 pub mod rows;
 mod shares;
 mod showing;
@@ -17,7 +20,7 @@ mod standings;
 mod tables;
 mod text;
 
-pub use charts::chart_of;
+pub use charts::{chart_of, program_chart};
 pub use gathering::gather;
 pub use lines::Line;
 pub use showing::{chart_bytes, chart_program, shares_bytes, shares_program};

@@ -1,5 +1,5 @@
 //! The ends of lines, and the positions of their names.
-ghost use Rattle.std.specs.Prelude.{◌≡◌, ◌≤◌, IfOk, length};
+ghost use Rattle.std.specs.Prelude.{◌≡◌, ◌<◌, ◌≤◌, ◌^◌, IfOk, length};
 ghost use Rattle.lot_chart.specs.Lines as definitions;
 
 use crate::Standing;
@@ -73,7 +73,16 @@ pub(crate) fn height_of(most: u64, ticks: u64) -> u32
     ensures exact { result ≡ definitions.height_of most ticks }
     ensures within { result ≤ 4600 }
 {
-    BOTTOM - scaled(ticks, most, HEIGHT)
+    fine_height_of(u128::from(most), u128::from(ticks))
+}
+
+/// The same for both in parts of a tick.
+pub(crate) fn fine_height_of(most: u128, parts: u128) -> u32
+    requires { parts < 2 ^ 96 }
+    ensures exact { result ≡ definitions.height_of most parts }
+    ensures within { result ≤ 4600 }
+{
+    BOTTOM - fine_scaled(parts, most, HEIGHT)
 }
 
 /// The height of a name: at its line's end, but not above the least height, and with room for the names below it.
@@ -89,6 +98,15 @@ pub(crate) fn scaled(value: u64, most: u64, length: u32) -> u32
     ensures exact { result ≡ definitions.scaled value most length }
     ensures within { result ≤ length }
 {
-    let at = u128::from(value) * u128::from(length) / u128::from(most.max(1));
+    fine_scaled(u128::from(value), u128::from(most), length)
+}
+
+/// The same for greater numbers.
+fn fine_scaled(value: u128, most: u128, length: u32) -> u32
+    requires { value < 2 ^ 96 }
+    ensures exact { result ≡ definitions.scaled value most length }
+    ensures within { result ≤ length }
+{
+    let at = value * u128::from(length) / most.max(1);
     at.min(u128::from(length)) as u32
 }

@@ -1,15 +1,18 @@
 //! Worked rows for small runs, and their curves as a table and as a picture.
 ghost use Rattle.std.specs.Prelude.{◌≡◌, None, Some, [], ◌∷◌, codes};
 ghost use Rattle.lot_curves.specs.declared.stretch.Measure.TheVariants.{Draws, Ticks};
-ghost use Rattle.lot_curves.specs.Curves.{windowed};
+ghost use Rattle.lot_curves.specs.Curves.{curves_of, windowed};
 ghost use Rattle.lot_curves.specs.Intervals.{curves_within};
+ghost use Rattle.lot_simulation.specs.Grammar.{program_in};
 ghost use Rattle.lot_simulation.specs.Samples.{text};
 ghost use Rattle.lot_chart.specs.Axes.{time_marks};
 ghost use Rattle.lot_chart.specs.Charts.{chart, command_marks};
 ghost use Rattle.lot_chart.specs.Samples.{commanded_curves, commanded_marks, commanded_marks_within};
-ghost use Rattle.lot_chart.specs.Samples.{seven_tick_curves, three_tick_curves, three_tick_picture};
-ghost use Rattle.lot_chart.specs.Samples.{three_tick_window_picture};
-ghost use Rattle.lot_chart.specs.Shown.{shares_output};
+ghost use Rattle.lot_chart.specs.Dues.{dues_of};
+ghost use Rattle.lot_chart.specs.Samples.{seven_tick_curves, three_tick_curves, three_tick_picture, three_ticks};
+ghost use Rattle.lot_chart.specs.Samples.{three_tick_window_picture, two_rate_picture, two_rate_window_picture};
+ghost use Rattle.lot_chart.specs.Samples.{two_rates};
+ghost use Rattle.lot_chart.specs.Shown.{chart_output, shares_output, shown_of};
 ghost use Rattle.lot_chart.specs.Tables.{table};
 
 /// The ticks that two threads have run, and the draws that they have won. A draw counts from its own time.
@@ -52,11 +55,22 @@ pub fn windows()
         ∷ []) }
 {}
 
-/// The run as a picture, with a title that needs escapes; and its shares of the last two ticks.
+/// The run as a picture, with a title that needs escapes; and its shares of the last two ticks. It has a schedule, so
+/// its picture doesn't show what is due.
 #[tactic(auto, unfolding(crate::specs::OnLiterals::pictures_on_literals))]
 pub fn pictures()
-    ensures whole { chart (codes "a < b") three_tick_curves ≡ three_tick_picture }
-    ensures window { chart (codes "a < b") (windowed (Some 2) three_tick_curves) ≡ three_tick_window_picture }
+    ensures whole { chart (codes "a < b") (dues_of three_ticks) three_tick_curves ≡ three_tick_picture }
+    ensures window { chart (codes "a < b") (dues_of three_ticks) (windowed (Some 2) three_tick_curves)
+        ≡ three_tick_window_picture }
+{}
+
+/// A picture of a timed program also shows what each line is due: its share of what was run, or of what was run in the
+/// window.
+#[tactic(auto, unfolding(crate::specs::OnLiterals::timed_pictures_on_literals))]
+pub fn dues()
+    ensures whole { chart_output (codes "due") two_rates ≡ two_rate_picture }
+    ensures window { shown_of (λ program. chart (codes "due") (dues_of program) (windowed (Some 2) (curves_of program)))
+        (program_in two_rates) ≡ two_rate_window_picture }
 {}
 
 /// The commands at 11, 12 and 20 stand in one column and share a mark, and so do the two at 3500. The one at tick 0,

@@ -7,10 +7,11 @@ ghost use Rattle.lot_curves.specs.Curves.{curves_of, windowed};
 ghost use Rattle.lot_curves.specs.Intervals.{curves_within};
 ghost use Rattle.lot_play.specs.declared.inputs.Played.TheVariants.{Done};
 ghost use Rattle.lot_chart.specs.Charts as charts;
+ghost use Rattle.lot_chart.specs.Dues.{dues_of};
 ghost use Rattle.lot_chart.specs.Shown.{Shows, chart_output, shares_output};
 ghost use Rattle.lot_chart.specs.Tables as tables;
 
-use crate::{chart_of, gather, table};
+use crate::{gather, program_chart, table};
 use lot_curves::{Interval, Measure};
 use lot_io::{IoFault, Watched, flush, write_bytes};
 use lot_play::{Played, Warnings, refuse};
@@ -39,8 +40,9 @@ pub fn shares_bytes<W: Write>(
     }
 }
 
-/// Makes the turns of the input in `bytes`, and writes a picture with this title of each thread's ticks over time; or
-/// one line, if the input is refused. It stores the run's warnings in `warnings`. If out of memory, it writes nothing.
+/// Makes the turns of the input in `bytes`, and writes a picture with this title of each thread's ticks over time, and,
+/// if the program is timed, of what each was due; or one line, if the input is refused. It stores the run's warnings in
+/// `warnings`. If out of memory, it writes nothing.
 pub fn chart_bytes<W: Write>(
     alloc: Global,
     title: &str,
@@ -87,8 +89,9 @@ pub fn shares_program<W: Write>(
 }
 
 /// Makes the program's turns, and writes a picture with this title of each thread's ticks over time, or in this
-/// interval of it; with a window, of the shares of the last ticks. It stores the run's warnings in `warnings`. If out
-/// of memory, it writes nothing.
+/// interval of it; with a window, of the shares of the last ticks. A picture of a timed program also shows what each
+/// was due, for which its turns are made a second time. It stores the run's warnings in `warnings`. If out of memory,
+/// it writes nothing.
 pub fn chart_program<W: Write>(
     alloc: Global,
     title: &str,
@@ -101,12 +104,13 @@ pub fn chart_program<W: Write>(
     requires { writer.old.failed ≡ false }
     ensures flushed { OnOk result (writer.new.flushed ≡ true) }
     ensures shown { Plays W.contents writer.old writer.new result Done
-        (charts.chart title.now (windowed window (curves_within interval (curves_of program.now)))) }
+        (charts.chart title.now (dues_of program.now)
+        (windowed window (curves_within interval (curves_of program.now)))) }
 {
     match gather(alloc, program, warnings) {
         Ok(curves) => {
             let curves = curves.within(interval).with_window(window);
-            write_text(chart_of(alloc, &curves, title), writer)
+            write_text(program_chart(alloc, program, &curves, title), writer)
         }
         Err(_) => Err(IoFault::Memory),
     }

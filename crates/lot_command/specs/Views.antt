@@ -12,6 +12,7 @@ use Rattle.lot_curves.specs.Curves.{curves_of, windowed}
 use Rattle.lot_curves.specs.Intervals.{curves_within}
 use Rattle.lot_explain.specs.Explained.{explained_program}
 use Rattle.lot_chart.specs.Charts.{chart}
+use Rattle.lot_chart.specs.Dues.{dues_of}
 use Rattle.lot_chart.specs.Tables.{table}
 use Rattle.lot_command.specs.declared.view.View.{View}
 use Rattle.lot_command.specs.declared.view.View.TheVariants as views
@@ -26,7 +27,7 @@ view_of (views.Explain detail) title program = explained_program detail program 
 view_of (views.Shares measure interval window) title program =
     table measure (windowed window (curves_within interval (curves_of program)))
 view_of (views.Chart interval window) title program =
-    chart title (windowed window (curves_within interval (curves_of program)))
+    chart title (dues_of program) (windowed window (curves_within interval (curves_of program)))
 
 -- the same for an input, or the line for a refused one
 abbrev pub shown_of : View → List ℕ → Result Program InputFault → List ℕ

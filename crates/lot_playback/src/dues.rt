@@ -191,7 +191,7 @@ fn rate_of(live_value: u128, ticks: u32) -> u128
 }
 
 /// Whether the event is a draw or the end of a quantum.
-pub(crate) fn is_dispatch(event: &Event) -> bool
+pub fn is_dispatch(event: &Event) -> bool
     ensures { IsTrue result ↔ owed.IsDispatch event.now }
 {
     matches!(event, Event::Draw(_, _) | Event::Expire(_))

@@ -16,7 +16,7 @@ mod values;
 
 pub use alarms::Alarms;
 pub use clocks::Clocks;
-pub use dues::{DueTable, ThreadDue};
+pub use dues::{DueTable, ThreadDue, is_dispatch};
 pub use observer::Observer;
 pub use playback::{Order, Playback};
 pub use refused_traps::RefusedTraps;

@@ -2,6 +2,7 @@ use Rattle.std.proofs.Common.{ap, ◌∙◌}
 use Rattle.lot_curves.specs.Curves.{curves_of, windowed}
 use Rattle.lot_curves.specs.Intervals.{curves_within}
 use Rattle.lot_chart.specs.Charts.{chart}
+use Rattle.lot_chart.specs.Dues.{dues_of}
 use Rattle.lot_chart.proofs.Shows.{shows-plays}
 use Rattle.lot_chart.proofs.showing.chart_program.Goals as goal
 
@@ -9,4 +10,4 @@ pub returns-in-Ok-clause-shown : goal.returns-in-Ok-clause-shown
 returns-in-Ok-clause-shown g c =
     let within = curves_within c.args.interval (curves_of c.args.program.now) in
     let wanted = windowed c.args.window within in
-    shows-plays g.W.Write.contents c.args.writer.now c.write_text.new.writer (λ v. v.items) (chart c.args.title.now) c.write_text.result c.requires wanted c.with_window-curves.result c.chart_of.result (c.with_window-curves.ensures ∙ ap (windowed c.args.window) (c.within.ensures ∙ ap (curves_within c.args.interval) c.in-Ok.ensures)) c.chart_of.ensures c.write_text.ensures.shown
+    shows-plays g.W.Write.contents c.args.writer.now c.write_text.new.writer (λ v. v.items) (chart c.args.title.now (dues_of c.args.program.now)) c.write_text.result c.requires wanted c.with_window-curves.result c.program_chart.result (c.with_window-curves.ensures ∙ ap (windowed c.args.window) (c.within.ensures ∙ ap (curves_within c.args.interval) c.in-Ok.ensures)) c.program_chart.ensures c.write_text.ensures.shown

@@ -5,9 +5,11 @@ use Rattle.lot_simulation.specs.Output.{output_of}
 use Rattle.lot_simulation.specs.Seeded.{seeded}
 use Rattle.lot_simulation.specs.World.{Program}
 use Rattle.lot_curves.specs.declared.stretch.Measure.{Measure}
+use Rattle.lot_curves.specs.Curves.{curves_of}
 use Rattle.lot_explain.specs.declared.detail.Detail.{Detail}
 use Rattle.lot_explain.specs.Explained.{explained_of}
 use Rattle.lot_chart.specs.Charts.{chart}
+use Rattle.lot_chart.specs.Dues.{dues_of}
 use Rattle.lot_chart.specs.Shown as charts
 use Rattle.lot_chart.specs.Tables.{table}
 use Rattle.lot_command.specs.declared.view.View.TheVariants as views
@@ -22,11 +24,11 @@ explain-is : (detail : Detail) (title : List ℕ) (input : Result Program InputF
 explain-is detail title (Ok program) = refl
 explain-is detail title (Err fault) = refl
 
-shares-is : (measure : Measure) (title : List ℕ) (input : Result Program InputFault) → shown_of (views.Shares measure None None) title (seeded None input) ≡ charts.shown_of (table measure) input
+shares-is : (measure : Measure) (title : List ℕ) (input : Result Program InputFault) → shown_of (views.Shares measure None None) title (seeded None input) ≡ charts.shown_of (λ program. table measure (curves_of program)) input
 shares-is measure title (Ok program) = refl
 shares-is measure title (Err fault) = refl
 
-chart-is : (title : List ℕ) (input : Result Program InputFault) → shown_of (views.Chart None None) title (seeded None input) ≡ charts.shown_of (chart title) input
+chart-is : (title : List ℕ) (input : Result Program InputFault) → shown_of (views.Chart None None) title (seeded None input) ≡ charts.shown_of (λ program. chart title (dues_of program) (curves_of program)) input
 chart-is title (Ok program) = refl
 chart-is title (Err fault) = refl
 

@@ -1,6 +1,0 @@
-use Rattle.std.proofs.Common.{append_assoc}
-use Rattle.lot_chart.proofs.charts.push_curve.Goals as goal
-
-pub returns : goal.returns
-returns c =
-    rw (c.in_ok-push-6.ensures, c.in_ok-push-5.ensures, c.strokes.ensures, c.in_ok-push-4.ensures, c.in_ok-push-3.ensures, c.colour.ensures, c.in_ok-push-2.ensures, c.in_ok-push_points_of.ensures, c.in_ok-push.ensures) (simp append_assoc)

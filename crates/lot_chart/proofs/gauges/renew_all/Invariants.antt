@@ -1,0 +1,9 @@
+use Rattle.std.proofs.Common.{◌≡◌}
+use Rattle.lot_engine.specs.Seen.{world_of}
+use Rattle.lot_chart.specs.Gauges.{IsRenewed}
+use Rattle.lot_chart.proofs.Loops.{HaveSome}
+use Rattle.lot_chart.proofs.gauges.renew_all.Given as goal
+
+-- the gauges passed so far are renewed
+abbrev pub invariant-loop-place : goal.invariant-loop-place
+invariant-loop-place l = record { same : l.system ≡ l.initial.system; some : HaveSome (IsRenewed (world_of l.initial.system).state) l.place l.initial.gauges l.gauges }

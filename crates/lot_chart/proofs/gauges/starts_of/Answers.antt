@@ -1,0 +1,19 @@
+use Rattle.std.proofs.Common.{◌≡◌, ◌+◌, ◌++◌, [], ◌∷◌, map, sym, ap, ◌∙◌, arith}
+use Rattle.std.specs.List.{range_with_len}
+use Rattle.std.proofs.lemmas.List.FromFn.{map-range_with_len_more}
+use Rattle.lot_curves.specs.Curves.{sample_tick}
+use Rattle.lot_curves.specs.Stretches.{last_end}
+use Rattle.lot_chart.specs.Dues.{start_of}
+use Rattle.lot_chart.specs.Gauges.{start_tick}
+use Rattle.lot_chart.proofs.gauges.starts_of.Goals as goal
+
+pub loop-sample-preserved : goal.loop-sample-preserved
+loop-sample-preserved c =
+    let curves = c.args.curves.now in
+    let sample = c.loop-sample.sample in
+    let at = start_tick curves in
+    let start : c.start_of-start.result ≡ start_of curves.window (sample_tick (last_end curves.stretches) sample) =
+    c.start_of-start.ensures.start ∙ (λ i. start_of (c.window.ensures i) (c.sample_tick.ensures.tick i)) in
+    let new : c.origin.result + c.start_of-start.result ≡ at sample = λ i. c.origin.ensures.origin i + start i in
+    c.in_ok-push.ensures.items ∙ ap (λ xs. xs ++ (c.origin.result + c.start_of-start.result) ∷ []) c.loop-sample.invariant ∙ ap (λ n. map at (range_with_len 0 sample) ++ n ∷ []) new
+    ∙ sym (map-range_with_len_more at 0 sample sample (omega arith))

@@ -1,0 +1,23 @@
+use Rattle.std.proofs.Common.{◌≡◌, ℕ, Option, Some, None, refl, arith}
+use Rattle.std.specs.Prelude.{IsSome}
+use Rattle.lot_playback.specs.Turns.{program_turns}
+use Rattle.lot_chart.proofs.Notes.{program-few}
+use Rattle.lot_chart.proofs.MeterFacts.{dues-are, meter-within, new-meter}
+use Rattle.lot_chart.proofs.metering.LineDues.of_timed.Goals as goal
+
+duration-is : (o : Option ℕ) → IsSome o → (d : ℕ) × (o ≡ Some d)
+duration-is None some = cc
+duration-is (Some d) some = (d, refl)
+
+pub play_through-requires-clause-ready : goal.play_through-requires-clause-ready
+play_through-requires-clause-ready c = new-meter c.args.program.now c.args.curves.now c.args.shown.now c.in_ok-meter.meter c.in_ok-meter.ensures
+
+pub pass-requires-clause-within : goal.pass-requires-clause-within
+pass-requires-clause-within c = meter-within c.args.program.now (program_turns c.args.program.now) c.in_ok-meter.meter c.play_through.new.observer c.in_ok-play_through.ensures.observed
+
+pub returns : goal.returns
+returns c =
+    let program = c.args.program.now in
+    let (duration, timed) = duration-is program.duration c.requires.timed in
+    dues-are program duration timed c.args.curves.now c.args.shown.now c.in_ok-meter.meter c.play_through.new.observer c.pass.new.self c.in_ok-meter.ensures c.in_ok-play_through.ensures.observed
+    (omega (arith, program-few program c.requires.legal)) c.in_ok-pass.ensures _ refl refl

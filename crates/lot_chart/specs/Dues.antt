@@ -1,0 +1,73 @@
+-- What threads are due over time: their shares, by value, of the time in which threads are live.
+use Rattle.std.specs.Prelude.{ℕ, ◌+◌, ◌-◌, ◌*◌, ◌^◌, ◌==◌, nat_le, min, max, Option, Some, None, List, [], ◌∷◌, sum_by, if◌then◌else◌}
+use Rattle.std.specs.Int.{div_ceil}
+use Rattle.lot_machine.specs.State.{State, opening}
+use Rattle.lot_simulation.specs.Timed.{TimedTurn, timed_turns}
+use Rattle.lot_simulation.specs.TimedReport.{due_part, live_ticks, tick_parts}
+use Rattle.lot_simulation.specs.World.{Program}
+use Rattle.lot_curves.specs.declared.stretch.Measure.TheVariants.{Ticks}
+use Rattle.lot_curves.specs.Curves.{Curves, total_at}
+use Rattle.lot_chart.specs.declared.standings.Standing.{Standing}
+use Rattle.lot_chart.specs.Lines.{height_of}
+
+-- The sum, up to a tick, of what each state comes to in the ticks that it lasts: this one since this time, and then the
+-- one after each of these turns. The first turn that isn't before the tick ends it.
+abbrev pub sum_until : (State → ℕ → ℕ) → State → ℕ → List TimedTurn → ℕ → ℕ
+sum_until amount s time [] tick = amount s (tick - time)
+sum_until amount s time (done ∷ others) tick =
+    if nat_le tick done.time then amount s (tick - time) else amount s (done.time - time) + sum_until amount done.turn.world.state done.time others tick
+
+-- the parts that the threads with this number are due, by their values, while the state stays so for this many ticks
+abbrev pub due_to : ℕ → State → ℕ → ℕ
+due_to t s ticks = due_part s t ticks
+
+-- Up to each tick: the ticks in which live threads were worth anything, and the parts of ticks due to the threads that
+-- have had a number.
+pub record Dues : Type 0 where
+  pub live : ℕ → ℕ
+  pub parts : ℕ → ℕ → ℕ
+
+-- what is due in these turns, the first of which was made in this state (2, 4.4)
+abbrev pub dues_in : State → List TimedTurn → Dues
+dues_in s turns = record { live = sum_until live_ticks s 0 turns; parts = λ t. sum_until (due_to t) s 0 turns }
+
+-- what is due in the program's turns, if it is timed
+abbrev pub dues_of : Program → Option Dues
+dues_of program = by program.duration
+  where
+    by : Option ℕ → Option Dues
+    by None = None
+    by (Some duration) = Some (dues_in (opening program.limits) (timed_turns program))
+
+-- ---- in a picture
+
+-- the tick at which the window that ends at this tick begins, or the first tick without a window
+abbrev pub start_of : Option ℕ → ℕ → ℕ
+start_of None tick = 0
+start_of (Some window) tick = tick - window
+
+-- What a sum grows by in the window that ends at this tick, or since the curves begin. The tick counts from their
+-- origin.
+abbrev pub grown_at : Curves → (ℕ → ℕ) → ℕ → ℕ
+grown_at curves sum tick = sum (curves.origin + tick) - sum (curves.origin + start_of curves.window tick)
+
+-- The parts due to a line: to the threads with its number, or to the others, who are thread 0, what those leave of all
+-- ticks. No thread has number 0, so the others' own line takes nothing from that.
+abbrev pub line_parts : Curves → Dues → List Standing → ℕ → ℕ → ℕ
+line_parts curves dues shown thread tick =
+    if thread == 0 then grown_at curves dues.live tick * tick_parts - sum_by (λ s. grown_at curves (dues.parts s.thread) tick) shown
+    else grown_at curves (dues.parts thread) tick
+
+-- The share that these parts are of so many ticks, in billionths. It is rounded up, so that what is due exactly doesn't
+-- read as less.
+abbrev pub due_share : ℕ → ℕ → ℕ
+due_share live parts = min (div_ceil parts (max 1 (live * 10 ^ 9))) (10 ^ 9)
+
+-- a line's due share of all ticks, in billionths
+abbrev pub line_share : Curves → Dues → List Standing → ℕ → ℕ → ℕ
+line_share curves dues shown thread tick = due_share (grown_at curves dues.live tick) (line_parts curves dues shown thread tick)
+
+-- The height of what a line is due at a tick, given the ticks at the top of the plot: its share of the ticks that all
+-- threads have run.
+abbrev pub due_height : Curves → ℕ → Dues → List Standing → ℕ → ℕ → ℕ
+due_height curves top dues shown thread tick = height_of (top * 10 ^ 9) (total_at Ticks curves tick * line_share curves dues shown thread tick)

@@ -1,0 +1,262 @@
+//! Sums that grow from turn to turn, and are read at ticks.
+ghost use Rattle.std.specs.Prelude.{◌≡◌, ◌<◌, ◌≤◌, ◌^◌, ◌/◌, ◌+◌, ◌*◌, ◌-◌, [], IfOk, OnOk, length};
+ghost use Rattle.lot_simulation.specs.TimedReport.{tick_parts};
+ghost use Rattle.lot_engine.specs.Seen.{world_of};
+ghost use Rattle.lot_curves.specs.Stretches.{last_end};
+ghost use Rattle.lot_chart.specs.Dues as dues;
+ghost use Rattle.lot_chart.specs.Gauges.{AreRenewed, EachGauge, HasPassed, HaveAllPassed, HaveReadAll, IsNow};
+ghost use Rattle.lot_chart.specs.Gauges.{IsRenewed, IsWithin, end_ticks, flow_at, grown, grown_in, start_ticks};
+ghost use Rattle.lot_chart.specs.Gauges.{thread_of};
+
+use lot_curves::Curves;
+use lot_engine::System;
+use lot_simulation::TICK_PARTS;
+use std::alloc::{AllocError, Global};
+
+/// What makes a sum grow.
+#[derive(Clone, Copy, Debug, PartialEq, Eq)]
+pub enum Growth {
+    /// The time in which live threads are worth anything.
+    Live,
+    /// What the threads with this number are due, as long as their value is this.
+    Due { thread: u32, value: u64 },
+}
+
+impl Growth {
+    /// By how much the sum grows in so many ticks, if all live threads are worth this much.
+    fn amount(self, live_value: u128, ticks: u64) -> u128
+        requires small { live_value < 2 ^ 96 }
+        requires within { IsWithin live_value self }
+        ensures { result ≡ grown self live_value ticks }
+    {
+        if live_value == 0 {
+            return 0;
+        }
+        match self {
+            Growth::Live => u128::from(ticks),
+            Growth::Due { value, .. } => u128::from(value) * rate_of(live_value, ticks),
+        }
+    }
+
+    /// The growth after a turn that led to this system.
+    fn renewed(self, system: &mut System) -> Growth
+        ensures same { system.new ≡ system.old }
+        ensures thread { thread_of result ≡ thread_of self }
+        ensures now { IsNow (world_of system.old).state result }
+    {
+        match self {
+            Growth::Live => Growth::Live,
+            Growth::Due { thread, .. } => Growth::Due {
+                thread,
+                value: system.live_value(thread),
+            },
+        }
+    }
+}
+
+/// The parts that each base unit of this live value, which isn't 0, is due in so many ticks.
+fn rate_of(live_value: u128, ticks: u64) -> u128
+    requires { (0 < live_value) × (live_value < 2 ^ 96) }
+    ensures { result ≡ (ticks * tick_parts + (live_value - 1)) / live_value }
+{
+    (u128::from(ticks) * TICK_PARTS + (live_value - 1)) / live_value
+}
+
+/// A sum from the last turn on.
+#[derive(Clone, Copy, Debug)]
+pub struct Flow {
+    /// What makes it grow.
+    pub growth: Growth,
+    /// The value of all live threads.
+    pub live_value: u128,
+    /// The time of the last turn.
+    pub since: u32,
+    /// The sum then.
+    pub sum: u128,
+}
+
+impl Flow {
+    /// The sum at this tick, if no turn comes before it. It ends at the largest number, since it isn't known here how
+    /// many turns there are; no program has enough for it.
+    fn at(self, tick: u64) -> u128
+        requires small { self.live_value < 2 ^ 96 }
+        requires within { IsWithin self.live_value self.growth }
+        ensures { result ≡ flow_at self tick }
+    {
+        let ticks = tick.saturating_sub(u64::from(self.since));
+        self.sum
+            .saturating_add(self.growth.amount(self.live_value, ticks))
+    }
+}
+
+/// The ticks at which sums are read, both in ascending order: where the windows of all samples begin, and where they
+/// end.
+#[derive(Debug, Drop)]
+pub struct Marks {
+    pub starts: Vec<u64>,
+    pub ends: Vec<u64>,
+}
+
+impl Marks {
+    /// The ticks of the samples of these curves.
+    pub(crate) fn of(alloc: Global, curves: &Curves) -> Result<Marks, AllocError>
+        ensures starts { IfOk result (λ marks. marks.starts.items ≡ start_ticks curves.now) }
+        ensures ends { IfOk result (λ marks. marks.ends.items ≡ end_ticks curves.now) }
+        ensures early { curves.now.origin + last_end curves.now.stretches < 2 ^ 56 }
+    {
+        let ends = ends_of(alloc, curves)?;
+        let starts = starts_of(alloc, curves)?;
+        Ok(Marks { starts, ends })
+    }
+}
+
+/// The ticks at which the samples' windows begin.
+fn starts_of(alloc: Global, curves: &Curves) -> Result<Vec<u64>, AllocError>
+    ensures { IfOk result (λ ticks. ticks.items ≡ start_ticks curves.now) }
+{
+    let mut starts = Vec::new(alloc);
+    for sample in 0..curves.sample_count() + 1 {
+        let start = start_of(curves.window(), curves.sample_tick(sample));
+        starts.push(curves.origin() + start)?;
+    }
+    Ok(starts)
+}
+
+/// The tick at which the window that ends at this tick begins, or the first tick without a window.
+fn start_of(window: Option<u32>, tick: u64) -> u64
+    ensures start { result ≡ dues.start_of window tick }
+    ensures early { result ≤ tick }
+{
+    match window {
+        None => 0,
+        Some(window) => tick.saturating_sub(u64::from(window)),
+    }
+}
+
+/// The ticks of the samples.
+fn ends_of(alloc: Global, curves: &Curves) -> Result<Vec<u64>, AllocError>
+    ensures ticks { IfOk result (λ ticks. ticks.items ≡ end_ticks curves.now) }
+    ensures early { curves.now.origin + last_end curves.now.stretches < 2 ^ 56 }
+{
+    let origin = curves.origin();
+    let mut ends = Vec::new(alloc);
+    for sample in 0..curves.sample_count() + 1 {
+        ends.push(origin + curves.sample_tick(sample))?;
+    }
+    Ok(ends)
+}
+
+/// A sum, and what was read of it at the ticks that have passed.
+#[derive(Debug, Drop)]
+pub struct Gauge {
+    pub growth: Growth,
+    /// The sum at the last turn.
+    pub sum: u128,
+    /// The sums where the samples' windows begin.
+    pub starts: Vec<u128>,
+    /// The sums where they end.
+    pub ends: Vec<u128>,
+}
+
+impl Gauge {
+    /// A sum before the first turn.
+    pub(crate) fn new(alloc: Global, growth: Growth) -> Gauge
+        ensures growth { result.growth ≡ growth }
+        ensures none { result.sum ≡ 0 }
+        ensures starts { result.starts.items ≡ [] }
+        ensures ends { result.ends.items ≡ [] }
+    {
+        Gauge {
+            growth,
+            sum: 0,
+            starts: Vec::new(alloc),
+            ends: Vec::new(alloc),
+        }
+    }
+
+    /// Lets time pass up to this, since the last turn at the earlier time.
+    pub(crate) fn pass(
+        &mut self,
+        marks: &Marks,
+        live_value: u128,
+        since: u32,
+        time: u64,
+    ) -> Result<(), AllocError>
+        requires small { live_value < 2 ^ 96 }
+        requires within { IsWithin live_value self.old.growth }
+        ensures { OnOk result (HasPassed marks.now live_value since time self.old self.new) }
+    {
+        let flow = Flow {
+            growth: self.growth,
+            live_value,
+            since,
+            sum: self.sum,
+        };
+        read_until(&mut self.starts, marks.starts.as_slice(), flow, time)?;
+        read_until(&mut self.ends, marks.ends.as_slice(), flow, time)?;
+        self.sum = flow.at(time);
+        Ok(())
+    }
+
+    /// Takes over its thread's value in this system.
+    fn renew(&mut self, system: &mut System)
+        ensures same { system.new ≡ system.old }
+        ensures renewed { IsRenewed (world_of system.old).state self.old self.new }
+    {
+        self.growth = self.growth.renewed(system);
+    }
+
+    /// By how much the sum grew in the window of this sample.
+    pub(crate) fn grown_in(&self, sample: usize) -> u128
+        requires starts { sample < length self.now.starts.items }
+        requires ends { sample < length self.now.ends.items }
+        ensures { result ≡ grown_in self.now sample }
+    {
+        self.ends[sample].saturating_sub(self.starts[sample])
+    }
+}
+
+/// Reads the sum at the further ticks up to this time.
+fn read_until(read: &mut Vec<u128>, ticks: &[u64], flow: Flow, time: u64) -> Result<(), AllocError>
+    requires small { flow.live_value < 2 ^ 96 }
+    requires within { IsWithin flow.live_value flow.growth }
+    ensures { OnOk result (HaveReadAll (flow_at flow) ticks.now time read.old.items read.new.items) }
+{
+    for place in read.len()..ticks.len() {
+        if time < ticks[place] {
+            return Ok(());
+        }
+        read.push(flow.at(ticks[place]))?;
+    }
+    Ok(())
+}
+
+/// Lets time pass up to this for each gauge.
+pub(crate) fn pass_all(
+    gauges: &mut [Gauge],
+    marks: &Marks,
+    live_value: u128,
+    since: u32,
+    time: u64,
+) -> Result<(), AllocError>
+    requires small { live_value < 2 ^ 96 }
+    requires within { EachGauge (λ gauge. IsWithin live_value gauge.growth) gauges.old }
+    ensures { OnOk result (HaveAllPassed marks.now live_value since time gauges.old gauges.new) }
+{
+    for place in 0..gauges.len() {
+        let gauge = &mut gauges[place];
+        gauge.pass(marks, live_value, since, time)?;
+    }
+    Ok(())
+}
+
+/// Takes over the values of all threads with gauges in this system.
+pub(crate) fn renew_all(gauges: &mut [Gauge], system: &mut System)
+    ensures same { system.new ≡ system.old }
+    ensures renewed { AreRenewed (world_of system.old).state gauges.old gauges.new }
+{
+    for place in 0..gauges.len() {
+        let gauge = &mut gauges[place];
+        gauge.renew(system);
+    }
+}

@@ -1,0 +1,215 @@
+//! What is due to the lines of a picture: the program is played again, now that its lines and samples are known.
+ghost use Rattle.std.specs.Prelude.{◌≡◌, ◌-◌, ◌*◌, ◌<◌, ◌≤◌, ◌^◌, ⊤, List, IfOk, IsSome, OnOk, Some, length, sum_by};
+ghost use Rattle.lot_simulation.specs.TimedReport.{tick_parts};
+ghost use Rattle.lot_curves.specs.Curves.{Curves as CurvesRecord, sample_count, sample_tick};
+ghost use Rattle.lot_curves.specs.Stretches.{last_end};
+ghost use Rattle.lot_engine.specs.Seen.{world_of};
+ghost use Rattle.lot_text.specs.Programs.{IsProgram};
+ghost use Rattle.lot_chart.specs.declared.standings.Standing.{Standing as StandingRecord};
+ghost use Rattle.lot_chart.specs.Dues as definitions;
+ghost use Rattle.lot_chart.specs.Dues.{Dues as DuesRecord};
+ghost use Rattle.lot_chart.specs.Gauges.{AreDues, AreNew, EachGauge, HasPassedAll, HasRenewed, HaveDues, IsAwaiting};
+ghost use Rattle.lot_chart.specs.Gauges.{IsLineOf, IsMeter, IsNewMeter, IsWithin, grown_in};
+
+use crate::Standing;
+use crate::gauges::{Gauge, Growth, Marks, pass_all, renew_all};
+use lot_curves::Curves;
+use lot_engine::System;
+use lot_play::play_through;
+use lot_playback::{Observer, Playback, Turn, is_dispatch, live_value};
+use lot_simulation::TICK_PARTS;
+use lot_text::Program;
+use std::alloc::{AllocError, Global};
+
+/// The billionths of a whole.
+pub(crate) const BILLION: u64 = 1000000000;
+
+/// Follows what threads are due, by their values from turn to turn.
+#[derive(Debug, Drop)]
+pub struct Meter {
+    pub marks: Marks,
+    /// The time of the last turn.
+    pub time: u32,
+    /// The value of all live threads since then.
+    pub live_value: u128,
+    /// The time in which they were worth anything.
+    pub live: Gauge,
+    /// What the thread of each line is due.
+    pub threads: Vec<Gauge>,
+}
+
+impl Observer for Meter {
+    type Fault = AllocError;
+
+    ghost observed = { IsMeter };
+
+    ghost awaits = { λ program turns world actor first now. IsAwaiting program turns world first now };
+
+    ghost stopped = { λ program turns first now fault. ⊤ };
+
+    fn before(&mut self, program: &Program, system: &mut System, actor: u32) {}
+
+    fn after(
+        &mut self,
+        program: &Program,
+        system: &mut System,
+        turn: &Turn,
+    ) -> Result<(), AllocError> {
+        // Turns of a schedule have no time, and no picture of them shows what is due.
+        let time = turn.time.unwrap_or(0);
+        self.pass(u64::from(time))?;
+        self.time = time;
+        // A draw and the end of a quantum change no value, and a turn without a command has no event.
+        if !turn.has_ended && is_dispatch(&turn.event) {
+            return Ok(());
+        }
+        self.renew(system);
+        Ok(())
+    }
+}
+
+impl Meter {
+    /// The meter for these lines before the first turn, when no thread exists.
+    fn open(alloc: Global, curves: &Curves, shown: &[Standing]) -> Result<Meter, AllocError>
+        ensures { IfOk result (IsNewMeter curves.now shown.now) }
+    {
+        Ok(Meter {
+            marks: Marks::of(alloc, curves)?,
+            time: 0,
+            live_value: 0,
+            live: Gauge::new(alloc, Growth::Live),
+            threads: gauges_of(alloc, shown)?,
+        })
+    }
+
+    /// Lets time pass up to this.
+    fn pass(&mut self, time: u64) -> Result<(), AllocError>
+        requires small { self.old.live_value < 2 ^ 96 }
+        requires clock { IsWithin self.old.live_value self.old.live.growth }
+        requires within { EachGauge (λ gauge. IsWithin self.old.live_value gauge.growth) self.old.threads.items }
+        ensures { OnOk result (HasPassedAll time self.old self.new) }
+    {
+        self.live
+            .pass(&self.marks, self.live_value, self.time, time)?;
+        pass_all(
+            self.threads.as_mut_slice(),
+            &self.marks,
+            self.live_value,
+            self.time,
+            time,
+        )
+    }
+
+    /// Takes over the values of threads in this system.
+    fn renew(&mut self, system: &mut System)
+        ensures same { system.new ≡ system.old }
+        ensures renewed { HasRenewed (world_of system.old).state self.old self.new }
+    {
+        self.live_value = live_value(system);
+        renew_all(self.threads.as_mut_slice(), system);
+    }
+}
+
+/// A gauge for the thread of each line.
+fn gauges_of(alloc: Global, shown: &[Standing]) -> Result<Vec<Gauge>, AllocError>
+    ensures { IfOk result (λ gauges. AreNew shown.now gauges.items) }
+{
+    let mut gauges = Vec::with_capacity(alloc, shown.len())?;
+    for standing in shown {
+        let thread = standing.thread;
+        gauges.push(Gauge::new(alloc, Growth::Due { thread, value: 0 }))?;
+    }
+    Ok(gauges)
+}
+
+/// What is due to the lines of a picture, at each of its samples.
+#[derive(Debug, Drop)]
+pub struct LineDues {
+    pub live: Gauge,
+    pub threads: Vec<Gauge>,
+}
+
+impl LineDues {
+    /// What is due to these lines of the program's curves, if it is timed.
+    pub(crate) fn of(
+        alloc: Global,
+        program: &Program,
+        curves: &Curves,
+        shown: &[Standing],
+    ) -> Result<Option<LineDues>, AllocError>
+        ensures { IfOk result (HaveDues curves.now (definitions.dues_of program.now) shown.now) }
+    {
+        if program.duration().is_none() {
+            return Ok(None);
+        }
+        let dues = LineDues::of_timed(alloc, program, curves, shown)?;
+        Ok(Some(dues))
+    }
+
+    /// What is due to these lines of the timed program's curves.
+    fn of_timed(
+        alloc: Global,
+        program: &Program,
+        curves: &Curves,
+        shown: &[Standing],
+    ) -> Result<LineDues, AllocError>
+        requires legal { IsProgram program.now }
+        requires timed { IsSome program.now.duration }
+        ensures { IfOk result (λ dues. HaveDues curves.now (definitions.dues_of program.now) shown.now (Some dues)) }
+    {
+        let mut playback = Playback::open(alloc, program)?;
+        let mut meter = Meter::open(alloc, curves, shown)?;
+        play_through(program, &mut playback, &mut meter)?;
+        meter.pass(u64::MAX)?;
+        let Meter { live, threads, .. } = meter;
+        Ok(LineDues { live, threads })
+    }
+
+    /// The share due at a sample to the line at this place, in billionths.
+    pub(crate) fn share(&self, thread: u32, place: usize, sample: usize) -> u64
+        requires due { (curves : CurvesRecord) × (dues : DuesRecord) × (shown : List StandingRecord)
+            × AreDues curves dues shown self.now × IsLineOf shown place thread
+            × (sample ≤ sample_count (last_end curves.stretches)) }
+        ensures share { (curves : CurvesRecord) (dues : DuesRecord) (shown : List StandingRecord)
+            → AreDues curves dues shown self.now → IsLineOf shown place thread
+            → sample ≤ sample_count (last_end curves.stretches)
+            → result
+            ≡ definitions.line_share curves dues shown thread (sample_tick (last_end curves.stretches) sample) }
+        ensures few { result ≤ 10 ^ 9 }
+    {
+        let live = self.live.grown_in(sample);
+        let parts = if thread == 0 {
+            self.left_in(sample)
+        } else {
+            self.threads[place].grown_in(sample)
+        };
+        due_share(live, parts)
+    }
+
+    /// The parts due at a sample to the threads without lines of their own.
+    fn left_in(&self, sample: usize) -> u128
+        requires live { grown_in self.now.live sample < 2 ^ 65 }
+        requires there { (sample < length self.now.live.starts.items) × (sample < length self.now.live.ends.items) }
+        requires each { EachGauge (λ gauge. (sample < length gauge.starts.items) × (sample < length gauge.ends.items))
+            self.now.threads.items }
+        ensures left { result ≡ grown_in self.now.live sample * tick_parts
+            - sum_by (λ gauge. grown_in gauge sample) self.now.threads.items }
+        ensures few { result < 2 ^ 125 }
+    {
+        let mut left = self.live.grown_in(sample) * TICK_PARTS;
+        for gauge in &self.threads {
+            left = left.saturating_sub(gauge.grown_in(sample));
+        }
+        left
+    }
+}
+
+/// The share that these parts are of so many ticks, in billionths.
+fn due_share(live: u128, parts: u128) -> u64
+    requires { live < 2 ^ 65 }
+    ensures exact { result ≡ definitions.due_share live parts }
+    ensures few { result ≤ 10 ^ 9 }
+{
+    let billionth = live * u128::from(BILLION);
+    parts.div_ceil(billionth.max(1)).min(u128::from(BILLION)) as u64
+}
