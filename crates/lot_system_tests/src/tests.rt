@@ -5,6 +5,7 @@ ghost use Rattle.std.specs.Prelude.{◌≡◌};
 mod faults;
 mod memory;
 mod moves;
+mod named;
 mod reports;
 mod same;
 mod shown;

@@ -1,0 +1,87 @@
+//! Tickets with names: for which ticket each command is, and the reply.
+
+use super::program_of;
+use super::same::{check_same, check_same_at};
+use lot_machine::{Command, Event, Refusal, Reply};
+use lot_system::System;
+use std::test::Fail;
+
+/// Two tickets get names. The first can't be removed while it funds something. Once it is, another one gets its number.
+const NAMED: &str = "lottery 3
+for 1
+reuse
+script s
+compute 5
+endscript
+mkcur g
+mktkt 5 base as gift
+fundx 2 g a s as wage
+fund gift g
+settkt wage 4
+rmtkt gift
+unfund gift
+rmtkt gift
+mktkt 6 base
+rmtkt gift
+rmtkt 1
+unfund wage
+";
+
+/// The ticket that a command is for, if it is for one, and its reply.
+type Row = (Option<u64>, Reply);
+
+/// The turns of the commands above, in order.
+const ROWS: [Row; 12] = [
+    (None, Reply::Currency(1)),
+    (None, Reply::Ticket(1)),
+    (
+        None,
+        Reply::Funded {
+            ticket: 2,
+            thread: 1,
+        },
+    ),
+    (Some(1), Reply::Done),
+    (Some(2), Reply::Done),
+    (Some(1), Reply::Refused(Refusal::Funding)),
+    (Some(1), Reply::Done),
+    (Some(1), Reply::Done),
+    (None, Reply::Ticket(1)),
+    (Some(0), Reply::Refused(Refusal::NoTicket)),
+    (Some(1), Reply::Done),
+    (Some(2), Reply::Done),
+];
+
+/// The ticket that an event's command is for, if it is for one.
+fn ticket_of(event: &Event) -> Option<u64> {
+    match event {
+        Event::Command(
+            Command::RemoveTicket { ticket }
+            | Command::Fund { ticket, .. }
+            | Command::Unfund { ticket }
+            | Command::SetTicket { ticket, .. },
+        ) => Some(*ticket),
+        _ => None,
+    }
+}
+
+/// The console's next turn.
+fn next_row(system: &mut System) -> Result<Row, Fail> {
+    match system.turn(0, None) {
+        Ok(answer) => Ok((ticket_of(&answer.event), answer.reply)),
+        Err(_) => Err("a turn".into()),
+    }
+}
+
+// A name means the ticket that got it, until that is removed: 0 then, which no ticket has.
+#[test]
+fn names_of_tickets(rt: HostRuntime) -> Result<(), Fail> {
+    let program = program_of(rt.alloc(), NAMED)?;
+    let mut system = System::open(rt.alloc(), &program, 12)?;
+    for (made, wanted) in ROWS.iter().enumerate() {
+        check_same_at(&rt, &made, &next_row(&mut system)?, wanted);
+    }
+    let wage = system.ticket_row(2).ok_or("a ticket")?;
+    check_same(&rt, &wage.amount, &4);
+    Ok(())
+}
