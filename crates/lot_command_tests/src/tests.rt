@@ -601,7 +601,12 @@ fn strict_inputs(rt: HostRuntime) {
     check_play(&rt, alloc, STRICT, 1, STRICT_PLAYED);
     for word in ["report", "explain", "shares", "chart"] {
         let ended = ended_on(&rt, alloc, &["lot_sim", word], STRICT);
-        check_same_at(&rt, &word, &(ended.code, ended.errors.is_empty()), &(1, false));
+        check_same_at(
+            &rt,
+            &word,
+            &(ended.code, ended.errors.is_empty()),
+            &(1, false),
+        );
     }
     let seeds = &["lot_sim", "report", "--seeds", "1..3"];
     check_same_at(&rt, &"seeds", &ended_on(&rt, alloc, seeds, STRICT).code, &1);
