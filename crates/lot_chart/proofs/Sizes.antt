@@ -17,9 +17,9 @@ use Rattle.lot_curves.specs.Windows.{had_in}
 use Rattle.lot_chart.specs.declared.lines.Line.{Line}
 use Rattle.lot_chart.specs.Axes.{axis_step, lead, mark_count, marks, steps, time_mark_count, time_marks}
 use Rattle.lot_chart.specs.Dues.{Dues, due_height}
-use Rattle.lot_chart.specs.Charts.{across, axes, chart, colour, column_mark, command_mark, command_marks, curve, drawn_of, due_curve, due_curves, due_point, due_points, frame, head, height_mark, heights_label, highest, label, leader, lines_in, longest_name, name_of, name_text, picture, point, point_at, points, sample_point, stroke, strokes, time_mark, top_at, tops, total, width_for}
+use Rattle.lot_chart.specs.Charts.{across, axes, chart, colour, column_mark, command_mark, command_marks, curve, drawn_of, due_curve, due_curves, due_point, due_points, frame, head, height_mark, heights_label, highest, label, leader, lines_in, longest_name, most_shown, name_of, name_text, picture, point, point_at, points, sample_point, stroke, strokes, time_mark, top_at, tops, total, width_for}
 use Rattle.lot_chart.specs.Escapes.{escaped, escaped_byte}
-use Rattle.lot_chart.specs.Lines.{height_of, lines_after, most_in, place_of}
+use Rattle.lot_chart.specs.Lines.{height_of, lines_after, place_of}
 use Rattle.lot_chart.specs.Marks.{first_in, marked, stands_in}
 use Rattle.lot_chart.specs.Shares.{share_of, tenths}
 use Rattle.lot_chart.specs.Standings.{selection}
@@ -348,8 +348,8 @@ unfolding picture
 chart-short title dues curves n m thin short early narrow marks =
     let shown = (selection curves).shown in
     let others = (selection curves).others in
-    let most = most_in shown in
-    let lines = lines_in curves (selection curves) in
+    let most = most_shown curves dues shown in
+    let lines = lines_in curves most (selection curves) in
     let top = top_at curves most (last_end curves.stretches) in
     let heads = tops curves most in
     let many = lines-many top 0 600 shown in

@@ -12,7 +12,7 @@ use Rattle.lot_curves.specs.Windows.{had_in}
 use Rattle.lot_chart.specs.declared.lines.Line.{Line}
 use Rattle.lot_chart.specs.declared.standings.Standing.{Standing}
 use Rattle.lot_chart.specs.Axes.{marks, time_marks}
-use Rattle.lot_chart.specs.Dues.{Dues, due_height}
+use Rattle.lot_chart.specs.Dues.{Dues, due_height, most_due}
 use Rattle.lot_chart.specs.Escapes.{escaped}
 use Rattle.lot_chart.specs.Lines.{scaled, height_of, lines_of, most_in}
 use Rattle.lot_chart.specs.Marks.{marked}
@@ -97,7 +97,7 @@ abbrev pub strokes : ℕ → List ℕ
 strokes style = if nat_le 8 style then codes " stroke-dasharray='7 4'" else []
 
 -- the ticks that the top of the plot stands for at a tick: with a window all in the one that ends there, and otherwise
--- the most of a line
+-- the most
 abbrev pub top_at : Curves → ℕ → ℕ → ℕ
 top_at curves most tick = unwrap_or (whole_at Ticks curves tick) most
 
@@ -184,9 +184,13 @@ label names total line = leader line ++ name_text names total line
 abbrev pub total : Curves → ℕ
 total curves = total_at Ticks curves (last_end curves.stretches)
 
--- the lines of the selected threads
-abbrev pub lines_in : Curves → Selected → List Line
-lines_in curves selected = lines_of (top_at curves (most_in selected.shown) (last_end curves.stretches)) selected.shown
+-- the most ticks at the end of a line, or due to one if that is more
+abbrev pub most_shown : Curves → Option Dues → List Standing → ℕ
+most_shown curves dues shown = max (most_in shown) (most_due curves dues shown)
+
+-- the lines of the selected threads, given the most ticks
+abbrev pub lines_in : Curves → ℕ → Selected → List Line
+lines_in curves most selected = lines_of (top_at curves most (last_end curves.stretches)) selected.shown
 
 -- the bytes of the longest name beside a line
 abbrev pub longest_name : List (List ℕ) → List Line → ℕ
@@ -196,14 +200,17 @@ longest_name names lines = fold (λ most line. max (length (name_of names line.t
 abbrev pub width_for : ℕ → ℕ → ℕ
 width_for name title = min 1040 (max (848 + 12 * name) (110 + 11 * title))
 
--- the picture with these lines, behind which is what they are due
-unfoldable pub picture : List ℕ → Curves → Option Dues → Selected → List Line → List ℕ
-picture title curves dues selected lines =
-    head (width_for (longest_name curves.names lines) (length title)) title ++ (axes curves (most_in selected.shown)
-    ++ (due_curves curves dues selected.shown (tops curves (most_in selected.shown)) lines
-    ++ (codes "<g fill='none' stroke-width='2' stroke-linejoin='round'>\n" ++ (flat_map (curve curves selected.others (tops curves (most_in selected.shown))) lines
+-- the picture with these lines, behind which is what they are due, given the most ticks
+unfoldable pub picture : List ℕ → Curves → Option Dues → Selected → ℕ → List Line → List ℕ
+picture title curves dues selected most lines =
+    head (width_for (longest_name curves.names lines) (length title)) title ++ (axes curves most
+    ++ (due_curves curves dues selected.shown (tops curves most) lines
+    ++ (codes "<g fill='none' stroke-width='2' stroke-linejoin='round'>\n" ++ (flat_map (curve curves selected.others (tops curves most)) lines
     ++ (codes "</g>\n" ++ (flat_map (label curves.names (total curves)) lines ++ codes "</svg>\n"))))))
 
 -- the picture of the curves, with this title, and with what is due if it is given
 abbrev pub chart : List ℕ → Option Dues → Curves → List ℕ
-chart title dues curves = picture title curves dues (selection curves) (lines_in curves (selection curves))
+chart title dues curves = scaled_to (most_shown curves dues (selection curves).shown)
+  where
+    scaled_to : ℕ → List ℕ
+    scaled_to most = picture title curves dues (selection curves) most (lines_in curves most (selection curves))

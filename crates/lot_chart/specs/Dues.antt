@@ -1,12 +1,13 @@
 -- What threads are due over time: their shares, by value, of the time in which threads are live.
-use Rattle.std.specs.Prelude.{ℕ, ◌+◌, ◌-◌, ◌*◌, ◌^◌, ◌==◌, nat_le, min, max, Option, Some, None, List, [], ◌∷◌, sum_by, if◌then◌else◌}
+use Rattle.std.specs.Prelude.{ℕ, ◌+◌, ◌-◌, ◌*◌, ◌^◌, ◌==◌, nat_le, min, max, Option, Some, None, List, [], ◌∷◌, fold, sum_by, if◌then◌else◌}
 use Rattle.std.specs.Int.{div_ceil}
 use Rattle.lot_machine.specs.State.{State, opening}
 use Rattle.lot_simulation.specs.Timed.{TimedTurn, timed_turns}
 use Rattle.lot_simulation.specs.TimedReport.{due_part, live_ticks, tick_parts}
 use Rattle.lot_simulation.specs.World.{Program}
 use Rattle.lot_curves.specs.declared.stretch.Measure.TheVariants.{Ticks}
-use Rattle.lot_curves.specs.Curves.{Curves, total_at}
+use Rattle.lot_curves.specs.Curves.{Curves, sample_count, sample_tick, total_at}
+use Rattle.lot_curves.specs.Stretches.{last_end}
 use Rattle.lot_chart.specs.declared.standings.Standing.{Standing}
 use Rattle.lot_chart.specs.Lines.{height_of}
 
@@ -71,3 +72,16 @@ line_share curves dues shown thread tick = due_share (grown_at curves dues.live 
 -- threads have run.
 abbrev pub due_height : Curves → ℕ → Dues → List Standing → ℕ → ℕ → ℕ
 due_height curves top dues shown thread tick = height_of (top * 10 ^ 9) (total_at Ticks curves tick * line_share curves dues shown thread tick)
+
+-- the tick of the last sample
+abbrev pub last_sample : Curves → ℕ
+last_sample curves = sample_tick (last_end curves.stretches) (sample_count (last_end curves.stretches))
+
+-- the ticks that a line is due at the last sample, its share of all ticks run; rounded up
+abbrev pub due_ticks : Curves → Dues → List Standing → ℕ → ℕ
+due_ticks curves dues shown thread = div_ceil (total_at Ticks curves (last_sample curves) * line_share curves dues shown thread (last_sample curves)) (10 ^ 9)
+
+-- the most ticks that one of these lines is due at the last sample; none if nothing is due
+abbrev pub most_due : Curves → Option Dues → List Standing → ℕ
+most_due curves None shown = 0
+most_due curves (Some dues) shown = fold (λ most s. max (due_ticks curves dues shown s.thread) most) 0 shown

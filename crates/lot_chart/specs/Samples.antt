@@ -1,9 +1,12 @@
 -- A small run, and its curves as a table and as a picture, worked out by hand.
-use Rattle.std.specs.Prelude.{ℕ, None, List, [], ◌∷◌, codes}
+use Rattle.std.specs.Prelude.{ℕ, ◌*◌, ◌==◌, None, List, [], ◌∷◌, codes, if◌then◌else◌}
 use Rattle.lot_curves.specs.Curves.{Curves, curves_of}
 use Rattle.lot_simulation.specs.Samples.{text}
 use Rattle.lot_simulation.specs.WorkedSystems.{first_run}
+use Rattle.lot_simulation.specs.TimedReport.{tick_parts}
 use Rattle.lot_simulation.specs.World.{Program}
+use Rattle.lot_chart.specs.declared.standings.Standing.{Standing}
+use Rattle.lot_chart.specs.Dues.{Dues}
 
 -- the first run with a quantum of one tick: thread a wins at ticks 0 and 1, and thread b at tick 2
 abbrev pub three_ticks : Program
@@ -27,6 +30,14 @@ seven_tick_curves = record {
   window = None;
   commands = [];
 }
+
+-- the first thread is due all ticks
+abbrev pub all_to_the_first : Dues
+all_to_the_first = record { live = λ tick. tick; parts = λ t tick. if t == 1 then tick * tick_parts else 0 }
+
+-- the threads of `seven_tick_curves`, by what they have run
+abbrev pub seven_tick_standings : List Standing
+seven_tick_standings = record { thread = 1; ticks = 4 } ∷ record { thread = 2; ticks = 3 } ∷ []
 
 -- thread a runs to tick 7000; commands are made at the beginning, near it, in the middle, at the end and after it
 abbrev pub commanded_curves : Curves

@@ -14,7 +14,7 @@ ghost use Rattle.lot_curves.specs.Stretches.{last_end};
 
 use crate::Line;
 use crate::axes::{axis_step, lead, mark_count, time_mark_count};
-use crate::due_lines::push_due_curves;
+use crate::due_lines::{most_due, push_due_curves};
 use crate::escapes::push_escaped;
 use crate::lines::{height_of, lines_of, most_in, scaled};
 use crate::marks::marked;
@@ -88,7 +88,8 @@ fn draw(
         → text.items ≡ definitions.chart title.now due curves.now) }
 {
     let shown = selection.shown.as_slice();
-    let top = top_at(curves, most_in(shown), curves.last());
+    let most = most_in(shown).max(most_due(curves, dues, shown));
+    let top = top_at(curves, most, curves.last());
     let lines = lines_of(alloc, top, shown)?;
     let mut text = Text::new(alloc);
     push_picture(
@@ -98,12 +99,13 @@ fn draw(
         curves,
         selection,
         dues,
+        most,
         lines.as_slice(),
     )?;
     Ok(text.into_bytes())
 }
 
-/// Adds the picture with these lines, and with what is due to them.
+/// Adds the picture with these lines, and with what is due to them, given the most ticks.
 fn push_picture(
     alloc: Global,
     text: &mut Text,
@@ -111,6 +113,7 @@ fn push_picture(
     curves: &Curves,
     selection: &Selection,
     dues: &Option<LineDues>,
+    most: u64,
     lines: &[Line],
 ) -> Result<(), AllocError>
     requires few { length selection.now.others.items < 2 ^ 32 }
@@ -118,9 +121,8 @@ fn push_picture(
     requires due { (due : Option DuesRecord) × HaveDues curves.now due selection.now.shown.items dues.now }
     ensures { OnOk result ((due : Option DuesRecord) → HaveDues curves.now due selection.now.shown.items dues.now
         → text.new ≡ text.old ++ picture title.now curves.now due
-        (record { shown = selection.now.shown.items; others = selection.now.others.items }) lines.now) }
+        (record { shown = selection.now.shown.items; others = selection.now.others.items }) most lines.now) }
 {
-    let most = most_in(selection.shown.as_slice());
     let others = selection.others.as_slice();
     let names = curves.names();
     let width = width_for(longest_name(names, lines), title.len());

@@ -1,20 +1,22 @@
 //! What the lines of a picture are due, as thin lines behind them.
 ghost use Rattle.std.specs.Prelude.{◌≡◌, ◌+◌, ◌*◌, ◌≤◌, ◌^◌, ◌++◌, List, Option, Some, IfOk, OnOk, length, map};
+ghost use Rattle.std.specs.Int.{div_ceil};
 ghost use Rattle.std.specs.List.{flat_map};
 ghost use Rattle.lot_curves.specs.declared.stretch.Measure.TheVariants.{Ticks};
 ghost use Rattle.lot_curves.specs.Curves.{sample_count, sample_ticks, total_at};
 ghost use Rattle.lot_curves.specs.Stretches.{last_end};
 ghost use Rattle.lot_chart.specs.declared.standings.Standing.{Standing as StandingRecord};
 ghost use Rattle.lot_chart.specs.Charts.{due_curve, due_curves, due_points};
+ghost use Rattle.lot_chart.specs.Dues as due_definitions;
 ghost use Rattle.lot_chart.specs.Dues.{Dues as DuesRecord};
 ghost use Rattle.lot_chart.specs.Gauges.{AreDues, AreLinesOf, HaveDues, IsLineOf};
 ghost use Rattle.lot_chart.specs.Lines as definitions;
 
-use crate::Line;
 use crate::charts::{push_point_at, push_stroke};
 use crate::lines::fine_height_of;
 use crate::metering::{BILLION, LineDues};
 use crate::text::Text;
+use crate::{Line, Standing};
 use lot_curves::{Curves, Measure};
 use std::alloc::{AllocError, Global};
 
@@ -68,6 +70,43 @@ fn push_thin_lines(
     push_lines(text, curves, dues, tops, ran.as_slice(), lines)?;
     text.push("</g>\n")?;
     Ok(())
+}
+
+/// The most ticks that one of these lines is due at the last sample; 0 if the program isn't timed.
+pub(crate) fn most_due(curves: &Curves, dues: &Option<LineDues>, shown: &[Standing]) -> u64
+    requires { (due : Option DuesRecord) × HaveDues curves.now due shown.now dues.now }
+    ensures { (due : Option DuesRecord) → HaveDues curves.now due shown.now dues.now
+        → result ≡ due_definitions.most_due curves.now due shown.now }
+{
+    match dues {
+        None => 0,
+        Some(dues) => most_due_of(curves, dues, shown),
+    }
+}
+
+/// The most ticks that one of these lines is due at the last sample.
+fn most_due_of(curves: &Curves, dues: &LineDues, shown: &[Standing]) -> u64
+    requires { (due : DuesRecord) × AreDues curves.now due shown.now dues.now }
+    ensures { (due : DuesRecord) → AreDues curves.now due shown.now dues.now
+        → result ≡ due_definitions.most_due curves.now (Some due) shown.now }
+{
+    let last = curves.sample_count();
+    let ran = curves.total_at(Measure::Ticks, curves.sample_tick(last));
+    let mut most = 0;
+    for place in 0..shown.len() {
+        let share = dues.share(shown[place].thread, place, last as usize);
+        most = due_ticks(ran, share).max(most);
+    }
+    most
+}
+
+/// A share, in billionths, of the ticks that were run; rounded up.
+fn due_ticks(ran: u64, share: u64) -> u64
+    requires { share ≤ 10 ^ 9 }
+    ensures { result ≡ div_ceil (ran * share) (10 ^ 9) }
+{
+    let parts = u128::from(ran) * u128::from(share);
+    parts.div_ceil(u128::from(BILLION)) as u64
 }
 
 /// The ticks that all threads have run at each sample.

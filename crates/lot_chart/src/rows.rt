@@ -6,12 +6,12 @@ ghost use Rattle.lot_curves.specs.Intervals.{curves_within};
 ghost use Rattle.lot_simulation.specs.Grammar.{program_in};
 ghost use Rattle.lot_simulation.specs.Samples.{text};
 ghost use Rattle.lot_chart.specs.Axes.{time_marks};
-ghost use Rattle.lot_chart.specs.Charts.{chart, command_marks};
+ghost use Rattle.lot_chart.specs.Charts.{chart, command_marks, most_shown};
 ghost use Rattle.lot_chart.specs.Samples.{commanded_curves, commanded_marks, commanded_marks_within};
 ghost use Rattle.lot_chart.specs.Dues.{dues_of};
 ghost use Rattle.lot_chart.specs.Samples.{seven_tick_curves, three_tick_curves, three_tick_picture, three_ticks};
 ghost use Rattle.lot_chart.specs.Samples.{three_tick_window_picture, two_rate_picture, two_rate_window_picture};
-ghost use Rattle.lot_chart.specs.Samples.{two_rates};
+ghost use Rattle.lot_chart.specs.Samples.{all_to_the_first, seven_tick_standings, two_rates};
 ghost use Rattle.lot_chart.specs.Shown.{chart_output, shares_output, shown_of};
 ghost use Rattle.lot_chart.specs.Tables.{table};
 
@@ -104,4 +104,10 @@ pub fn numbers_again()
         ∷ codes "unfund 1" ∷ codes "rmthr a" ∷ codes "rmtkt 1" ∷ codes "fundx 1 base b short" ∷ []))
         ≡ text (codes "tick,b" ∷ codes "0,0" ∷ codes "1,1" ∷ codes "2,2" ∷ codes "3,2" ∷ codes "4,3" ∷ codes "5,4"
         ∷ []) }
+{}
+
+/// The top of a picture stands for the most ticks at the end of a line, or due to one if that is more.
+pub fn tops()
+    ensures ran { most_shown seven_tick_curves None seven_tick_standings ≡ 4 }
+    ensures due { most_shown seven_tick_curves (Some all_to_the_first) seven_tick_standings ≡ 7 }
 {}
