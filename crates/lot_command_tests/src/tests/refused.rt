@@ -65,7 +65,7 @@ settkt 1
 ",
     "line 5: 'n' is no mutex of an earlier line
 line 6: '0' is no number from 1 to 4294967295
-line 9: this line is written 'fundx AMOUNT CURRENCY NAME SCRIPT', and here are 4 words
+line 9: this line is written 'fundx AMOUNT CURRENCY NAME SCRIPT [as NAME]', and here are 4 words
 line 10: '3' is no number from 9 to 4294967295
 line 11: this line is written 'settkt TICKET AMOUNT', and here are 2 words
 ",
