@@ -101,7 +101,8 @@ is_after_seed r word = false
 abbrev pub is_late : Reading → HeaderWord → Bool
 is_late r word = nat_le (header_place word) r.place || is_given r word || is_after_seed r word
 
--- The reading after a header line with this word, which can't come again. In a timed input the others come in any order.
+-- The reading after a header line with this word, which can't come again. In a timed input the others come in any
+-- order.
 abbrev pub with_header_word : Reading → HeaderWord → Reading
 with_header_word r word = record r { place = if r.is_timed then r.place else header_place word; given = r.given ++ word ∷ [] }
 

@@ -22,6 +22,8 @@ pub mod Texts
 pub mod Report
 -- Timed inputs: turns in time order.
 pub mod Timed
+-- The currencies that threads stand below.
+pub mod Below
 -- The report of a timed input.
 pub mod TimedReport
 -- The whole output of the program.

@@ -23,8 +23,8 @@ pub record OpenScript : Type 0 where
   pub lines : List Line
   pub loops : ℕ
 
--- The contents of the lines read so far. Header lines up to the place come too late: the place is that of the last header
--- line, or 0 in a timed input, and 10 from the body on.
+-- The contents of the lines read so far. Header lines up to the place come too late: the place is that of the last
+-- header line, or 0 in a timed input, and 10 from the body on.
 pub record Reading : Type 0 where
   pub place : ℕ
   pub given : List HeaderWord  -- the words of the header lines so far, after the first line
@@ -156,7 +156,8 @@ abbrev pub named_ticket : Option ℕ → Result TicketRef InputRefusal
 named_ticket None = Err UnknownName
 named_ticket (Some name) = Ok (Named name)
 
--- A ticket in a command: its number, which the kernel then judges, or in a timed input a name that an earlier line gave.
+-- A ticket in a command: its number, which the kernel then judges, or in a timed input a name that an earlier line
+-- gave.
 abbrev pub any_ticket : Reading → List ℕ → Result TicketRef InputRefusal
 any_ticket r token = made (number_of token)
   where

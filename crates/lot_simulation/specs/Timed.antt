@@ -95,8 +95,8 @@ within end (Some due) = if nat_lt end due.time then None else Some due
 abbrev pub end_of : Program → ℕ
 end_of program = unwrap_or program.duration 0
 
--- The turn that would follow if no refusal ended the play. There is none if all processors wait, no thread sleeps and no
--- command remains, or if it would come after the end.
+-- The turn that would follow if no refusal ended the play. There is none if all processors wait, no thread sleeps and
+-- no command remains, or if it would come after the end.
 abbrev pub following : Program → Moment → Option Due
 following program m = within (end_of program) (earliest (all_due program m))
 

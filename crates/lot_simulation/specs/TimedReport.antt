@@ -9,11 +9,11 @@ use Rattle.lot_machine.specs.declared.reply.Reply.{Reply}
 use Rattle.lot_machine.specs.declared.reply.Reply.TheVariants as reply
 use Rattle.lot_machine.specs.declared.reply.Outcome.TheVariants as outcome
 use Rattle.lot_machine.specs.declared.row.ThreadRow.{ThreadRow}
-use Rattle.lot_machine.specs.Facts.{live_value}
+use Rattle.lot_machine.specs.Facts.{base_value, live_value}
 use Rattle.lot_machine.specs.Lends.{is_live}
 use Rattle.lot_machine.specs.Named.{killed_by}
 use Rattle.lot_machine.specs.Numbered.{numbers}
-use Rattle.lot_machine.specs.Rows.{thread_row}
+use Rattle.lot_machine.specs.Rows.{currency_name, thread_row}
 use Rattle.lot_machine.specs.declared.record.Status.{Status}
 use Rattle.lot_machine.specs.declared.record.Status.TheVariants.{Ready, Running}
 use Rattle.lot_machine.specs.State.{State, live_of, opening, status_of, value_of}
@@ -27,6 +27,7 @@ use Rattle.lot_simulation.specs.declared.timed.SpanChange.{SpanChange}
 use Rattle.lot_simulation.specs.declared.timed.SpanChange.TheVariants.{Nobody, Anew, Begins, Ends}
 use Rattle.lot_simulation.specs.declared.timed.Spans.{Spans}
 use Rattle.lot_simulation.specs.Timed.{Moment, TimedTurn, clock_of, end_of, ended_at, following, moment_after_all, opening_moment, timed_turns}
+use Rattle.lot_simulation.specs.Below.{currency_numbers, stands_below, worth_of}
 use Rattle.lot_simulation.specs.World.{Program, Answer, Turn}
 use Rattle.lot_simulation.specs.World.Answer.{Answered}
 
@@ -168,42 +169,50 @@ live_part s t value = if is_live (live_of s) t then value else 0
 abbrev pub tick_parts : ℕ
 tick_parts = 10 ^ 18
 
--- The parts that each base unit of live value is due while the state stays so for this many ticks. They are rounded up,
--- so that what is due exactly doesn't read as less.
+-- The parts of so many ticks that each base unit is due of a whole that is worth this much. They are rounded up, so
+-- that what is due exactly doesn't read as less.
+abbrev pub rate_in : ℕ → ℕ → ℕ
+rate_in whole ticks = if whole == 0 then 0 else (ticks * tick_parts + (whole - 1)) / whole
+
+-- the parts that each base unit of live value is due while the state stays so for this many ticks
 abbrev pub due_rate : State → ℕ → ℕ
-due_rate s ticks = if live_value s == 0 then 0 else (ticks * tick_parts + (live_value s - 1)) / live_value s
+due_rate s ticks = rate_in (live_value s) ticks
 
 -- the parts that the thread is due, by its value, while the state stays so for this many ticks (2, 4.4)
 abbrev pub due_part : State → ℕ → ℕ → ℕ
 due_part s t ticks = live_part s t (value_of s t) * due_rate s ticks
 
--- The parts due to the thread after a turn, from those before it, when the state before it had lasted so many ticks: the
--- live threads share these by their values. A new thread is due nothing, whoever had its number before.
-abbrev pub due_after : State → ℕ → ℕ → ℕ → Answer → ℕ
-due_after s ticks t due answer = if makes t answer then 0 else due + due_part s t ticks
+-- The parts due after a turn, from those before it, when the state before it had lasted so many ticks. What the turn
+-- makes anew is due nothing, whatever had its number before.
+abbrev pub due_after : (State → ℕ → ℕ) → (Answer → Bool) → State → ℕ → ℕ → Answer → ℕ
+due_after part is_new s ticks due answer = if is_new answer then 0 else due + part s ticks
 
--- the parts due to the thread after these turns, from those before them, when this has been the state since this time
-abbrev pub due_from : State → ℕ → ℕ → ℕ → List TimedTurn → ℕ
-due_from s time t due [] = due
-due_from s time t due (done ∷ others) =
-    due_from done.turn.world.state done.time t (due_after s (done.time - time) t due done.turn.answer) others
+-- The parts due after these turns, from those before them, when this has been the state since this time. Each state
+-- comes to a part for the ticks that it lasts.
+abbrev pub due_from : (State → ℕ → ℕ) → (Answer → Bool) → State → ℕ → ℕ → List TimedTurn → ℕ
+due_from part is_new s time due [] = due
+due_from part is_new s time due (done ∷ others) =
+    due_from part is_new done.turn.world.state done.time (due_after part is_new s (done.time - time) due done.turn.answer) others
 
--- the parts due to the thread after these turns, the first of which was made in this state
+-- the parts due to the thread after these turns, the first of which was made in this state: the live threads share the
+-- ticks of each state by their values
 abbrev pub due_in : State → List TimedTurn → ℕ → ℕ
-due_in s turns t = due_from s 0 t 0 turns
+due_in s turns t = due_from (λ state ticks. due_part state t ticks) (makes t) s 0 0 turns
 
 -- these ticks, if the live threads are worth anything in this state, and otherwise none
 abbrev pub live_ticks : State → ℕ → ℕ
 live_ticks s ticks = if live_value s == 0 then 0 else ticks
 
--- the ticks in which live threads were worth anything, after these turns, when this has been the state since this time
-abbrev pub live_from : State → ℕ → ℕ → List TimedTurn → ℕ
-live_from s time all [] = all
-live_from s time all (done ∷ others) = live_from done.turn.world.state done.time (all + live_ticks s (done.time - time)) others
+-- The ticks that count after these turns, when this has been the state since this time. Of the ticks that a state lasts
+-- so many count.
+abbrev pub time_from : (State → ℕ → ℕ) → State → ℕ → ℕ → List TimedTurn → ℕ
+time_from counted s time all [] = all
+time_from counted s time all (done ∷ others) =
+    time_from counted done.turn.world.state done.time (all + counted s (done.time - time)) others
 
 -- the ticks in which live threads were worth anything in these turns, the first of which was made in this state
 abbrev pub live_time : State → List TimedTurn → ℕ
-live_time s turns = live_from s 0 0 turns
+live_time s turns = time_from live_ticks s 0 0 turns
 
 -- When a thread was made, unless that was at 0 and it hasn't ended, and when it ended, if it has.
 abbrev pub life_text : Spans → List ℕ
@@ -228,6 +237,71 @@ timed_thread_total s turns all t row =
     ++ (waits_text (codes " reply") (spans_in reply_change turns t)
     ++ (refused_traps_text (refused_traps_in turns t)
     ++ (life_text (spans_in life_change turns t) ++ newline))))))))))))))))))
+
+-- ---- currencies
+
+-- whether a currency with this number was made
+abbrev pub makes_currency : ℕ → Answer → Bool
+makes_currency c (Answered e (reply.Currency currency)) = currency == c
+makes_currency c other = false
+
+-- these ticks, if the thread stands below the currency in this state, and otherwise none
+abbrev pub ticks_if_below : State → ℕ → ℕ → ℕ → ℕ
+ticks_if_below s c t ticks = if stands_below s c t then ticks else 0
+
+-- the ticks of a turn made in this state, if its thread stood below the currency
+abbrev pub ticks_below : State → ℕ → Answer → ℕ
+ticks_below s c (Answered e (reply.Expired thread ticks)) = ticks_if_below s c thread ticks
+ticks_below s c (Answered e (reply.Trapped thread ticks came ends)) = ticks_if_below s c thread ticks
+ticks_below s c other = 0
+
+-- The ticks of the threads below the currency after a turn made in this state, from those before it. A new currency has
+-- none, whichever had its number before.
+abbrev pub currency_ticks_after : State → ℕ → ℕ → Answer → ℕ
+currency_ticks_after s c ticks answer = if makes_currency c answer then 0 else ticks + ticks_below s c answer
+
+-- the ticks of the threads below the currency after these turns, from those before them, when this is the state
+abbrev pub currency_ticks_from : State → ℕ → ℕ → List TimedTurn → ℕ
+currency_ticks_from s c ticks [] = ticks
+currency_ticks_from s c ticks (done ∷ others) =
+    currency_ticks_from done.turn.world.state c (currency_ticks_after s c ticks done.turn.answer) others
+
+-- the ticks of the threads below the currency in these turns, the first of which was made in this state
+abbrev pub currency_ticks_in : State → List TimedTurn → ℕ → ℕ
+currency_ticks_in s turns c = currency_ticks_from s c 0 turns
+
+-- The parts that the currency is due, by its value, while the state stays so for this many ticks: it is due the part of
+-- them that its value is of the value of all active tickets of base (2, 4.4).
+abbrev pub currency_part : State → ℕ → ℕ → ℕ
+currency_part s c ticks = worth_of s c * rate_in (base_value s) ticks
+
+-- these ticks, if tickets of base are active in this state, and otherwise none
+abbrev pub base_ticks : State → ℕ → ℕ
+base_ticks s ticks = if base_value s == 0 then 0 else ticks
+
+-- the parts due to the currency after these turns, the first of which was made in this state
+abbrev pub currency_due_in : State → List TimedTurn → ℕ → ℕ
+currency_due_in s turns c = due_from (λ state ticks. currency_part state c ticks) (makes_currency c) s 0 0 turns
+
+-- the ticks in which tickets of base were active in these turns, the first of which was made in this state
+abbrev pub base_time : State → List TimedTurn → ℕ
+base_time s turns = time_from base_ticks s 0 0 turns
+
+-- A currency's line: its name, the ticks of the threads below it and their share of all ticks, and what it was due of
+-- the time in which tickets of base were active. A thread may stand below several currencies, so the shares may add up
+-- to more than all.
+abbrev pub timed_currency_total : State → List TimedTurn → ℕ → ℕ → List ℕ → List ℕ
+timed_currency_total s turns all c name =
+    codes "currency " ++ (decimal c ++ (codes " " ++ (name
+    ++ (codes " ticks " ++ (decimal (currency_ticks_in (opening s.limits) turns c)
+    ++ (codes " share " ++ (percent_text (currency_ticks_in (opening s.limits) turns c) all
+    ++ (codes " due " ++ (percent_text (currency_due_in (opening s.limits) turns c) (base_time (opening s.limits) turns * tick_parts) ++ newline)))))))))
+
+-- the lines of all currencies except base
+abbrev pub timed_currency_lines : State → List TimedTurn → ℕ → List ℕ
+timed_currency_lines s turns all = flat_map (λ c. option_map_or (timed_currency_total s turns all c) (currency_name s c) []) (currency_numbers s)
+
+-- ---- the whole report
 
 -- each timed turn's actor with its answer
 abbrev pub actor_turns : List TimedTurn → List ActorTurn
@@ -290,8 +364,9 @@ timed_thread_lines s turns all = flat_map (λ t. option_map_or (timed_thread_tot
 abbrev pub timed_report_of : Moment → ℕ → List TimedTurn → List ℕ
 timed_report_of m end turns =
     codes "report" ++ (newline ++ (timed_thread_lines m.world.state turns (total_of ticks_in (actor_turns turns))
+    ++ (timed_currency_lines m.world.state turns (total_of ticks_in (actor_turns turns))
     ++ (flat_map (timed_processor_total m end (actor_turns turns)) (range_with_len 1 m.world.state.limits.processors)
-    ++ timed_whole_total m turns)))
+    ++ timed_whole_total m turns))))
 
 -- How a play that has come to this moment by so many turns ended before its time. It did only if a turn would follow.
 abbrev pub early_end : Program → Moment → ℕ → Option EarlyEnd

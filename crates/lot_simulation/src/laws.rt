@@ -6,8 +6,8 @@ ghost use Rattle.lot_machine.specs.Bounds.{IsBetween, IsWithinBounds};
 ghost use Rattle.lot_machine.specs.declared.reply.Reply.{Reply};
 ghost use Rattle.lot_simulation.specs.World.{Program, IsLegal, IsLegalInTime, system_run};
 ghost use Rattle.lot_simulation.specs.Report.{idles_in, quanta_in, ticks_in, total_of, turns_made, turns_of};
-ghost use Rattle.lot_simulation.specs.Timed.{TimedTurn, clock_of, end_of, ended_at, is_refusal, is_stopped, last_moment};
-ghost use Rattle.lot_simulation.specs.Timed.{timed_room, timed_schedule, timed_turns};
+ghost use Rattle.lot_simulation.specs.Timed.{TimedTurn, clock_of, end_of, ended_at, is_refusal, is_stopped};
+ghost use Rattle.lot_simulation.specs.Timed.{last_moment, timed_room, timed_schedule, timed_turns};
 ghost use Rattle.lot_simulation.specs.TimedReport.{actor_turns, clock_at, idle_until, timed_report, timed_report_of};
 
 /// The counts of each actor's turns add up to the counts over all turns of a legal history, and the numbers of turns

@@ -2,6 +2,7 @@
 //! definitions build on those of the machine.
 #![tactic(auto)]
 
+pub mod currencies;
 mod format;
 mod forms;
 mod input;

@@ -22,8 +22,8 @@ pub fn refusals()
         ∷ codes "total turns 4 quanta 1 ticks 2 refused 0 left 0" ∷ codes "ended at 2 of 12: 4 turns made" ∷ []) }
 {}
 
-/// Without a refused command or trap the output is the same as without `strict`, also if the wake of a killed sleeper is
-/// refused.
+/// Without a refused command or trap the output is the same as without `strict`, also if the wake of a killed sleeper
+/// is refused.
 #[tactic(auto, unfolding(crate::specs::OnLiterals::texts_on_literals, crate::specs::Timed::timed_room))]
 pub fn no_refusal()
     ensures same { output (text (codes "lottery 3" ∷ codes "quantum 10" ∷ codes "for 12" ∷ codes "strict"
@@ -37,7 +37,8 @@ pub fn no_refusal()
 /// `strict` where it can't stand.
 #[tactic(auto, unfolding(crate::specs::OnLiterals::texts_on_literals, crate::specs::Timed::timed_room))]
 pub fn refused_headers()
-    ensures in_first { output (text (codes "lottery 1" ∷ codes "strict" ∷ [])) ≡ refused_on_line (codes "2 51 BadLine") }
+    ensures in_first { output (text (codes "lottery 1" ∷ codes "strict" ∷ []))
+        ≡ refused_on_line (codes "2 51 BadLine") }
     ensures in_second { output (text (codes "lottery 2" ∷ codes "strict" ∷ []))
         ≡ refused_on_line (codes "2 51 BadLine") }
     ensures twice { output (text (codes "lottery 3" ∷ codes "strict" ∷ codes "for 5" ∷ codes "strict" ∷ []))

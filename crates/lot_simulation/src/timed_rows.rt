@@ -164,7 +164,7 @@ pub fn behind_the_point()
         ∷ codes "thread 1 a quanta 1 ticks 0 share 0% due 0% value 33.333% ready waits 1 mean 0 longest 0"
         ∷ codes "thread 2 b quanta 0 ticks 0 share 0% due 0% value 33.333%"
         ∷ codes "thread 3 c quanta 0 ticks 0 share 0% due 0% value 33.333%"
-        ∷ codes "processor 1 quanta 1 idle 0 ticks 0 unused 0"
+        ∷ codes "currency 1 g ticks 0 share 0% due 0%" ∷ codes "processor 1 quanta 1 idle 0 ticks 0 unused 0"
         ∷ codes "total turns 9 quanta 1 ticks 0 refused 0 left 0" ∷ []) }
 {}
 
@@ -189,6 +189,7 @@ pub fn amounts_in_time()
         ∷ codes "thread 1 a quanta 1 ticks 100 share 33.333% due 22.777% value 10% ready waits 1 mean 100 longest 100"
         ∷ codes "thread 2 b quanta 2 ticks 200 share 66.666% due 41.111% value 40% ready waits 2 mean 50 longest 100"
         ∷ codes "thread 3 c quanta 1 ticks 0 share 0% due 36.111% value 50% ready waits 1 mean 300 longest 300"
+        ∷ codes "currency 1 g ticks 300 share 100% due 63.888%"
         ∷ codes "processor 1 quanta 4 idle 0 ticks 300 unused 0"
         ∷ codes "total turns 18 quanta 4 ticks 300 refused 2 left 0" ∷ []) }
 {}
