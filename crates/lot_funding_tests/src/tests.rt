@@ -1,6 +1,7 @@
-//! One module for each of `lot_graph`, `lot_active`, `lot_value`, `lot_draw`, `lot_lists` and `lot_tree`, and for the
-//! generator and the lottery of `lot_draw`.
+//! One module for each of `lot_graph`, `lot_above`, `lot_active`, `lot_value`, `lot_draw`, `lot_lists` and `lot_tree`,
+//! and for the generator and the lottery of `lot_draw`.
 
+mod above;
 mod active;
 mod draw;
 mod generator;

@@ -12,19 +12,19 @@ use std::process::Abort;
 use std::test::Fail;
 
 /// A graph of the largest tables.
-fn largest(rt: &impl Abort, alloc: Global) -> Result<Graph, Fail> {
+pub(super) fn largest(rt: &impl Abort, alloc: Global) -> Result<Graph, Fail> {
     let limits = Limits::new(Sizes::LARGEST);
     let limits = limits.expect(rt, "limits are not in bounds");
     Ok(Graph::new(alloc, &limits)?)
 }
 
-fn add_thread(rt: &impl Abort, graph: &mut Graph) {
+pub(super) fn add_thread(rt: &impl Abort, graph: &mut Graph) {
     assert!(rt; graph.threads() < graph.layout().threads);
     graph.add_thread();
 }
 
 /// Makes one more currency.
-fn make_currency(rt: &impl Abort, graph: &mut Graph) -> u32 {
+pub(super) fn make_currency(rt: &impl Abort, graph: &mut Graph) -> u32 {
     graph
         .make_currency()
         .expect(rt, "there is no room for a currency")
@@ -49,7 +49,7 @@ fn try_issue(rt: &impl Abort, graph: &mut Graph, currency: u32, amount: u32) -> 
 }
 
 /// A ticket in a currency.
-fn issue(rt: &impl Abort, graph: &mut Graph, currency: u32, amount: u32) -> u32 {
+pub(super) fn issue(rt: &impl Abort, graph: &mut Graph, currency: u32, amount: u32) -> u32 {
     try_issue(rt, graph, currency, amount).expect(rt, "there is no room for a ticket")
 }
 
@@ -66,7 +66,7 @@ fn set_amount(rt: &impl Abort, graph: &mut Graph, ticket: u32, amount: u32) {
 }
 
 /// Makes a ticket fund a target, or returns false if it would make a cycle.
-fn fund(rt: &impl Abort, graph: &mut Graph, ticket: u32, target: Target) -> bool {
+pub(super) fn fund(rt: &impl Abort, graph: &mut Graph, ticket: u32, target: Target) -> bool {
     assert!(rt; is_target(graph, target));
     assert!(rt; graph.is_unfunded(ticket));
     graph.fund(ticket, target).is_ok()
@@ -78,7 +78,7 @@ fn unfund(rt: &impl Abort, graph: &mut Graph, ticket: u32) {
 }
 
 /// Makes a thread lend to another, or returns false if it would make a cycle.
-fn lend(rt: &impl Abort, graph: &mut Graph, thread: u32, server: u32) -> bool {
+pub(super) fn lend(rt: &impl Abort, graph: &mut Graph, thread: u32, server: u32) -> bool {
     assert!(rt; 0 < server && server <= graph.threads());
     assert!(rt; 0 < thread && thread <= graph.threads());
     assert!(rt; matches!(graph.lend_of(thread), Some(Lend::Nobody)));
@@ -90,7 +90,7 @@ fn lend(rt: &impl Abort, graph: &mut Graph, thread: u32, server: u32) -> bool {
 }
 
 /// Makes a thread wait for a mutex, or returns false if it would make a cycle.
-fn wait(rt: &impl Abort, graph: &mut Graph, thread: u32, mutex: u32) -> bool {
+pub(super) fn wait(rt: &impl Abort, graph: &mut Graph, thread: u32, mutex: u32) -> bool {
     assert!(rt; 0 < mutex && mutex <= graph.mutexes());
     assert!(rt; 0 < thread && thread <= graph.threads());
     assert!(rt; matches!(graph.lend_of(thread), Some(Lend::Nobody)));
@@ -107,7 +107,7 @@ fn unlend(rt: &impl Abort, graph: &mut Graph, thread: u32) {
 }
 
 /// Gives a mutex to a thread.
-fn give(rt: &impl Abort, graph: &mut Graph, mutex: u32, thread: u32) {
+pub(super) fn give(rt: &impl Abort, graph: &mut Graph, mutex: u32, thread: u32) {
     assert!(rt; 0 < mutex && mutex <= graph.mutexes());
     assert!(rt; 0 < thread && thread <= graph.threads());
     graph.give_up_mutex(mutex);

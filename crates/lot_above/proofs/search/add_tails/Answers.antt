@@ -1,0 +1,49 @@
+use Rattle.std.proofs.Common.{◌++◌, List, [], sym, subst, ◌∙◌}
+use Rattle.std.specs.Option.{IfSome}
+use Rattle.lot_machine.specs.declared.funding.Edge.{Edge}
+use Rattle.lot_machine.proofs.EachOnce.{contains-nothing}
+use Rattle.lot_graph.specs.Graphs.{HasEachOnce, LeadsInto}
+use Rattle.lot_graph.specs.Places.{IsNodeWithin, layout_of}
+use Rattle.lot_graph.specs.Spread.{IsFoundList, IsListOf, Spreads}
+use Rattle.lot_graph.proofs.SpreadLemmas.{spread-none}
+use Rattle.lot_above.proofs.TailLemmas.{IsTailIn, into-within, next-contained, tail-within, tails-all, tails-more, walk-end, walk-more}
+use Rattle.lot_above.proofs.search.add_tails.Goals as goal
+
+pub loop-edge-init : goal.loop-edge-init
+loop-edge-init c = record {
+  split = subst (λ (es : List Edge). HasEachOnce es (LeadsInto c.args.graph.now.funding c.args.node)) (sym c.into_iter-edge-iterator.ensures.into_iter_gives) c.edges_into-edge-items.ensures.edges;
+  found_list = c.requires.list;
+  spread = spread-none c.args.found.now (IsTailIn (layout_of c.args.graph.now) c.args.graph.now.funding []) (λ x (edge, there, here). absurd (contains-nothing edge there));
+}
+
+pub tail_of-requires : goal.tail_of-requires
+tail_of-requires c =
+    let w = c.args.graph.now in
+    let there = next-contained c.loop-edge.yielded c.loop-edge.edge-iterator c.next.new.self c.in-Some.edge c.in-Some.ensures.steps in
+    record { within = into-within (layout_of w) w.funding c.args.node (c.loop-edge.yielded ++ c.loop-edge.edge-iterator) c.loop-edge.invariant.split c.layout-layout.ensures.fits c.in-Some.edge there }
+
+pub add_tail-requires-clause-list : goal.add_tail-requires-clause-list
+add_tail-requires-clause-list c = subst (λ l. IsFoundList l c.loop-edge.found) (sym c.layout-layout.ensures.layout) c.loop-edge.invariant.found_list
+
+pub add_tail-requires-clause-within : goal.add_tail-requires-clause-within
+add_tail-requires-clause-within c =
+    let w = c.args.graph.now in
+    let there = next-contained c.loop-edge.yielded c.loop-edge.edge-iterator c.next.new.self c.in-Some.edge c.in-Some.ensures.steps in
+    subst (λ l. IfSome c.tail_of.result (IsNodeWithin l)) (sym c.layout-layout.ensures.layout)
+    (tail-within (layout_of w) w.funding c.args.node (c.loop-edge.yielded ++ c.loop-edge.edge-iterator) c.loop-edge.invariant.split c.layout-layout.ensures.fits c.in-Some.edge there c.tail_of.result c.tail_of.ensures)
+
+pub loop-edge-preserved : goal.loop-edge-preserved
+loop-edge-preserved c =
+    let w = c.args.graph.now in
+    let before = c.loop-edge.invariant in
+    let spreads = subst (λ l. Spreads c.loop-edge.found c.add_tail.new.found (IsListOf l c.tail_of.result)) c.layout-layout.ensures.layout c.add_tail.ensures.spreads in record {
+      split = walk-more c.loop-edge.yielded c.loop-edge.edge-iterator c.next.new.self c.in-Some.edge c.in-Some.ensures.steps before.split;
+      found_list = (spreads.nodes ∙ before.found_list.0, spreads.lists ∙ before.found_list.1);
+      spread = tails-more (layout_of w) w.funding c.loop-edge.yielded c.in-Some.edge _ _ _ c.tail_of.result before.spread c.tail_of.ensures spreads;
+    }
+
+pub returns : goal.returns
+returns c =
+    let w = c.args.graph.now in
+    let into = walk-end c.loop-edge.yielded c.loop-edge.edge-iterator c.in-None.ensures.steps.0 c.loop-edge.invariant.split in
+    record { spreads = tails-all (layout_of w) w.funding c.args.node c.loop-edge.yielded into _ _ c.loop-edge.invariant.spread }
