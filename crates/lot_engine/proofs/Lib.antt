@@ -14,3 +14,5 @@ pub mod WorkFacts
 pub mod Openings
 pub mod WakeFacts
 pub mod OneMore
+pub mod Below
+pub mod Layouts

@@ -6,3 +6,4 @@ pub mod Turns
 pub mod Counted
 pub mod Playing
 pub mod Fitting
+pub mod Searching

@@ -1,8 +1,14 @@
-//! The sums in the reports, and an actor's work: laws of the definitions, without executable code.
-ghost use Rattle.std.specs.Prelude.{◌≡◌, ◌<◌, ◌≤◌, ◌^◌, false, ℕ, List, Option, sum_by};
+//! The sums in the reports, an actor's work, and the threads below a currency: laws of the definitions, without
+//! executable code.
+ghost use Rattle.std.specs.Prelude.{◌≡◌, ◌↔◌, ◌<◌, ◌≤◌, ◌^◌, false, ℕ, IsTrue, List, Option, length, sum_by};
 ghost use Rattle.std.specs.List.{range_with_len};
-ghost use Rattle.lot_machine.specs.Bounds.{IsWithinBounds};
+ghost use Rattle.lot_machine.specs.Bounds.{IsBetween, IsWithinBounds};
+ghost use Rattle.lot_machine.specs.Equations.{Reaches};
+ghost use Rattle.lot_machine.specs.Facts.{FundsThere, HasNoCycle};
+ghost use Rattle.lot_machine.specs.State.{State, funding_of};
+ghost use Rattle.lot_machine.specs.declared.funding.Node.TheVariants.{Currency, Thread};
 ghost use Rattle.lot_simulation.specs.Report.{idles_in, quanta_in, ticks_in, total_of, turns_made, turns_of};
+ghost use Rattle.lot_simulation.specs.Below.{stands_below};
 ghost use Rattle.lot_simulation.specs.World.{IsLegal, Program, system_run};
 ghost use Rattle.lot_script.specs.Slices.{Parts};
 ghost use Rattle.lot_engine.specs.declared.fault.TurnFault.TheVariants.{Stale};
@@ -55,4 +61,12 @@ pub fn works_are_one()
         → IsFresh seen actor given → Matches seen.setting.program work given }
     ensures never_stale { (seen : Seen) (actor : ℕ) (work other : Option Work) (given : Option Parts)
         → IsWorkOf seen actor work → Matches seen.setting.program work given → ¬ Faults seen actor given (Stale other) }
+{}
+
+/// If nothing makes a cycle, and tickets fund only existing currencies, a thread stands below a currency if and only
+/// if a path of edges, of tickets, lends and owners of mutexes, leads from the currency to the thread.
+pub fn who_stands_below_is_reached()
+    ensures { (s : State) (c t : ℕ) → HasNoCycle (funding_of s) → FundsThere (funding_of s)
+        → c < length s.currencies → IsBetween 1 (length s.records) t
+        → IsTrue (stands_below s c t) ↔ Reaches (funding_of s) (Currency c) (Thread t) }
 {}

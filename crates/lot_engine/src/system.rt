@@ -1,21 +1,24 @@
 //! The system.
-ghost use Rattle.std.specs.Prelude.{◌≡◌, ◌↔◌, ◌<◌, ◌≤◌, ◌*◌, ◌^◌, [], ◌∷◌, ◌++◌, All, IfOk, IfErr};
+ghost use Rattle.std.specs.Prelude.{◌≡◌, ◌↔◌, ◌<◌, ◌≤◌, ◌+◌, ◌*◌, ◌^◌, [], ◌∷◌, ◌++◌, All, IfOk, IfErr};
 ghost use Rattle.std.specs.Prelude.{IsFalse, IsTrue, Some, None, false, true, length, option_and_then};
 ghost use Rattle.std.specs.Prelude.{vec_len, vec_capacity, if◌then◌else◌};
 ghost use Rattle.lot_machine.specs.Bounds.{IsBetween};
 ghost use Rattle.lot_machine.specs.Commands as commands;
+ghost use Rattle.lot_machine.specs.Facts.{base_value};
 ghost use Rattle.lot_machine.specs.Lends.{is_live};
 ghost use Rattle.lot_machine.specs.Mutexes.{mutex_at};
 ghost use Rattle.lot_machine.specs.Numbered.{at_number};
 ghost use Rattle.lot_machine.specs.Rows as rows;
 ghost use Rattle.lot_machine.specs.State.{live_of, sizes_of, status_of, value_of};
 ghost use Rattle.lot_simulation.specs.Formats.{unit_of};
+ghost use Rattle.lot_simulation.specs.Below.{worth_of};
 ghost use Rattle.lot_simulation.specs.World.Answer.{Answered};
 ghost use Rattle.lot_simulation.specs.World.{IsLegal, next_name, sleeper_on, system_turn};
 ghost use Rattle.lot_simulation.specs.Report.{ticks_in, total_of, turns_made, turns_of};
 ghost use Rattle.lot_engine.specs.Counted.{counted};
 ghost use Rattle.lot_engine.specs.Histories.{woken_in};
 ghost use Rattle.lot_engine.specs.Playing.{IsPlayed, turn_in};
+ghost use Rattle.lot_engine.specs.Searching.{HasLayoutFor, HasThoseAbove};
 ghost use Rattle.lot_engine.specs.Seen.{HasRow, after_turn, commands_made, given_count, shown_history};
 ghost use Rattle.lot_engine.specs.Seen.{timer_for, world_of};
 ghost use Rattle.lot_script.specs.Places.{Place as PlaceRecord};
@@ -33,9 +36,9 @@ use crate::turn::{
     Answer, KeptWork, Running, TurnFaultKind, Work, done_in, matches_work, sleeper_by,
 };
 use lot_draw::ParkMiller;
-use lot_kernel::Kernel;
+use lot_kernel::{Above, Kernel};
 use lot_machine::{
-    CurrencyNumber, CurrencyRow, Event, Kind, Limits, MutexNumber, Processor, Reply, Status,
+    CurrencyNumber, CurrencyRow, Event, Kind, Limits, MutexNumber, Name, Processor, Reply, Status,
     ThreadNumber, ThreadRef, ThreadRow, TicketNumber, TicketRow, index_of,
 };
 use lot_script::{Place, Slice};
@@ -465,6 +468,64 @@ impl System {
     {
         self.kernel
             .currency_row(CurrencyNumber { number: currency })
+    }
+
+    /// How many numbers of currencies have been given, those of removed ones included. They begin at 0, which is base.
+    pub fn currency_count(&self) -> u32
+        ensures count { result ≡ length (world_of self.now).state.currencies }
+        ensures within { result ≤ self.now.setting.program.limits.currencies + 1 }
+    {
+        self.kernel.currency_count()
+    }
+
+    /// The name of the currency with this number, if it exists.
+    pub fn currency_name(&self, currency: u32) -> Option<Name>
+        ensures { result ≡ rows.currency_name (world_of self.now).state currency }
+    {
+        self.kernel
+            .currency_name(CurrencyNumber { number: currency })
+    }
+
+    /// The value of a currency other than base, in base units, or 0 if it was removed. No currency is worth more than
+    /// base's active tickets.
+    pub fn currency_value(&mut self, currency: u32) -> u64
+        requires user { 0 < currency }
+        requires there { currency < length (world_of self.old).state.currencies }
+        ensures value { result ≡ worth_of (world_of self.old).state currency }
+        ensures within { result ≤ base_value (world_of self.old).state }
+        ensures small { result < 2 ^ 56 }
+        ensures state { self.new ≡ self.old }
+    {
+        self.kernel
+            .currency_value(CurrencyNumber { number: currency })
+    }
+
+    /// The value of all active tickets of base, in base units.
+    pub fn base_value(&self) -> u128
+        ensures value { result ≡ base_value (world_of self.now).state }
+        ensures small { result < 2 ^ 96 }
+    {
+        self.kernel.base_value()
+    }
+
+    /// A search for the currencies above a thread, with room for this system at any time. It allocates all the memory
+    /// that the search will ever use, and fails only if out of memory.
+    pub fn above(&self, alloc: Global) -> Result<Above, AllocError>
+        ensures { IfOk result (HasLayoutFor self.now.setting.program) }
+    {
+        self.kernel.above(alloc)
+    }
+
+    /// Finds the currencies that the thread stands below: those from which a chain of tickets leads to it, or to a
+    /// thread whose lends lead to it. It allocates no memory.
+    pub fn find_above(&self, thread: u32, above: &mut Above)
+        requires layout { HasLayoutFor self.now.setting.program above.old }
+        requires thread { IsBetween 1 (length (world_of self.now).state.records) thread }
+        ensures layout { HasLayoutFor self.now.setting.program above.new }
+        ensures above { HasThoseAbove (world_of self.now).state thread above.new }
+    {
+        self.kernel
+            .find_above(ThreadNumber { number: thread }, above);
     }
 
     /// The kernel's row of the thread with this number, if it exists. A thread without a row isn't live.

@@ -5,3 +5,4 @@ pub mod Trapped
 pub mod Memory
 pub mod Names
 pub mod FreeStacks
+pub mod Searching

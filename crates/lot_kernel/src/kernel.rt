@@ -1,26 +1,30 @@
 //! The kernel and its events.
-ghost use Rattle.std.specs.Prelude.{◌≡◌, ◌↔◌, ◌<◌, ◌≤◌, ◌^◌, [], All, None, Some, IfNone, IfOk, IfSome, IsTrue};
+ghost use Rattle.std.specs.Prelude.{◌≡◌, ◌↔◌, ◌<◌, ◌≤◌, ◌+◌, ◌^◌, [], All, None, Some, IfNone, IfOk, IfSome, IsTrue};
 ghost use Rattle.std.specs.Prelude.{MatchOption, false, length, option_and_then, option_map, true, vec_len};
 ghost use Rattle.std.specs.Prelude.{vec_capacity, if◌then◌else◌};
 ghost use Rattle.lot_machine.specs.Bounds.{IsBetween};
 ghost use Rattle.lot_machine.specs.Commands as commands;
 ghost use Rattle.lot_machine.specs.Mutexes.{mutex_at};
 ghost use Rattle.lot_machine.specs.Lends.{is_live};
-ghost use Rattle.lot_machine.specs.State.{live_of, sizes_of, status_of, thread_at, thread_on, used_by, value_of};
+ghost use Rattle.lot_machine.specs.State.{funding_of, live_of, sizes_of, status_of, thread_at, thread_on, used_by};
+ghost use Rattle.lot_machine.specs.State.{value_of};
 ghost use Rattle.lot_machine.specs.Step.{replies, state_after, step};
-ghost use Rattle.lot_machine.specs.Facts.{IsSound};
+ghost use Rattle.lot_machine.specs.Facts.{IsSound, base_value};
 ghost use Rattle.lot_machine.specs.Rows as rows;
 ghost use Rattle.lot_machine.specs.declared.ticket.Ticket.{Ticket as ATicket};
 ghost use Rattle.lot_machine.specs.Funding.{ticket_in};
+ghost use Rattle.lot_machine.specs.Value.{currency_value};
 ghost use Rattle.lot_machine.specs.Numbered.{at_number};
 ghost use Rattle.lot_value.specs.Caches.{HasNoneTwice};
 ghost use Rattle.lot_kernel.specs.Counted.{AreDone, Counts, settled, with_ticket_read};
 ghost use Rattle.lot_kernel.specs.Memory.{bytes_of};
+ghost use Rattle.lot_kernel.specs.Searching.{HasLayoutOf, IsAboveThread};
 ghost use Rattle.lot_kernel.specs.Snapshots.{MakesStale, starting};
 
 use crate::tables::Tables;
+use lot_above::Above;
 use lot_machine::{
-    CurrencyNumber, CurrencyRow, Event, Limits, MutexNumber, Processor, Reply, Status,
+    CurrencyNumber, CurrencyRow, Event, Limits, MutexNumber, Name, Processor, Reply, Status,
     ThreadNumber, ThreadRef, ThreadRow, TicketNumber, TicketRow,
 };
 use lot_threads::Runner;
@@ -106,7 +110,8 @@ impl Kernel {
 
     /// How many numbers of currencies have been given, those of removed ones included. They begin at 0, which is base.
     pub fn currency_count(&self) -> u32
-        ensures { result ≡ length self.now.state.currencies }
+        ensures count { result ≡ length self.now.state.currencies }
+        ensures within { result ≤ self.now.state.limits.currencies + 1 }
     {
         self.tables.currency_count()
     }
@@ -297,6 +302,54 @@ impl Kernel {
         ensures unchanged { is_live (live_of self.old.state) thread.number ≡ false → self.new ≡ self.old }
     {
         self.tables.live_value(thread)
+    }
+
+    /// The name of the currency with this number, or `None` if and only if it doesn't exist.
+    pub fn currency_name(&self, currency: CurrencyNumber) -> Option<Name>
+        ensures { result ≡ rows.currency_name self.now.state currency.number }
+    {
+        self.tables.currency_name(currency)
+    }
+
+    /// The value of a currency other than base, in base units, or 0 if it was removed. It recomputes all stale values
+    /// and counts that.
+    pub fn currency_value(&mut self, currency: CurrencyNumber) -> u64
+        requires user { 0 < currency.number }
+        requires there { currency.number < length self.old.state.currencies }
+        ensures value { result ≡ currency_value self.old.state.limits.unit (funding_of self.old.state)
+            (live_of self.old.state) currency.number }
+        ensures state { self.new.state ≡ self.old.state }
+        ensures settled { self.new ≡ settled self.old }
+        ensures once { HasNoneTwice self.old.stale }
+    {
+        self.tables.currency_worth(currency)
+    }
+
+    /// The value of all active tickets of base, in base units. No value has to be computed for it.
+    pub fn base_value(&self) -> u128
+        ensures value { result ≡ base_value self.now.state }
+        ensures small { result < 2 ^ 96 }
+    {
+        self.tables.base_value()
+    }
+
+    /// A search for the currencies above a thread, with room for this kernel at any time. It allocates all the memory
+    /// that the search will ever use, and fails only if out of memory.
+    pub fn above(&self, alloc: Global) -> Result<Above, AllocError>
+        ensures { IfOk result (HasLayoutOf self.now.state) }
+    {
+        self.tables.above(alloc)
+    }
+
+    /// Finds the currencies above a thread: those from which a path of edges, of tickets, lends and owners of mutexes,
+    /// leads to it (4.4, 4.6, 6.1). It allocates nothing.
+    pub fn find_above(&self, thread: ThreadNumber, above: &mut Above)
+        requires layout { HasLayoutOf self.now.state above.old }
+        requires thread { IsBetween 1 self.now.state.limits.threads thread.number }
+        ensures layout { above.new.layout ≡ above.old.layout }
+        ensures above { IsAboveThread self.now.state thread.number above.new }
+    {
+        self.tables.find_above(thread, above);
     }
 
     /// The ticks that the thread used before it gave up its quantum, for which it is compensated until it next wins a

@@ -1,5 +1,5 @@
 //! The kernel's tables, which hold the machine's state.
-ghost use Rattle.std.specs.Prelude.{◌≡◌, ◌<◌, ◌≤◌, ◌^◌, ◌∷◌, [], IfOk, Some, codes, length, vec_len, vec_capacity};
+ghost use Rattle.std.specs.Prelude.{◌≡◌, ◌<◌, ◌≤◌, ◌+◌, ◌^◌, ◌∷◌, [], IfOk, Some, codes, length, vec_len, vec_capacity};
 ghost use Rattle.lot_machine.specs.Mutexes.{mutex_at};
 ghost use Rattle.lot_machine.specs.Order.{IsInOrder};
 ghost use Rattle.lot_machine.specs.State.{sizes_of};
@@ -9,6 +9,7 @@ ghost use Rattle.lot_kernel.specs.Memory.{bytes_of};
 ghost use Rattle.lot_kernel.specs.Names.{IsIndexOf};
 ghost use Rattle.lot_kernel.specs.Snapshots.{MakesStale, starting};
 
+mod above;
 mod commands;
 mod processors;
 mod references;
@@ -136,7 +137,8 @@ impl Tables {
     }
 
     pub(crate) fn currency_count(&self) -> u32
-        ensures { result ≡ length self.now.state.currencies }
+        ensures count { result ≡ length self.now.state.currencies }
+        ensures within { result ≤ self.now.state.limits.currencies + 1 }
     {
         self.currencies.len() as u32
     }

@@ -1,7 +1,8 @@
 //! Rows of listings (4.7).
-ghost use Rattle.std.specs.Prelude.{◌≡◌, ◌↔◌, ◌<◌, [], Some, IfNone, IfSome, IsTrue, false, length, true};
+ghost use Rattle.std.specs.Prelude.{◌≡◌, ◌↔◌, ◌<◌, ◌^◌, [], Some, IfNone, IfSome, IsTrue, false, length, true};
 ghost use Rattle.std.specs.Prelude.{if◌then◌else◌};
 ghost use Rattle.lot_machine.specs.declared.ticket.Ticket.{Ticket as ATicket};
+ghost use Rattle.lot_machine.specs.Facts.{base_value};
 ghost use Rattle.lot_machine.specs.Rows as rows;
 ghost use Rattle.lot_machine.specs.Order.{IsInOrder};
 ghost use Rattle.lot_machine.specs.Funding.{ticket_in};
@@ -165,6 +166,28 @@ impl Tables {
         self.threads.value_of(Node::Currency(currency.number))
     }
 
+    /// The value of a currency other than base. Settles.
+    pub(crate) fn currency_worth(&mut self, currency: CurrencyNumber) -> u64
+        requires user { 0 < currency.number }
+        requires there { currency.number < length self.old.state.currencies }
+        ensures value { result ≡ worth.currency_value self.old.state.limits.unit (funding_of self.old.state)
+            (live_of self.old.state) currency.number }
+        ensures settled { self.new ≡ settled self.old }
+        ensures once { HasNoneTwice self.old.stale }
+    {
+        self.settle();
+        self.currency_value(currency)
+    }
+
+    /// The value of all active tickets of base.
+    pub(crate) fn base_value(&self) -> u128
+        ensures value { result ≡ base_value self.now.state }
+        ensures small { result < 2 ^ 96 }
+    {
+        let active = self.threads.active_amount(CurrencyNumber { number: 0 });
+        u128::from(active) * u128::from(self.limits.unit)
+    }
+
     /// The row of the thread with this number, or `None` if and only if it doesn't exist. Settles.
     pub(crate) fn thread_row(&mut self, thread: ThreadNumber) -> Option<ThreadRow>
         ensures row { result ≡ rows.thread_row self.old.state thread.number }
@@ -225,7 +248,7 @@ impl Tables {
     }
 
     /// The name of the currency, if it exists.
-    fn currency_name(&self, currency: CurrencyNumber) -> Option<Name>
+    pub(crate) fn currency_name(&self, currency: CurrencyNumber) -> Option<Name>
         ensures { result ≡ rows.currency_name self.now.state currency.number }
     {
         match self.currencies.get(currency.number as usize)? {

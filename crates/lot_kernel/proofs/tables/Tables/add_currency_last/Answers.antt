@@ -6,5 +6,5 @@ use Rattle.lot_kernel.proofs.tables.Tables.add_currency_last.Goals as goal
 pub add-requires-clause-free : goal.add-requires-clause-free
 add-requires-clause-free c =
     let i = c.self.inside in
-    let number : c.currency_count-number.result ≡ length i.currencies.items = rw (← c.self.view_is) at c.currency_count-number.ensures in
+    let number : c.currency_count-number.result ≡ length i.currencies.items = rw (← c.self.view_is) at c.currency_count-number.ensures.count in
     subst (λ n. IsFree i.currency_index n) (sym number) (next-free i.currency_index i.currencies.items c.self.invariant.currency_index)

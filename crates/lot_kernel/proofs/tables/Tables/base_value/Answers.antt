@@ -1,0 +1,10 @@
+use Rattle.std.proofs.Common.{◌*◌, ap, ◌∙◌}
+use Rattle.lot_machine.specs.Activity.{active_amount}
+use Rattle.lot_machine.specs.State.{live_in}
+use Rattle.lot_threads.specs.Threaded.{Threaded, funding_in}
+use Rattle.lot_kernel.proofs.tables.Tables.base_value.Goals as goal
+
+pub returns-clause-value : goal.returns-clause-value
+returns-clause-value c =
+    let amount = ap (λ (v : Threaded). active_amount (funding_in v) (live_in v.records) 0) c.self.invariant.threads in
+    rw (← c.self.view_is, c.from.ensures, c.from-2.ensures) (ap (λ n. n * c.self.inside.limits.unit) (c.active_amount-active.ensures ∙ amount))
