@@ -110,7 +110,7 @@ pub fn behind_the_point()
         ∷ codes "thread 1 a quanta 1 ticks 0 share 0% due 0% value 33.333% ready waits 1 mean 0 longest 0"
         ∷ codes "thread 2 b quanta 0 ticks 0 share 0% due 0% value 33.333%"
         ∷ codes "thread 3 c quanta 0 ticks 0 share 0% due 0% value 33.333%"
-        ∷ codes "processor 1 quanta 1 idle 0 ticks 0 unused 0"
+        ∷ codes "currency 1 g ticks 0 share 0% due 0%" ∷ codes "processor 1 quanta 1 idle 0 ticks 0 unused 0"
         ∷ codes "total turns 7 quanta 1 ticks 0 refused 0 left 0" ∷ []) }
 {}
 
@@ -187,6 +187,6 @@ pub fn funded()
         ∷ codes "4 1 lent thread 2 b value 0.75 to thread 1" ∷ codes "4 1 draw 2.515 of 9 thread 1" ∷ codes "report"
         ∷ codes "thread 1 a quanta 2 ticks 3 share 75% due 75% value 100% ready waits 2 mean 0.5 longest 1"
         ∷ codes "thread 2 b quanta 1 ticks 1 share 25% due 25% value 0% ready waits 1 mean 3 longest 3"
-        ∷ codes "processor 1 quanta 3 idle 0 ticks 4 unused 0"
+        ∷ codes "currency 1 g ticks 4 share 100% due 100%" ∷ codes "processor 1 quanta 3 idle 0 ticks 4 unused 0"
         ∷ codes "total turns 12 quanta 3 ticks 4 refused 0 left 0" ∷ []) }
 {}

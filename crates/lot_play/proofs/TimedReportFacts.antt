@@ -1,41 +1,54 @@
 -- What the report of turns in time shows is what the definitions say of all of the program's turns.
-use Rattle.std.proofs.Common.{◌≡◌, ℕ, zero, suc, ◌+◌, ◌^◌, ◌<◌, cond, Bool, true, false, Option, Some, None, List, [], ◌∷◌, ◌++◌, length, filter, refl, sym, ◌∙◌, ap, subst, arith}
-use Rattle.std.specs.Prelude.{map, sum_by, option_and_then, if◌then◌else◌}
+use Rattle.std.proofs.Common.{◌≡◌, ◌⊎◌, inl, inr, ℕ, ◌+◌, ◌^◌, ◌<◌, Option, Some, None, List, [], ◌∷◌, ◌++◌, length, refl, sym, ◌∙◌, ap, subst, arith}
+use Rattle.std.specs.Prelude.{⊤, map, option_and_then}
 use Rattle.std.specs.List.{fold, range_with_len}
 use Rattle.std.specs.Option.{option_map, option_map_or}
 use Rattle.std.proofs.lemmas.List.{length-map}
-use Rattle.std.proofs.lemmas.List.Sums.{fold_push, sum_by-cons}
+use Rattle.std.proofs.lemmas.List.Sums.{fold_push}
 use Rattle.lot_machine.specs.declared.record.Record.{Record}
 use Rattle.lot_machine.specs.declared.row.ThreadRow.{ThreadRow}
 use Rattle.lot_machine.specs.Facts.{live_value}
-use Rattle.lot_machine.specs.Lends.{is_live}
 use Rattle.lot_machine.specs.Numbered.{at_number}
-use Rattle.lot_machine.specs.Rows.{row_of_thread, thread_name, thread_row}
+use Rattle.lot_machine.specs.Rows.{currency_name, row_of_thread, thread_name, thread_row}
 use Rattle.lot_machine.specs.State.{State, opening, value_of}
+use Rattle.lot_print.specs.declared.timed_totals.CurrencyShares.{CurrencyShares}
 use Rattle.lot_print.specs.declared.timed_totals.ThreadShares.{ThreadShares}
 use Rattle.lot_print.specs.TableRows.{timed_thread_record}
-use Rattle.lot_print.specs.Totals.{timed_processor_line, timed_thread_line, timed_total_line}
+use Rattle.lot_print.specs.Totals.{timed_currency_line, timed_processor_line, timed_thread_line, timed_total_line}
 use Rattle.lot_simulation.specs.declared.timed.Due.{Due}
 use Rattle.lot_simulation.specs.declared.timed.EarlyEnd.{EarlyEnd}
 use Rattle.lot_simulation.specs.declared.timed.PastLives.{PastLives}
 use Rattle.lot_simulation.specs.declared.timed.Spans.{Spans}
 use Rattle.lot_simulation.specs.Report.{ActorTurn, ticks_in, total_of, turns_made, turns_of}
 use Rattle.lot_simulation.specs.Timed.{Moment, TimedTurn, clock_of, end_of, ended_at, following, last_moment, moment_after_all, opening_moment, timed_turns}
-use Rattle.lot_simulation.specs.TimedReport.{actor_turns, due_in, early_end, early_text, idle_until, life_change, live_part, live_time, mutex_change, no_lives, past_lives, ready_in, refusals_in, refused_traps_in, reply_change, report_at, timed_processor_total, timed_report, timed_report_of, timed_whole_total, spans_in, with_lives}
+use Rattle.lot_simulation.specs.TimedReport.{actor_turns, base_time, currency_due_in, currency_ticks_in, due_in, early_end, early_text, idle_until, life_change, live_part, live_time, mutex_change, no_lives, past_lives, ready_in, refusals_in, refused_traps_in, reply_change, report_at, timed_processor_total, timed_report, timed_report_of, timed_whole_total, spans_in, with_lives}
 use Rattle.lot_simulation.specs.World.{Program, World, opening_world, system_after, system_turn}
 use Rattle.lot_simulation.proofs.ClocksAddUp.{turn-limits}
 use Rattle.lot_machine.specs.declared.sizes.Sizes.{Sizes}
+use Rattle.lot_playback.specs.declared.sharers.Sharers.TheVariants.{Threads}
 use Rattle.lot_playback.specs.Owed.{AreDue, AreReadyFor}
+use Rattle.lot_playback.specs.TicksBelow.{AreCurrencies}
 use Rattle.lot_engine.specs.declared.counts.Counts.{Counts}
 use Rattle.lot_playback.specs.declared.timekeeper.Timekeeper.{Timekeeper}
 use Rattle.lot_engine.specs.Counted.{counted}
 use Rattle.lot_playback.specs.InTime.{AreRefusedTraps, AreSpans, IsAtEnd, moment_in}
 use Rattle.lot_engine.specs.Seen.{Seen, world_of}
-use Rattle.lot_play.specs.declared.form.Form.TheVariants.{Lines, Table}
-use Rattle.lot_play.specs.ReportTable.{shares_in, timed_thread_text}
+use Rattle.lot_play.specs.declared.form.Form.{Form}
+use Rattle.lot_play.specs.declared.form.Form.TheVariants.{CurrencyTable, Lines, Table}
+use Rattle.lot_play.specs.ReportTable.{currency_shares_in, shares_in, timed_currency_text, timed_thread_text}
 use Rattle.lot_simulation.proofs.TimedRuns.{room-small, timed-made}
 use Rattle.lot_text.proofs.SeedLemmas.{range_with_len-push}
 use Rattle.lot_playback.proofs.FollowFacts.{room-few, within-room}
+
+-- the form of a table
+abbrev pub IsTable : Form → Type 0
+IsTable Lines = ⊥
+IsTable Table = ⊤
+IsTable CurrencyTable = ⊤
+
+pub is-table : (form : Form) → (form ≡ Table) ⊎ (form ≡ CurrencyTable) → IsTable form
+is-table form (inl is) = rw is tt
+is-table form (inr is) = rw is tt
 
 -- ---- all of the program's turns
 
@@ -81,10 +94,16 @@ module _ (seen : Seen) (timekeeper : Timekeeper) (end : IsAtEnd seen timekeeper)
   turns-few = omega (arith, room-few, within-room seen.setting.program seen timekeeper end.followed)
 
   -- what they are due
-  pub dues-are : AreDue (opening (world_of seen).state.limits) all (length seen.history) (world_of seen).state timekeeper.dues
+  pub dues-are : AreDue Threads (opening (world_of seen).state.limits) all (length seen.history) (world_of seen).state timekeeper.dues
   dues-are =
-      subst (λ (sizes : Sizes). AreDue (opening sizes) all (length seen.history) (world_of seen).state timekeeper.dues) (sym (run-limits seen.setting.program (opening_world seen.setting.program) seen.history))
-      (subst (λ ts. AreDue (opening seen.setting.program.limits) ts (length seen.history) (world_of seen).state timekeeper.dues) end.all end.followed.dues.dues)
+      subst (λ (sizes : Sizes). AreDue Threads (opening sizes) all (length seen.history) (world_of seen).state timekeeper.dues) (sym (run-limits seen.setting.program (opening_world seen.setting.program) seen.history))
+      (subst (λ ts. AreDue Threads (opening seen.setting.program.limits) ts (length seen.history) (world_of seen).state timekeeper.dues) end.all end.followed.dues.dues)
+
+  -- the ticks of the threads below currencies, and what those are due
+  pub currencies-are : AreCurrencies (opening (world_of seen).state.limits) all (length seen.history) (world_of seen).state timekeeper.currencies
+  currencies-are =
+      subst (λ (sizes : Sizes). AreCurrencies (opening sizes) all (length seen.history) (world_of seen).state timekeeper.currencies) (sym (run-limits seen.setting.program (opening_world seen.setting.program) seen.history))
+      (subst (λ ts. AreCurrencies (opening seen.setting.program.limits) ts (length seen.history) (world_of seen).state timekeeper.currencies) end.all end.followed.dues.currencies)
 
   -- how many of their traps were refused
   pub traps-are : AreRefusedTraps all (length seen.history) timekeeper.refused_traps.threads.items
@@ -167,10 +186,22 @@ module _ (seen mid : Seen) (t : ℕ) (row : ThreadRow) (shares : ThreadShares) (
       ∙ sym (ap (λ o. option_map_or (timed_thread_text Lines s turns t) o []) there)
 
   -- the same for its row in the table
-  pub thread-record : timed_thread_record t row shares ≡ option_map_or (timed_thread_text Table (world_of seen).state (timed_turns seen.setting.program) t) (thread_row (world_of seen).state t) []
-  thread-record =
-      ap (timed_thread_record t row) own
-      ∙ sym (ap (λ o. option_map_or (timed_thread_text Table (world_of seen).state (timed_turns seen.setting.program) t) o []) there)
+  pub thread-record : (form : Form) → IsTable form → timed_thread_record t row shares ≡ option_map_or (timed_thread_text form (world_of seen).state (timed_turns seen.setting.program) t) (thread_row (world_of seen).state t) []
+  thread-record Table table = ap (timed_thread_record t row) own ∙ sym (ap (λ o. option_map_or (timed_thread_text Table (world_of seen).state (timed_turns seen.setting.program) t) o []) there)
+  thread-record CurrencyTable table = ap (timed_thread_record t row) own ∙ sym (ap (λ o. option_map_or (timed_thread_text CurrencyTable (world_of seen).state (timed_turns seen.setting.program) t) o []) there)
+  thread-record Lines table = absurd table
+
+-- ---- currencies
+
+-- what the report tells of a currency, by what was asked of the system
+pub currency-shares-are : (s : State) (turns : List TimedTurn) (c ticks all due lasted : ℕ) → ticks ≡ currency_ticks_in (opening s.limits) turns c → all ≡ total_of ticks_in (actor_turns turns) → due ≡ currency_due_in (opening s.limits) turns c → lasted ≡ base_time (opening s.limits) turns
+    → record { ticks = ticks; all_ticks = all; due = due; base_time = lasted } ≡ currency_shares_in s turns c
+currency-shares-are s turns c ticks all due lasted below whole owed long = λ i. record { ticks = below i; all_ticks = whole i; due = owed i; base_time = long i }
+
+module _ (seen : Seen) (c : ℕ) (name : List ℕ) (shares : CurrencyShares) (is : Some name ≡ currency_name (world_of seen).state c) (own : shares ≡ currency_shares_in (world_of seen).state (timed_turns seen.setting.program) c) where
+  -- a currency's line by its name
+  pub currency-line : timed_currency_line c name shares ≡ option_map_or (timed_currency_text Lines (world_of seen).state (timed_turns seen.setting.program) c) (currency_name (world_of seen).state c) []
+  currency-line = ap (timed_currency_line c name) own ∙ ap (λ o. option_map_or (timed_currency_text Lines (world_of seen).state (timed_turns seen.setting.program) c) o []) is
 
 -- ---- past lives
 

@@ -3,19 +3,22 @@ use Rattle.std.specs.Prelude.{ℕ, Option, Some, None, List, ◌++◌}
 use Rattle.lot_machine.specs.declared.row.ThreadRow.{ThreadRow}
 use Rattle.lot_machine.specs.Facts as facts
 use Rattle.lot_machine.specs.Numbered.{numbers}
-use Rattle.lot_machine.specs.Rows.{thread_row}
+use Rattle.lot_machine.specs.Rows.{currency_name, thread_row}
 use Rattle.lot_machine.specs.State.{State, opening, value_of}
+use Rattle.lot_simulation.specs.Below.{currency_numbers}
 use Rattle.lot_simulation.specs.Report.{thread_total, ticks_in, total_of}
 use Rattle.lot_simulation.specs.Texts.{lines_for}
 use Rattle.lot_simulation.specs.Timed.{TimedTurn, timed_turns}
 use Rattle.lot_simulation.specs.TimedReport.{actor_turns, due_in, life_change, live_part, live_time, mutex_change, ready_in, refused_traps_in, reply_change}
-use Rattle.lot_simulation.specs.TimedReport.{timed_thread_total, spans_in}
+use Rattle.lot_simulation.specs.TimedReport.{base_time, currency_due_in, currency_ticks_in, spans_in, timed_currency_total, timed_thread_total}
 use Rattle.lot_simulation.specs.World.{Program}
 use Rattle.lot_print.specs.declared.table_rows.Columns.TheVariants.{TimedTotals, Totals}
+use Rattle.lot_print.specs.declared.table_rows.Columns.TheVariants as columns
+use Rattle.lot_print.specs.declared.timed_totals.CurrencyShares.{CurrencyShares}
 use Rattle.lot_print.specs.declared.timed_totals.ThreadShares.{ThreadShares}
-use Rattle.lot_print.specs.TableRows.{header_row, thread_record, timed_thread_record}
+use Rattle.lot_print.specs.TableRows.{header_row, thread_record, timed_currency_record, timed_thread_record}
 use Rattle.lot_play.specs.declared.form.Form.{Form}
-use Rattle.lot_play.specs.declared.form.Form.TheVariants.{Lines, Table}
+use Rattle.lot_play.specs.declared.form.Form.TheVariants.{CurrencyTable, Lines, Table}
 use Rattle.lot_play.specs.Seeds.{last_world}
 use Rattle.lot_play.specs.Texts.{last_report}
 
@@ -25,6 +28,7 @@ use Rattle.lot_play.specs.Texts.{last_report}
 abbrev pub thread_text : Form → ℕ → ThreadRow → List ℕ
 thread_text Lines = thread_total
 thread_text Table = thread_record
+thread_text CurrencyTable = thread_record
 
 -- what the report of a timed program tells of a thread after these turns, in addition to its row
 abbrev pub shares_in : State → List TimedTurn → ℕ → ThreadShares
@@ -45,6 +49,24 @@ shares_in s turns t = record {
 abbrev pub timed_thread_text : Form → State → List TimedTurn → ℕ → ThreadRow → List ℕ
 timed_thread_text Lines s turns = timed_thread_total s turns (total_of ticks_in (actor_turns turns))
 timed_thread_text Table s turns = λ t row. timed_thread_record t row (shares_in s turns t)
+timed_thread_text CurrencyTable s turns = λ t row. timed_thread_record t row (shares_in s turns t)
+
+-- ---- currencies
+
+-- what the report of a timed program tells of a currency after these turns
+abbrev pub currency_shares_in : State → List TimedTurn → ℕ → CurrencyShares
+currency_shares_in s turns c = record {
+  ticks = currency_ticks_in (opening s.limits) turns c;
+  all_ticks = total_of ticks_in (actor_turns turns);
+  due = currency_due_in (opening s.limits) turns c;
+  base_time = base_time (opening s.limits) turns;
+}
+
+-- the line or the row of a timed program's currency after these turns
+abbrev pub timed_currency_text : Form → State → List TimedTurn → ℕ → List ℕ → List ℕ
+timed_currency_text Lines s turns = timed_currency_total s turns (total_of ticks_in (actor_turns turns))
+timed_currency_text Table s turns = λ c name. timed_currency_record c name (currency_shares_in s turns c)
+timed_currency_text CurrencyTable s turns = λ c name. timed_currency_record c name (currency_shares_in s turns c)
 
 -- ---- tables
 
@@ -57,14 +79,26 @@ abbrev pub timed_table : State → List TimedTurn → List ℕ
 timed_table s turns =
     header_row TimedTotals ++ lines_for (timed_thread_text Table s turns) (thread_row s) (numbers s.records)
 
+-- the table of the currencies of a timed program that has come to this state by these turns
+abbrev pub currency_table : State → List TimedTurn → List ℕ
+currency_table s turns =
+    header_row columns.Currencies ++ lines_for (timed_currency_text CurrencyTable s turns) (currency_name s) (currency_numbers s)
+
+-- the table of a timed program, in this form: of its currencies, or of its threads
+abbrev pub table_in : Form → State → List TimedTurn → List ℕ
+table_in Lines = timed_table
+table_in Table = timed_table
+table_in CurrencyTable = currency_table
+
 -- the table after all turns, of a schedule or of a timed program
-abbrev pub last_table : Program → Option ℕ → List ℕ
-last_table program None = scheduled_table (last_world program).state
-last_table program (Some duration) = timed_table (last_world program).state (timed_turns program)
+abbrev pub last_table : Form → Program → Option ℕ → List ℕ
+last_table form program None = scheduled_table (last_world program).state
+last_table form program (Some duration) = table_in form (last_world program).state (timed_turns program)
 
 -- ---- the report
 
 -- the report after all turns, in this form
 abbrev pub report_text : Form → Program → List ℕ
 report_text Lines program = last_report program program.duration
-report_text Table program = last_table program program.duration
+report_text Table program = last_table Table program program.duration
+report_text CurrencyTable program = last_table CurrencyTable program program.duration

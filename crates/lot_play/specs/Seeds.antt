@@ -13,7 +13,7 @@ use Rattle.lot_print.specs.declared.figures.Spread.{Spread}
 use Rattle.lot_print.specs.declared.table_rows.Columns.TheVariants as columns
 use Rattle.lot_print.specs.TableRows.{figures_record, header_row}
 use Rattle.lot_play.specs.declared.form.Form.{Form}
-use Rattle.lot_play.specs.declared.form.Form.TheVariants.{Lines, Table}
+use Rattle.lot_play.specs.declared.form.Form.TheVariants.{CurrencyTable, Lines, Table}
 use Rattle.lot_play.specs.Kept.{one_more}
 
 -- ---- a play
@@ -92,11 +92,13 @@ seeds_between first last = first ∷ range_with_len (first + 1) (last - first)
 abbrev pub seeds_heading : Form → ℕ → ℕ → List ℕ
 seeds_heading Lines first last = seeds_line first last
 seeds_heading Table first last = header_row columns.Figures
+seeds_heading CurrencyTable first last = header_row columns.Figures
 
 -- the line or the row of a thread with these figures
 abbrev pub figures_in : Form → ℕ → Figures → List ℕ
 figures_in Lines = figures_line
 figures_in Table = figures_record
+figures_in CurrencyTable = figures_record
 
 -- the same, or nothing if no play ended with the thread
 abbrev pub figures_text : Form → ℕ → Figures → List ℕ

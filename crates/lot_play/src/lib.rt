@@ -17,6 +17,7 @@ mod report_table;
 mod reports;
 mod seeds;
 mod summary;
+mod timed_currencies;
 mod timed_report;
 mod warnings;
 

@@ -1,8 +1,9 @@
 //! The lines of turns.
-ghost use Rattle.std.specs.Prelude.{◌≡◌, [], false, true, OnOk};
+ghost use Rattle.std.specs.Prelude.{◌≡◌, ◌||◌, [], false, true, OnOk};
 ghost use Rattle.lot_io.specs.Writing.{Begins, IsPut, Puts, Writes};
 ghost use Rattle.lot_io.specs.declared.fault.IoFault.TheVariants as faults;
 ghost use Rattle.lot_simulation.specs.Output.{played_output};
+ghost use Rattle.lot_play.specs.Leaving.{ends_refused};
 ghost use Rattle.lot_play.specs.Played.{Plays};
 ghost use Rattle.lot_engine.specs.Seen.{world_of};
 ghost use Rattle.lot_play.specs.declared.inputs.Played.TheVariants.{Done};
@@ -34,11 +35,15 @@ impl<'a, W: Write> Observer for Lines<'a, W> {
 
     ghost observed = { λ program turns first now. (now.writer.ghost_name ≡ first.writer.ghost_name)
         × (now.writer.now.failed ≡ false)
-        × IsPut (W.contents first.writer.now.inner) (W.contents now.writer.now.inner) [] now.page (made_texts turns) };
+        × IsPut (W.contents first.writer.now.inner) (W.contents now.writer.now.inner) [] now.page (made_texts turns)
+        × (now.warnings.ghost_name ≡ first.warnings.ghost_name)
+        × (now.warnings.now.stopped ≡ first.warnings.now.stopped) };
 
     ghost awaits = { λ program turns world actor first now. (now.writer.ghost_name ≡ first.writer.ghost_name)
         × (now.writer.now.failed ≡ false)
-        × IsPut (W.contents first.writer.now.inner) (W.contents now.writer.now.inner) [] now.page (made_texts turns) };
+        × IsPut (W.contents first.writer.now.inner) (W.contents now.writer.now.inner) [] now.page (made_texts turns)
+        × (now.warnings.ghost_name ≡ first.warnings.ghost_name)
+        × (now.warnings.now.stopped ≡ first.warnings.now.stopped) };
 
     ghost stopped = { λ program turns first now fault. (now.writer.ghost_name ≡ first.writer.ghost_name)
         × (fault ≡ faults.Write) × (now.writer.now.failed ≡ true)
@@ -63,6 +68,8 @@ impl<'a, W: Write> Lines<'a, W> {
     fn write_out(&mut self) -> Result<(), IoFault>
         requires { self.old.writer.now.failed ≡ false }
         ensures same { self.new.writer.ghost_name ≡ self.old.writer.ghost_name }
+        ensures warnings { (self.new.warnings.ghost_name ≡ self.old.warnings.ghost_name)
+            × (self.new.warnings.now ≡ self.old.warnings.now) }
         ensures text { Writes W.contents self.old.writer.now self.new.writer.now result self.old.page }
     {
         self.page.write_out(self.writer)
@@ -82,6 +89,7 @@ fn put_made<W: Write>(
     ensures same { system.new ≡ system.old }
     ensures text { (made : MadeTurn) → Reports turn.now made → world_of system.old ≡ made.turn.world
         → Puts W.contents writer.old writer.new page.old page.new result (made_text made) }
+    ensures stopped { warnings.new.stopped ≡ warnings.old.stopped }
 {
     let style = style_of(turn);
     let actor = printed_actor(system, turn.actor);
@@ -105,6 +113,7 @@ fn write_turns<W: Write>(
     ensures setting { playback.new.seen.setting ≡ playback.old.seen.setting }
     ensures ended { OnOk result (turns_left playback.new ≡ []) }
     ensures text { Writes W.contents writer.old writer.new result (made_texts (program_turns program.now)) }
+    ensures stopped { OnOk result (warnings.new.stopped ≡ warnings.old.stopped) }
 {
     let mut lines = Lines {
         page: Page::new(),
@@ -115,8 +124,8 @@ fn write_turns<W: Write>(
     lines.write_out()
 }
 
-/// Plays the program in a system of its own: writes a line for each turn, and then the report. It allocates all its
-/// memory before the first turn.
+/// Plays the program in a system of its own: writes a line for each turn, and then the report. It stores the run's
+/// warnings in `warnings`, also whether a refusal ended it. It allocates all its memory before the first turn.
 pub fn play_program<W: Write>(
     alloc: Global,
     program: &Program,
@@ -127,6 +136,7 @@ pub fn play_program<W: Write>(
     ensures flushed { OnOk result (writer.new.flushed ≡ true) }
     ensures played { Plays W.contents writer.old writer.new result Done
         (played_output program.now program.now.duration) }
+    ensures stopped { OnOk result (warnings.new.stopped ≡ (warnings.old.stopped || ends_refused program.now)) }
 {
     let Ok(mut playback) = Playback::open(alloc, program) else {
         return Err(IoFault::Memory);

@@ -55,7 +55,7 @@ fn write_thread<W: Write>(
     };
     match form {
         Form::Lines => write_thread_total(writer, number, &row),
-        Form::Table => write_thread_record(writer, number, &row),
+        Form::Table | Form::CurrencyTable => write_thread_record(writer, number, &row),
     }
 }
 

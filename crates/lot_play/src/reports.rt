@@ -4,7 +4,7 @@ ghost use Rattle.lot_engine.specs.Seen.{world_of};
 ghost use Rattle.lot_io.specs.Writing.{Writes};
 ghost use Rattle.lot_playback.specs.Orders.{IsAtPlace, IsAtTime, IsInOrder, made_in};
 ghost use Rattle.lot_playback.specs.Stages.{turns_left};
-ghost use Rattle.lot_play.specs.Leaving.{early_in, stopped_in};
+ghost use Rattle.lot_play.specs.Leaving.{early_in, ends_refused, stopped_in};
 ghost use Rattle.lot_play.specs.Texts.{last_report};
 
 use crate::Warnings;
@@ -30,6 +30,7 @@ pub fn end_play<W: Write>(
     requires working { writer.old.failed ≡ false }
     ensures flushed { OnOk result (writer.new.flushed ≡ true) }
     ensures text { Writes W.contents writer.old writer.new result (last_report program.now program.now.duration) }
+    ensures stopped { OnOk result (warnings.new.stopped ≡ (warnings.old.stopped || ends_refused program.now)) }
 {
     let (mut system, order) = playback.into_parts();
     write_last_report(program, &mut system, &order, writer)?;

@@ -1,9 +1,10 @@
 //! The report over several plays of a program, each with another seed.
-ghost use Rattle.std.specs.Prelude.{◌≡◌, ◌<◌, ◌+◌, ℕ, false, true, IfOk, OnOk, Some, length, slice_index_or};
+ghost use Rattle.std.specs.Prelude.{◌≡◌, ◌<◌, ◌+◌, ◌||◌, ℕ, false, true, IfOk, OnOk, Some, length, slice_index_or};
 ghost use Rattle.std.specs.List.{flat_map, range_with_len};
 ghost use Rattle.lot_io.specs.Writing.{Writes};
 ghost use Rattle.lot_simulation.specs.Seeded.{with_seed};
 ghost use Rattle.lot_print.specs.declared.figures.Figures.{Figures as FiguresRecord};
+ghost use Rattle.lot_play.specs.Leaving.{any_ends_refused, ends_refused};
 ghost use Rattle.lot_play.specs.Played.{Plays};
 ghost use Rattle.lot_play.specs.Seeds.{AreFigures, figures_over, figures_played, figures_text, seeds_between};
 ghost use Rattle.lot_play.specs.Seeds.{seeds_heading, seeds_report};
@@ -41,6 +42,8 @@ pub fn report_seeds<W: Write>(
     ensures flushed { OnOk result (writer.new.flushed ≡ true) }
     ensures reported { Plays W.contents writer.old writer.new result Done
         (seeds_report form seeds.now.first seeds.now.last program.now) }
+    ensures stopped { OnOk result (warnings.new.stopped ≡ (warnings.old.stopped
+        || any_ends_refused program.now (seeds_between seeds.now.first seeds.now.last))) }
 {
     let Ok(figures) = figures_of(alloc, program, seeds, warnings) else {
         return Err(IoFault::Memory);
@@ -57,8 +60,10 @@ fn figures_of(
     seeds: &Seeds,
     warnings: &mut Warnings,
 ) -> Result<Vec<Figures>, AllocError>
-    ensures { IfOk result (λ figures.
+    ensures figures { IfOk result (λ figures.
         AreFigures program.now (seeds_between seeds.now.first seeds.now.last) figures.items) }
+    ensures stopped { OnOk result (warnings.new.stopped ≡ (warnings.old.stopped
+        || any_ends_refused program.now (seeds_between seeds.now.first seeds.now.last))) }
 {
     let mut figures = no_figures(alloc, program.limits().threads)?;
     play_with(alloc, program, seeds.first, warnings, &mut figures)?;
@@ -86,6 +91,8 @@ fn play_with(
     ensures each { OnOk result ((place : ℕ) (d : FiguresRecord) → place < length figures.old.items
         → slice_index_or figures.new.items place d ≡ figures_played (place + 1)
         (slice_index_or figures.old.items place d) (with_seed (Some seed) program.now)) }
+    ensures stopped { OnOk result (warnings.new.stopped
+        ≡ (warnings.old.stopped || ends_refused (with_seed (Some seed) program.now))) }
 {
     let program = program.copied(alloc)?.with_seed(alloc, Some(seed))?;
     let mut playback = Playback::open(alloc, &program)?;
@@ -127,7 +134,7 @@ fn write_heading<W: Write>(
 {
     match form {
         Form::Lines => write_seeds(writer, seeds.first.number(), seeds.last.number()),
-        Form::Table => write_header(writer, Columns::Figures),
+        Form::Table | Form::CurrencyTable => write_header(writer, Columns::Figures),
     }
 }
 
@@ -166,6 +173,6 @@ fn write_thread<W: Write>(
     }
     match form {
         Form::Lines => write_figures(writer, number, figures),
-        Form::Table => write_figures_record(writer, number, figures),
+        Form::Table | Form::CurrencyTable => write_figures_record(writer, number, figures),
     }
 }

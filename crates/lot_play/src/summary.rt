@@ -1,6 +1,7 @@
 //! A play that writes its report alone.
-ghost use Rattle.std.specs.Prelude.{◌≡◌, [], false, true, OnOk, ⊤};
+ghost use Rattle.std.specs.Prelude.{◌≡◌, ◌||◌, [], false, true, OnOk};
 ghost use Rattle.lot_io.specs.Writing.{Writes};
+ghost use Rattle.lot_play.specs.Leaving.{ends_refused};
 ghost use Rattle.lot_play.specs.Played.{Plays};
 ghost use Rattle.lot_play.specs.ReportTable.{report_text};
 ghost use Rattle.lot_play.specs.declared.inputs.Played.TheVariants.{Done};
@@ -25,9 +26,11 @@ struct Noting<'a> {
 impl<'a> Observer for Noting<'a> {
     type Fault = IoFault;
 
-    ghost observed = { λ program turns first now. ⊤ };
+    ghost observed = { λ program turns first now. (now.warnings.ghost_name ≡ first.warnings.ghost_name)
+        × (now.warnings.now.stopped ≡ first.warnings.now.stopped) };
 
-    ghost awaits = { λ program turns world actor first now. ⊤ };
+    ghost awaits = { λ program turns world actor first now. (now.warnings.ghost_name ≡ first.warnings.ghost_name)
+        × (now.warnings.now.stopped ≡ first.warnings.now.stopped) };
 
     // it never stops
     ghost stopped = { λ program turns first now fault. ⊥ };
@@ -56,6 +59,7 @@ pub(crate) fn note_turns(program: &Program, playback: &mut Playback, warnings: &
     ensures setting { playback.new.seen.setting ≡ playback.old.seen.setting }
     ensures ended { turns_left playback.new ≡ [] }
     ensures made { HasMade program.now (program_turns program.now) playback.new.seen }
+    ensures stopped { warnings.new.stopped ≡ warnings.old.stopped }
 {
     let mut noting = Noting { warnings };
     match play_through(program, playback, &mut noting) {
@@ -76,6 +80,7 @@ pub fn report_program<W: Write>(
     requires { writer.old.failed ≡ false }
     ensures flushed { OnOk result (writer.new.flushed ≡ true) }
     ensures reported { Plays W.contents writer.old writer.new result Done (report_text form program.now) }
+    ensures stopped { OnOk result (warnings.new.stopped ≡ (warnings.old.stopped || ends_refused program.now)) }
 {
     let Ok(mut playback) = Playback::open(alloc, program) else {
         return Err(IoFault::Memory);
@@ -99,9 +104,12 @@ fn end_in_form<W: Write>(
     requires working { writer.old.failed ≡ false }
     ensures flushed { OnOk result (writer.new.flushed ≡ true) }
     ensures text { Writes W.contents writer.old writer.new result (report_text form program.now) }
+    ensures stopped { OnOk result (warnings.new.stopped ≡ (warnings.old.stopped || ends_refused program.now)) }
 {
     match form {
         Form::Lines => end_play(program, playback, warnings, writer),
-        Form::Table => end_with_table(program, playback, warnings, writer),
+        Form::Table | Form::CurrencyTable => {
+            end_with_table(program, playback, form, warnings, writer)
+        }
     }
 }

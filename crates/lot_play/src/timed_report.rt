@@ -17,6 +17,7 @@ ghost use Rattle.lot_io.specs.Writing.{Writes};
 ghost use Rattle.lot_play.specs.ReportTable.{shares_in, timed_thread_text};
 
 use crate::Form;
+use crate::timed_currencies::write_currencies;
 use lot_engine::System;
 use lot_io::{IoFault, Watched};
 use lot_playback::{Timekeeper, live_value};
@@ -29,8 +30,8 @@ use lot_simulation::{EarlyEnd, PastLives, Spans};
 use lot_text::Program;
 use std::io::Write;
 
-/// Writes the report of a system that has made all of its timed program's turns: a line for each thread, a line for
-/// each processor, the totals, and, if another turn would follow, the line that says so.
+/// Writes the report of a system that has made all of its timed program's turns: a line for each thread, for each
+/// currency and for each processor, the totals, and, if another turn would follow, the line that says so.
 pub fn write_timed_report<W: Write>(
     program: &Program,
     system: &mut System,
@@ -96,11 +97,13 @@ fn write_lines<W: Write>(
     write_report_line(writer)?;
     let end = ended_at(program, system, timekeeper);
     write_threads(system, timekeeper, Form::Lines, writer)?;
+    write_currencies(system, timekeeper, Form::Lines, writer)?;
     write_processors(system, timekeeper, end, writer)?;
     write_total(system, timekeeper, writer)
 }
 
-/// The time at which the play ended: the end that the input gives, or the last turn's time if another turn would follow.
+/// The time at which the play ended: the end that the input gives, or the last turn's time if another turn would
+/// follow.
 fn ended_at(program: &Program, system: &System, timekeeper: &Timekeeper) -> u32
     requires program { system.now.setting.program ≡ program.now }
     requires end { IsAtEnd system.now timekeeper.now }
@@ -158,7 +161,9 @@ fn write_thread<W: Write>(
     };
     match form {
         Form::Lines => write_timed_thread_total(writer, thread, &row, shares),
-        Form::Table => write_timed_thread_record(writer, thread, &row, shares),
+        Form::Table | Form::CurrencyTable => {
+            write_timed_thread_record(writer, thread, &row, shares)
+        }
     }
 }
 
@@ -183,7 +188,7 @@ fn shares_of(
     ThreadShares {
         all_ticks: system.total().ticks,
         due: timekeeper.dues.of(thread),
-        live_time: timekeeper.dues.live_time,
+        live_time: timekeeper.dues.shared_time,
         live_value,
         all_values,
         ready: timekeeper.ready.of(thread),

@@ -103,6 +103,7 @@ impl Warnings {
         ensures noted { self.new ≡ record (noted self.old turn.now.actor turn.now.reply) {
           refused_traps = self.new.refused_traps;
         } }
+        ensures stopped { self.new.stopped ≡ self.old.stopped }
         ensures same { system.new ≡ system.old }
     {
         if turn.actor == 0 {
@@ -114,7 +115,9 @@ impl Warnings {
 
     /// Records the reply to the next command.
     fn note_command(&mut self, reply: &Reply)
-        ensures { self.new ≡ record (command_noted self.old reply.now) { refused_traps = self.new.refused_traps } }
+        ensures noted { self.new
+            ≡ record (command_noted self.old reply.now) { refused_traps = self.new.refused_traps } }
+        ensures stopped { self.new.stopped ≡ self.old.stopped }
     {
         match *reply {
             Reply::Thread(thread) | Reply::Funded { thread, .. } => {

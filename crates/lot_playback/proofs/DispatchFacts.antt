@@ -1,5 +1,5 @@
 -- A draw and the end of a quantum change the status of one thread at most, and no value.
-use Rattle.std.proofs.Common.{◌≡◌, ℕ, ◌-◌, ◌==◌, Bool, true, false, cond, Option, Some, None, List, [], ◌∷◌, length, map, filter, is_some, is_none, slice_index, slice_get, option_map, option_and_then, ◌⊎◌, inl, inr, refl, sym, ◌∙◌, ap, subst, arith, ne_eqb}
+use Rattle.std.proofs.Common.{◌≡◌, ℕ, ◌-◌, ◌*◌, Bool, false, Option, Some, None, List, [], ◌∷◌, length, map, filter, is_none, slice_index, option_map, ◌⊎◌, inl, inr, refl, sym, ◌∙◌, ap, subst}
 use Rattle.std.specs.Prelude.{sum_by, if◌then◌else◌}
 use Rattle.std.specs.List.{range_with_len}
 use Rattle.std.proofs.lemmas.List.{length-map, map-set}
@@ -8,36 +8,41 @@ use Rattle.lot_machine.specs.declared.event.Event.{Event}
 use Rattle.lot_machine.specs.declared.event.Event.TheVariants as event
 use Rattle.lot_machine.specs.declared.funding.Lend.{Lend}
 use Rattle.lot_machine.specs.declared.record.Record.{Record}
-use Rattle.lot_machine.specs.declared.record.Status.{Status}
 use Rattle.lot_machine.specs.declared.record.Status.TheVariants as status
 use Rattle.lot_machine.specs.declared.refusal.Refusal.{Refusal}
-use Rattle.lot_machine.specs.declared.refusal.Refusal.TheVariants.{BadProcessor, Busy, NotRunning}
+use Rattle.lot_machine.specs.declared.refusal.Refusal.TheVariants.{BadProcessor, NotRunning}
 use Rattle.lot_machine.specs.declared.reply.Reply.{Reply}
 use Rattle.lot_machine.specs.declared.reply.Reply.TheVariants as answer
 use Rattle.lot_machine.specs.Commands.{Step, unless_refused}
-use Rattle.lot_machine.specs.Facts.{live_value}
 use Rattle.lot_machine.specs.Funding.{Funding}
 use Rattle.lot_machine.specs.Lends.{is_live}
 use Rattle.lot_machine.specs.Lottery.{winner}
 use Rattle.lot_machine.specs.Numbered.{at_number, numbers, option_any, set_number}
-use Rattle.lot_machine.specs.State.{State, change_record, funding_of, is_live_status, is_ready, lend_of, live_of, ready_threads, status_of, thread_on, value_of, weight_of}
+use Rattle.lot_machine.specs.State.{State, change_record, funding_of, is_live_status, is_ready, lend_of, live_of, ready_threads, status_of, thread_on, weight_of}
 use Rattle.lot_machine.specs.Step.{draw, event_effect, event_refusal, is_bad_processor, started, step, stopped, thread_there, used_there}
 use Rattle.lot_machine.specs.Traps.{with_ticks}
-use Rattle.lot_machine.specs.Value.{thread_value}
+use Rattle.lot_machine.specs.Activity.{active_amount}
+use Rattle.lot_machine.specs.Value.{currency_value, thread_value}
 use Rattle.lot_machine.proofs.Changes.{number-kept}
 use Rattle.lot_machine.proofs.CommandsKept.{all-pass}
 use Rattle.lot_machine.proofs.Idle.{filter-passes, index-holds, is-ready, there-runs}
 use Rattle.lot_machine.proofs.Queues.{status-other}
 use Rattle.lot_machine.proofs.Tickets.{some-injective}
 use Rattle.lot_machine.proofs.TrapCycles.{at_number-map}
-use Rattle.lot_simulation.specs.TimedReport.{live_part}
 use Rattle.lot_simulation.specs.World.Answer.{Answered}
-use Rattle.lot_simulation.specs.TimedReport.{makes}
+use Rattle.lot_simulation.specs.TimedReport.{makes, makes_currency}
+use Rattle.lot_playback.specs.declared.sharers.Sharers.{Sharers}
+use Rattle.lot_playback.specs.declared.sharers.Sharers.TheVariants.{Threads, Currencies}
+use Rattle.lot_playback.specs.Sharing.{makes_one, value_in, whole_in}
 use Rattle.lot_playback.specs.Owed.{Answers, IsDispatch, moved_thread}
 
--- no thread is made
+-- no thread and no currency is made
 abbrev MakesNone : Reply → Type 0
-MakesNone r = (e : Event) (t : ℕ) → makes t (Answered e r) ≡ false
+MakesNone r = (sharers : Sharers) (e : Event) (n : ℕ) → makes_one sharers n (Answered e r) ≡ false
+
+made-none : (r : Reply) → ((e : Event) (t : ℕ) → makes t (Answered e r) ≡ false) → ((e : Event) (c : ℕ) → makes_currency c (Answered e r) ≡ false) → MakesNone r
+made-none r threads currencies Threads e t = threads e t
+made-none r threads currencies Currencies e c = currencies e c
 
 -- a change of the thread's record that keeps it live or not, and its lend
 abbrev KeepsLife : State → ℕ → (Record → Record) → Type 0
@@ -49,7 +54,7 @@ IsSlight s next = MakesNone next.reply × ((next.state ≡ s) ⊎ ((t : ℕ) × 
 
 unless : (s : State) (o : Option Refusal) (next : Step) → (o ≡ None → IsSlight s next) → IsSlight s (unless_refused s o next)
 unless s None next slight = slight refl
-unless s (Some why) next slight = (λ e t. refl, inl refl)
+unless s (Some why) next slight = (made-none (answer.Refused why) (λ e t. refl) (λ e c. refl), inl refl)
 
 ready-keeps : (s : State) (p t : ℕ) → ((r : Record) → at_number s.records t ≡ Some r → r.status ≡ status.Ready) → KeepsLife s t (started p)
 ready-keeps s p t ready r is = (sym (ap (lend_of s.limits.without_lending) (ready r is)), sym (ap is_live_status (ready r is)))
@@ -58,17 +63,17 @@ draw-slight : (s : State) (p d : ℕ) → IsSlight s (draw s p d)
 draw-slight s p d = at (winner (map (weight_of s) (ready_threads s.records)) d) refl
   where
     at : (o : Option Drawn) → winner (map (weight_of s) (ready_threads s.records)) d ≡ o → IsSlight s (draw s p d)
-    at None is = rw is (λ e t. refl, inl refl)
+    at None is = rw is (made-none answer.Idle (λ e t. refl) (λ e c. refl), inl refl)
     at (Some w) is =
         let won = slice_index (ready_threads s.records) w.place in
         let ready : (r : Record) → at_number s.records won ≡ Some r → r.status ≡ status.Ready =
         index-holds (λ t. (r : Record) → at_number s.records t ≡ Some r → r.status ≡ status.Ready) (ready_threads s.records) w.place (λ r is. cc)
         (λ t here r there. some-injective r.status status.Ready (sym (ap (option_map (λ (x : Record). x.status)) there) ∙ is-ready (status_of s.records t) (filter-passes (λ u. option_any is_ready (status_of s.records u)) (numbers s.records) w.place t here))) in
-        rw is (λ e t. refl, inr (won, started p, ready-keeps s p won ready, refl, refl))
+        rw is (made-none _ (λ e t. refl) (λ e c. refl), inr (won, started p, ready-keeps s p won ready, refl, refl))
 
 stop-slight : (s : State) (p ticks : ℕ) (compensation : Option ℕ) → is_none (thread_on s.records p) ≡ false → IsSlight s (stopped s (thread_there s p) ticks compensation)
 stop-slight s p ticks compensation there =
-    (λ e t. refl, inr (thread_there s p, λ r. with_ticks ticks (record r { status = status.Ready; compensation = compensation }), keeps, refl, refl))
+    (made-none (answer.Expired (thread_there s p) ticks) (λ e t. refl) (λ e c. refl), inr (thread_there s p, λ r. with_ticks ticks (record r { status = status.Ready; compensation = compensation }), keeps, refl, refl))
   where
     keeps : KeepsLife s (thread_there s p) (λ r. with_ticks ticks (record r { status = status.Ready; compensation = compensation }))
     keeps r is =
@@ -100,9 +105,9 @@ module _ (s : State) (e : Event) (dispatch : IsDispatch e) (r : Reply) (next : S
   slight : IsSlight s (record { state = next; reply = r })
   slight = subst (IsSlight s) answers (dispatch-slight s e dispatch)
 
-  -- no thread is made
-  pub none-made : (t : ℕ) → makes t (Answered e r) ≡ false
-  none-made t = slight.0 e t
+  -- no thread and no currency is made
+  pub none-made : (sharers : Sharers) (n : ℕ) → makes_one sharers n (Answered e r) ≡ false
+  none-made sharers n = slight.0 sharers e n
 
   funding-kept : funding_of next ≡ funding_of s
   funding-kept = by slight.1
@@ -132,13 +137,15 @@ module _ (s : State) (e : Event) (dispatch : IsDispatch e) (r : Reply) (next : S
       let lives : length (live_of next) ≡ length (live_of s) = ap length lives-kept in
       ap (range_with_len 1) (sym (length-map next.records (λ (x : Record). is_live_status x.status)) ∙ lives ∙ length-map s.records (λ (x : Record). is_live_status x.status))
 
-  -- each live thread's value stays
-  pub part-kept : (t : ℕ) → live_part next t (value_of next t) ≡ live_part s t (value_of s t)
-  part-kept t i = if is_live (lives-kept i) t then thread_value (unit-kept i) (funding-kept i) (lives-kept i) t else 0
+  -- each one's value stays
+  pub value-kept : (sharers : Sharers) (n : ℕ) → value_in sharers next n ≡ value_in sharers s n
+  value-kept Threads t i = if is_live (lives-kept i) t then thread_value (unit-kept i) (funding-kept i) (lives-kept i) t else 0
+  value-kept Currencies c i = currency_value (unit-kept i) (funding-kept i) (lives-kept i) c
 
-  -- and so does their sum
-  pub values-kept : live_value next ≡ live_value s
-  values-kept i = value_by (unit-kept i) (funding-kept i) (lives-kept i) (numbers-kept i)
+  -- and so does the value of the whole
+  pub whole-kept : (sharers : Sharers) → whole_in sharers next ≡ whole_in sharers s
+  whole-kept Threads i = value_by (unit-kept i) (funding-kept i) (lives-kept i) (numbers-kept i)
+  whole-kept Currencies i = active_amount (funding-kept i) (lives-kept i) 0 * unit-kept i
 
   -- the status of any other thread stays
   pub status-kept : (u : ℕ) → ¬ (moved_thread r ≡ Some u) → status_of next.records u ≡ status_of s.records u

@@ -1,46 +1,47 @@
 -- What threads are due, and how long they wait to run, turn by turn.
-use Rattle.std.proofs.Common.{◌≡◌, ℕ, zero, suc, ◌+◌, ◌-◌, ◌*◌, ◌/◌, ◌^◌, ◌<◌, ◌≤◌, ◌==◌, Bool, true, false, cond, Option, Some, None, is_some, get_or, set, slice_get, sum_by, ne_eqb, ◌≢◌, List, [], ◌∷◌, ◌++◌, length, option_map, ◌⊎◌, inl, inr, refl, sym, ◌∙◌, ap, subst, arith, max}
+use Rattle.std.proofs.Common.{◌≡◌, ℕ, ◌+◌, ◌-◌, ◌*◌, ◌/◌, ◌^◌, ◌<◌, ◌≤◌, ◌==◌, Bool, true, false, Option, Some, None, is_some, set, ne_eqb, ◌≢◌, List, [], ◌∷◌, ◌++◌, length, ◌⊎◌, inl, inr, refl, sym, ◌∙◌, ap, subst, arith}
 use Rattle.std.specs.Prelude.{slice_index_or, if◌then◌else◌}
 use Rattle.std.proofs.lemmas.List.Sums.{fold_push}
-use Rattle.std.proofs.lemmas.List.{get_or-set_other, get_or_default, length-map, length-set}
+use Rattle.std.proofs.lemmas.List.{get_or-set_other, get_or_default, length-set}
 use Rattle.std.proofs.lemmas.Bool.{cases_eq, cases_lt, eq-eqb}
 use Rattle.std.proofs.lemmas.Grind.{get_or-set_at}
-use Rattle.std.proofs.lemmas.Option.{slice_get_cases}
-use Rattle.std.proofs.lemmas.List.FromFn.{get_or-range_with_len, length-range_with_len}
-use Rattle.std.proofs.lemmas.List.Sums.{get_or-le-sum_by}
 use Rattle.std.proofs.Math.Nat.{div-le_self, mul-add, mul-div-le, mul-le-mul_right}
-use Rattle.lot_machine.specs.declared.record.Record.{Record}
 use Rattle.lot_machine.specs.declared.record.Status.{Status}
 use Rattle.lot_machine.specs.declared.record.Status.TheVariants.{Ready, Running, Receiving, Queued, Served, Waiting, Asleep, Dead}
 use Rattle.lot_machine.specs.declared.event.Event.{Event}
 use Rattle.lot_machine.specs.declared.reply.Reply.{Reply}
-use Rattle.lot_machine.specs.Facts.{live_value}
-use Rattle.lot_machine.specs.Lends.{is_live}
-use Rattle.lot_machine.specs.Numbered.{at_number, numbers, option_any}
-use Rattle.lot_machine.specs.State.{State, is_live_status, is_ready, live_of, status_of, value_of}
-use Rattle.lot_machine.proofs.Sums.{sum-filter}
-use Rattle.lot_machine.proofs.Tickets.{at_number-suc, some-injective}
+use Rattle.lot_machine.specs.Facts.{IsSound}
+use Rattle.lot_machine.specs.Numbered.{option_any}
+use Rattle.lot_machine.specs.State.{State, is_ready, status_of}
+use Rattle.lot_machine.proofs.Tickets.{some-injective}
 use Rattle.lot_simulation.specs.declared.timed.Spans.{Spans}
 use Rattle.lot_simulation.specs.Timed.{TimedTurn}
-use Rattle.lot_simulation.specs.TimedReport.{live_part, no_spans, span_begun, span_ended}
+use Rattle.lot_simulation.specs.TimedReport.{no_spans, span_begun, span_ended}
 use Rattle.lot_simulation.specs.World.{Answer}
 use Rattle.lot_simulation.specs.World.Answer.{Answered}
 use Rattle.lot_playback.specs.declared.dues.DueTable.{DueTable}
-use Rattle.lot_playback.specs.declared.dues.ThreadDue.{ThreadDue}
-use Rattle.lot_simulation.specs.TimedReport.{due_after, due_from, due_in, due_part, due_rate, live_from, live_ticks, live_time, makes, queued, ready_after, ready_in, tick_parts}
-use Rattle.lot_playback.proofs.DispatchFacts.{none-made, part-kept, status-kept, values-kept}
+use Rattle.lot_playback.specs.declared.dues.Owing.{Owing}
+use Rattle.lot_playback.specs.declared.sharers.Sharers.{Sharers}
+use Rattle.lot_playback.specs.declared.sharers.Sharers.TheVariants.{Threads}
+use Rattle.lot_simulation.specs.TimedReport.{due_after, due_from, makes, queued, rate_in, ready_after, ready_in, tick_parts, time_from}
+use Rattle.lot_playback.proofs.DispatchFacts.{none-made, status-kept, value-kept, whole-kept}
+use Rattle.lot_playback.proofs.MadeCurrencies.{count-grows}
+use Rattle.lot_playback.proofs.WorthFacts.{value-none, value-within, whole-small}
+use Rattle.lot_playback.specs.Sharing.{count_in, due_to, makes_one, part_in, shared_ticks, time_shared, value_in, whole_in}
 use Rattle.lot_playback.specs.InTime.{AreFew}
-use Rattle.lot_playback.specs.Owed.{Answers, AreDue, AreOwed, AreReadyFor, AreWaiting, HasFew, HaveQueued, HaveQueuedOne, IsDispatch, IsDueThread, IsOwed, IsReadyFor, forgotten, is_thread, moved_thread, parts_before, state_after, time_after, waits_before}
+use Rattle.lot_playback.specs.Owed.{Answers, AreDue, AreOwed, AreReadyFor, AreWaiting, HasFew, HaveQueued, HaveQueuedOne, HaveValues, IsDispatch, IsOwed, IsReadyFor, forgotten, moved_thread, parts_before, state_after, time_after, waits_before}
 
 -- ---- one turn more
 
-pub due-more : (first : State) (time t due : ℕ) (done : List TimedTurn) (turn : TimedTurn) → due_from first time t due (done ++ turn ∷ []) ≡ due_after (state_after first done) (turn.time - time_after time done) t (due_from first time t due done) turn.turn.answer
-due-more first time t due [] turn = refl
-due-more first time t due (d ∷ done) turn = due-more d.turn.world.state d.time t (due_after first (d.time - time) t due d.turn.answer) done turn
+pub due-more : (part : State → ℕ → ℕ) (is_new : Answer → Bool) (first : State) (time due : ℕ) (done : List TimedTurn) (turn : TimedTurn)
+    → due_from part is_new first time due (done ++ turn ∷ []) ≡ due_after part is_new (state_after first done) (turn.time - time_after time done) (due_from part is_new first time due done) turn.turn.answer
+due-more part is_new first time due [] turn = refl
+due-more part is_new first time due (d ∷ done) turn = due-more part is_new d.turn.world.state d.time (due_after part is_new first (d.time - time) due d.turn.answer) done turn
 
-pub live-more : (first : State) (time all : ℕ) (done : List TimedTurn) (turn : TimedTurn) → live_from first time all (done ++ turn ∷ []) ≡ live_from first time all done + live_ticks (state_after first done) (turn.time - time_after time done)
-live-more first time all [] turn = refl
-live-more first time all (d ∷ done) turn = live-more d.turn.world.state d.time (all + live_ticks first (d.time - time)) done turn
+pub counted-more : (counted : State → ℕ → ℕ) (first : State) (time all : ℕ) (done : List TimedTurn) (turn : TimedTurn)
+    → time_from counted first time all (done ++ turn ∷ []) ≡ time_from counted first time all done + counted (state_after first done) (turn.time - time_after time done)
+counted-more counted first time all [] turn = refl
+counted-more counted first time all (d ∷ done) turn = counted-more counted d.turn.world.state d.time (all + counted first (d.time - time)) done turn
 
 pub time-more : (time : ℕ) (done : List TimedTurn) (turn : TimedTurn) → time_after time (done ++ turn ∷ []) ≡ turn.time
 time-more time [] turn = refl
@@ -205,14 +206,14 @@ module _ (time : ℕ) (s next : State) (e : Event) (r : Reply) (old new : List S
       each place d below =
           let waits = slice_index_or old place d in
           let stays = status-kept s e dispatch r next answers (place + 1) (λ moved. let never : None ≡ Some (place + 1) = sym nobody ∙ moved in cc) in
-          sym (ap (λ b. queued time (if b then no_spans else waits) (status_of next.records (place + 1))) (none-made s e dispatch r next answers (place + 1))
+          sym (ap (λ b. queued time (if b then no_spans else waits) (status_of next.records (place + 1))) (none-made s e dispatch r next answers Threads (place + 1))
           ∙ ap (queued time waits) stays ∙ queued-same time waits (status_of s.records (place + 1)) (waiting place d below))
 
   pub dispatch-one : (t : ℕ) → IsDispatch e → Answers s e r next → AreWaiting s old → moved_thread r ≡ Some t → HaveQueuedOne time next t old new → HaveQueued time (Answered e r) next old new
   dispatch-one t dispatch answers waiting moved one = record { count = one.count; each = each }
     where
       each : (place : ℕ) (d : Spans) → place < length old → slice_index_or new place d ≡ queued time (waits_before (Answered e r) (place + 1) (slice_index_or old place d)) (status_of next.records (place + 1))
-      each place d below = one.each place d below ∙ by (cases_eq t (place + 1)) ∙ sym (ap (λ b. queued time (if b then no_spans else waits) (status_of next.records (place + 1))) (none-made s e dispatch r next answers (place + 1)))
+      each place d below = one.each place d below ∙ by (cases_eq t (place + 1)) ∙ sym (ap (λ b. queued time (if b then no_spans else waits) (status_of next.records (place + 1))) (none-made s e dispatch r next answers Threads (place + 1)))
         where
           waits : Spans
           waits = slice_index_or old place d
@@ -279,8 +280,10 @@ waits-more done n s next turn time answer old new at early answered led queues w
           total = omega (arith, totals, few.total, before.1, was.total, early);
         }
 
+-- ---- what is due
+
 -- what is due when each base unit is due more
-pub owed-more : (rate more parts : ℕ) (d : ThreadDue) → IsOwed rate parts d → parts + d.value * more < 2 ^ 122 → IsOwed (rate + more) (parts + d.value * more) d
+pub owed-more : (rate more parts : ℕ) (d : Owing) → IsOwed rate parts d → parts + d.value * more < 2 ^ 122 → IsOwed (rate + more) (parts + d.value * more) d
 owed-more rate more parts d is few =
     let further : rate + more - d.since ≡ (rate - d.since) + more = omega (arith, is.since) in
     let product : d.value * (rate + more - d.since) ≡ d.value * (rate - d.since) + d.value * more = ap (λ k. d.value * k) further ∙ mul-add d.value (rate - d.since) more in
@@ -293,63 +296,62 @@ owed-now rate parts value few =
     let product : value * (rate - rate) ≡ 0 = ap (λ k. value * k) none ∙ omega arith in
     record { since = omega arith; exact = omega (arith, product); few = few }
 
--- a number in a list
-numbered : {A : Type 0} (xs : List A) (n : ℕ) (x : A) → at_number xs n ≡ Some x → (1 ≤ n) × (n ≤ length xs)
-numbered {A = A} xs zero x is = cc
-numbered {A = A} xs (suc i) x is = from (slice_get_cases xs i).1
+-- ---- one that is due nothing
+
+module _ (rate number : ℕ) (parts : ℕ → ℕ) (dues : List Owing) (owed : AreOwed rate parts dues) where
+  pub forget-none : ((place : ℕ) → place < length dues → number ≢ place + 1) → AreOwed rate (forgotten number parts) dues
+  forget-none other place d below =
+      let no : (number == place + 1) ≡ false = ne_eqb number (place + 1) (other place below) in
+      subst (λ k. IsOwed rate k (slice_index_or dues place d)) (ap (λ b. if b then 0 else parts (place + 1)) (sym no)) (owed place d below)
+
+  pub forget-one : (value : ℕ) → 1 ≤ number → AreOwed rate (forgotten number parts) (set dues (number - 1) (record { value = value; since = rate; parts = 0 }))
+  forget-one value low place d below = by (cases_eq number (place + 1))
+    where
+      none : Owing
+      none = record { value = value; since = rate; parts = 0 }
+
+      there : place < length dues
+      there = omega (arith, below, length-set dues (number - 1) none)
+
+      by : (number ≡ place + 1) ⊎ (number ≢ place + 1) → IsOwed rate (forgotten number parts (place + 1)) (slice_index_or (set dues (number - 1) none) place d)
+      by (inl same) =
+          let here : place ≡ number - 1 = omega (arith, same) in
+          let yes : (number == place + 1) ≡ true = eq-eqb number (place + 1) same in
+          let put : slice_index_or (set dues (number - 1) none) place d ≡ none = get_or-set_at dues (number - 1) place none d here (omega (arith, here, there)) in
+          subst (λ x. IsOwed rate (forgotten number parts (place + 1)) x) (sym put) (subst (λ k. IsOwed rate k none) (ap (λ b. if b then 0 else parts (place + 1)) (sym yes)) (owed-now rate 0 value (omega arith)))
+      by (inr other) =
+          let no : (number == place + 1) ≡ false = ne_eqb number (place + 1) other in
+          let stays : slice_index_or (set dues (number - 1) none) place d ≡ slice_index_or dues place d = get_or-set_other dues (number - 1) place none d (λ same. other (omega (arith, same, low))) in
+          subst (λ x. IsOwed rate (forgotten number parts (place + 1)) x) (sym stays) (subst (λ k. IsOwed rate k (slice_index_or dues place d)) (ap (λ b. if b then 0 else parts (place + 1)) (sym no)) (owed place d there))
+
+-- it keeps its value
+pub forget-value : (place rate : ℕ) (values : ℕ → ℕ) (dues : List Owing) (was : Owing) → place < length dues → was ≡ slice_index_or dues place was → HaveValues values dues → HaveValues values (set dues place (record { value = was.value; since = rate; parts = 0 }))
+forget-value place rate values dues was there is have i d below = by (cases_eq i place)
   where
-    from : ((y : A) × (i < length xs) × (slice_get xs i ≡ Some y) × (get_or xs i y ≡ y)) ⊎ ((length xs ≤ i) × (slice_get xs i ≡ None)) → (1 ≤ suc i) × (suc i ≤ length xs)
-    from (inl (y, below, here, same)) = (omega arith, omega (arith, below))
-    from (inr (past, none)) = absurd (let e : None ≡ Some x = sym none ∙ sym (at_number-suc xs i) ∙ is in cc)
+    now : Owing
+    now = record { value = was.value; since = rate; parts = 0 }
 
-live-is : (o : Option Bool) → option_any (λ flag. flag) o ≡ true → o ≡ Some true
-live-is None e = cc
-live-is (Some true) e = refl
-live-is (Some false) e = cc
+    by : (i ≡ place) ⊎ (i ≢ place) → (slice_index_or (set dues place now) i d).value ≡ values (i + 1)
+    by (inl same) = ap (λ (x : Owing). x.value) (get_or-set_at dues place i now d same there) ∙ ap (λ (x : Owing). x.value) is ∙ have place was there ∙ ap (λ k. values (k + 1)) (sym same)
+    by (inr other) = ap (λ (x : Owing). x.value) (get_or-set_other dues place i now d other) ∙ have i d (omega (arith, below, length-set dues place now))
 
--- nothing is due to a thread that was due something before it was made
-nothing-owed : (rate : ℕ) → IsOwed rate 0 (record { value = 0; since = 0; parts = 0 })
-nothing-owed rate = record { since = omega arith; exact = omega arith; few = omega arith }
+-- ---- new values
 
-pub forget-none : (rate thread : ℕ) (parts : ℕ → ℕ) (dues : List ThreadDue) → ((place : ℕ) → place < length dues → thread ≢ place + 1) → AreOwed rate parts dues → AreOwed rate (forgotten thread parts) dues
-forget-none rate thread parts dues other owed place d below =
-    let no : (thread == place + 1) ≡ false = ne_eqb thread (place + 1) (other place below) in
-    subst (λ k. IsOwed rate k (slice_index_or dues place d)) (ap (λ b. if b then 0 else parts (place + 1)) (sym no)) (owed place d below)
-
-pub forget-one : (rate thread : ℕ) (parts : ℕ → ℕ) (dues : List ThreadDue) → 1 ≤ thread → AreOwed rate parts dues → AreOwed rate (forgotten thread parts) (set dues (thread - 1) (record { value = 0; since = 0; parts = 0 }))
-forget-one rate thread parts dues low owed place d below = by (cases_eq thread (place + 1))
-  where
-    none : ThreadDue
-    none = record { value = 0; since = 0; parts = 0 }
-
-    there : place < length dues
-    there = omega (arith, below, length-set dues (thread - 1) none)
-
-    by : (thread ≡ place + 1) ⊎ (thread ≢ place + 1) → IsOwed rate (forgotten thread parts (place + 1)) (slice_index_or (set dues (thread - 1) none) place d)
-    by (inl same) =
-        let here : place ≡ thread - 1 = omega (arith, same) in
-        let yes : (thread == place + 1) ≡ true = eq-eqb thread (place + 1) same in
-        let put : slice_index_or (set dues (thread - 1) none) place d ≡ none = get_or-set_at dues (thread - 1) place none d here (omega (arith, here, there)) in
-        subst (λ x. IsOwed rate (forgotten thread parts (place + 1)) x) (sym put) (subst (λ k. IsOwed rate k none) (ap (λ b. if b then 0 else parts (place + 1)) (sym yes)) (nothing-owed rate))
-    by (inr other) =
-        let no : (thread == place + 1) ≡ false = ne_eqb thread (place + 1) other in
-        let stays : slice_index_or (set dues (thread - 1) none) place d ≡ slice_index_or dues place d = get_or-set_other dues (thread - 1) place none d (λ same. other (omega (arith, same, low))) in
-        subst (λ x. IsOwed rate (forgotten thread parts (place + 1)) x) (sym stays) (subst (λ k. IsOwed rate k (slice_index_or dues place d)) (ap (λ b. if b then 0 else parts (place + 1)) (sym no)) (owed place d there))
-
--- a thread's new value is put into the table
-pub record HaveValues (s : State) (place rate : ℕ) (old new : List ThreadDue) : Type 0 where
+-- the first so many have their new values, the others their old ones, and what is due stays
+pub record HaveTaken (values : ℕ → ℕ) (place rate : ℕ) (old new : List Owing) : Type 0 where
   pub count : length new ≡ length old
   pub owed : (parts : ℕ → ℕ) → AreOwed rate parts old → AreOwed rate parts new
-  pub values : (i : ℕ) (d : ThreadDue) → i < place → i < length old → (slice_index_or new i d).value ≡ live_part s (i + 1) (value_of s (i + 1))
+  pub taken : (i : ℕ) (d : Owing) → i < place → i < length old → (slice_index_or new i d).value ≡ values (i + 1)
+  pub left : (i : ℕ) (d : Owing) → place ≤ i → i < length old → (slice_index_or new i d).value ≡ (slice_index_or old i d).value
 
-pub no-values : (s : State) (rate : ℕ) (old : List ThreadDue) → HaveValues s 0 rate old old
-no-values s rate old = record { count = refl; owed = λ parts owed. owed; values = λ i d below there. absurd (omega (arith, below)) }
+pub none-taken : (values : ℕ → ℕ) (rate : ℕ) (old : List Owing) → HaveTaken values 0 rate old old
+none-taken values rate old = record { count = refl; owed = λ parts owed. owed; taken = λ i d below there. absurd (omega (arith, below)); left = λ i d past there. refl }
 
-pub one-value : (s : State) (place rate value parts_now : ℕ) (old mid : List ThreadDue) (was : ThreadDue) → place < length mid → was ≡ slice_index_or mid place was → ((parts : ℕ) → IsOwed rate parts was → parts_now ≡ parts)
-    → value ≡ live_part s (place + 1) (value_of s (place + 1)) → HaveValues s place rate old mid → HaveValues s (place + 1) rate old (set mid place (record { value = value; since = rate; parts = parts_now }))
-one-value s place rate value parts_now old mid was below is exact own have = record { count = length-set mid place now ∙ have.count; owed = owed; values = values }
+pub one-taken : (values : ℕ → ℕ) (place rate value parts_now : ℕ) (old mid : List Owing) (was : Owing) → place < length mid → was ≡ slice_index_or mid place was → ((parts : ℕ) → IsOwed rate parts was → parts_now ≡ parts)
+    → value ≡ values (place + 1) → HaveTaken values place rate old mid → HaveTaken values (place + 1) rate old (set mid place (record { value = value; since = rate; parts = parts_now }))
+one-taken values place rate value parts_now old mid was below is exact own have = record { count = length-set mid place now ∙ have.count; owed = owed; taken = taken; left = left }
   where
-    now : ThreadDue
+    now : Owing
     now = record { value = value; since = rate; parts = parts_now }
 
     owed : (parts : ℕ → ℕ) → AreOwed rate parts old → AreOwed rate parts (set mid place now)
@@ -366,160 +368,169 @@ one-value s place rate value parts_now old mid was below is exact own have = rec
             (subst (λ k. IsOwed rate (parts (k + 1)) now) (sym same) (subst (λ k. IsOwed rate k now) sum (owed-now rate parts_now value (omega (arith, sum, here.few)))))
         by (inr other) = subst (λ x. IsOwed rate (parts (i + 1)) x) (sym (get_or-set_other mid place i now d other)) (have.owed parts before i d within)
 
-    values : (i : ℕ) (d : ThreadDue) → i < place + 1 → i < length old → (slice_index_or (set mid place now) i d).value ≡ live_part s (i + 1) (value_of s (i + 1))
-    values i d few there = by (cases_eq i place)
+    taken : (i : ℕ) (d : Owing) → i < place + 1 → i < length old → (slice_index_or (set mid place now) i d).value ≡ values (i + 1)
+    taken i d few there = by (cases_eq i place)
       where
-        by : (i ≡ place) ⊎ (i ≢ place) → (slice_index_or (set mid place now) i d).value ≡ live_part s (i + 1) (value_of s (i + 1))
-        by (inl same) = ap (λ (x : ThreadDue). x.value) (get_or-set_at mid place i now d same below) ∙ own ∙ ap (λ k. live_part s (k + 1) (value_of s (k + 1))) (sym same)
+        by : (i ≡ place) ⊎ (i ≢ place) → (slice_index_or (set mid place now) i d).value ≡ values (i + 1)
+        by (inl same) = ap (λ (x : Owing). x.value) (get_or-set_at mid place i now d same below) ∙ own ∙ ap (λ k. values (k + 1)) (sym same)
         by (inr other) =
             let before : i < place = lower (cases_lt i place) in
-            ap (λ (x : ThreadDue). x.value) (get_or-set_other mid place i now d other) ∙ have.values i d before there
+            ap (λ (x : Owing). x.value) (get_or-set_other mid place i now d other) ∙ have.taken i d before there
           where
             lower : (i < place) ⊎ (place ≤ i) → i < place
             lower (inl h) = h
             lower (inr h) = absurd (other (omega (arith, h, few)))
 
--- a live thread's value is part of that of all
-pub part-within : (s : State) (t : ℕ) → live_part s t (value_of s t) ≤ live_value s
-part-within s t = by (is_live (live_of s) t) refl
+    left : (i : ℕ) (d : Owing) → place + 1 ≤ i → i < length old → (slice_index_or (set mid place now) i d).value ≡ (slice_index_or old i d).value
+    left i d past there =
+        ap (λ (x : Owing). x.value) (get_or-set_other mid place i now d (λ same. omega (arith, same, past))) ∙ have.left i d (omega (arith, past)) there
+
+-- all have their new values, if the others' were right before
+pub all-taken : (values : ℕ → ℕ) (place rate count : ℕ) (old new : List Owing) → HaveTaken values place rate old new → ((i : ℕ) → place ≤ i → i < length old → count ≤ i)
+    → ((i : ℕ) (d : Owing) → i < length old → count ≤ i → (slice_index_or old i d).value ≡ values (i + 1)) → HaveValues values new
+all-taken values place rate count old new have past few i d below = by (cases_lt i place)
   where
-    all : ℕ → ℕ
-    all u = cond (is_live (live_of s) u) (value_of s u) 0
+    there : i < length old
+    there = omega (arith, below, have.count)
 
-    whole : live_value s ≡ sum_by all (numbers s.records)
-    whole = sum-filter (value_of s) (is_live (live_of s)) (numbers s.records)
+    by : (i < place) ⊎ (place ≤ i) → (slice_index_or new i d).value ≡ values (i + 1)
+    by (inl before) = have.taken i d before there
+    by (inr after) = have.left i d after there ∙ few i d there (past i after there)
 
-    by : (b : Bool) → is_live (live_of s) t ≡ b → (if b then value_of s t else 0) ≤ live_value s
-    by false is = omega arith
-    by true is =
-        let there : at_number (live_of s) t ≡ Some true = live-is (at_number (live_of s) t) is in
-        let (low, within) = numbered (live_of s) t true there in
-        let high : t ≤ length s.records = omega (arith, within, length-map s.records (λ (r : Record). is_live_status r.status)) in
-        let place : get_or (numbers s.records) (t - 1) 0 ≡ t = get_or-range_with_len 1 (length s.records) (t - 1) 0 (omega (arith, low, high)) ∙ omega (arith, low) in
-        let long : length (numbers s.records) ≡ length s.records = length-range_with_len 1 (length s.records) in
-        let part : all (get_or (numbers s.records) (t - 1) 0) ≤ sum_by all (numbers s.records) = get_or-le-sum_by all (numbers s.records) (t - 1) 0 (omega (arith, low, high, long)) in
-        let own : all (get_or (numbers s.records) (t - 1) 0) ≡ value_of s t = ap all place ∙ ap (λ b. cond b (value_of s t) 0) is in
-        omega (arith, part, own, whole)
+-- ---- rates
 
--- a rate, and the ticks that count, from the numbers that the table keeps
-pub rate-none : (s : State) (value ticks : ℕ) → value ≡ live_value s → value ≡ 0 → (due_rate s ticks ≡ 0) × (live_ticks s ticks ≡ 0)
-rate-none s value ticks values none =
-    let no : (live_value s == 0) ≡ true = eq-eqb (live_value s) 0 (sym values ∙ none) in
-    (ap (λ b. if b then 0 else (ticks * tick_parts + (live_value s - 1)) / live_value s) no, ap (λ b. if b then 0 else ticks) no)
-
-pub rate-some : (s : State) (value ticks rate : ℕ) → value ≡ live_value s → value ≢ 0 → rate ≡ (ticks * tick_parts + (value - 1)) / value → (rate ≡ due_rate s ticks) × (live_ticks s ticks ≡ ticks)
-rate-some s value ticks rate values some is =
-    let yes : (live_value s == 0) ≡ false = ne_eqb (live_value s) 0 (λ none. some (values ∙ none)) in
-    (is ∙ ap (λ v. (ticks * tick_parts + (v - 1)) / v) values ∙ sym (ap (λ b. if b then 0 else (ticks * tick_parts + (live_value s - 1)) / live_value s) yes), ap (λ b. if b then 0 else ticks) yes)
-
-live-few : (s : State) (ticks : ℕ) → live_ticks s ticks ≤ ticks
-live-few s ticks = by (live_value s == 0)
+-- the ticks that count are no more
+shared-few : (whole ticks : ℕ) → shared_ticks whole ticks ≤ ticks
+shared-few whole ticks = by (whole == 0)
   where
     by : (b : Bool) → (if b then 0 else ticks) ≤ ticks
     by true = omega arith
     by false = omega arith
 
--- a turn's rate, times all values, is little more than the parts of its ticks
-rate-within : (s : State) (ticks : ℕ) → ticks < 2 ^ 32 → live_value s < 2 ^ 96 → live_value s * due_rate s ticks ≤ 2 ^ 97
-rate-within s ticks few small = by (live_value s == 0) refl
+-- a turn's rate, times the whole, is little more than the parts of its ticks
+rate-within : (whole ticks : ℕ) → ticks < 2 ^ 32 → whole < 2 ^ 96 → whole * rate_in whole ticks ≤ 2 ^ 97
+rate-within whole ticks few small = by (whole == 0) refl
   where
-    by : (b : Bool) → (live_value s == 0) ≡ b → live_value s * (if b then 0 else (ticks * tick_parts + (live_value s - 1)) / live_value s) ≤ 2 ^ 97
+    by : (b : Bool) → (whole == 0) ≡ b → whole * (if b then 0 else (ticks * tick_parts + (whole - 1)) / whole) ≤ 2 ^ 97
     by true none = omega arith
-    by false some = omega (arith, mul-div-le (ticks * tick_parts + (live_value s - 1)) (live_value s), few, small)
+    by false some = omega (arith, mul-div-le (ticks * tick_parts + (whole - 1)) whole, few, small)
 
-pub part-few : (s : State) (t ticks : ℕ) → ticks < 2 ^ 32 → live_value s < 2 ^ 96 → due_part s t ticks ≤ 2 ^ 97
-part-few s t ticks few small =
-    omega (arith, mul-le-mul_right (due_rate s ticks) (part-within s t), rate-within s ticks few small)
-
-rate-few : (s : State) (ticks : ℕ) → ticks < 2 ^ 32 → live_value s < 2 ^ 96 → due_rate s ticks ≤ 2 ^ 97
-rate-few s ticks few small = by (live_value s == 0) refl
+rate-few : (whole ticks : ℕ) → ticks < 2 ^ 32 → whole < 2 ^ 96 → rate_in whole ticks ≤ 2 ^ 97
+rate-few whole ticks few small = by (whole == 0) refl
   where
-    by : (b : Bool) → (live_value s == 0) ≡ b → (if b then 0 else (ticks * tick_parts + (live_value s - 1)) / live_value s) ≤ 2 ^ 97
+    by : (b : Bool) → (whole == 0) ≡ b → (if b then 0 else (ticks * tick_parts + (whole - 1)) / whole) ≤ 2 ^ 97
     by true none = omega arith
-    by false some = omega (arith, div-le_self (ticks * tick_parts + (live_value s - 1)) (live_value s), few, small)
+    by false some = omega (arith, div-le_self (ticks * tick_parts + (whole - 1)) whole, few, small)
+
+part-few : (sharers : Sharers) (s : State) (number ticks : ℕ) → IsSound s → ticks < 2 ^ 32 → part_in sharers s number ticks ≤ 2 ^ 97
+part-few sharers s number ticks sound few =
+    omega (arith, mul-le-mul_right (rate_in (whole_in sharers s) ticks) (value-within sharers s sound number), rate-within (whole_in sharers s) ticks few (whole-small sharers s sound))
+
+-- ---- one place
+
+pub owed-at : (sharers : Sharers) (first s : State) (done : List TimedTurn) (n : ℕ) (table : DueTable) (number : ℕ) (was : Owing) → AreDue sharers first done n s table → 1 ≤ number → number ≤ length table.places.items → was ≡ slice_index_or table.places.items (number - 1) was
+    → IsOwed table.rate (due_to sharers first done number) was × (due_to sharers first done number ≤ n * 2 ^ 97)
+owed-at sharers first s done n table number was are low high is =
+    let e : number - 1 + 1 ≡ number = omega (arith, low) in
+    let one = are.each (number - 1) was (omega (arith, low, high)) in
+    (subst (λ k. IsOwed table.rate (due_to sharers first done k) was) e (subst (λ x. IsOwed table.rate (due_to sharers first done (number - 1 + 1)) x) (sym is) one.owed), subst (λ k. due_to sharers first done k ≤ n * 2 ^ 97) e one.few)
+
+-- those without a number have no value, before the turn and after it
+pub few-values : (sharers : Sharers) (first s next : State) (done : List TimedTurn) (n : ℕ) (e : Event) (r : Reply) (old new : DueTable) → AreDue sharers first done n s old → Answers s e r next → IsSound next → new.sharers ≡ old.sharers → new.places.items ≡ old.places.items
+    → (place : ℕ) (d : Owing) → place < length new.places.items → count_in new.sharers next ≤ place → (slice_index_or new.places.items place d).value ≡ value_in new.sharers next (place + 1)
+few-values sharers first s next done n e r old new was answers sound same items place d below past =
+    let is : new.sharers ≡ sharers = same ∙ was.sharers_are in
+    let few : count_in sharers next ≤ place = subst (λ x. count_in x next ≤ place) is past in
+    ap (λ (ds : List Owing). (slice_index_or ds place d).value) items ∙ (was.each place d (omega (arith, below, ap length items))).value
+    ∙ value-none sharers s was.sound (place + 1) (omega (arith, count-grows s e r next answers sharers, few)) ∙ sym (value-none sharers next sound (place + 1) (omega (arith, few))) ∙ ap (λ x. value_in x next (place + 1)) (sym is)
 
 -- ---- a turn more
 
-module _ (first s : State) (done : List TimedTurn) (n : ℕ) (ticks : ℕ) (old : DueTable) (room : n < 2 ^ 24) (short : ticks < 2 ^ 32) (was : AreDue first done n s old) where
-  small : live_value s < 2 ^ 96
-  small = omega (arith, was.small, was.values)
+-- so many ticks have passed for the table, up to this time
+pub record HasPassed (ticks : ℕ) (old : DueTable) (now : ℕ) (new : DueTable) : Type 0 where
+  pub sharers_are : new.sharers ≡ old.sharers
+  pub time : new.time ≡ now
+  pub rate : new.rate ≡ old.rate + rate_in old.whole ticks
+  pub shared : new.shared_time ≡ old.shared_time + shared_ticks old.whole ticks
+  pub count : length new.places.items ≡ length old.places.items
 
-  -- the parts due after the turn, if it makes no thread
+module _ (sharers : Sharers) (first s : State) (done : List TimedTurn) (n : ℕ) (ticks : ℕ) (old : DueTable) (room : n < 2 ^ 24) (short : ticks < 2 ^ 32) (was : AreDue sharers first done n s old) where
+  -- the parts due after the turn, if it makes none of them
   abbrev pub then_due : ℕ → ℕ
-  then_due t = due_in first done t + due_part s t ticks
+  then_due k = due_to sharers first done k + part_in sharers s k ticks
 
-  part-more : (t : ℕ) → due_part s t ticks ≤ 2 ^ 97
-  part-more t = part-few s t ticks short small
+  part-more : (k : ℕ) → part_in sharers s k ticks ≤ 2 ^ 97
+  part-more k = part-few sharers s k ticks was.sound short
 
-  -- each thread in the table is due so much at the new rate
-  pub owed-then : AreOwed (old.rate + due_rate s ticks) then_due old.threads.items
+  -- each of them is due so much at the new rate
+  pub owed-then : AreOwed (old.rate + rate_in old.whole ticks) then_due old.places.items
   owed-then place d below =
       let w = was.each place d below in
-      let due = slice_index_or old.threads.items place d in
-      let product : due.value * due_rate s ticks ≡ due_part s (place + 1) ticks = ap (λ v. v * due_rate s ticks) w.value in
-      let more = owed-more old.rate (due_rate s ticks) (due_in first done (place + 1)) due w.owed (omega (arith, product, part-more (place + 1), w.few, room)) in
-      subst (λ k. IsOwed (old.rate + due_rate s ticks) (due_in first done (place + 1) + k) due) product more
+      let due = slice_index_or old.places.items place d in
+      let rate : rate_in old.whole ticks ≡ rate_in (whole_in sharers s) ticks = ap (λ k. rate_in k ticks) was.whole in
+      let product : due.value * rate_in old.whole ticks ≡ part_in sharers s (place + 1) ticks = ap (λ k. due.value * k) rate ∙ ap (λ v. v * rate_in (whole_in sharers s) ticks) w.value in
+      let more = owed-more old.rate (rate_in old.whole ticks) (due_to sharers first done (place + 1)) due w.owed (omega (arith, product, part-more (place + 1), w.few, room)) in
+      subst (λ k. IsOwed (old.rate + rate_in old.whole ticks) (due_to sharers first done (place + 1) + k) due) product more
 
-  module _ (next : State) (turn : TimedTurn) (e : Event) (r : Reply) (new : DueTable) (lasted : turn.time - old.time ≡ ticks) (answered : turn.turn.answer ≡ Answered e r) (led : turn.turn.world.state ≡ next) (time : new.time ≡ turn.time)
-      (lived : new.live_time ≡ old.live_time + live_ticks s ticks) (rate : new.rate ≡ old.rate + due_rate s ticks) where
+  module _ (next : State) (turn : TimedTurn) (e : Event) (r : Reply) (new : DueTable) (lasted : turn.time - old.time ≡ ticks) (answered : turn.turn.answer ≡ Answered e r) (led : turn.turn.world.state ≡ next) (sound : IsSound next) (passed : HasPassed ticks old turn.time new) where
     lasted_since : turn.time - time_after 0 done ≡ ticks
     lasted_since = ap (λ k. turn.time - k) (sym was.time) ∙ lasted
 
-    time-now : new.time ≡ time_after 0 (done ++ turn ∷ [])
-    time-now = time ∙ sym (time-more 0 done turn)
+    due-now : (k : ℕ) → due_to sharers first (done ++ turn ∷ []) k ≡ (if makes_one sharers k (Answered e r) then 0 else then_due k)
+    due-now k =
+        let part : State → ℕ → ℕ = λ state lasted. part_in sharers state k lasted in
+        due-more part (makes_one sharers k) first 0 0 done turn ∙ (λ i. due_after part (makes_one sharers k) (was.state i) (lasted_since i) (due_to sharers first done k) (answered i))
 
-    live-now : new.live_time ≡ live_time first (done ++ turn ∷ [])
-    live-now = lived ∙ ap (λ k. k + live_ticks s ticks) was.live_time ∙ sym (live-more first 0 0 done turn ∙ (λ i. live_time first done + live_ticks (was.state i) (lasted_since i)))
-
-    short-now : new.live_time ≤ (n + 1) * 2 ^ 32
-    short-now = omega (arith, lived, was.short, live-few s ticks, short)
-
-    due-now : (t : ℕ) → due_in first (done ++ turn ∷ []) t ≡ (if makes t (Answered e r) then 0 else then_due t)
-    due-now t = due-more first 0 t 0 done turn ∙ (λ i. due_after (was.state i) (lasted_since i) t (due_in first done t) (answered i))
-
-    state-now : state_after first (done ++ turn ∷ []) ≡ next
-    state-now = state-more first done turn ∙ led
-
-    rate-now : new.rate ≤ (n + 1) * 2 ^ 97
-    rate-now = omega (arith, rate, was.rate, rate-few s ticks short small)
-
-    few-now : (place : ℕ) (d : ThreadDue) → place < length old.threads.items → due_in first (done ++ turn ∷ []) (place + 1) ≤ (n + 1) * 2 ^ 97
-    few-now place d below = by (makes (place + 1) (Answered e r)) refl
+    few-now : (place : ℕ) (d : Owing) → place < length old.places.items → due_to sharers first (done ++ turn ∷ []) (place + 1) ≤ (n + 1) * 2 ^ 97
+    few-now place d below = by (makes_one sharers (place + 1) (Answered e r)) refl
       where
-        by : (b : Bool) → makes (place + 1) (Answered e r) ≡ b → due_in first (done ++ turn ∷ []) (place + 1) ≤ (n + 1) * 2 ^ 97
+        by : (b : Bool) → makes_one sharers (place + 1) (Answered e r) ≡ b → due_to sharers first (done ++ turn ∷ []) (place + 1) ≤ (n + 1) * 2 ^ 97
         by true is = omega (arith, due-now (place + 1) ∙ ap (λ b. if b then 0 else then_due (place + 1)) is)
         by false is = omega (arith, due-now (place + 1) ∙ ap (λ b. if b then 0 else then_due (place + 1)) is, part-more (place + 1), (was.each place d below).few)
 
-    -- after a draw, and after a quantum has ended, values stay
-    pub dues-kept : IsDispatch e → Answers s e r next → new.threads.items ≡ old.threads.items → new.live_value ≡ old.live_value → AreDue first (done ++ turn ∷ []) (n + 1) next new
-    dues-kept dispatch answers same value = record { state = state-now; time = time-now; live_time = live-now; short = short-now; values = value ∙ was.values ∙ sym (values-kept s e dispatch r next answers); small = omega (arith, value, was.small); rate = rate-now; each = each }
-      where
-        none : (t : ℕ) → then_due t ≡ due_in first (done ++ turn ∷ []) t
-        none t = sym (due-now t ∙ ap (λ b. if b then 0 else then_due t) (none-made s e dispatch r next answers t))
+    rate-is : rate_in old.whole ticks ≡ rate_in (whole_in sharers s) ticks
+    rate-is = ap (λ k. rate_in k ticks) was.whole
 
-        each : (place : ℕ) (d : ThreadDue) → place < length new.threads.items → IsDueThread first (done ++ turn ∷ []) (n + 1) next new.rate (place + 1) (slice_index_or new.threads.items place d)
-        each place d below =
-            let there : place < length old.threads.items = omega (arith, below, ap length same) in
-            let w = was.each place d there in
-            let owed = subst (λ k. IsOwed (old.rate + due_rate s ticks) k (slice_index_or old.threads.items place d)) (none (place + 1)) (owed-then place d there) in
-            subst (λ (ds : List ThreadDue). IsDueThread first (done ++ turn ∷ []) (n + 1) next new.rate (place + 1) (slice_index_or ds place d)) (sym same)
-            (record {
-              value = w.value ∙ sym (part-kept s e dispatch r next answers (place + 1));
-              owed = subst (λ k. IsOwed k (due_in first (done ++ turn ∷ []) (place + 1)) (slice_index_or old.threads.items place d)) (sym rate) owed;
-              few = few-now place d there;
-            })
+    shared-now : new.shared_time ≡ time_shared sharers first (done ++ turn ∷ [])
+    shared-now =
+        let counted : State → ℕ → ℕ = λ state lasted. shared_ticks (whole_in sharers state) lasted in
+        passed.shared ∙ ap (λ k. k + shared_ticks old.whole ticks) was.shared ∙ ap (λ k. time_shared sharers first done + shared_ticks k ticks) was.whole
+        ∙ sym (counted-more counted first 0 0 done turn ∙ (λ i. time_shared sharers first done + counted (was.state i) (lasted_since i)))
+
+    -- the table after the turn, from the values in it
+    due-with : new.whole ≡ whole_in sharers next → HaveValues (value_in sharers next) new.places.items → AreOwed new.rate (due_to sharers first (done ++ turn ∷ [])) new.places.items → AreDue sharers first (done ++ turn ∷ []) (n + 1) next new
+    due-with whole values owed = record {
+      sharers_are = passed.sharers_are ∙ was.sharers_are;
+      state = state-more first done turn ∙ led;
+      sound = sound;
+      time = passed.time ∙ sym (time-more 0 done turn);
+      shared = shared-now;
+      short = omega (arith, passed.shared, was.short, shared-few old.whole ticks, short);
+      whole = whole;
+      rate = omega (arith, passed.rate, was.rate, rate-is, rate-few (whole_in sharers s) ticks short (whole-small sharers s was.sound));
+      each = λ place d below. record { value = values place d below; owed = owed place d below; few = few-now place d (omega (arith, below, passed.count)) };
+    }
+
+    -- after a draw, and after a quantum has ended, values stay
+    pub dues-kept : IsDispatch e → Answers s e r next → new.places.items ≡ old.places.items → new.whole ≡ old.whole → AreDue sharers first (done ++ turn ∷ []) (n + 1) next new
+    dues-kept dispatch answers same whole = due-with (whole ∙ was.whole ∙ sym (whole-kept s e dispatch r next answers sharers)) values owed
+      where
+        none : (k : ℕ) → then_due k ≡ due_to sharers first (done ++ turn ∷ []) k
+        none k = sym (due-now k ∙ ap (λ b. if b then 0 else then_due k) (none-made s e dispatch r next answers sharers k))
+
+        values : HaveValues (value_in sharers next) new.places.items
+        values =
+            subst (λ (ds : List Owing). HaveValues (value_in sharers next) ds) (sym same)
+            (λ place d below. (was.each place d below).value ∙ sym (value-kept s e dispatch r next answers sharers (place + 1)))
+
+        owed : AreOwed new.rate (due_to sharers first (done ++ turn ∷ [])) new.places.items
+        owed place d below =
+            let there : place < length old.places.items = omega (arith, below, ap length same) in
+            subst (λ (ds : List Owing). IsOwed new.rate (due_to sharers first (done ++ turn ∷ []) (place + 1)) (slice_index_or ds place d)) (sym same)
+            (subst (λ k. IsOwed k (due_to sharers first (done ++ turn ∷ []) (place + 1)) (slice_index_or old.places.items place d)) (sym passed.rate)
+            (subst (λ k. IsOwed (old.rate + rate_in old.whole ticks) k (slice_index_or old.places.items place d)) (none (place + 1)) (owed-then place d there)))
 
     -- after any other turn they are taken over anew
-    pub dues-changed : new.live_value ≡ live_value next → new.live_value < 2 ^ 96 → length new.threads.items ≡ length old.threads.items
-        → ((place : ℕ) (d : ThreadDue) → place < length old.threads.items → (slice_index_or new.threads.items place d).value ≡ live_part next (place + 1) (value_of next (place + 1)))
-        → AreOwed new.rate (parts_before (Answered e r) then_due) new.threads.items → AreDue first (done ++ turn ∷ []) (n + 1) next new
-    dues-changed value few count values owed = record { state = state-now; time = time-now; live_time = live-now; short = short-now; values = value; small = few; rate = rate-now; each = each }
-      where
-        each : (place : ℕ) (d : ThreadDue) → place < length new.threads.items → IsDueThread first (done ++ turn ∷ []) (n + 1) next new.rate (place + 1) (slice_index_or new.threads.items place d)
-        each place d below =
-            let there : place < length old.threads.items = omega (arith, below, count) in
-            record {
-              value = values place d there;
-              owed = subst (λ k. IsOwed new.rate k (slice_index_or new.threads.items place d)) (sym (due-now (place + 1))) (owed place d below);
-              few = few-now place d there;
-            }
+    pub dues-changed : new.whole ≡ whole_in sharers next → HaveValues (value_in sharers next) new.places.items → AreOwed new.rate (parts_before sharers (Answered e r) then_due) new.places.items → AreDue sharers first (done ++ turn ∷ []) (n + 1) next new
+    dues-changed whole values owed =
+        due-with whole values (λ place d below. subst (λ k. IsOwed new.rate k (slice_index_or new.places.items place d)) (sym (due-now (place + 1))) (owed place d below))

@@ -24,6 +24,8 @@ use Rattle.lot_playback.specs.Owed.{Answers}
 use Rattle.lot_playback.proofs.AlarmFacts.{none-asleep}
 use Rattle.lot_playback.specs.declared.timekeeper.Timekeeper.{Timekeeper}
 use Rattle.lot_playback.specs.InTime.{AreAlarms, AreNumbered, HasDues, HasFollowed, HasRoomFor, IsFollowed, alarms_in, moment_in, next_turns, turns_done}
+use Rattle.lot_above.specs.Found.{FoundNodes}
+use Rattle.lot_engine.specs.Searching.{HasLayoutFor}
 use Rattle.lot_engine.specs.Seen.{Seen, after_turn, commands_made, world_of}
 use Rattle.lot_engine.proofs.Runs.{system_run-one_more}
 use Rattle.lot_engine.proofs.TurnFacts.{count-console, count-processor}
@@ -258,6 +260,24 @@ opened-followed program timekeeper bounds sleeping nobody as_many time clocks fi
       followed = followed;
       dues = dues;
     }
+
+-- a search before a turn leaves the records those of the turns made
+pub looked-followed : (program : Program) (seen : Seen) (timekeeper : Timekeeper) (above : FoundNodes) → HasLayoutFor program above → IsFollowed program seen timekeeper → IsFollowed program seen (record timekeeper { currencies = record timekeeper.currencies { above = above } })
+looked-followed program seen timekeeper above layout is = record {
+  program_is = is.program_is;
+  room_is = is.room_is;
+  timer_is = is.timer_is;
+  bounds = is.bounds;
+  history = is.history;
+  moment = is.moment;
+  rest = is.rest;
+  left = is.left;
+  room = record { clocks = is.room.clocks; mutexes = is.room.mutexes; replies = is.room.replies; lives = is.room.lives; refused_traps = is.room.refused_traps; ready = is.room.ready; dues = is.room.dues; alarms = is.room.alarms; ticks = is.room.ticks; currency_dues = is.room.currency_dues; above = layout };
+  sleeping = is.sleeping;
+  sleepers = is.sleepers;
+  followed = record { idled = is.followed.idled; mutexes = is.followed.mutexes; replies = is.followed.replies; lives = is.followed.lives; refused_traps = is.followed.refused_traps; refused = is.followed.refused; few = is.followed.few };
+  dues = record { ready = is.dues.ready; dues = is.dues.dues; currencies = record { ticks = is.dues.currencies.ticks; few = is.dues.currencies.few; dues = is.dues.currencies.dues } };
+}
 
 -- what a result that is an error says of its value
 pub if-ok-none : {A E : Type 0} (r : Result A E) (P : A → Type 0) → IsErr r → IfOk r P

@@ -8,5 +8,8 @@ pub mod MadeFacts
 pub mod PlaceFacts
 pub mod ClockFacts
 pub mod DispatchFacts
+pub mod WorthFacts
+pub mod MadeCurrencies
 pub mod DueFacts
+pub mod TickFacts
 pub mod ValueFacts

@@ -26,8 +26,11 @@ use Rattle.lot_playback.specs.declared.alarms.Alarms.{Alarms}
 use Rattle.lot_playback.specs.declared.timekeeper.Timekeeper.{Timekeeper}
 use Rattle.lot_script.specs.Slices.{Parts}
 use Rattle.lot_engine.specs.Playing.{turn_in}
+use Rattle.lot_engine.specs.Searching.{HasLayoutFor}
 use Rattle.lot_engine.specs.Seen.{Seen, commands_made, world_of}
+use Rattle.lot_playback.specs.declared.sharers.Sharers.TheVariants.{Threads}
 use Rattle.lot_playback.specs.Owed.{AreDue, AreReadyFor}
+use Rattle.lot_playback.specs.TicksBelow.{AreCurrencies}
 
 -- the moment of a system at this time, with these clocks and alarms, and with nothing refused so far
 abbrev pub moment_of : Seen → ℕ → List Clock → (ℕ → Option ℕ) → Moment
@@ -97,14 +100,14 @@ change_by locks (reply.Trapped thread ticks (outcome.Passed to drawn) ends) = En
 change_by locks other = Nobody
 
 -- a thread's spans in these turns, which are within the range of n turns
-pub record IsSpans (change : Turn → SpanChange) (done : List TimedTurn) (n t : ℕ) (waits : Spans) : Type 0 where
-  pub exact : waits ≡ spans_in change done t
-  pub count : waits.count ≤ n
-  pub total : waits.total ≤ n * 2 ^ 32
+pub record IsSpans (change : Turn → SpanChange) (done : List TimedTurn) (n t : ℕ) (spans : Spans) : Type 0 where
+  pub exact : spans ≡ spans_in change done t
+  pub count : spans.count ≤ n
+  pub total : spans.total ≤ n * 2 ^ 32
 
 -- each thread's spans in these turns, starting with thread 1
 abbrev pub AreSpans : (Turn → SpanChange) → List TimedTurn → ℕ → List Spans → Type 0
-AreSpans change done n waits = (place : ℕ) (d : Spans) → place < length waits → IsSpans change done n (place + 1) (slice_index_or waits place d)
+AreSpans change done n spans = (place : ℕ) (d : Spans) → place < length spans → IsSpans change done n (place + 1) (slice_index_or spans place d)
 
 -- each thread's spans are unchanged, except for this change at this time
 pub record HaveFollowed (time : ℕ) (change : SpanChange) (old new : List Spans) : Type 0 where
@@ -113,7 +116,7 @@ pub record HaveFollowed (time : ℕ) (change : SpanChange) (old new : List Spans
 
 -- each thread's spans leave room for one more
 abbrev pub AreFew : List Spans → Type 0
-AreFew waits = (place : ℕ) (d : Spans) → place < length waits → ((slice_index_or waits place d).count < 2 ^ 31) × ((slice_index_or waits place d).total < 2 ^ 63)
+AreFew spans = (place : ℕ) (d : Spans) → place < length spans → ((slice_index_or spans place d).count < 2 ^ 31) × ((slice_index_or spans place d).total < 2 ^ 63)
 
 -- a thread's count of refused traps in these turns, which is within the range of n turns
 pub record IsRefusedTraps (done : List TimedTurn) (n t count : ℕ) : Type 0 where
@@ -145,13 +148,14 @@ pub record HasFollowed (done : List TimedTurn) (n : ℕ) (timekeeper : Timekeepe
   pub refused : timekeeper.refused ≡ total_of refusals_in (actor_turns done)
   pub few : timekeeper.refused ≤ n
 
--- what threads are due and how long they waited to run are those of these turns, the first of which was made in the
--- first state, and which led to the other
+-- How long threads waited to run, what threads and currencies are due, and the ticks of the threads below currencies are
+-- those of these turns, the first of which was made in the first state, and which led to the other.
 pub record HasDues (first : State) (done : List TimedTurn) (n : ℕ) (s : State) (timekeeper : Timekeeper) : Type 0 where
   pub ready : AreReadyFor done n s timekeeper.ready.threads.items
-  pub dues : AreDue first done n s timekeeper.dues
+  pub dues : AreDue Threads first done n s timekeeper.dues
+  pub currencies : AreCurrencies first done n s timekeeper.currencies
 
--- the records have room for the program's processors and threads
+-- the records have room for the program's processors, threads and currencies
 pub record HasRoomFor (program : Program) (timekeeper : Timekeeper) : Type 0 where
   pub clocks : length timekeeper.clocks.processors.items ≡ program.limits.processors
   pub mutexes : length timekeeper.mutexes.threads.items ≡ program.limits.threads
@@ -159,8 +163,11 @@ pub record HasRoomFor (program : Program) (timekeeper : Timekeeper) : Type 0 whe
   pub lives : length timekeeper.lives.threads.items ≡ program.limits.threads
   pub refused_traps : length timekeeper.refused_traps.threads.items ≡ program.limits.threads
   pub ready : length timekeeper.ready.threads.items ≡ program.limits.threads
-  pub dues : length timekeeper.dues.threads.items ≡ program.limits.threads
+  pub dues : length timekeeper.dues.places.items ≡ program.limits.threads
   pub alarms : length timekeeper.alarms.threads.items ≡ program.limits.threads
+  pub ticks : length timekeeper.currencies.ticks.items ≡ program.limits.currencies
+  pub currency_dues : length timekeeper.currencies.dues.places.items ≡ program.limits.currencies
+  pub above : HasLayoutFor program timekeeper.currencies.above
 
 -- ---- turns that a system has made
 

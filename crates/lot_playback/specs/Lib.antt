@@ -6,5 +6,9 @@ pub mod Stages
 pub mod InTime
 -- The next turn of a play.
 pub mod Orders
--- The tables of what threads are due, and of how long they are Ready before they run.
+-- Those who share the time by their values: the threads, or the currencies.
+pub mod Sharing
+-- The tables of threads' waits to run, and of what threads and currencies are due.
 pub mod Owed
+-- The ticks of the threads below currencies, turn by turn.
+pub mod TicksBelow

@@ -1,20 +1,22 @@
--- The tables of what threads are due and of their waits to run, turn by turn.
+-- The tables of threads' waits to run, and of what threads and currencies are due, turn by turn.
 use Rattle.std.specs.Prelude.{◌≡◌, ◌⊎◌, ℕ, ◌+◌, ◌-◌, ◌*◌, ◌^◌, ◌<◌, ◌≤◌, ◌==◌, Bool, Option, Some, None, is_some, List, [], ◌∷◌, length, slice_index_or, if◌then◌else◌}
 use Rattle.lot_machine.specs.declared.event.Event.{Event}
 use Rattle.lot_machine.specs.declared.event.Event.TheVariants as event
 use Rattle.lot_machine.specs.declared.reply.Reply.{Reply}
 use Rattle.lot_machine.specs.declared.reply.Reply.TheVariants as reply
-use Rattle.lot_machine.specs.Facts.{live_value}
+use Rattle.lot_machine.specs.Facts.{IsSound}
 use Rattle.lot_machine.specs.Numbered.{option_any}
-use Rattle.lot_machine.specs.State.{State, is_ready, status_of, value_of}
+use Rattle.lot_machine.specs.State.{State, is_ready, status_of}
 use Rattle.lot_machine.specs.Step.{step}
 use Rattle.lot_simulation.specs.declared.timed.Spans.{Spans}
 use Rattle.lot_simulation.specs.Timed.{TimedTurn}
-use Rattle.lot_simulation.specs.TimedReport.{live_part, no_spans}
+use Rattle.lot_simulation.specs.TimedReport.{no_spans}
 use Rattle.lot_simulation.specs.World.{Answer}
 use Rattle.lot_playback.specs.declared.dues.DueTable.{DueTable}
-use Rattle.lot_playback.specs.declared.dues.ThreadDue.{ThreadDue}
-use Rattle.lot_simulation.specs.TimedReport.{due_in, live_time, makes, queued, ready_in}
+use Rattle.lot_playback.specs.declared.dues.Owing.{Owing}
+use Rattle.lot_playback.specs.declared.sharers.Sharers.{Sharers}
+use Rattle.lot_playback.specs.Sharing.{due_to, makes_one, time_shared, value_in, whole_in}
+use Rattle.lot_simulation.specs.TimedReport.{makes, queued, ready_in}
 
 -- the event is answered so in this state, and leads to the other
 abbrev pub Answers : State → Event → Reply → State → Type 0
@@ -29,9 +31,9 @@ abbrev pub state_after : State → List TimedTurn → State
 state_after s [] = s
 state_after s (done ∷ others) = state_after done.turn.world.state others
 
--- whether this is the thread with the number
-abbrev pub is_thread : ℕ → Option ℕ → Bool
-is_thread t o = option_any (λ u. u == t) o
+-- whether there is a number, and it is this one
+abbrev pub is_number : ℕ → Option ℕ → Bool
+is_number n o = option_any (λ other. other == n) o
 
 -- the thread that began to run, or whose quantum ended, with this reply
 abbrev pub moved_thread : Reply → Option ℕ
@@ -84,40 +86,44 @@ pub record AreReadyFor (done : List TimedTurn) (n : ℕ) (s : State) (waits : Li
   pub each : (place : ℕ) (d : Spans) → place < length waits → IsReadyFor done n (place + 1) (slice_index_or waits place d)
   pub now : AreWaiting s waits
 
--- ---- what threads are due
+-- ---- what threads and currencies are due
 
--- the thread is due these parts, when each base unit of value has been due so many
-pub record IsOwed (rate parts : ℕ) (due : ThreadDue) : Type 0 where
+-- these parts are due, when each base unit of value has been due so many
+pub record IsOwed (rate parts : ℕ) (due : Owing) : Type 0 where
   pub since : due.since ≤ rate
   pub exact : due.parts + due.value * (rate - due.since) ≡ parts
   pub few : parts < 2 ^ 122
 
--- each thread is due these parts, when each base unit of value has been due so many
-abbrev pub AreOwed : ℕ → (ℕ → ℕ) → List ThreadDue → Type 0
-AreOwed rate parts dues = (place : ℕ) (d : ThreadDue) → place < length dues → IsOwed rate (parts (place + 1)) (slice_index_or dues place d)
+-- each of them is due these parts, when each base unit of value has been due so many
+abbrev pub AreOwed : ℕ → (ℕ → ℕ) → List Owing → Type 0
+AreOwed rate parts dues = (place : ℕ) (d : Owing) → place < length dues → IsOwed rate (parts (place + 1)) (slice_index_or dues place d)
 
--- the parts that threads are due once this one is due nothing
+-- each of them has this value
+abbrev pub HaveValues : (ℕ → ℕ) → List Owing → Type 0
+HaveValues values dues = (place : ℕ) (d : Owing) → place < length dues → (slice_index_or dues place d).value ≡ values (place + 1)
+
+-- the parts that are due once the one with this number is due nothing
 abbrev pub forgotten : ℕ → (ℕ → ℕ) → ℕ → ℕ
-forgotten thread parts t = if thread == t then 0 else parts t
+forgotten number parts n = if number == n then 0 else parts n
 
--- the parts that threads are due before a turn with this answer: a thread that it makes is due nothing
-abbrev pub parts_before : Answer → (ℕ → ℕ) → ℕ → ℕ
-parts_before answer parts t = if makes t answer then 0 else parts t
+-- the parts that are due before a turn with this answer: one that it makes is due nothing
+abbrev pub parts_before : Sharers → Answer → (ℕ → ℕ) → ℕ → ℕ
+parts_before sharers answer parts n = if makes_one sharers n answer then 0 else parts n
 
--- a thread's place in the table after these turns, the first of which was made in the opening state, and which led to
--- this state
-pub record IsDueThread (opening : State) (done : List TimedTurn) (n : ℕ) (s : State) (rate t : ℕ) (due : ThreadDue) : Type 0 where
-  pub value : due.value ≡ live_part s t (value_of s t)
-  pub owed : IsOwed rate (due_in opening done t) due
-  pub few : due_in opening done t ≤ n * 2 ^ 97
+-- a place in the table after these turns, the first of which was made in the opening state, and which led to this state
+pub record IsDueOne (sharers : Sharers) (opening : State) (done : List TimedTurn) (n : ℕ) (s : State) (rate number : ℕ) (due : Owing) : Type 0 where
+  pub value : due.value ≡ value_in sharers s number
+  pub owed : IsOwed rate (due_to sharers opening done number) due
+  pub few : due_to sharers opening done number ≤ n * 2 ^ 97
 
 -- the table after these turns, the first of which was made in the opening state, and which led to this state
-pub record AreDue (opening : State) (done : List TimedTurn) (n : ℕ) (s : State) (table : DueTable) : Type 0 where
+pub record AreDue (sharers : Sharers) (opening : State) (done : List TimedTurn) (n : ℕ) (s : State) (table : DueTable) : Type 0 where
+  pub sharers_are : table.sharers ≡ sharers
   pub state : state_after opening done ≡ s
+  pub sound : IsSound s
   pub time : table.time ≡ time_after 0 done
-  pub live_time : table.live_time ≡ live_time opening done
-  pub short : table.live_time ≤ n * 2 ^ 32
-  pub values : table.live_value ≡ live_value s
-  pub small : table.live_value < 2 ^ 96
+  pub shared : table.shared_time ≡ time_shared sharers opening done
+  pub short : table.shared_time ≤ n * 2 ^ 32
+  pub whole : table.whole ≡ whole_in sharers s
   pub rate : table.rate ≤ n * 2 ^ 97
-  pub each : (place : ℕ) (d : ThreadDue) → place < length table.threads.items → IsDueThread opening done n s table.rate (place + 1) (slice_index_or table.threads.items place d)
+  pub each : (place : ℕ) (d : Owing) → place < length table.places.items → IsDueOne sharers opening done n s table.rate (place + 1) (slice_index_or table.places.items place d)

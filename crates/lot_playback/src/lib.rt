@@ -3,12 +3,14 @@
 
 mod alarms;
 mod clocks;
+mod currencies;
 mod dues;
 mod making;
 mod observer;
 mod playback;
 mod ready;
 mod refused_traps;
+mod sharers;
 mod spans;
 mod timekeeper;
 mod turn;
@@ -16,10 +18,12 @@ mod values;
 
 pub use alarms::Alarms;
 pub use clocks::Clocks;
-pub use dues::{DueTable, ThreadDue, is_dispatch};
+pub use currencies::CurrencyTable;
+pub use dues::{DueTable, Owing, is_dispatch, rate_of};
 pub use observer::Observer;
 pub use playback::{Order, Playback};
 pub use refused_traps::RefusedTraps;
+pub use sharers::Sharers;
 pub use spans::SpanTable;
 pub use timekeeper::Timekeeper;
 pub use turn::{NextTurn, Turn};

@@ -1,5 +1,6 @@
 //! Making a turn, in either order.
-ghost use Rattle.std.specs.Prelude.{◌≡◌, ℕ, ◌<◌, ◌≤◌, [], IfNone, IfSome, length};
+ghost use Rattle.std.specs.Prelude.{◌≡◌, ℕ, ◌<◌, ◌≤◌, [], IfNone, IfSome, Some, length};
+ghost use Rattle.lot_machine.specs.State.{thread_on};
 ghost use Rattle.lot_simulation.specs.World.{sleeper_on};
 ghost use Rattle.lot_simulation.specs.World.Answer.{Answered};
 ghost use Rattle.lot_engine.specs.Playing.{turn_in};
@@ -7,6 +8,7 @@ ghost use Rattle.lot_engine.specs.Seen.{after_turn, world_of};
 ghost use Rattle.lot_playback.specs.InTime.{CanFollow, IsDue};
 ghost use Rattle.lot_playback.specs.Orders.{IsAtPlace, IsAtTime};
 ghost use Rattle.lot_playback.specs.Stages.{IsNext, MakesTurn, turns_left};
+ghost use Rattle.lot_playback.specs.TicksBelow.{HasOthersAbove};
 ghost use Rattle.lot_playback.specs.Turns.{MadeTurn};
 
 use crate::{NextTurn, Timekeeper, Turn};
@@ -77,7 +79,8 @@ pub(crate) fn make_scheduled(
     turn.has_ended = !system.next_turn(next.actor, &mut turn.event, &mut turn.reply, &mut sleeper);
 }
 
-/// Makes the turn that is due by the clocks, and stores it in `turn`.
+/// Makes the turn that is due by the clocks, and stores it in `turn`. Which currencies are above the thread that runs
+/// is found before its turn, which may change it.
 ///
 /// It is never compiled into its caller, which is then small enough to be compiled into each loop over turns.
 #[inline(never)]
@@ -91,6 +94,27 @@ pub(crate) fn make_in_time(
     requires program { system.old.setting.program ≡ program.now }
     requires there { IsAtTime system.old timekeeper.old }
     requires next { IsNext (record { seen = system.old; made = length system.old.history }) next }
+    ensures there { IsAtTime system.new timekeeper.new }
+    ensures made { (made : MadeTurn) × MakesTurn (record { seen = system.old; made = length system.old.history })
+        (record { seen = system.new; made = length system.new.history }) turn.new made }
+{
+    timekeeper.currencies.look(system, next.actor);
+    make_and_follow(system, timekeeper, next, turn);
+}
+
+/// Makes the turn that is due by the clocks, stores it in `turn`, and records it in the timekeeper, which has found the
+/// currencies above the thread that runs.
+#[inline(always)]
+fn make_and_follow(
+    system: &mut System,
+    timekeeper: &mut Timekeeper,
+    next: NextTurn,
+    turn: &mut Turn,
+)
+    requires there { IsAtTime system.old timekeeper.old }
+    requires next { IsNext (record { seen = system.old; made = length system.old.history }) next }
+    requires found { (t : ℕ) → 0 < next.actor → thread_on (world_of system.old).state.records next.actor ≡ Some t
+        → HasOthersAbove (world_of system.old).state t timekeeper.old.currencies.above }
     ensures there { IsAtTime system.new timekeeper.new }
     ensures made { (made : MadeTurn) × MakesTurn (record { seen = system.old; made = length system.old.history })
         (record { seen = system.new; made = length system.new.history }) turn.new made }

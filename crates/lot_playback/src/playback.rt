@@ -77,7 +77,7 @@ impl Playback {
         ensures made { IfOk result (λ playback. HasMade program.now [] playback.seen) }
     {
         let system = System::open_timed(alloc, program, MOST_TURNS)?;
-        let timekeeper = Timekeeper::open(alloc, program)?;
+        let timekeeper = Timekeeper::open(alloc, program, &system)?;
         Ok(Playback {
             system,
             order: Order::InTime(timekeeper),
@@ -153,6 +153,13 @@ impl Playback {
         observer.before(program, &mut self.system, next.actor);
         self.make(program, next, turn);
         observer.after(program, &mut self.system, turn)
+    }
+
+    /// The system with the turns made.
+    pub fn system(&self) -> &System
+        ensures { result.now ≡ self.now.seen }
+    {
+        &self.system
     }
 
     /// The system with the turns made, and the position in their order.

@@ -12,7 +12,8 @@ ghost use Rattle.lot_playback.specs.Owed.{Answers, AreWaiting, HasFew, HaveQueue
 ghost use Rattle.lot_playback.specs.Owed.{waits_before};
 
 use crate::SpanTable;
-use crate::dues::{is_dispatch, new_thread};
+use crate::dues::is_dispatch;
+use crate::sharers::new_thread;
 use crate::spans::span_ended;
 use lot_engine::System;
 use lot_machine::{Event, Reply, Status};

@@ -1,6 +1,7 @@
 //! The records of a timed play, which its report needs in addition to the system.
-ghost use Rattle.std.specs.Prelude.{◌≡◌, ℕ, ◌<◌, ◌≤◌, ◌+◌, ◌^◌, ◌++◌, ◌||◌, List, [], ◌∷◌, None, false, length, replicate};
-ghost use Rattle.std.specs.Prelude.{IfOk, IfSome, vec_len};
+ghost use Rattle.std.specs.Prelude.{◌≡◌, ℕ, ◌<◌, ◌≤◌, ◌+◌, ◌^◌, ◌++◌, ◌||◌, List, [], ◌∷◌, None, false, length};
+ghost use Rattle.std.specs.Prelude.{IfOk, IfSome, replicate, vec_len};
+ghost use Rattle.lot_machine.specs.Bounds.{IsWithinBounds};
 ghost use Rattle.lot_machine.specs.State.{State, opening};
 ghost use Rattle.lot_simulation.specs.TimedReport as reports;
 ghost use Rattle.lot_simulation.specs.Timed as timed;
@@ -8,16 +9,20 @@ ghost use Rattle.lot_simulation.specs.Timed.{Moment, TimedTurn, alarms_after, cl
 ghost use Rattle.lot_simulation.specs.Timed.{is_refusal};
 ghost use Rattle.lot_simulation.specs.World.{Program as ProgramRecord, sleeper_on};
 ghost use Rattle.lot_simulation.specs.World.Answer.{Answered};
+ghost use Rattle.lot_engine.specs.Searching.{HasLayoutFor};
 ghost use Rattle.lot_engine.specs.Seen.{Seen, world_of};
 ghost use Rattle.lot_playback.specs.InTime.{AreAlarms, CanFollow, HasDues, HasFollowed, HasRoomFor, IsFollowed};
 ghost use Rattle.lot_playback.specs.InTime.{alarms_in, moment_in};
 ghost use Rattle.lot_playback.specs.Owed.{Answers};
+ghost use Rattle.lot_playback.specs.TicksBelow.{HasFoundFor};
 ghost use Rattle.lot_text.specs.Programs.{IsProgram};
 
 use crate::alarms::Alarms;
 use crate::clocks::Clocks;
+use crate::currencies::CurrencyTable;
 use crate::dues::DueTable;
 use crate::refused_traps::RefusedTraps;
+use crate::sharers::Sharers;
 use crate::spans::{SpanTable, life, mutex_wait, reply_wait};
 use lot_engine::System;
 use lot_machine::{Event, Outcome, Reply};
@@ -29,7 +34,7 @@ use std::alloc::{AllocError, Global};
 pub const MOST_TURNS: u32 = 16000000;
 
 /// The records that a timed play keeps from turn to turn, in addition to the system.
-#[derive(Debug, Drop)]
+#[derive(Drop)]
 pub struct Timekeeper {
     /// The processors' clocks.
     pub clocks: Clocks,
@@ -45,6 +50,8 @@ pub struct Timekeeper {
     pub ready: SpanTable,
     /// What each thread is due.
     pub dues: DueTable,
+    /// The ticks of the threads below each currency, and what each currency is due.
+    pub currencies: CurrencyTable,
     /// Each thread's refused traps.
     pub refused_traps: RefusedTraps,
     /// The number of refused commands and wakes.
@@ -54,16 +61,17 @@ pub struct Timekeeper {
 }
 
 impl Timekeeper {
-    /// The records before the program's first turn. It allocates all the memory that they will ever use, and fails
-    /// only if out of memory.
-    pub fn open(alloc: Global, program: &Program) -> Result<Timekeeper, AllocError>
+    /// The records of a system before the program's first turn. It allocates all the memory that they will ever use,
+    /// and fails only if out of memory.
+    pub fn open(alloc: Global, program: &Program, system: &System) -> Result<Timekeeper, AllocError>
         ensures time { IfOk result (λ timekeeper. timekeeper.clocks.time ≡ 0) }
         ensures clocks { IfOk result (λ timekeeper. timekeeper.clocks.processors.items
             ≡ replicate program.now.limits.processors (record { time = 0; waits = false; idle = 0 })) }
         ensures alarms { IfOk result (λ timekeeper. timekeeper.alarms.threads.items
             ≡ replicate program.now.limits.threads None) }
         ensures sleeping { IfOk result (λ timekeeper. AreAlarms program.now.limits.processors timekeeper.alarms) }
-        ensures room { IfOk result (HasRoomFor program.now) }
+        ensures room { IfOk result (λ timekeeper. system.now.setting.program ≡ program.now
+            → HasRoomFor program.now timekeeper) }
         ensures followed { IfOk result (HasFollowed [] 0) }
         ensures dues { IfOk result (HasDues (opening program.now.limits) [] 0 (opening program.now.limits)) }
         ensures refused { IfOk result (λ timekeeper. timekeeper.has_refused ≡ false) }
@@ -77,7 +85,8 @@ impl Timekeeper {
             replies: SpanTable::open(alloc, limits.threads)?,
             lives: SpanTable::open(alloc, limits.threads)?,
             ready: SpanTable::open(alloc, limits.threads)?,
-            dues: DueTable::open(alloc, limits.threads)?,
+            dues: DueTable::open(alloc, Sharers::Threads, limits.threads)?,
+            currencies: CurrencyTable::open(alloc, system, limits.currencies)?,
             refused_traps: RefusedTraps::open(alloc, limits.threads)?,
             refused: 0,
             has_refused: false,
@@ -130,9 +139,12 @@ impl Timekeeper {
         requires can { CanFollow actor (vec_len self.old.clocks.processors)
             (length self.old.alarms.threads.items) sleeper }
         requires followed { (done : List TimedTurn) × (n : ℕ) × (n < 2 ^ 31) × HasFollowed done n self.old }
-        requires threads { (vec_len self.old.ready.threads ≤ 4096) × (vec_len self.old.dues.threads ≤ 4096) }
+        requires threads { vec_len self.old.ready.threads ≤ 4096 }
+        requires currencies { vec_len self.old.currencies.ticks ≤ self.old.currencies.above.layout.currencies }
+        requires bounds { IsWithinBounds system.old.setting.program.limits }
         requires dues { (first before : State) × (done : List TimedTurn) × (n : ℕ) × (n < 2 ^ 24)
-            × HasDues first done n before self.old × Answers before event.now reply (world_of system.old).state }
+            × HasDues first done n before self.old × Answers before event.now reply (world_of system.old).state
+            × HasFoundFor before reply self.old.currencies.above }
         ensures same { system.new ≡ system.old }
         ensures time { self.new.clocks.time ≡ time }
         ensures clocks { self.new.clocks.processors.items
@@ -149,12 +161,14 @@ impl Timekeeper {
             → HasFollowed done n self.old → HasFollowed (done ++ turn ∷ []) (n + 1) self.new }
         ensures dues { (first before : State) (done : List TimedTurn) (n : ℕ) (turn : TimedTurn) → n < 2 ^ 24
             → turn.time ≡ time → turn.turn.answer ≡ Answered event.now reply → turn.turn.world ≡ world_of system.old
-            → Answers before event.now reply (world_of system.old).state → HasDues first done n before self.old
+            → Answers before event.now reply (world_of system.old).state
+            → HasFoundFor before reply self.old.currencies.above → HasDues first done n before self.old
             → HasDues first (done ++ turn ∷ []) (n + 1) (world_of system.old).state self.new }
         ensures room { (program : ProgramRecord) → HasRoomFor program self.old → HasRoomFor program self.new }
     {
         self.ready.queue(system, time, event, reply);
         self.dues.follow(system, time, event, reply);
+        self.currencies.follow(system, time, event, reply);
         let processors = self.clocks.processors.len() as u32;
         self.clocks.follow(system, time, actor, reply);
         self.alarms.follow(time, actor, processors, sleeper);

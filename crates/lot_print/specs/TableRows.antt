@@ -12,6 +12,7 @@ use Rattle.lot_print.specs.declared.figures.Unit.{Unit}
 use Rattle.lot_print.specs.declared.figures.Unit.TheVariants.{One, PercentThousandth}
 use Rattle.lot_print.specs.declared.table_rows.Columns.{Columns}
 use Rattle.lot_print.specs.declared.table_rows.Columns.TheVariants as columns
+use Rattle.lot_print.specs.declared.timed_totals.CurrencyShares.{CurrencyShares}
 use Rattle.lot_print.specs.declared.timed_totals.ThreadShares.{ThreadShares}
 
 -- the first row: the columns' names
@@ -21,6 +22,7 @@ header_row columns.TimedTotals =
     codes "thread,name,quanta,ticks,share_percent,due_percent,value_percent"
     ++ (codes ",ready_waits,ready_mean,ready_longest,mutex_waits,mutex_mean,mutex_longest"
     ++ codes ",reply_waits,reply_mean,reply_longest,refused,made,ended\n")
+header_row columns.Currencies = codes "currency,name,ticks,share_percent,due_percent\n"
 header_row columns.Figures =
     codes "thread,name,plays,quanta_mean,quanta_least,quanta_most,ticks_mean,ticks_least,ticks_most"
     ++ codes ",share_percent_mean,share_percent_least,share_percent_most\n"
@@ -77,6 +79,14 @@ timed_thread_record t row shares =
     ++ (next_field (percent_field shares.live_value shares.all_values)
     ++ (waits_fields shares.ready ++ (waits_fields shares.mutexes ++ (waits_fields shares.replies
     ++ (next_field (decimal shares.refused_traps) ++ (life_fields shares.lives ++ newline))))))))
+
+-- a currency's row in the table of a timed program: its number and name, the ticks of the threads below it, their share
+-- of all ticks, and what it was due
+abbrev pub timed_currency_record : ℕ → List ℕ → CurrencyShares → List ℕ
+timed_currency_record c name shares =
+    decimal c ++ (next_field name ++ (next_field (decimal shares.ticks)
+    ++ (next_field (percent_field shares.ticks shares.all_ticks)
+    ++ (next_field (percent_field shares.due (shares.base_time * tick_parts)) ++ newline))))
 
 -- ---- a report over several plays
 

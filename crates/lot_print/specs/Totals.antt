@@ -5,6 +5,7 @@ use Rattle.lot_machine.specs.declared.row.ThreadRow.{ThreadRow}
 use Rattle.lot_simulation.specs.TimedReport.{tick_parts}
 use Rattle.lot_simulation.specs.Texts.{newline}
 use Rattle.lot_simulation.specs.TimedReport.{ended_text, life_text, percent_text, refused_traps_text, waits_text}
+use Rattle.lot_print.specs.declared.timed_totals.CurrencyShares.{CurrencyShares}
 use Rattle.lot_print.specs.declared.timed_totals.ThreadShares.{ThreadShares}
 use Rattle.lot_print.specs.declared.timed_totals.TimedWholeTotal.{TimedWholeTotal}
 
@@ -30,6 +31,13 @@ timed_thread_line n row shares =
     ++ (waits_text (codes " ready") shares.ready ++ (waits_text (codes " mutex") shares.mutexes
     ++ (waits_text (codes " reply") shares.replies ++ (refused_traps_text shares.refused_traps
     ++ (life_text shares.lives ++ newline))))))))))))))))))
+
+-- a currency's line: its name, the ticks of the threads below it, their share of all ticks, and what it was due
+abbrev pub timed_currency_line : ℕ → List ℕ → CurrencyShares → List ℕ
+timed_currency_line c name shares =
+    codes "currency " ++ (decimal c ++ (codes " " ++ (name ++ (codes " ticks " ++ (decimal shares.ticks
+    ++ (codes " share " ++ (percent_text shares.ticks shares.all_ticks
+    ++ (codes " due " ++ (percent_text shares.due (shares.base_time * tick_parts) ++ newline)))))))))
 
 -- a processor's line: its won draws, its idle draws, the ticks used there, and the ticks in which it was idle
 abbrev pub timed_processor_line : ℕ → ℕ → ℕ → ℕ → ℕ → List ℕ

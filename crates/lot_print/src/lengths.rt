@@ -165,6 +165,9 @@ const TIMED_THREAD: usize = NAMED
     + LIFE
     + 1;
 
+/// A currency's line in a timed report.
+const TIMED_CURRENCY: usize = NAMED + b" ticks ".len() + LONG_NUMBER + PERCENT + PERCENT + 1;
+
 /// The longest line of a timed report.
 pub(crate) const TIMED_ROW: usize = 640;
 
@@ -178,7 +181,7 @@ const SPREAD: usize = b" quanta".len()
 /// The longest line of a report over several plays.
 pub(crate) const FIGURES_ROW: usize = 640;
 
-/// A thread's number and its name, the first fields of a row in a table.
+/// A number and its name, the first fields of a row in a table.
 const NAMED_FIELDS: usize = NUMBER + 1 + NAME;
 
 /// A thread's row in the table of a timed report.
@@ -188,6 +191,9 @@ const TIMED_FIELDS: usize = NAMED_FIELDS
     + 3 * (1 + NUMBER + 1 + QUOTIENT + 1 + NUMBER)
     + 3 * (1 + NUMBER)
     + 1;
+
+/// A currency's row in the table of a timed program's currencies.
+const CURRENCY_FIELDS: usize = NAMED_FIELDS + 1 + LONG_NUMBER + 2 * (1 + QUOTIENT) + 1;
 
 /// A thread's row in the table of a report over several plays.
 const FIGURES_FIELDS: usize = NAMED_FIELDS + 1 + LONG_NUMBER + 9 * (1 + QUOTIENT) + 1;
@@ -204,8 +210,10 @@ const _: () = prove!(TICKET_ROW <= ROW && CURRENCY_ROW <= ROW && THREAD_ROW <= R
 
 const _: () = prove!(LOT <= LOT_ROW);
 
-const _: () = prove!(TIMED_THREAD <= TIMED_ROW);
+const _: () = prove!(TIMED_THREAD <= TIMED_ROW && TIMED_CURRENCY <= TIMED_ROW);
 
 const _: () = prove!(NAMED + b" plays ".len() + LONG_NUMBER + 3 * SPREAD + 1 <= FIGURES_ROW);
 
 const _: () = prove!(TIMED_FIELDS <= TABLE_ROW && FIGURES_FIELDS <= TABLE_ROW);
+
+const _: () = prove!(CURRENCY_FIELDS <= TABLE_ROW);

@@ -31,11 +31,13 @@ pub use refused::write_fault;
 pub use replies::{Heading, write_ended, write_reply};
 pub use rows::{write_currency, write_listing_line, write_thread, write_ticket};
 pub use table_rows::{
-    Columns, write_figures_record, write_header, write_thread_record, write_timed_thread_record,
+    Columns, write_figures_record, write_header, write_thread_record, write_timed_currency_record,
+    write_timed_thread_record,
 };
 pub use timed_totals::{
-    ThreadShares, TimedProcessorTotal, TimedWholeTotal, write_early_end,
-    write_timed_processor_total, write_timed_thread_total, write_timed_whole_total,
+    CurrencyShares, ThreadShares, TimedProcessorTotal, TimedWholeTotal, write_early_end,
+    write_timed_currency_total, write_timed_processor_total, write_timed_thread_total,
+    write_timed_whole_total,
 };
 pub use totals::{
     ProcessorTotal, WholeTotal, write_processor_total, write_report_line, write_thread_total,

@@ -4,14 +4,14 @@ ghost use Rattle.std.specs.Fmt.{decimal};
 ghost use Rattle.lot_simulation.specs.TimedReport.{tick_parts};
 ghost use Rattle.lot_print.specs.TableRows as rows;
 ghost use Rattle.lot_print.specs.TableRows.{figures_record, header_row, next_field, part_field, percent_field};
-ghost use Rattle.lot_print.specs.TableRows.{spread_fields, thread_fields, thread_record, timed_thread_record};
-ghost use Rattle.lot_print.specs.TableRows.{life_fields, waits_fields};
+ghost use Rattle.lot_print.specs.TableRows.{spread_fields, thread_fields, thread_record, timed_currency_record};
+ghost use Rattle.lot_print.specs.TableRows.{life_fields, timed_thread_record, waits_fields};
 ghost use Rattle.lot_io.specs.Writing.{Writes};
 
 use crate::figures::{Figures, Spread, Unit};
 use crate::lengths::TABLE_ROW;
 use crate::line::Line;
-use crate::timed_totals::ThreadShares;
+use crate::timed_totals::{CurrencyShares, ThreadShares};
 use lot_io::{IoFault, Watched};
 use lot_machine::{Name, ThreadRow};
 use lot_simulation::{Spans, TICK_PARTS};
@@ -27,6 +27,8 @@ pub enum Columns {
     Totals,
     /// Those of a timed report.
     TimedTotals,
+    /// Those of a timed program's currencies.
+    Currencies,
     /// Those of a report over several plays.
     Figures,
 }
@@ -53,6 +55,7 @@ fn header_of(columns: Columns) -> TableRow
             );
             row.push_text(",reply_waits,reply_mean,reply_longest,refused,made,ended\n");
         }
+        Columns::Currencies => row.push_text("currency,name,ticks,share_percent,due_percent\n"),
         Columns::Figures => {
             row.push_text(
                 "thread,name,plays,quanta_mean,quanta_least,quanta_most,ticks_mean,ticks_least,ticks_most",
@@ -111,6 +114,41 @@ fn timed_row(number: u32, row: &ThreadRow, shares: ThreadShares) -> TableRow
     fields
 }
 
+/// Writes the row of the currency with this number and name in the table of a timed program's currencies.
+pub fn write_timed_currency_record<W: Write>(
+    writer: &mut Watched<W>,
+    number: u32,
+    name: &Name,
+    shares: CurrencyShares,
+) -> Result<(), IoFault>
+    requires working { writer.old.failed ≡ false }
+    requires time { shares.base_time < 2 ^ 57 }
+    requires due { shares.due < 2 ^ 121 }
+    ensures { Writes W.contents writer.old writer.new result (timed_currency_record number name.now shares) }
+{
+    currency_row(number, name, shares).write_to(writer)
+}
+
+/// A currency's row in the table of a timed program's currencies.
+fn currency_row(number: u32, name: &Name, shares: CurrencyShares) -> TableRow
+    requires time { shares.base_time < 2 ^ 57 }
+    requires due { shares.due < 2 ^ 121 }
+    ensures { result ≡ timed_currency_record number name.now shares }
+{
+    let mut fields = TableRow::new();
+    push_named(&mut fields, number, name);
+    fields.push_field(",", shares.ticks);
+    push_share_and_due(
+        &mut fields,
+        shares.ticks,
+        shares.all_ticks,
+        shares.due,
+        shares.base_time,
+    );
+    fields.push_text("\n");
+    fields
+}
+
 /// Writes a thread's row in the table of a report over several plays.
 pub fn write_figures_record<W: Write>(
     writer: &mut Watched<W>,
@@ -140,7 +178,7 @@ fn figures_row(number: u32, figures: &Figures) -> TableRow
     fields
 }
 
-/// Appends a thread's number and its name.
+/// Appends a number and its name.
 fn push_named(fields: &mut TableRow, number: u32, name: &Name)
     requires { length fields.old ≤ 200 }
     ensures text { fields.new ≡ fields.old ++ (decimal number ++ next_field name.now) }
@@ -174,13 +212,27 @@ fn push_shares(fields: &mut TableRow, ticks: u64, shares: ThreadShares)
         ++ next_field (percent_field shares.live_value shares.all_values))) }
     ensures len { length fields.new ≤ length fields.old + 132 }
 {
-    push_percent(fields, u128::from(ticks), u128::from(shares.all_ticks));
-    push_percent(
+    push_share_and_due(
         fields,
+        ticks,
+        shares.all_ticks,
         shares.due,
-        u128::from(shares.live_time) * TICK_PARTS,
+        shares.live_time,
     );
     push_percent(fields, u128::from(shares.live_value), shares.all_values);
+}
+
+/// Appends the share that ticks are of all ticks, and these parts of a tick as a share of this time.
+fn push_share_and_due(fields: &mut TableRow, ticks: u64, all_ticks: u64, due: u128, time: u64)
+    requires room { length fields.old ≤ 150 }
+    requires time { time < 2 ^ 57 }
+    requires due { due < 2 ^ 121 }
+    ensures text { fields.new ≡ fields.old ++ (next_field (percent_field ticks all_ticks)
+        ++ next_field (percent_field due (time * tick_parts))) }
+    ensures len { length fields.new ≤ length fields.old + 88 }
+{
+    push_percent(fields, u128::from(ticks), u128::from(all_ticks));
+    push_percent(fields, due, u128::from(time) * TICK_PARTS);
 }
 
 /// Appends a field with a part of a whole in percent; 0 if the whole is 0.

@@ -6,14 +6,15 @@ ghost use Rattle.lot_simulation.specs.TimedReport as reports;
 ghost use Rattle.lot_simulation.specs.TimedReport.{ended_text, life_text, percent_text, refused_traps_text};
 ghost use Rattle.lot_simulation.specs.TimedReport.{waits_text};
 ghost use Rattle.lot_simulation.specs.TimedReport.{tick_parts};
-ghost use Rattle.lot_print.specs.Totals.{timed_processor_line, timed_thread_line, timed_total_line};
+ghost use Rattle.lot_print.specs.Totals.{timed_currency_line, timed_processor_line, timed_thread_line};
+ghost use Rattle.lot_print.specs.Totals.{timed_total_line};
 ghost use Rattle.lot_io.specs.Writing.{Writes};
 
 use crate::lengths::TIMED_ROW;
 use crate::line::Line;
 use crate::rows::{push_counts, push_named};
 use lot_io::{IoFault, Watched};
-use lot_machine::ThreadRow;
+use lot_machine::{Name, ThreadRow};
 use lot_simulation::{EarlyEnd, PastLives, Spans, TICK_PARTS};
 use std::io::Write;
 
@@ -41,6 +42,19 @@ pub struct ThreadShares {
     pub refused_traps: u32,
     /// The lives of the threads that have had its number, its own the last.
     pub lives: Spans,
+}
+
+/// The numbers that a timed report gives for a currency.
+#[derive(Clone, Copy, Debug)]
+pub struct CurrencyShares {
+    /// The ticks of the threads below the currency.
+    pub ticks: u64,
+    /// The ticks that all threads have used.
+    pub all_ticks: u64,
+    /// What the currency was due, in parts of a tick, below 2^121.
+    pub due: u128,
+    /// The ticks in which tickets of base were active, below 2^57.
+    pub base_time: u64,
 }
 
 /// The numbers that a timed report gives for a processor: its won draws, its idle draws, the ticks used there, and
@@ -112,24 +126,26 @@ fn push_shares(line: &mut TimedLine, ticks: u64, shares: ThreadShares)
         ++ (codes " value " ++ percent_text shares.live_value shares.all_values))))) }
     ensures len { length line.new ≤ length line.old + 153 }
 {
-    push_percent(
-        line,
-        " share ",
-        u128::from(ticks),
-        u128::from(shares.all_ticks),
-    );
-    push_percent(
-        line,
-        " due ",
-        shares.due,
-        u128::from(shares.live_time) * TICK_PARTS,
-    );
+    push_share_and_due(line, ticks, shares.all_ticks, shares.due, shares.live_time);
     push_percent(
         line,
         " value ",
         u128::from(shares.live_value),
         shares.all_values,
     );
+}
+
+/// Appends the share that ticks are of all ticks, and these parts of a tick as a share of this time.
+fn push_share_and_due(line: &mut TimedLine, ticks: u64, all_ticks: u64, due: u128, time: u64)
+    requires room { length line.old ≤ 150 }
+    requires time { time < 2 ^ 57 }
+    requires due { due < 2 ^ 121 }
+    ensures text { line.new ≡ line.old ++ (codes " share " ++ (percent_text ticks all_ticks
+        ++ (codes " due " ++ percent_text due (time * tick_parts)))) }
+    ensures len { length line.new ≤ length line.old + 102 }
+{
+    push_percent(line, " share ", u128::from(ticks), u128::from(all_ticks));
+    push_percent(line, " due ", due, u128::from(time) * TICK_PARTS);
 }
 
 /// Appends the thread's waits to run, for mutexes and for replies, and its refused traps.
@@ -215,6 +231,41 @@ fn push_made(line: &mut TimedLine, made: u32)
     if made != 0 {
         line.push_field(" made ", made);
     }
+}
+
+/// Writes the line of a timed report for the currency with this number and name.
+pub fn write_timed_currency_total<W: Write>(
+    writer: &mut Watched<W>,
+    number: u32,
+    name: &Name,
+    shares: CurrencyShares,
+) -> Result<(), IoFault>
+    requires working { writer.old.failed ≡ false }
+    requires time { shares.base_time < 2 ^ 57 }
+    requires due { shares.due < 2 ^ 121 }
+    ensures { Writes W.contents writer.old writer.new result (timed_currency_line number name.now shares) }
+{
+    currency_line(number, name, shares).write_to(writer)
+}
+
+/// A currency's line of a timed report.
+fn currency_line(number: u32, name: &Name, shares: CurrencyShares) -> TimedLine
+    requires time { shares.base_time < 2 ^ 57 }
+    requires due { shares.due < 2 ^ 121 }
+    ensures { result ≡ timed_currency_line number name.now shares }
+{
+    let mut line = TimedLine::new();
+    push_named(&mut line, "currency ", number, name);
+    line.push_field(" ticks ", shares.ticks);
+    push_share_and_due(
+        &mut line,
+        shares.ticks,
+        shares.all_ticks,
+        shares.due,
+        shares.base_time,
+    );
+    line.push_text("\n");
+    line
 }
 
 /// Writes a processor's line of a timed report.

@@ -1,7 +1,11 @@
-use Rattle.std.proofs.Common.{◌≡◌, ℕ, ◌+◌, ◌-◌, List, [], ◌∷◌, ◌++◌, replicate, ap, sym, ◌∙◌, subst, arith}
+use Rattle.std.proofs.Common.{◌≡◌, ◌||◌, ℕ, ◌+◌, ◌-◌, Some, List, [], ◌∷◌, ◌++◌, replicate, ap, sym, ◌∙◌, subst, arith}
 use Rattle.std.specs.List.{range_with_len}
 use Rattle.lot_machine.specs.declared.sizes.Sizes.{Sizes}
 use Rattle.lot_play.specs.Seeds.{AreFigures, no_figures, seeds_between}
+use Rattle.lot_simulation.specs.Seeded.{with_seed}
+use Rattle.lot_play.specs.declared.warnings.Warnings.{Warnings}
+use Rattle.lot_play.specs.Leaving.{any_ends_refused, ends_refused}
+use Rattle.lot_play.proofs.RefusedFacts.{all-seeds, any-seed, first-seed}
 use Rattle.lot_play.proofs.SeedFacts.{are-more, are-none, between-first, between-more}
 use Rattle.lot_play.proofs.seeds.figures_of.Goals as goal
 
@@ -18,6 +22,9 @@ loop-number-init c =
       above = omega (arith, number);
       within = omega (arith, number);
       are = subst (λ (seeds : List ℕ). AreFigures program seeds items) (between-first first (c.number-number.result + 1 - 1) (omega (arith, number))) one;
+      refused =
+          ap (λ b. ends_refused (with_seed (Some first) program) || b) (ap (λ (w : Warnings). w.stopped) c.in_ok-unsaid.ensures) ∙ first-seed program first
+          ∙ ap (any_ends_refused program) (between-first first (c.number-number.result + 1 - 1) (omega (arith, number)));
     }
 
 pub loop-number-preserved : goal.loop-number-preserved
@@ -35,12 +42,23 @@ loop-number-preserved c =
       above = omega (arith, i.above);
       within = omega (arith, c.loop-number-test.true, c.number-number-end.ensures.is);
       are = subst (λ (seeds : List ℕ). AreFigures program seeds items) seeds more;
+      refused =
+          any-seed program (seeds_between first (number - 1)) c.in-Some.seed (ends_refused (with_seed (Some first) program)) c.loop-number.unsaid.stopped c.play_with-in-loop-number.new.warnings.stopped i.refused
+          c.in_ok-play_with-2.ensures.stopped
+          ∙ ap (any_ends_refused program) seeds;
     }
 
 pub returns : goal.returns
 returns c =
+    let program = c.args.program.now in
     let first = c.args.seeds.now.first in
     let i = c.loop-number.invariant in
     let count : c.loop-number.number - 1 - first ≡ c.args.seeds.now.last - first =
     omega (arith, i.above, i.within, c.loop-number-test.false, c.number-number-end.ensures.is) in
-    subst (λ n. AreFigures c.args.program.now (first ∷ range_with_len (first + 1) n) c.loop-number.figures.items) count i.are
+    let seeds : seeds_between first (c.loop-number.number - 1) ≡ seeds_between first c.args.seeds.now.last = ap (λ n. first ∷ range_with_len (first + 1) n) count in
+    record {
+      figures = subst (λ (ns : List ℕ). AreFigures program ns c.loop-number.figures.items) seeds i.are;
+      stopped =
+          ap (λ b. b || c.loop-number.unsaid.stopped) c.in_ok-play_with.ensures.stopped
+          ∙ all-seeds c.args.warnings.now.stopped (ends_refused (with_seed (Some first) program)) c.loop-number.unsaid.stopped _ (i.refused ∙ ap (any_ends_refused program) seeds);
+    }

@@ -3,7 +3,7 @@ ghost use Rattle.std.specs.Prelude.{◌≤◌, ◌<◌, ◌^◌, IfOk, length, v
 
 use crate::tests::same::{check_same, check_same_at};
 use lot_chart::{chart_of, table};
-use lot_curves::{Curves, Measure, Stretch};
+use lot_curves::{By, Curves, Measure, Stretch};
 use lot_machine::{Name, Reply};
 use std::alloc::Global;
 use std::process::Abort;
@@ -34,7 +34,7 @@ fn three_ticks(alloc: Global) -> Result<Curves, Fail> {
     for (end, reply) in [(0u32, won(1)), (2, ran(1, 2)), (2, won(2)), (3, ran(2, 1))] {
         stretches.push(Stretch::new(u64::from(end), reply))?;
     }
-    Ok(Curves::new(names, stretches, Vec::new(alloc)))
+    Ok(Curves::new(By::Thread, names, stretches, Vec::new(alloc)))
 }
 
 /// Thread a runs for a tick, thread b for two, and so on, each from tick 0 on.
@@ -51,7 +51,7 @@ fn thirteen_threads(alloc: Global) -> Result<Curves, Fail> {
         let reply = Reply::Expired { thread, ticks };
         stretches.push(Stretch::new(u64::from(ticks), reply))?;
     }
-    Ok(Curves::new(names, stretches, Vec::new(alloc)))
+    Ok(Curves::new(By::Thread, names, stretches, Vec::new(alloc)))
 }
 
 /// Compares the table of the curves.
@@ -86,7 +86,12 @@ fn tables_with_a_window(rt: HostRuntime) -> Result<(), Fail> {
 #[test]
 fn tables_of_nothing(rt: HostRuntime) {
     let alloc = rt.alloc();
-    let none = Curves::new(Vec::new(alloc), Vec::new(alloc), Vec::new(alloc));
+    let none = Curves::new(
+        By::Thread,
+        Vec::new(alloc),
+        Vec::new(alloc),
+        Vec::new(alloc),
+    );
     check_table(&rt, alloc, &none, Measure::Ticks, "tick\n0\n");
 }
 

@@ -2,7 +2,7 @@
 ghost use Rattle.std.specs.Prelude.{◌≡◌, IfOk, length};
 
 use crate::tests::same::{check_same, check_same_at};
-use lot_curves::{Curves, Measure, Stretch};
+use lot_curves::{By, Curves, Measure, Stretch};
 use lot_machine::{Name, Reply};
 use std::alloc::Global;
 use std::test::Fail;
@@ -34,7 +34,7 @@ fn two_threads(alloc: Global) -> Result<Curves, Fail>
     ] {
         stretches.push(Stretch::new(u64::from(end), reply))?;
     }
-    Ok(Curves::new(names, stretches, Vec::new(alloc)))
+    Ok(Curves::new(By::Thread, names, stretches, Vec::new(alloc)))
 }
 
 /// The two threads' numbers at this tick.

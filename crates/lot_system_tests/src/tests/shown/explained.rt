@@ -152,6 +152,7 @@ report
 thread 1 a quanta 1 ticks 100 share 33.333% due 22.777% value 10% ready waits 1 mean 100 longest 100
 thread 2 b quanta 2 ticks 200 share 66.666% due 41.111% value 40% ready waits 2 mean 50 longest 100
 thread 3 c quanta 1 ticks 0 share 0% due 36.111% value 50% ready waits 1 mean 300 longest 300
+currency 1 g ticks 300 share 100% due 63.888%
 processor 1 quanta 4 idle 0 ticks 300 unused 0
 total turns 18 quanta 4 ticks 300 refused 2 left 0
 ";

@@ -1,7 +1,7 @@
 use Rattle.std.proofs.Common.{◌+◌, ◌∙◌, ap, sym, if◌then◌else◌}
 use Rattle.std.specs.Prelude.{slice_index_or}
 use Rattle.lot_simulation.specs.TimedReport.{no_spans}
-use Rattle.lot_playback.specs.Owed.{is_thread}
+use Rattle.lot_playback.specs.Owed.{is_number}
 use Rattle.lot_playback.proofs.spans.SpanTable.forget_new.Goals as goal
 
 pub returns-in-Some-clause-count : goal.returns-in-Some-clause-count
@@ -10,4 +10,4 @@ returns-in-Some-clause-count c = (c.forget.ensures 0).count
 pub returns-in-Some-clause-forgets : goal.returns-in-Some-clause-forgets
 returns-in-Some-clause-forgets c e place d below =
     let waits = slice_index_or c.args.self.now.threads.items place d in
-    (c.forget.ensures 0).each place d below ∙ ap (λ b. if b then no_spans else waits) (sym (c.new_thread.ensures e (place + 1) ∙ ap (is_thread (place + 1)) c.in-Some.is))
+    (c.forget.ensures 0).each place d below ∙ ap (λ b. if b then no_spans else waits) (sym (c.new_thread.ensures e (place + 1) ∙ ap (is_number (place + 1)) c.in-Some.is))

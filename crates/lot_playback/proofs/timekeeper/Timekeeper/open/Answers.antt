@@ -15,7 +15,7 @@ returns-clause-followed c = record {
   mutexes = c.in_ok-open-3.ensures.none mutex_change;
   replies = c.in_ok-open-4.ensures.none reply_change;
   lives = c.in_ok-open-5.ensures.none life_change;
-  refused_traps = c.in_ok-open-8.ensures.none;
+  refused_traps = c.in_ok-open-9.ensures.none;
   refused = refl;
   few = omega arith;
 }
@@ -43,6 +43,9 @@ open-requires-7 c = tt
 
 pub open-requires-8 : goal.open-requires-8
 open-requires-8 c = tt
+
+pub open-requires-9 : goal.open-requires-9
+open-requires-9 c = tt
 
 pub returns-in_err-open : goal.returns-in_err-open
 returns-in_err-open c =
@@ -164,6 +167,21 @@ returns-in_err-open-8 c =
       legal = c.limits-limits.ensures.legal;
     }
 
+pub returns-in_err-open-9 : goal.returns-in_err-open-9
+returns-in_err-open-9 c =
+    let failed = c.from_residual-in_err-open-9.ensures.0 in
+    record {
+      time = if-ok-none c.from_residual-in_err-open-9.result _ failed;
+      clocks = if-ok-none c.from_residual-in_err-open-9.result _ failed;
+      alarms = if-ok-none c.from_residual-in_err-open-9.result _ failed;
+      refused = if-ok-none c.from_residual-in_err-open-9.result _ failed;
+      sleeping = if-ok-none c.from_residual-in_err-open-9.result _ failed;
+      room = if-ok-none c.from_residual-in_err-open-9.result _ failed;
+      followed = if-ok-none c.from_residual-in_err-open-9.result _ failed;
+      dues = if-ok-none c.from_residual-in_err-open-9.result _ failed;
+      legal = c.limits-limits.ensures.legal;
+    }
+
 pub returns-clause-time : goal.returns-clause-time
 returns-clause-time c = c.in_ok-open.ensures.time
 
@@ -185,4 +203,7 @@ returns-clause-sleeping c =
     none-sleeping c.args.program.now.limits.processors c.in_ok-open-2.field-0 c.limits-limits.result.threads (omega (arith, threads, c.limits-limits.ensures.legal.limits.of_threads.1)) opened.none opened.highest opened.next
 
 pub returns-clause-dues : goal.returns-clause-dues
-returns-clause-dues c = record { ready = c.in_ok-open-6.ensures.ready c.args.program.now.limits; dues = c.in_ok-open-7.ensures.none c.args.program.now.limits }
+returns-clause-dues c =
+    let sizes = c.args.program.now.limits in
+    let bounds = c.limits-limits.ensures.legal.limits in
+    record { ready = c.in_ok-open-6.ensures.ready sizes; dues = c.in_ok-open-7.ensures.none sizes bounds; currencies = c.in_ok-open-8.ensures.none sizes bounds }
