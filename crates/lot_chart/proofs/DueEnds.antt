@@ -9,9 +9,10 @@ use Rattle.lot_machine.specs.Bounds.{IsWithinBounds}
 use Rattle.lot_machine.specs.Facts.{live_value}
 use Rattle.lot_machine.specs.State.{State, opening, value_of}
 use Rattle.lot_simulation.specs.Timed.{TimedTurn, timed_turns}
-use Rattle.lot_simulation.specs.TimedReport.{due_after, due_from, due_in, due_part, due_rate, live_from, live_part, live_ticks, live_time, makes, tick_parts}
+use Rattle.lot_simulation.specs.TimedReport.{due_after, due_from, due_in, due_part, due_rate, live_part, live_ticks, live_time, makes, tick_parts, time_from}
 use Rattle.lot_simulation.specs.World.{Program}
 use Rattle.lot_simulation.proofs.TimesRise.{times-rise}
+use Rattle.lot_curves.specs.declared.by.By.TheVariants.{Thread}
 use Rattle.lot_curves.specs.declared.stretch.Stretch.{Stretch}
 use Rattle.lot_curves.specs.Curves.{timed_stretches}
 use Rattle.lot_curves.specs.Stretches.{last_end}
@@ -102,24 +103,28 @@ no-rate s = by (cases_eq (live_value s) 0)
         ap (λ b. if b then 0 else (0 * tick_parts + (live_value s - 1)) / live_value s) (ne_eqb (live_value s) 0 some)
         ∙ div-eq_of_lt (omega (arith, some))
 
-none-due : (t : ℕ) (s : State) → due_to t s 0 ≡ 0
+none-due : (t : ℕ) (s : State) → due_to Thread t s 0 ≡ 0
 none-due t s = ap (λ n. live_part s t (value_of s t) * n) (no-rate s) ∙ omega arith
 
-live-is : (s : State) (time all : ℕ) (turns : List TimedTurn) → live_from s time all turns ≡ all + sum_all live_ticks no-ticks s time turns
+live-is : (s : State) (time all : ℕ) (turns : List TimedTurn) → time_from live_ticks s time all turns ≡ all + sum_all live_ticks no-ticks s time turns
 unfolding sum_all
 live-is s time all [] = omega arith
 live-is s time all (t ∷ turns) =
     let rest = live-is t.turn.world.state t.time (all + live_ticks s (t.time - time)) turns in
     omega (arith, rest)
 
-due-within : (t : ℕ) (s : State) (time due : ℕ) (turns : List TimedTurn) → due_from s time t due turns ≤ due + sum_all (due_to t) (none-due t) s time turns
+-- the parts due to the thread while a state stays so
+abbrev parts : ℕ → State → ℕ → ℕ
+parts t s ticks = due_part s t ticks
+
+due-within : (t : ℕ) (s : State) (time due : ℕ) (turns : List TimedTurn) → due_from (parts t) (makes t) s time due turns ≤ due + sum_all (due_to Thread t) (none-due t) s time turns
 unfolding sum_all
 due-within t s time due [] = omega arith
 due-within t s time due (done ∷ others) =
-    let rest = due-within t done.turn.world.state done.time (due_after s (done.time - time) t due done.turn.answer) others in
+    let rest = due-within t done.turn.world.state done.time (due_after (parts t) (makes t) s (done.time - time) due done.turn.answer) others in
     omega (arith, rest, by (makes t done.turn.answer))
   where
-    by : (b : Bool) → (if b then 0 else due + due_part s t (done.time - time)) ≤ due + due_to t s (done.time - time)
+    by : (b : Bool) → (if b then 0 else due + due_part s t (done.time - time)) ≤ due + due_to Thread t s (done.time - time)
     by true = omega arith
     by false = omega arith
 
@@ -135,14 +140,14 @@ module _ (program : Program) (bounds : IsWithinBounds program.limits) (sorted : 
   last : last_end (timed_stretches program) ≡ time_after 0 turns
   last = last-is 0 turns order
 
-  pub live-ends : (dues_in (opening program.limits) turns).live (last_end (timed_stretches program)) ≡ live_time (opening program.limits) turns
+  pub live-ends : (dues_in Thread (opening program.limits) turns).live (last_end (timed_stretches program)) ≡ live_time (opening program.limits) turns
   live-ends =
       ap (sum_until live_ticks (opening program.limits) 0 turns) last ∙ sum-is live_ticks no-ticks (opening program.limits) 0 turns order
       ∙ (let all = live-is (opening program.limits) 0 0 turns in omega (arith, all))
 
-  pub parts-end : (t : ℕ) → due_in (opening program.limits) turns t ≤ (dues_in (opening program.limits) turns).parts t (last_end (timed_stretches program))
+  pub parts-end : (t : ℕ) → due_in (opening program.limits) turns t ≤ (dues_in Thread (opening program.limits) turns).parts t (last_end (timed_stretches program))
   parts-end t =
-      let whole : (dues_in (opening program.limits) turns).parts t (last_end (timed_stretches program)) ≡ sum_all (due_to t) (none-due t) (opening program.limits) 0 turns =
-      ap (sum_until (due_to t) (opening program.limits) 0 turns) last ∙ sum-is (due_to t) (none-due t) (opening program.limits) 0 turns order in
+      let whole : (dues_in Thread (opening program.limits) turns).parts t (last_end (timed_stretches program)) ≡ sum_all (due_to Thread t) (none-due t) (opening program.limits) 0 turns =
+      ap (sum_until (due_to Thread t) (opening program.limits) 0 turns) last ∙ sum-is (due_to Thread t) (none-due t) (opening program.limits) 0 turns order in
       let within = due-within t (opening program.limits) 0 0 turns in
       omega (arith, whole, within)

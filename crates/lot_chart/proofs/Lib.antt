@@ -15,3 +15,6 @@ pub mod Shows
 pub mod Readings
 pub mod MeterFacts
 pub mod DueEnds
+pub mod Worth
+pub mod Ran
+pub mod Columns

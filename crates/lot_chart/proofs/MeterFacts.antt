@@ -8,23 +8,27 @@ use Rattle.std.proofs.lemmas.List.FromFn.{get_or-map-range_with_len, length-map-
 use Rattle.std.proofs.lemmas.List.Sums.{sum_by-cons}
 use Rattle.std.proofs.lemmas.Nat.{le-div}
 use Rattle.std.proofs.Math.Nat.{div-mul-le_self, mul-le-mul_right}
-use Rattle.lot_machine.specs.Facts.{live_value}
+use Rattle.lot_machine.specs.Bounds.{IsWithinBounds}
+use Rattle.lot_machine.specs.Facts.{IsSound}
 use Rattle.lot_machine.specs.Lends.{is_live}
 use Rattle.lot_machine.specs.Numbered.{option_any}
 use Rattle.lot_machine.specs.State.{State, opening, value_of}
 use Rattle.lot_machine.proofs.Tickets.{at_number-suc}
 use Rattle.lot_simulation.specs.Timed.{TimedTurn, timed_turns}
-use Rattle.lot_simulation.specs.TimedReport.{live_part}
-use Rattle.lot_simulation.specs.World.{Program, World, Turn, opening_world, system_turn}
+use Rattle.lot_simulation.specs.World.{Program, World, Turn, opening_world, system_run, system_turn}
 use Rattle.lot_simulation.specs.World.Answer.{Answered}
+use Rattle.lot_curves.specs.declared.by.By.{By}
+use Rattle.lot_curves.specs.declared.by.By.TheVariants.{Thread, Currency}
 use Rattle.lot_curves.specs.Curves.{Curves, sample_count, sample_tick}
 use Rattle.lot_curves.specs.Stretches.{last_end}
+use Rattle.lot_curves.specs.Windows.{start_of}
 use Rattle.lot_engine.specs.Seen.{Seen, world_of}
 use Rattle.lot_playback.specs.declared.turn.Turn.{Turn as ATurn}
 use Rattle.lot_playback.specs.Owed.{Answers, IsDispatch, time_after}
 use Rattle.lot_playback.specs.Stages.{HasJustMade, answer_in}
 use Rattle.lot_playback.specs.Turns.{MadeTurn, program_turns, turns_by, turns_in_time}
-use Rattle.lot_playback.proofs.DispatchFacts.{part-kept, values-kept}
+use Rattle.lot_playback.proofs.DispatchFacts.{value-kept, whole-kept}
+use Rattle.lot_playback.specs.declared.sharers.Sharers.TheVariants.{Threads, Currencies}
 use Rattle.lot_playback.proofs.DueFacts.{time-more}
 use Rattle.lot_playback.proofs.FollowFacts.{turn-answers}
 use Rattle.lot_playback.proofs.MadeFacts.{world-one_more}
@@ -36,10 +40,11 @@ use Rattle.lot_chart.specs.declared.lines.Line.{Line}
 use Rattle.lot_chart.specs.declared.metering.LineDues.{LineDues}
 use Rattle.lot_chart.specs.declared.metering.Meter.{Meter}
 use Rattle.lot_chart.specs.declared.standings.Standing.{Standing}
-use Rattle.lot_chart.specs.Dues.{Dues, dues_in, dues_of, due_to, start_of, sum_until}
+use Rattle.lot_chart.specs.Dues.{Dues, dues_by, dues_in, due_to, own_value, sum_until, whole_value}
 use Rattle.lot_chart.specs.Lines.{height_of, lines_after, lines_of, place_of}
-use Rattle.lot_chart.specs.Gauges.{AreDues, AreLinesOf, EachGauge, HasPassed, HasPassedAll, HasRenewed, HaveDues, IsAscending, IsAwaiting, IsGauge, IsGaugeOf, IsMeter, IsNew, IsNewMeter, IsNow, IsRead, IsSampled, IsWithin, KeepThreads, amount_for, end_tick, flow_at, flow_of, most_of, start_tick, state_of, thread_of, timed_turn}
+use Rattle.lot_chart.specs.Gauges.{AreColumns, AreDues, AreLinesOf, EachGauge, HasPassed, HasPassedAll, HasRenewed, HaveDues, IsAscending, IsAwaiting, IsColumn, IsGauge, IsGaugeOf, IsMeter, IsNew, IsNewMeter, IsNow, IsRead, IsRenewed, IsSampled, IsWithin, KeepThreads, amount_for, end_tick, flow_at, flow_of, most_of, start_tick, state_of, thread_of, timed_turn}
 use Rattle.lot_chart.proofs.TableSizes.{sample-early}
+use Rattle.lot_chart.proofs.Worth.{run-sound, worth-none}
 use Rattle.lot_chart.proofs.Readings.{flow-is, gauge-more, gauge-renewed, last-read, now-within}
 
 -- ---- new gauges
@@ -62,8 +67,14 @@ none-live : (t : ℕ) → is_live [] t ≡ false
 none-live zero = refl
 none-live (suc i) = ap (option_any (λ flag. flag)) (at_number-suc [] i)
 
-none-worth : (program : Program) (t : ℕ) → 0 ≡ live_part (opening program.limits) t (value_of (opening program.limits) t)
-none-worth program t = sym (ap (λ b. if b then value_of (opening program.limits) t else 0) (none-live t))
+none-worth : (program : Program) (what : By) (t : ℕ) → IsSound (opening program.limits) → IsColumn what (Some t) → 0 ≡ own_value what (opening program.limits) t
+none-worth program Thread t sound column = sym (ap (λ b. if b then value_of (opening program.limits) t else 0) (none-live t))
+none-worth program Currency c sound column = sym (worth-none (opening program.limits) c sound (omega (arith, column)))
+
+-- nothing is shared out before the first turn
+none-shared : (program : Program) (what : By) → 0 ≡ whole_value what (opening program.limits)
+none-shared program Thread = refl
+none-shared program Currency = let none : 0 ≡ 0 * program.limits.unit = omega arith in none
 
 -- nothing was read before the first turn
 none-read : (amount : State → ℕ → ℕ) (first : State) (most sum : ℕ) (ticks read : List ℕ) → sum ≡ 0 → read ≡ [] → IsRead amount first [] first 0 sum most ticks read
@@ -76,11 +87,11 @@ none-read amount first most sum ticks read none empty =
       pending = λ k after below others. sym (ap (λ n. n + sum_until amount first 0 others (slice_index ticks k)) none ∙ zero-add (sum_until amount first 0 others (slice_index ticks k)));
     })
 
-new-gauge : (marks : Marks) (first : State) (growth : Growth) (gauge : Gauge) → IsNew growth gauge → IsGauge marks first [] 0 first 0 gauge
-new-gauge marks first growth gauge new = record {
+new-gauge : (what : By) (marks : Marks) (first : State) (growth : Growth) (gauge : Gauge) → IsNew growth gauge → IsGauge what marks first [] 0 first 0 gauge
+new-gauge what marks first growth gauge new = record {
   sum = omega (arith, new.sum);
-  starts = none-read (amount_for (thread_of gauge.growth)) first (most_of (thread_of gauge.growth)) gauge.sum marks.starts.items gauge.starts.items new.sum new.starts;
-  ends = none-read (amount_for (thread_of gauge.growth)) first (most_of (thread_of gauge.growth)) gauge.sum marks.ends.items gauge.ends.items new.sum new.ends;
+  starts = none-read (amount_for what (thread_of gauge.growth)) first (most_of (thread_of gauge.growth)) gauge.sum marks.starts.items gauge.starts.items new.sum new.starts;
+  ends = none-read (amount_for what (thread_of gauge.growth)) first (most_of (thread_of gauge.growth)) gauge.sum marks.ends.items gauge.ends.items new.sum new.ends;
 }
 
 -- ---- the samples
@@ -115,38 +126,62 @@ ends-ascend curves j k before = omega (arith, samples-ascend (last_end curves.st
 
 -- ---- before the first turn
 
-pub new-meter : (program : Program) (curves : Curves) (shown : List Standing) (meter : Meter) → IsNewMeter curves shown meter → IsMeter program [] meter meter
-new-meter program curves shown meter new = record {
+pub new-meter : (program : Program) (curves : Curves) (shown : List Standing) (meter : Meter) → IsWithinBounds program.limits → AreColumns curves.by shown → IsNewMeter curves shown meter → IsMeter program [] meter meter
+new-meter program curves shown meter bounds columns new = record {
+  bounds = bounds;
+  sound = sound;
+  by = refl;
+  columns = λ place d below. subst (IsColumn meter.by) (sym (ap thread_of (at place d below).growth_is)) (column place (omega (arith, below, new.threads.count)));
   marks = refl;
   starts = ascend (start_tick curves) (sample_count (last_end curves.stretches) + 1) meter.marks.starts.items new.starts (starts-ascend curves);
   ends = ascend (end_tick curves) (sample_count (last_end curves.stretches) + 1) meter.marks.ends.items new.ends (ends-ascend curves);
   time = new.time;
-  value = new.value;
+  value = new.value ∙ none-shared program meter.by;
   small = omega (arith, new.value);
   clock = ap thread_of new.live.growth_is;
   threads = record { count = refl; each = λ place d below. refl };
-  own = λ place d below. subst (IsNow (opening program.limits)) (sym (at place d below).growth_is) (none-worth program (get_or shown place none).thread);
-  live = λ few. new-gauge meter.marks (opening program.limits) Live meter.live new.live;
-  each = λ few place d below. new-gauge meter.marks (opening program.limits) (Due (get_or shown place none).thread 0) (get_or meter.threads.items place d) (at place d below);
+  own = λ place d below. subst (IsNow meter.by (opening program.limits)) (sym (at place d below).growth_is) (none-worth program meter.by (get_or shown place none).thread sound (column place (omega (arith, below, new.threads.count))));
+  live = λ few. new-gauge meter.by meter.marks (opening program.limits) Live meter.live new.live;
+  each = λ few place d below. new-gauge meter.by meter.marks (opening program.limits) (Due (get_or shown place none).thread 0) (get_or meter.threads.items place d) (at place d below);
 }
   where
     none : Standing
     none = record { thread = 0; ticks = 0 }
 
+    sound : IsSound (opening program.limits)
+    sound = run-sound program [] bounds
+
+    column : (place : ℕ) → place < length shown → IsColumn meter.by (Some (get_or shown place none).thread)
+    column place below = subst (λ what. IsColumn what (Some (get_or shown place none).thread)) (sym new.by) (columns place none below)
+
     at : (place : ℕ) (d : Gauge) → place < length meter.threads.items → IsNew (Due (get_or shown place none).thread 0) (get_or meter.threads.items place d)
     at place d below = new.threads.each place d none (omega (arith, below, new.threads.count))
 
--- the values are within that of all live threads
-pub meter-within : (program : Program) (turns : List MadeTurn) (first now : Meter) → IsMeter program turns first now → EachGauge (λ gauge. IsWithin now.live_value gauge.growth) now.threads.items
-meter-within program turns first now is place d below = now-within (state_of program turns) now.live_value (get_or now.threads.items place d).growth is.value (is.own place d below)
+-- the values are within the whole
+pub meter-within : (program : Program) (turns : List MadeTurn) (first now : Meter) → IsMeter program turns first now → EachGauge (λ gauge. IsWithin now.whole_value gauge.growth) now.threads.items
+meter-within program turns first now is place d below = now-within first.by (state_of program turns) now.whole_value (get_or now.threads.items place d).growth is.sound is.value (is.own place d below)
+
+-- the system's state is sound
+pub ran-sound : (program : Program) (seen : Seen) → seen.setting.program ≡ program → IsWithinBounds program.limits → IsSound (world_of seen).state
+ran-sound program seen is bounds = subst (λ (p : Program). IsSound (system_run p seen.history).state) (sym is) (run-sound program seen.history bounds)
+
+-- by currency no gauge is of base
+pub passed-columns : (program : Program) (turns : List MadeTurn) (first old : Meter) → IsMeter program turns first old → (now : ℕ) (passed : Meter) → HasPassedAll now old passed → EachGauge (λ gauge. IsColumn passed.by (thread_of gauge.growth)) passed.threads.items
+passed-columns program turns first old was now passed passes place d below =
+    let there : place < length old.threads.items = omega (arith, below, passes.threads.count) in
+    let first_there : place < length first.threads.items = omega (arith, there, was.threads.count) in
+    let thread : thread_of (get_or first.threads.items place d).growth ≡ thread_of (get_or passed.threads.items place d).growth =
+    sym (ap thread_of (passes.threads.each place d there).growth ∙ was.threads.each place d first_there) in
+    subst (λ what. IsColumn what (thread_of (get_or passed.threads.items place d).growth)) (sym (passes.by ∙ was.by))
+    (subst (λ (t : Option ℕ). IsColumn first.by t) thread (was.columns place d first_there))
 
 pub clock-within : (value : ℕ) (growth : Growth) → thread_of growth ≡ None → IsWithin value growth
 clock-within value Live is = tt
 clock-within value (Due thread own) is = cc
 
-clock-now : (s : State) (growth : Growth) → thread_of growth ≡ None → IsNow s growth
-clock-now s Live is = tt
-clock-now s (Due thread own) is = cc
+clock-now : (what : By) (s : State) (growth : Growth) → thread_of growth ≡ None → IsNow what s growth
+clock-now what s Live is = tt
+clock-now what s (Due thread own) is = cc
 
 -- ---- one turn more
 
@@ -173,31 +208,35 @@ module _ (program : Program) (turns : List MadeTurn) (made : MadeTurn) (turn : A
   seen-is : (world_of seen).state ≡ state_of program all
   seen-is = ap (λ (w : World). w.state) just.has.world
 
+  -- the system has made the turns of the program
+  sound-then : IsSound (state_of program all)
+  sound-then = subst IsSound seen-is (ran-sound program seen just.has.program_is was.bounds)
+
   -- a gauge that has passed the time up to the turn
-  gauge-then : (before after : Gauge) → IsNow (state_of program turns) before.growth → HasPassed old.marks old.live_value old.time now before after → (length turns < 2 ^ 24 → IsGaugeOf program turns first.marks before) → length all < 2 ^ 24
-      → IsGaugeOf program all first.marks after
+  gauge-then : (before after : Gauge) → IsNow first.by (state_of program turns) before.growth → HasPassed old.marks old.whole_value old.time now before after → (length turns < 2 ^ 24 → IsGaugeOf first.by program turns first.marks before) → length all < 2 ^ 24
+      → IsGaugeOf first.by program all first.marks after
   gauge-then before after own pass is few =
       let n = length turns in
       let room : n < 2 ^ 24 = omega (arith, few, length_push turns made) in
       let s = state_of program turns in
       let next = state_of program all in
       let begun = time_after 0 (map timed_turn turns) in
-      let moved : HasPassed first.marks old.live_value begun (unwrap_or made.time 0) before after =
-      subst (λ (m : Marks). HasPassed m old.live_value begun (unwrap_or made.time 0) before after) was.marks
-      (subst (λ k. HasPassed old.marks old.live_value k (unwrap_or made.time 0) before after) was.time
-      (subst (λ k. HasPassed old.marks old.live_value old.time k before after) (is_now ∙ sym made-at) pass)) in
-      let more = gauge-more first.marks was.starts was.ends (opening program.limits) (map timed_turn turns) n room s begun old.live_value was.value was.small next (timed_turn made) before after (omega (arith, made-at, early)) led own moved (is room) in
-      subst (λ k. IsGauge first.marks (opening program.limits) (map timed_turn all) (length all) next k after) (sym time-then)
-      (subst (λ k. IsGauge first.marks (opening program.limits) (map timed_turn all) k next (unwrap_or made.time 0) after) (sym (length_push turns made))
-      (subst (λ (ts : List TimedTurn). IsGauge first.marks (opening program.limits) ts (n + 1) next (unwrap_or made.time 0) after) (sym one-more) more))
+      let moved : HasPassed first.marks old.whole_value begun (unwrap_or made.time 0) before after =
+      subst (λ (m : Marks). HasPassed m old.whole_value begun (unwrap_or made.time 0) before after) was.marks
+      (subst (λ k. HasPassed old.marks old.whole_value k (unwrap_or made.time 0) before after) was.time
+      (subst (λ k. HasPassed old.marks old.whole_value old.time k before after) (is_now ∙ sym made-at) pass)) in
+      let more = gauge-more first.by first.marks was.starts was.ends (opening program.limits) (map timed_turn turns) n room s was.sound begun old.whole_value was.value was.small next (timed_turn made) before after (omega (arith, made-at, early)) led own moved (is room) in
+      subst (λ k. IsGauge first.by first.marks (opening program.limits) (map timed_turn all) (length all) next k after) (sym time-then)
+      (subst (λ k. IsGauge first.by first.marks (opening program.limits) (map timed_turn all) k next (unwrap_or made.time 0) after) (sym (length_push turns made))
+      (subst (λ (ts : List TimedTurn). IsGauge first.by first.marks (opening program.limits) ts (n + 1) next (unwrap_or made.time 0) after) (sym one-more) more))
 
-  live-then : length all < 2 ^ 24 → IsGaugeOf program all first.marks passed.live
-  live-then = gauge-then old.live passed.live (clock-now (state_of program turns) old.live.growth was.clock) passes.live was.live
+  live-then : length all < 2 ^ 24 → IsGaugeOf first.by program all first.marks passed.live
+  live-then = gauge-then old.live passed.live (clock-now first.by (state_of program turns) old.live.growth was.clock) passes.live was.live
 
   pass-at : (place : ℕ) (d : Gauge) → place < length passed.threads.items → place < length old.threads.items
   pass-at place d below = omega (arith, below, passes.threads.count)
 
-  each-then : length all < 2 ^ 24 → EachGauge (IsGaugeOf program all first.marks) passed.threads.items
+  each-then : length all < 2 ^ 24 → EachGauge (IsGaugeOf first.by program all first.marks) passed.threads.items
   each-then few place d below =
       let there = pass-at place d below in
       gauge-then (get_or old.threads.items place d) (get_or passed.threads.items place d) (was.own place d there) (passes.threads.each place d there) (λ room. was.each room place d there) few
@@ -214,15 +253,19 @@ module _ (program : Program) (turns : List MadeTurn) (made : MadeTurn) (turn : A
   -- after a draw, and after a quantum has ended, values stay
   pub meter-kept : turn.has_ended ≡ false → IsDispatch turn.event → IsMeter program all first (record passed { time = time })
   meter-kept answered dispatch = record {
+    bounds = was.bounds;
+    sound = sound-then;
+    by = passes.by ∙ was.by;
+    columns = was.columns;
     marks = passes.marks ∙ was.marks;
     starts = was.starts;
     ends = was.ends;
     time = sym (time-then ∙ made-at);
-    value = passes.value ∙ was.value ∙ sym (values-kept s turn.event dispatch turn.reply next answers);
+    value = passes.value ∙ was.value ∙ sym (whole-same first.by);
     small = omega (arith, passes.value, was.small);
     clock = clock-then;
     threads = threads-then;
-    own = λ place d below. let there = pass-at place d below in kept (get_or passed.threads.items place d).growth (subst (IsNow s) (sym (passes.threads.each place d there).growth) (was.own place d there));
+    own = λ place d below. let there = pass-at place d below in kept (get_or passed.threads.items place d).growth (subst (IsNow first.by s) (sym (passes.threads.each place d there).growth) (was.own place d there));
     live = live-then;
     each = each-then;
   }
@@ -245,32 +288,50 @@ module _ (program : Program) (turns : List MadeTurn) (made : MadeTurn) (turn : A
           subst (λ (w : World). Answers w.state turn.event turn.reply next) awaits.world_is
           (subst (λ (x : State). Answers made.before.state turn.event turn.reply x) (ap (λ (t : Turn). t.world.state) own_turn ∙ led) machine)
 
-      kept : (growth : Growth) → IsNow s growth → IsNow next growth
+      whole-same : (what : By) → whole_value what next ≡ whole_value what s
+      whole-same Thread = whole-kept s turn.event dispatch turn.reply next answers Threads
+      whole-same Currency = whole-kept s turn.event dispatch turn.reply next answers Currencies
+
+      own-kept : (what : By) (n : ℕ) → own_value what next n ≡ own_value what s n
+      own-kept Thread t = value-kept s turn.event dispatch turn.reply next answers Threads t
+      own-kept Currency c = value-kept s turn.event dispatch turn.reply next answers Currencies c
+
+      kept : (growth : Growth) → IsNow first.by s growth → IsNow first.by next growth
       kept Live is = tt
-      kept (Due thread own) is = is ∙ sym (part-kept s turn.event dispatch turn.reply next answers thread)
+      kept (Due thread own) is = is ∙ sym (own-kept first.by thread)
 
   -- after any other turn they are taken over anew
   pub meter-renewed : (new : Meter) → HasRenewed (world_of seen).state (record passed { time = time }) new → IsMeter program all first new
   meter-renewed new renews = record {
+    bounds = was.bounds;
+    sound = sound-then;
+    by = renews.by ∙ by_then;
+    columns = was.columns;
     marks = renews.marks ∙ passes.marks ∙ was.marks;
     starts = was.starts;
     ends = was.ends;
     time = renews.time ∙ sym (time-then ∙ made-at);
-    value = renews.value ∙ ap live_value seen-is;
+    value = renews.value ∙ (λ i. whole_value (by_then i) (seen-is i));
     small = renews.small;
     clock = ap (λ (g : Gauge). thread_of g.growth) renews.live ∙ clock-then;
     threads = record {
       count = renews.threads.count ∙ threads-then.count;
       each = λ place d below. (renews.threads.each place d (omega (arith, below, threads-then.count))).thread ∙ threads-then.each place d below;
     };
-    own = λ place d below. subst (λ (x : State). IsNow x (get_or new.threads.items place d).growth) seen-is (renews.threads.each place d (there place d below)).now;
-    live = λ few. subst (λ (g : Gauge). IsGaugeOf program all first.marks g) (sym renews.live) (live-then few);
-    each = λ few place d below. gauge-renewed first.marks (opening program.limits) (map timed_turn all) (length all) (state_of program all) (world_of seen).state (time_after 0 (map timed_turn all)) (get_or passed.threads.items place d) (get_or new.threads.items place d) (renews.threads.each place d (there place d below))
+    own = λ place d below. subst (λ (x : State). IsNow first.by x (get_or new.threads.items place d).growth) seen-is (now_then place d below).now;
+    live = λ few. subst (λ (g : Gauge). IsGaugeOf first.by program all first.marks g) (sym renews.live) (live-then few);
+    each = λ few place d below. gauge-renewed first.by first.marks (opening program.limits) (map timed_turn all) (length all) (state_of program all) (world_of seen).state (time_after 0 (map timed_turn all)) (get_or passed.threads.items place d) (get_or new.threads.items place d) (now_then place d below)
         (each-then few place d (there place d below));
   }
     where
       there : (place : ℕ) (d : Gauge) → place < length new.threads.items → place < length passed.threads.items
       there place d below = omega (arith, below, renews.threads.count)
+
+      by_then : passed.by ≡ first.by
+      by_then = passes.by ∙ was.by
+
+      now_then : (place : ℕ) (d : Gauge) → place < length new.threads.items → IsRenewed first.by (world_of seen).state (get_or passed.threads.items place d) (get_or new.threads.items place d)
+      now_then place d below = subst (λ what. IsRenewed what (world_of seen).state (get_or passed.threads.items place d) (get_or new.threads.items place d)) by_then (renews.threads.each place d (there place d below))
 
 -- ---- after the last turn
 
@@ -299,16 +360,16 @@ module _ (program : Program) (duration : ℕ) (timed : program.duration ≡ Some
     before-end k below = sample-early (last_end curves.stretches) k (omega (arith, below))
 
     -- a gauge that has been read at all ticks
-    sampled : (before after : Gauge) → IsNow (state_of program turns) before.growth → HasPassed old.marks old.live_value old.time (2 ^ 64 - 1) before after → IsGaugeOf program turns first.marks before
-        → IsSampled curves (sum_until (amount_for (thread_of before.growth)) (opening program.limits) 0 (timed_turns program)) (most_of (thread_of before.growth)) after
+    sampled : (before after : Gauge) → IsNow first.by (state_of program turns) before.growth → HasPassed old.marks old.whole_value old.time (2 ^ 64 - 1) before after → IsGaugeOf first.by program turns first.marks before
+        → IsSampled curves (sum_until (amount_for first.by (thread_of before.growth)) (opening program.limits) 0 (timed_turns program)) (most_of (thread_of before.growth)) after
     sampled before after own pass gauge =
         let t = thread_of before.growth in
-        let amount = amount_for t in
+        let amount = amount_for first.by t in
         let s = state_of program turns in
         let begun = time_after 0 (map timed_turn turns) in
-        let flows = flow-is first.marks was_starts was_ends (opening program.limits) (map timed_turn turns) (length turns) few s begun old.live_value is.value is.small before own gauge.sum in
-        let moved : HasPassed first.marks old.live_value begun (2 ^ 64 - 1) before after = subst (λ (m : Marks). HasPassed m old.live_value begun (2 ^ 64 - 1) before after) is.marks (subst (λ k. HasPassed old.marks old.live_value k (2 ^ 64 - 1) before after) is.time pass) in
-        let at = flow_at (flow_of old.live_value begun before) in
+        let flows = flow-is first.by first.marks was_starts was_ends (opening program.limits) (map timed_turn turns) (length turns) few s is.sound begun old.whole_value is.value is.small before own gauge.sum in
+        let moved : HasPassed first.marks old.whole_value begun (2 ^ 64 - 1) before after = subst (λ (m : Marks). HasPassed m old.whole_value begun (2 ^ 64 - 1) before after) is.marks (subst (λ k. HasPassed old.marks old.whole_value k (2 ^ 64 - 1) before after) is.time pass) in
+        let at = flow_at (flow_of old.whole_value begun before) in
         let starts = last-read amount (opening program.limits) (map timed_turn turns) s begun before.sum (most_of t) first.marks.starts.items before.starts.items after.starts.items at gauge.starts moved.starts (tick-early (start_tick curves) first.marks.starts.items new.starts starts_early) flows in
         let ends = last-read amount (opening program.limits) (map timed_turn turns) s begun before.sum (most_of t) first.marks.ends.items before.ends.items after.ends.items at gauge.ends moved.ends (tick-early (end_tick curves) first.marks.ends.items new.ends ends_early) flows in
         let sum = sum_until amount (opening program.limits) 0 (timed_turns program) in
@@ -345,35 +406,40 @@ module _ (program : Program) (duration : ℕ) (timed : program.duration ≡ Some
             by None = omega (arith, new.early)
             by (Some window) = omega (arith, before-end k below, new.early)
 
-    due-all : (dues : LineDues) → dues.live ≡ passed.live → dues.threads.items ≡ passed.threads.items → AreDues curves (dues_in (opening program.limits) (timed_turns program)) shown dues
+    due-all : (dues : LineDues) → dues.live ≡ passed.live → dues.threads.items ≡ passed.threads.items → AreDues curves (dues_in curves.by (opening program.limits) (timed_turns program)) shown dues
     due-all dues lives threads = record { live = live; count = ap length threads ∙ passes.threads.count ∙ is.threads.count ∙ new.threads.count; each = each }
       where
         s : State
         s = state_of program turns
 
-        live : IsSampled curves (dues_in (opening program.limits) (timed_turns program)).live (2 ^ 65) dues.live
-        live =
-            subst (λ (g : Gauge). IsSampled curves (sum_until (amount_for None) (opening program.limits) 0 (timed_turns program)) (2 ^ 65) g) (sym lives)
-            (subst (λ (t : Option ℕ). IsSampled curves (sum_until (amount_for t) (opening program.limits) 0 (timed_turns program)) (most_of t) passed.live) is.clock
-            (sampled old.live passed.live (clock-now s old.live.growth is.clock) passes.live (is.live few)))
+        -- the meter is for what the curves are by
+        by_curves : (before after : Gauge) → IsSampled curves (sum_until (amount_for first.by (thread_of before.growth)) (opening program.limits) 0 (timed_turns program)) (most_of (thread_of before.growth)) after
+            → IsSampled curves (sum_until (amount_for curves.by (thread_of before.growth)) (opening program.limits) 0 (timed_turns program)) (most_of (thread_of before.growth)) after
+        by_curves before after is_sampled = subst (λ what. IsSampled curves (sum_until (amount_for what (thread_of before.growth)) (opening program.limits) 0 (timed_turns program)) (most_of (thread_of before.growth)) after) new.by is_sampled
 
-        each : (place : ℕ) (d : Gauge) (e : Standing) → place < length shown → IsSampled curves ((dues_in (opening program.limits) (timed_turns program)).parts (get_or shown place e).thread) (2 ^ 125) (get_or dues.threads.items place d)
+        live : IsSampled curves (dues_in curves.by (opening program.limits) (timed_turns program)).live (2 ^ 65) dues.live
+        live =
+            subst (λ (g : Gauge). IsSampled curves (sum_until (amount_for curves.by None) (opening program.limits) 0 (timed_turns program)) (2 ^ 65) g) (sym lives)
+            (subst (λ (t : Option ℕ). IsSampled curves (sum_until (amount_for curves.by t) (opening program.limits) 0 (timed_turns program)) (most_of t) passed.live) is.clock
+            (by_curves old.live passed.live (sampled old.live passed.live (clock-now first.by s old.live.growth is.clock) passes.live (is.live few))))
+
+        each : (place : ℕ) (d : Gauge) (e : Standing) → place < length shown → IsSampled curves ((dues_in curves.by (opening program.limits) (timed_turns program)).parts (get_or shown place e).thread) (2 ^ 125) (get_or dues.threads.items place d)
         each place d e below =
             let there : place < length old.threads.items = omega (arith, below, is.threads.count, new.threads.count) in
             let thread : thread_of (get_or old.threads.items place d).growth ≡ Some (get_or shown place e).thread = is.threads.each place d (omega (arith, below, new.threads.count)) ∙ ap thread_of (new.threads.each place d e below).growth_is in
-            subst (λ (gs : List Gauge). IsSampled curves (sum_until (due_to (get_or shown place e).thread) (opening program.limits) 0 (timed_turns program)) (2 ^ 125) (get_or gs place d)) (sym threads)
-            (subst (λ (t : Option ℕ). IsSampled curves (sum_until (amount_for t) (opening program.limits) 0 (timed_turns program)) (most_of t) (get_or passed.threads.items place d)) thread
-            (sampled (get_or old.threads.items place d) (get_or passed.threads.items place d) (is.own place d there) (passes.threads.each place d there) (is.each few place d there)))
+            subst (λ (gs : List Gauge). IsSampled curves (sum_until (due_to curves.by (get_or shown place e).thread) (opening program.limits) 0 (timed_turns program)) (2 ^ 125) (get_or gs place d)) (sym threads)
+            (subst (λ (t : Option ℕ). IsSampled curves (sum_until (amount_for curves.by t) (opening program.limits) 0 (timed_turns program)) (most_of t) (get_or passed.threads.items place d)) thread
+            (by_curves (get_or old.threads.items place d) (get_or passed.threads.items place d) (sampled (get_or old.threads.items place d) (get_or passed.threads.items place d) (is.own place d there) (passes.threads.each place d there) (is.each few place d there))))
 
-    pub dues-are : (dues : LineDues) → dues.live ≡ passed.live → dues.threads.items ≡ passed.threads.items → HaveDues curves (dues_of program) shown (Some dues)
+    pub dues-are : (dues : LineDues) → dues.live ≡ passed.live → dues.threads.items ≡ passed.threads.items → HaveDues curves (dues_by curves.by program) shown (Some dues)
     dues-are dues lives threads =
-        let are : dues_of program ≡ Some (dues_in (opening program.limits) (timed_turns program)) = rw timed refl in
+        let are : dues_by curves.by program ≡ Some (dues_in curves.by (opening program.limits) (timed_turns program)) = rw timed refl in
         subst (λ (o : Option Dues). HaveDues curves o shown (Some dues)) (sym are) (due-all dues lives threads)
 
 -- a program without a duration has none
-pub none-due : (program : Program) (curves : Curves) (shown : List Standing) → program.duration ≡ None → HaveDues curves (dues_of program) shown None
+pub none-due : (program : Program) (curves : Curves) (shown : List Standing) → program.duration ≡ None → HaveDues curves (dues_by curves.by program) shown None
 none-due program curves shown untimed =
-    let are : dues_of program ≡ None = rw untimed refl in
+    let are : dues_by curves.by program ≡ None = rw untimed refl in
     subst (λ (o : Option Dues). HaveDues curves o shown None) (sym are) tt
 
 -- ---- shares

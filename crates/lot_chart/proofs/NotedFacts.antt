@@ -1,5 +1,7 @@
 -- The curves of a program are those of its turns.
-use Rattle.std.proofs.Common.{◌≡◌, ℕ, zero, suc, ◌==◌, Bool, true, false, cond, filter, Option, None, Some, List, [], ◌∷◌, ◌++◌, map, refl, sym, ◌∙◌, ap, arith, ne_eqb, append-nil, append_assoc}
+use Rattle.std.proofs.Common.{◌≡◌, ℕ, zero, suc, ◌==◌, Bool, true, false, cond, filter, Option, None, Some, List, [], ◌∷◌, ◌++◌, map, refl, sym, ◌∙◌, ap, subst, arith, ne_eqb, append-nil, append_assoc}
+use Rattle.std.specs.Prelude.{IsSome}
+use Rattle.std.specs.List.{flat_map}
 use Rattle.std.proofs.lemmas.Grind.{flat_map-append}
 use Rattle.lot_machine.specs.declared.command.Command.{Command}
 use Rattle.lot_machine.specs.declared.event.Event.{Event}
@@ -9,12 +11,14 @@ use Rattle.lot_simulation.specs.Timed.{Moment, TimedTurn, moment_after, moment_a
 use Rattle.lot_simulation.specs.World.{Program, World, Answer, Turn, console_turn, opening_world, actor_event, processor_turn, system_after, system_answers, system_run, system_turn}
 use Rattle.lot_simulation.specs.World.Answer.{Answered, Ended}
 use Rattle.lot_simulation.proofs.TimedRuns.{timed-world}
+use Rattle.lot_curves.specs.declared.by.By.{By}
+use Rattle.lot_curves.specs.declared.by.By.TheVariants.{Thread, Currency}
 use Rattle.lot_curves.specs.declared.stretch.Stretch.{Stretch}
-use Rattle.lot_curves.specs.Curves.{command_times, curves_of, names_in, scheduled_curves, stretches_made, timed_curves, timed_stretches}
+use Rattle.lot_curves.specs.Curves.{command_times, currency_stretches_from, curves_by, curves_of, ended_in_time, names_by, scheduled_curves, stretches_made, timed_curves_by, timed_stretches_by}
 use Rattle.lot_curves.specs.OwnTimes.{ended_after}
-use Rattle.lot_curves.specs.Stretches.{stretch_of}
+use Rattle.lot_curves.specs.Stretches.{stretch_of, turn_stretches}
 use Rattle.lot_playback.specs.Turns.{MadeTurn, counted_turn, counted_turns, program_turns, scheduled_turn, scheduled_turns, turn_in_time, turns_by, turns_in_time, world_after_turns}
-use Rattle.lot_chart.specs.Noted.{commands_in, curves_after, own_stretch, stretches_in}
+use Rattle.lot_chart.specs.Noted.{commands_in, curves_after, own_end, stretches_in}
 
 -- ---- a schedule
 
@@ -79,7 +83,7 @@ module _ (program : Program) where
   counted-is =
       ap (turns_made program) (history-is (opening_world program) program.schedule) ∙ made-is (opening_world program) program.schedule
 
-  stretches-scheduled : (before : List MadeTurn) (w : World) (actors : List ℕ) → map stretch_of (ended_after (counted_turns before) (made_by w actors)) ≡ stretches_in before (scheduled_turns program w actors)
+  stretches-scheduled : (before : List MadeTurn) (w : World) (actors : List ℕ) → map stretch_of (ended_after (counted_turns before) (made_by w actors)) ≡ stretches_in Thread before (scheduled_turns program w actors)
   stretches-scheduled before w [] = refl
   stretches-scheduled before w (a ∷ actors) = from (system_turn program w a).answer refl (stretches-scheduled (before ++ scheduled_turn program w a ∷ []) (system_turn program w a).world actors)
     where
@@ -92,17 +96,17 @@ module _ (program : Program) where
           ∙ ap (λ ts. counted_turns before ++ ts) (append-nil (counted_turn a (system_turn program w a).answer) ∙ ap (counted_turn a) is)
 
       from : (x : Answer) → (system_turn program w a).answer ≡ x
-          → map stretch_of (ended_after (counted_turns (before ++ made ∷ [])) (made_by (system_turn program w a).world actors)) ≡ stretches_in (before ++ made ∷ []) (scheduled_turns program (system_turn program w a).world actors)
-          → map stretch_of (ended_after (counted_turns before) (counted_turn a x ++ made_by (system_turn program w a).world actors)) ≡ stretches_in before (made ∷ scheduled_turns program (system_turn program w a).world actors)
+          → map stretch_of (ended_after (counted_turns (before ++ made ∷ [])) (made_by (system_turn program w a).world actors)) ≡ stretches_in Thread (before ++ made ∷ []) (scheduled_turns program (system_turn program w a).world actors)
+          → map stretch_of (ended_after (counted_turns before) (counted_turn a x ++ made_by (system_turn program w a).world actors)) ≡ stretches_in Thread before (made ∷ scheduled_turns program (system_turn program w a).world actors)
       from (Answered e r) is later =
           let turn : ActorTurn = record { actor = a; answer = Answered e r } in
-          ap (λ (ts : List ActorTurn). own_stretch ts turn ∷ map stretch_of (ended_after ts (made_by (system_turn program w a).world actors))) (sym (more (Answered e r) is))
-          ∙ ap (λ (ss : List Stretch). own_stretch (counted_turns (before ++ made ∷ [])) turn ∷ ss) later
-          ∙ ap (λ (x : Answer). map (own_stretch (counted_turns (before ++ made ∷ []))) (counted_turn a x) ++ stretches_in (before ++ made ∷ []) (scheduled_turns program (system_turn program w a).world actors)) (sym is)
+          ap (λ (ts : List ActorTurn). stretch_of (own_end ts turn) ∷ map stretch_of (ended_after ts (made_by (system_turn program w a).world actors))) (sym (more (Answered e r) is))
+          ∙ ap (λ (ss : List Stretch). stretch_of (own_end (counted_turns (before ++ made ∷ [])) turn) ∷ ss) later
+          ∙ ap (λ (x : Answer). flat_map (turn_stretches Thread w.state) (map (own_end (counted_turns (before ++ made ∷ []))) (counted_turn a x)) ++ stretches_in Thread (before ++ made ∷ []) (scheduled_turns program (system_turn program w a).world actors)) (sym is)
       from Ended is later =
           ap (λ (ts : List ActorTurn). map stretch_of (ended_after ts (made_by (system_turn program w a).world actors))) (sym (more Ended is ∙ append-nil (counted_turns before)))
           ∙ later
-          ∙ ap (λ (x : Answer). map (own_stretch (counted_turns (before ++ made ∷ []))) (counted_turn a x) ++ stretches_in (before ++ made ∷ []) (scheduled_turns program (system_turn program w a).world actors)) (sym is)
+          ∙ ap (λ (x : Answer). flat_map (turn_stretches Thread w.state) (map (own_end (counted_turns (before ++ made ∷ []))) (counted_turn a x)) ++ stretches_in Thread (before ++ made ∷ []) (scheduled_turns program (system_turn program w a).world actors)) (sym is)
 
   world-scheduled : (w : World) (actors : List ℕ) → system_after program w actors ≡ world_after_turns w (scheduled_turns program w actors)
   world-scheduled w [] = refl
@@ -116,11 +120,22 @@ module _ (program : Program) where
 
 -- the stretch of a turn in the order of time
 abbrev pub timed_stretch : TimedTurn → Stretch
-timed_stretch done = stretch_of (record { time = done.time; answer = done.turn.answer })
+timed_stretch done = stretch_of (ended_in_time done)
 
-stretches-timed : (before : List MadeTurn) (w : World) (turns : List TimedTurn) → map timed_stretch turns ≡ stretches_in before (turns_in_time w turns)
+stretches-timed : (before : List MadeTurn) (w : World) (turns : List TimedTurn) → map timed_stretch turns ≡ stretches_in Thread before (turns_in_time w turns)
 stretches-timed before w [] = refl
 stretches-timed before w (t ∷ turns) = ap (λ (ss : List Stretch). timed_stretch t ∷ ss) (stretches-timed (before ++ turn_in_time w t ∷ []) t.turn.world turns)
+
+columns-timed : (before : List MadeTurn) (w : World) (turns : List TimedTurn) → currency_stretches_from w.state turns ≡ stretches_in Currency before (turns_in_time w turns)
+columns-timed before w [] = refl
+columns-timed before w (t ∷ turns) =
+    let here = turn_stretches Currency w.state (ended_in_time t) in
+    ap (λ (ss : List Stretch). here ++ ss) (columns-timed (before ++ turn_in_time w t ∷ []) t.turn.world turns)
+    ∙ ap (λ (ss : List Stretch). ss ++ stretches_in Currency (before ++ turn_in_time w t ∷ []) (turns_in_time t.turn.world turns)) (sym (append-nil here))
+
+all-timed : (what : By) (program : Program) → timed_stretches_by what program ≡ stretches_in what [] (turns_in_time (opening_world program) (timed_turns program))
+all-timed Thread program = stretches-timed [] (opening_world program) (timed_turns program)
+all-timed Currency program = columns-timed [] (opening_world program) (timed_turns program)
 
 commands-timed : (w : World) (turns : List TimedTurn) → map (λ (done : TimedTurn). done.time) (filter (λ done. done.actor == 0) turns) ≡ commands_in (turns_in_time w turns)
 commands-timed w [] = refl
@@ -140,21 +155,37 @@ world-timed m (t ∷ turns) = world-timed (moment_after m t) turns
 
 -- ---- the curves
 
-pub curves-are : (program : Program) (d : Option ℕ) → program.duration ≡ d → curves_of program ≡ curves_after program (program_turns program)
-curves-are program None is =
+scheduled-are : (program : Program) → program.duration ≡ None → curves_of program ≡ curves_after Thread program (program_turns program)
+scheduled-are program is =
     let turns : turns_by program None ≡ program_turns program = ap (turns_by program) (sym is) in
     let world : system_run program program.schedule ≡ world_after_turns (opening_world program) (program_turns program) =
     world-scheduled program (opening_world program) program.schedule ∙ ap (world_after_turns (opening_world program)) turns in
-    let stretches : stretches_made program (system_run program program.schedule).history ≡ stretches_in [] (program_turns program) =
-    ap (λ (ts : List ActorTurn). map stretch_of (ended_after [] ts)) (counted-is program) ∙ stretches-scheduled program [] (opening_world program) program.schedule ∙ ap (stretches_in []) turns in
+    let stretches : stretches_made program (system_run program program.schedule).history ≡ stretches_in Thread [] (program_turns program) =
+    ap (λ (ts : List ActorTurn). map stretch_of (ended_after [] ts)) (counted-is program) ∙ stretches-scheduled program [] (opening_world program) program.schedule ∙ ap (stretches_in Thread []) turns in
     let curves : curves_of program ≡ scheduled_curves program = rw is refl in
     let commands : [] ≡ commands_in (program_turns program) = commands-scheduled program (opening_world program) program.schedule ∙ ap commands_in turns in
-    curves ∙ (λ i. record { names = names_in (world i).state; stretches = stretches i; origin = 0; window = None; commands = commands i })
-curves-are program (Some duration) is =
+    curves ∙ (λ i. record { by = Thread; names = names_by Thread (world i).state; stretches = stretches i; origin = 0; window = None; commands = commands i })
+
+timed-are : (what : By) (program : Program) (duration : ℕ) → program.duration ≡ Some duration → curves_by what program ≡ curves_after what program (program_turns program)
+timed-are what program duration is =
     let turns : turns_by program (Some duration) ≡ program_turns program = ap (turns_by program) (sym is) in
     let world : system_run program (timed_schedule program) ≡ world_after_turns (opening_world program) (program_turns program) =
     sym (timed-world program) ∙ world-timed (opening_moment program) (timed_turns program) ∙ ap (world_after_turns (opening_world program)) turns in
-    let stretches : timed_stretches program ≡ stretches_in [] (program_turns program) = stretches-timed [] (opening_world program) (timed_turns program) ∙ ap (stretches_in []) turns in
-    let curves : curves_of program ≡ timed_curves program = rw is refl in
+    let stretches : timed_stretches_by what program ≡ stretches_in what [] (program_turns program) = all-timed what program ∙ ap (stretches_in what []) turns in
+    let curves : curves_by what program ≡ timed_curves_by what program = rw is refl in
     let commands : command_times program ≡ commands_in (program_turns program) = commands-timed (opening_world program) (timed_turns program) ∙ ap commands_in turns in
-    curves ∙ (λ i. record { names = names_in (world i).state; stretches = stretches i; origin = 0; window = None; commands = commands i })
+    curves ∙ (λ i. record { by = what; names = names_by what (world i).state; stretches = stretches i; origin = 0; window = None; commands = commands i })
+
+pub curves-are : (program : Program) (d : Option ℕ) → program.duration ≡ d → curves_of program ≡ curves_after Thread program (program_turns program)
+curves-are program None is = scheduled-are program is
+curves-are program (Some duration) is = timed-are Thread program duration is
+
+pub timed-curves-are : (what : By) (program : Program) (d : Option ℕ) → program.duration ≡ d → IsSome program.duration → curves_by what program ≡ curves_after what program (program_turns program)
+timed-curves-are what program None is some = let none : false ≡ true = subst IsSome is some in cc
+timed-curves-are what program (Some duration) is some = timed-are what program duration is
+
+-- without a duration they are by thread
+pub untimed-curves-are : (what : By) (program : Program) → program.duration ≡ None → curves_after Thread program (program_turns program) ≡ curves_by what program
+untimed-curves-are what program is =
+    let same : curves_of program ≡ curves_by what program = rw is refl in
+    sym (scheduled-are program is) ∙ same

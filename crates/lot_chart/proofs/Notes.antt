@@ -1,25 +1,28 @@
 -- Stretches that are noted turn by turn.
+use Rattle.std.specs.List.{flat_map}
 use Rattle.std.proofs.lemmas.Grind.{flat_map-append}
 use Rattle.std.proofs.Common.{◌≡◌, ℕ, suc, ◌+◌, ◌*◌, ◌^◌, ◌<◌, ◌≤◌, true, false, Option, Some, None, List, [], ◌∷◌, ◌++◌, length, map, refl, sym, ◌∙◌, ap, arith, append_assoc, append-nil, length-append, lit<}
 use Rattle.lot_machine.specs.declared.event.Event.{Event}
 use Rattle.lot_machine.specs.declared.reply.Reply.{Reply}
 use Rattle.lot_simulation.specs.Report.{ActorTurn, ticks_in, total_of, turns_made, turns_of}
 use Rattle.lot_simulation.specs.Timed.{TimedTurn, opening_moment, timed_room, timed_turns}
-use Rattle.lot_simulation.specs.World.{Program, World, Answer, opening_world, system_turn}
+use Rattle.lot_simulation.specs.World.{Program, World, Answer, Turn, opening_world, system_turn}
 use Rattle.lot_simulation.specs.World.Answer.{Answered, Ended}
 use Rattle.lot_simulation.proofs.ActorCounts.{turns_made-length}
 use Rattle.lot_simulation.proofs.TimedRuns.{turns-few}
 use Rattle.lot_text.specs.Programs.{IsProgram}
+use Rattle.lot_curves.specs.declared.by.By.{By}
 use Rattle.lot_curves.specs.declared.stretch.Stretch.{Stretch}
-use Rattle.lot_curves.specs.Curves.{curves_of, names_in}
-use Rattle.lot_curves.specs.Stretches.{last_end, stretch_of}
-use Rattle.lot_curves.proofs.Ends.{last_end-push}
+use Rattle.lot_curves.specs.Curves.{names_by}
+use Rattle.lot_curves.specs.OwnTimes.{EndedTurn}
+use Rattle.lot_curves.specs.Stretches.{turn_stretches}
+use Rattle.std.specs.Prelude.{max}
+use Rattle.lot_chart.proofs.Ran.{ran-on}
 use Rattle.lot_engine.specs.Seen.{Seen, world_of}
 use Rattle.lot_playback.specs.declared.turn.Turn.{Turn as ATurn}
 use Rattle.lot_playback.specs.Stages.{HasJustMade, HasMade, answer_in}
 use Rattle.lot_playback.specs.Turns.{MadeTurn, counted_turn, counted_turns, program_turns, scheduled_turns, turns_by, turns_in_time}
-use Rattle.lot_chart.specs.Noted.{command_time, commands_in, curves_after, end_in, own_stretch, stretches_at, stretches_in, stretches_of_turn}
-use Rattle.lot_chart.proofs.NotedFacts.{curves-are}
+use Rattle.lot_chart.specs.Noted.{RanOn, command_time, commands_in, curves_after, end_in, ended_at, own_end, stretches_in, stretches_of_turn}
 
 -- ---- how many turns there are
 
@@ -63,14 +66,14 @@ commands-one_more turns made =
 
 -- ---- the stretches of one turn more
 
-stretches-one_more : (before turns : List MadeTurn) (made : MadeTurn) → stretches_in before (turns ++ made ∷ []) ≡ stretches_in before turns ++ stretches_of_turn (before ++ turns) made
-stretches-one_more before [] made = append-nil (stretches_of_turn before made) ∙ ap (λ (ts : List MadeTurn). stretches_of_turn ts made) (sym (append-nil before))
-stretches-one_more before (t ∷ turns) made =
-    let here = stretches_of_turn before t in
+stretches-one_more : (what : By) (before turns : List MadeTurn) (made : MadeTurn) → stretches_in what before (turns ++ made ∷ []) ≡ stretches_in what before turns ++ stretches_of_turn what (before ++ turns) made
+stretches-one_more what before [] made = append-nil (stretches_of_turn what before made) ∙ ap (λ (ts : List MadeTurn). stretches_of_turn what ts made) (sym (append-nil before))
+stretches-one_more what before (t ∷ turns) made =
+    let here = stretches_of_turn what before t in
     let now = before ++ t ∷ [] in
-    ap (λ (ss : List Stretch). here ++ ss) (stretches-one_more now turns made)
-    ∙ sym (append_assoc here (stretches_in now turns) (stretches_of_turn (now ++ turns) made))
-    ∙ ap (λ (ts : List MadeTurn). (here ++ stretches_in now turns) ++ stretches_of_turn ts made) (append_assoc before (t ∷ []) turns)
+    ap (λ (ss : List Stretch). here ++ ss) (stretches-one_more what now turns made)
+    ∙ sym (append_assoc here (stretches_in what now turns) (stretches_of_turn what (now ++ turns) made))
+    ∙ ap (λ (ts : List MadeTurn). (here ++ stretches_in what now turns) ++ stretches_of_turn what ts made) (append_assoc before (t ∷ []) turns)
 
 module _ (program : Program) (turns : List MadeTurn) (made : MadeTurn) (turn : ATurn) (seen : Seen) (just : HasJustMade program turns made turn seen) where
   abbrev all : List MadeTurn
@@ -79,29 +82,38 @@ module _ (program : Program) (turns : List MadeTurn) (made : MadeTurn) (turn : A
   counted-is : turns_made seen.setting.program seen.history ≡ counted_turns all
   counted-is = ap (λ (p : Program). turns_made p seen.history) just.has.program_is ∙ just.has.counted
 
-  -- the stretch of a turn that is answered
-  stretch-is : (e : Event) (r : Reply) → made.turn.answer ≡ Answered e r → (time : Option ℕ) → stretches_at time turns made ≡ stretch_of (record { time = end_in seen time made.actor; answer = Answered e r }) ∷ []
-  stretch-is e r is (Some time) = ap (λ (x : Answer). stretch_of (record { time = time; answer = x }) ∷ []) is
-  stretch-is e r is None =
-      ap (λ (x : Answer). map (own_stretch (counted_turns all)) (counted_turn made.actor x)) is
-      ∙ ap (λ (ts : List ActorTurn). stretch_of (record { time = total_of ticks_in (turns_of made.actor ts); answer = Answered e r }) ∷ []) (sym counted-is)
+  -- the thread that ran in it ran on its actor's processor
+  pub turn-ran : turn.has_ended ≡ false → RanOn made.before.state made.actor turn.reply
+  turn-ran answered =
+      let answer : made.turn.answer ≡ Answered turn.event turn.reply = just.reports.answer ∙ ap (λ b. answer_in b turn.event turn.reply) answered in
+      ran-on program made.before made.actor turn.event turn.reply (ap (λ (t : Turn). t.answer) (sym just.turn_is) ∙ answer)
 
-  pub answered-noted : turn.has_ended ≡ false → (end : ℕ) → end ≡ end_in seen turn.time turn.actor → (items after : List Stretch) (s : Stretch) → s ≡ stretch_of (record { time = end; answer = Answered turn.event turn.reply })
-      → items ≡ stretches_in [] turns → after ≡ items ++ s ∷ [] → after ≡ stretches_in [] (turns ++ made ∷ [])
-  answered-noted answered end ends items after s of_s noted pushed =
+  -- a turn that is answered ends once
+  ended-is : (e : Event) (r : Reply) → made.turn.answer ≡ Answered e r → (time : Option ℕ) → ended_at time turns made ≡ record { time = end_in seen time made.actor; answer = Answered e r } ∷ []
+  ended-is e r is (Some time) = ap (λ (x : Answer). record { time = time; answer = x } ∷ []) is
+  ended-is e r is None =
+      ap (λ (x : Answer). map (own_end (counted_turns all)) (counted_turn made.actor x)) is
+      ∙ ap (λ (ts : List ActorTurn). record { time = total_of ticks_in (turns_of made.actor ts); answer = Answered e r } ∷ []) (sym counted-is)
+
+  -- its stretches are noted
+  pub answered-noted : (what : By) → turn.has_ended ≡ false → (end : ℕ) → end ≡ end_in seen turn.time turn.actor → (items after : List Stretch)
+      → items ≡ stretches_in what [] turns → after ≡ items ++ turn_stretches what made.before.state (record { time = end; answer = Answered turn.event turn.reply }) → after ≡ stretches_in what [] (turns ++ made ∷ [])
+  answered-noted what answered end ends items after noted pushed =
       let answer : made.turn.answer ≡ Answered turn.event turn.reply = just.reports.answer ∙ ap (λ b. answer_in b turn.event turn.reply) answered in
       let own : end ≡ end_in seen made.time made.actor = ends ∙ ap (λ (t : Option ℕ). end_in seen t turn.actor) just.reports.time ∙ ap (end_in seen made.time) just.reports.actor in
-      let stretch : s ≡ stretch_of (record { time = end_in seen made.time made.actor; answer = Answered turn.event turn.reply }) = of_s ∙ ap (λ t. stretch_of (record { time = t; answer = Answered turn.event turn.reply })) own in
-      let here : s ∷ [] ≡ stretches_of_turn turns made = ap (λ (x : Stretch). x ∷ []) stretch ∙ sym (stretch-is turn.event turn.reply answer made.time) in
-      pushed ∙ ap (λ (xs : List Stretch). xs ++ s ∷ []) noted ∙ ap (λ (ss : List Stretch). stretches_in [] turns ++ ss) here ∙ sym (stretches-one_more [] turns made)
+      let of_end : ℕ → List Stretch = λ t. turn_stretches what made.before.state (record { time = t; answer = Answered turn.event turn.reply }) in
+      let here : of_end end ≡ stretches_of_turn what turns made =
+      ap of_end own ∙ sym (append-nil (of_end (end_in seen made.time made.actor))) ∙ ap (λ (es : List EndedTurn). flat_map (turn_stretches what made.before.state) es) (sym (ended-is turn.event turn.reply answer made.time)) in
+      pushed ∙ ap (λ (xs : List Stretch). xs ++ of_end end) noted ∙ ap (λ (ss : List Stretch). stretches_in what [] turns ++ ss) here ∙ sym (stretches-one_more what [] turns made)
 
   -- a turn without a command has none
-  pub ended-noted : turn.has_ended ≡ true → (items : List Stretch) → items ≡ stretches_in [] turns → items ≡ stretches_in [] (turns ++ made ∷ [])
-  ended-noted ended items noted =
+  pub ended-noted : (what : By) → turn.has_ended ≡ true → (items : List Stretch) → items ≡ stretches_in what [] turns → items ≡ stretches_in what [] (turns ++ made ∷ [])
+  ended-noted what ended items noted =
       let answer : made.turn.answer ≡ Ended = just.reports.answer ∙ ap (λ b. answer_in b turn.event turn.reply) ended in
-      let here : stretches_of_turn turns made ≡ [] =
-      ap (λ (t : Option ℕ). stretches_at t turns made) (just.ended answer) ∙ ap (λ (x : Answer). map (own_stretch (counted_turns all)) (counted_turn made.actor x)) answer in
-      noted ∙ sym (append-nil (stretches_in [] turns)) ∙ ap (λ (ss : List Stretch). stretches_in [] turns ++ ss) (sym here) ∙ sym (stretches-one_more [] turns made)
+      let none : ended_at made.time turns made ≡ [] =
+      ap (λ (t : Option ℕ). ended_at t turns made) (just.ended answer) ∙ ap (λ (x : Answer). map (own_end (counted_turns all)) (counted_turn made.actor x)) answer in
+      let here : stretches_of_turn what turns made ≡ [] = ap (λ (es : List EndedTurn). flat_map (turn_stretches what made.before.state) es) none in
+      noted ∙ sym (append-nil (stretches_in what [] turns)) ∙ ap (λ (ss : List Stretch). stretches_in what [] turns ++ ss) (sym here) ∙ sym (stretches-one_more what [] turns made)
 
   pub commands-noted : (items after : List ℕ) → items ≡ commands_in turns → after ≡ items ++ command_time turn.time turn.actor → after ≡ commands_in (turns ++ made ∷ [])
   commands-noted items after noted pushed =
@@ -117,19 +129,15 @@ module _ (program : Program) (turns : List MadeTurn) (made : MadeTurn) (turn : A
   history-few = omega (arith, turns_made-length program seen.history, ap length just.has.counted, counted-few all, length-append turns (made ∷ []))
 
   -- the last end is still early
-  pub early-noted : (end : ℕ) (items after : List Stretch) (s : Stretch) → end ≤ (length seen.history + 1) * 2 ^ 32 → s.end ≡ end → last_end items ≤ (length turns + 1) * 2 ^ 32 → after ≡ items ++ s ∷ []
-      → last_end after ≤ (length (turns ++ made ∷ []) + 1) * 2 ^ 32
-  early-noted end items after s early ends before pushed =
-      omega (arith, ap last_end pushed, last_end-push items s, early, ends, before, history-few, length-append turns (made ∷ []))
+  pub early-noted : (end last next : ℕ) → end ≤ (length seen.history + 1) * 2 ^ 32 → last ≤ (length turns + 1) * 2 ^ 32 → next ≤ max end last → next ≤ (length (turns ++ made ∷ []) + 1) * 2 ^ 32
+  early-noted end last next early before within = omega (arith, early, before, within, history-few, length-append turns (made ∷ []))
 
 -- ---- what was gathered
 
-pub gathered : {seen : Seen} (program : Program) (system : Seen) (names : List (List ℕ)) (stretches : List Stretch) (commands : List ℕ) → system ≡ seen → HasMade program (program_turns program) seen
-    → names ≡ names_in (world_of system).state → stretches ≡ stretches_in [] (program_turns program) → commands ≡ commands_in (program_turns program)
-    → record { names = names; stretches = stretches; origin = 0; window = None; commands = commands } ≡ curves_of program
-gathered program system names stretches commands same has named noted told =
+pub gathered : {seen : Seen} (what : By) (program : Program) (system : Seen) (names : List (List ℕ)) (stretches : List Stretch) (commands : List ℕ) → system ≡ seen → HasMade program (program_turns program) seen
+    → names ≡ names_by what (world_of system).state → stretches ≡ stretches_in what [] (program_turns program) → commands ≡ commands_in (program_turns program)
+    → record { by = what; names = names; stretches = stretches; origin = 0; window = None; commands = commands } ≡ curves_after what program (program_turns program)
+gathered what program system names stretches commands same has named noted told =
     let world = ap world_of same ∙ has.world in
-    let threads = named ∙ ap (λ (w : World). names_in w.state) world in
-    let both : record { names = names; stretches = stretches; origin = 0; window = None; commands = commands } ≡ curves_after program (program_turns program) =
-    λ i. record { names = threads i; stretches = noted i; origin = 0; window = None; commands = told i } in
-    both ∙ sym (curves-are program program.duration refl)
+    let columns = named ∙ ap (λ (w : World). names_by what w.state) world in
+    (λ i. record { by = what; names = columns i; stretches = noted i; origin = 0; window = None; commands = told i })

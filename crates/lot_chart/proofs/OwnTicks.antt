@@ -43,6 +43,7 @@ use Rattle.lot_simulation.proofs.TimedRuns.{timed-made, timed-world}
 use Rattle.lot_simulation.proofs.DrawnThreads.{number-some}
 use Rattle.lot_simulation.proofs.ProcessorCounts.{command-silent}
 use Rattle.lot_simulation.proofs.RecordCounts.{Comes, as-much, comes-same, comes-then, IsMade, kill-even, actor-made, there-has, change-leaves, checked-even, after-even, there-numbered}
+use Rattle.lot_curves.specs.declared.by.By.TheVariants.{Thread}
 use Rattle.lot_curves.specs.declared.stretch.Stretch.{Stretch}
 use Rattle.lot_curves.specs.Curves.{stretches_made, timed_stretches}
 use Rattle.lot_curves.specs.declared.stretch.Measure.TheVariants.{Ticks}
@@ -334,7 +335,7 @@ ends-at : (s opened : State) (stretches : List Stretch) → ((i : ℕ) → Comes
 ends-at s opened stretches own t row is =
     let found = row-ticks s t row is in
     let last : sum_by (λ (x : Stretch). x.ticks) (stretches_of (suc found.0) stretches) ≡ had_at Ticks (last_end stretches) (stretches_of t stretches) =
-    sym (ticks-at_last (record { names = []; stretches = stretches; origin = 0; window = None; commands = [] }) t ∙ ap (λ n. sum_by (λ (x : Stretch). x.ticks) (stretches_of n stretches)) found.1) in
+    sym (ticks-at_last (record { by = Thread; names = []; stretches = stretches; origin = 0; window = None; commands = [] }) t ∙ ap (λ n. sum_by (λ (x : Stretch). x.ticks) (stretches_of n stretches)) found.1) in
     comes-same opened (sym found.2) last (own found.0)
 
 ends-report : (program : Program) (room : ℕ) (history : List ℕ) (t : ℕ) (row : ThreadRow) → IsWithinBounds program.limits → IsLegal program room history → room < 2 ^ 32 → thread_row (system_run program history).state t ≡ Some row

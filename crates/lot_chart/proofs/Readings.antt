@@ -1,57 +1,73 @@
 -- Sums that are read while turns go by.
-use Rattle.std.proofs.Common.{◌≡◌, ℕ, ◌+◌, ◌-◌, ◌*◌, ◌/◌, ◌^◌, ◌<◌, ◌≤◌, ◌==◌, min, Bool, true, false, Option, Some, None, List, [], ◌∷◌, ◌++◌, length, ◌⊎◌, inl, inr, sym, ◌∙◌, ap, subst, arith, append_assoc, append-nil}
+use Rattle.std.proofs.Common.{◌≡◌, ℕ, ◌+◌, ◌-◌, ◌*◌, ◌/◌, ◌^◌, ◌<◌, ◌≤◌, ◌==◌, min, Bool, true, false, Option, Some, None, List, [], ◌∷◌, ◌++◌, length, ◌⊎◌, inl, inr, refl, sym, ◌∙◌, ap, subst, arith, append_assoc, append-nil}
 use Rattle.std.specs.Prelude.{slice_index, if◌then◌else◌}
 use Rattle.std.proofs.lemmas.Bool.{cases_lt, le-leb, lt-leb}
 use Rattle.std.proofs.Math.Nat.{mul-div-le, mul-le-mul_right}
-use Rattle.lot_machine.specs.Facts.{live_value}
+use Rattle.lot_machine.specs.Facts.{IsSound}
 use Rattle.lot_machine.specs.State.{State}
 use Rattle.lot_simulation.specs.Timed.{TimedTurn}
-use Rattle.lot_simulation.specs.TimedReport.{due_rate, live_ticks, tick_parts}
-use Rattle.lot_playback.proofs.DueFacts.{part-few, part-within}
+use Rattle.lot_simulation.specs.TimedReport.{rate_in, tick_parts}
+use Rattle.lot_curves.specs.declared.by.By.{By}
+use Rattle.lot_curves.specs.declared.by.By.TheVariants.{Thread, Currency}
 use Rattle.lot_chart.specs.declared.gauges.Gauge.{Gauge}
 use Rattle.lot_chart.specs.declared.gauges.Growth.{Growth}
 use Rattle.lot_chart.specs.declared.gauges.Growth.TheVariants.{Live, Due}
 use Rattle.lot_chart.specs.declared.gauges.Marks.{Marks}
-use Rattle.lot_chart.specs.Dues.{sum_until}
+use Rattle.lot_chart.specs.Dues.{due_to, own_value, shared_ticks, sum_until, whole_value}
+use Rattle.lot_chart.proofs.Worth.{own-within}
 use Rattle.lot_chart.specs.Gauges.{HasPassed, HaveRead, HaveReadAll, IsAscending, IsGauge, IsNow, IsRead, IsRenewed, IsWithin, amount_for, flow_at, flow_of, grown, most_of, step_of, thread_of}
 
 -- ---- growth
 
--- a thread's own value is within that of all live threads
-pub now-within : (s : State) (value : ℕ) (g : Growth) → value ≡ live_value s → IsNow s g → IsWithin value g
-now-within s value Live is now = tt
-now-within s value (Due thread own) is now = omega (arith, now, is, part-within s thread)
+-- what is due is a thread's or currency's own value, times the rate of the whole
+due-is : (what : By) (t : ℕ) (s : State) (ticks : ℕ) → due_to what t s ticks ≡ own_value what s t * rate_in (whole_value what s) ticks
+due-is Thread t s ticks = refl
+due-is Currency c s ticks = refl
+
+shared-is : (what : By) (s : State) (ticks : ℕ) → shared_ticks what s ticks ≡ (if whole_value what s == 0 then 0 else ticks)
+shared-is Thread s ticks = refl
+shared-is Currency s ticks = refl
+
+-- a thread's or currency's own value is within the whole
+pub now-within : (what : By) (s : State) (value : ℕ) (g : Growth) → IsSound s → value ≡ whole_value what s → IsNow what s g → IsWithin value g
+now-within what s value Live sound is now = tt
+now-within what s value (Due thread own) sound is now = omega (arith, now, is, own-within what s sound thread)
 
 -- what makes a sum grow, as the definitions say it
-pub grown-is : (s : State) (value ticks : ℕ) (g : Growth) → value ≡ live_value s → IsNow s g → grown g value ticks ≡ amount_for (thread_of g) s ticks
-grown-is s value ticks Live is now = ap (λ v. if v == 0 then 0 else ticks) is
-grown-is s value ticks (Due thread own) is now = λ i. now i * (if is i == 0 then 0 else (ticks * tick_parts + (is i - 1)) / is i)
+pub grown-is : (what : By) (s : State) (value ticks : ℕ) (g : Growth) → value ≡ whole_value what s → IsNow what s g → grown g value ticks ≡ amount_for what (thread_of g) s ticks
+grown-is what s value ticks Live is now = ap (λ v. if v == 0 then 0 else ticks) is ∙ sym (shared-is what s ticks)
+grown-is what s value ticks (Due thread own) is now = (λ i. now i * (if is i == 0 then 0 else (ticks * tick_parts + (is i - 1)) / is i)) ∙ sym (due-is what thread s ticks)
 
--- a rate, times the value of all threads, is little more than the parts of its ticks
-rate-most : (s : State) (ticks : ℕ) → live_value s * due_rate s ticks ≤ ticks * tick_parts + live_value s
-rate-most s ticks = by (live_value s == 0)
+-- a rate, times the whole, is little more than the parts of its ticks
+rate-most : (whole ticks : ℕ) → whole * rate_in whole ticks ≤ ticks * tick_parts + whole
+rate-most whole ticks = by (whole == 0)
   where
-    by : (b : Bool) → live_value s * (if b then 0 else (ticks * tick_parts + (live_value s - 1)) / live_value s) ≤ ticks * tick_parts + live_value s
+    by : (b : Bool) → whole * (if b then 0 else (ticks * tick_parts + (whole - 1)) / whole) ≤ ticks * tick_parts + whole
     by true = omega arith
-    by false = omega (arith, mul-div-le (ticks * tick_parts + (live_value s - 1)) (live_value s))
+    by false = omega (arith, mul-div-le (ticks * tick_parts + (whole - 1)) whole)
 
-live-few : (s : State) (ticks : ℕ) → live_ticks s ticks ≤ ticks
-live-few s ticks = by (live_value s == 0)
+shared-few : (what : By) (s : State) (ticks : ℕ) → shared_ticks what s ticks ≤ ticks
+shared-few what s ticks = omega (arith, shared-is what s ticks, by (whole_value what s == 0))
   where
     by : (b : Bool) → (if b then 0 else ticks) ≤ ticks
     by true = omega arith
     by false = omega arith
 
+-- what is due in some ticks is no more than what the whole is
+due-most : (what : By) (s : State) (t ticks : ℕ) → IsSound s → due_to what t s ticks ≤ ticks * tick_parts + whole_value what s
+due-most what s t ticks sound =
+    let whole = whole_value what s in
+    omega (arith, due-is what t s ticks, mul-le-mul_right (rate_in whole ticks) (own-within what s sound t), rate-most whole ticks)
+
 -- a turn adds at most its step
-step-few : (t : Option ℕ) (s : State) (ticks : ℕ) → live_value s < 2 ^ 96 → ticks < 2 ^ 32 → amount_for t s ticks ≤ step_of t
-step-few None s ticks small few = omega (arith, live-few s ticks, few)
-step-few (Some t) s ticks small few = part-few s t ticks few small
+step-few : (what : By) (t : Option ℕ) (s : State) (ticks : ℕ) → IsSound s → whole_value what s < 2 ^ 96 → ticks < 2 ^ 32 → amount_for what t s ticks ≤ step_of t
+step-few what None s ticks sound small few = omega (arith, shared-few what s ticks, few)
+step-few what (Some t) s ticks sound small few = omega (arith, due-most what s t ticks sound, small, few)
 
 -- what is read of few turns is below the most
-read-few : (t : Option ℕ) (s : State) (n sum ticks : ℕ) → live_value s < 2 ^ 96 → n < 2 ^ 24 → sum ≤ n * step_of t → ticks < 2 ^ 64 → sum + amount_for t s ticks < most_of t
-read-few None s n sum ticks small few within early = omega (arith, live-few s ticks, few, within, early)
-read-few (Some t) s n sum ticks small few within early =
-    omega (arith, mul-le-mul_right (due_rate s ticks) (part-within s t), rate-most s ticks, small, few, within, early)
+read-few : (what : By) (t : Option ℕ) (s : State) (n sum ticks : ℕ) → IsSound s → whole_value what s < 2 ^ 96 → n < 2 ^ 24 → sum ≤ n * step_of t → ticks < 2 ^ 64 → sum + amount_for what t s ticks < most_of t
+read-few what None s n sum ticks sound small few within early = omega (arith, shared-few what s ticks, few, within, early)
+read-few what (Some t) s n sum ticks sound small few within early = omega (arith, due-most what s t ticks sound, small, few, within, early)
 
 most-small : (t : Option ℕ) → most_of t ≤ 2 ^ 125
 most-small None = omega arith
@@ -148,38 +164,38 @@ last-read amount first done s time sum most ticks old new at was reads early exa
 
 -- ---- a gauge
 
-module _ (marks : Marks) (starts : IsAscending marks.starts.items) (ends : IsAscending marks.ends.items) (first : State) (done : List TimedTurn) (n : ℕ) (few : n < 2 ^ 24) (s : State) (time value : ℕ) (is_value : value ≡ live_value s) (small : value < 2 ^ 96) where
-  valued : live_value s < 2 ^ 96
+module _ (what : By) (marks : Marks) (starts : IsAscending marks.starts.items) (ends : IsAscending marks.ends.items) (first : State) (done : List TimedTurn) (n : ℕ) (few : n < 2 ^ 24) (s : State) (sound : IsSound s) (time value : ℕ) (is_value : value ≡ whole_value what s) (small : value < 2 ^ 96) where
+  valued : whole_value what s < 2 ^ 96
   valued = omega (arith, is_value, small)
 
   -- a gauge's sum until the next turn
-  pub flow-is : (gauge : Gauge) → IsNow s gauge.growth → gauge.sum ≤ n * step_of (thread_of gauge.growth) → (tick : ℕ) → tick < 2 ^ 64
-      → (flow_at (flow_of value time gauge) tick ≡ gauge.sum + amount_for (thread_of gauge.growth) s (tick - time)) × (flow_at (flow_of value time gauge) tick < most_of (thread_of gauge.growth))
+  pub flow-is : (gauge : Gauge) → IsNow what s gauge.growth → gauge.sum ≤ n * step_of (thread_of gauge.growth) → (tick : ℕ) → tick < 2 ^ 64
+      → (flow_at (flow_of value time gauge) tick ≡ gauge.sum + amount_for what (thread_of gauge.growth) s (tick - time)) × (flow_at (flow_of value time gauge) tick < most_of (thread_of gauge.growth))
   flow-is gauge now within tick early =
-      let grows = grown-is s value (tick - time) gauge.growth is_value now in
-      let low = read-few (thread_of gauge.growth) s n gauge.sum (tick - time) valued few within (omega (arith, early)) in
+      let grows = grown-is what s value (tick - time) gauge.growth is_value now in
+      let low = read-few what (thread_of gauge.growth) s n gauge.sum (tick - time) sound valued few within (omega (arith, early)) in
       let most = most-small (thread_of gauge.growth) in
-      let exact : flow_at (flow_of value time gauge) tick ≡ gauge.sum + amount_for (thread_of gauge.growth) s (tick - time) =
+      let exact : flow_at (flow_of value time gauge) tick ≡ gauge.sum + amount_for what (thread_of gauge.growth) s (tick - time) =
       ap (λ m. min (gauge.sum + m) (2 ^ 128 - 1)) grows ∙ omega (arith, low, most) in
       (exact, omega (arith, exact, low))
 
-  pub gauge-more : (next : State) (turn : TimedTurn) (old new : Gauge) → turn.time < 2 ^ 32 → turn.turn.world.state ≡ next → IsNow s old.growth → HasPassed marks value time turn.time old new → IsGauge marks first done n s time old
-      → IsGauge marks first (done ++ turn ∷ []) (n + 1) next turn.time new
+  pub gauge-more : (next : State) (turn : TimedTurn) (old new : Gauge) → turn.time < 2 ^ 32 → turn.turn.world.state ≡ next → IsNow what s old.growth → HasPassed marks value time turn.time old new → IsGauge what marks first done n s time old
+      → IsGauge what marks first (done ++ turn ∷ []) (n + 1) next turn.time new
   gauge-more next turn old new early led now passed was =
       let t = thread_of old.growth in
       let flows = flow-is old now was.sum in
-      let exact : (tick : ℕ) → tick ≤ turn.time → (flow_at (flow_of value time old) tick ≡ old.sum + amount_for t s (tick - time)) × (flow_at (flow_of value time old) tick < most_of t) =
+      let exact : (tick : ℕ) → tick ≤ turn.time → (flow_at (flow_of value time old) tick ≡ old.sum + amount_for what t s (tick - time)) × (flow_at (flow_of value time old) tick < most_of t) =
       λ tick before. flows tick (omega (arith, before, early)) in
-      let rises : new.sum ≡ old.sum + amount_for t s (turn.time - time) = passed.sum ∙ (exact turn.time (omega arith)).0 in
-      let step = step-few t s (turn.time - time) valued (omega (arith, early)) in
+      let rises : new.sum ≡ old.sum + amount_for what t s (turn.time - time) = passed.sum ∙ (exact turn.time (omega arith)).0 in
+      let step = step-few what t s (turn.time - time) sound valued (omega (arith, early)) in
       let at = flow_at (flow_of value time old) in
-      let starts_more = read-more (amount_for t) first done s next turn time old.sum new.sum (most_of t) marks.starts.items old.starts.items new.starts.items led rises at starts was.starts passed.starts exact in
-      let ends_more = read-more (amount_for t) first done s next turn time old.sum new.sum (most_of t) marks.ends.items old.ends.items new.ends.items led rises at ends was.ends passed.ends exact in
+      let starts_more = read-more (amount_for what t) first done s next turn time old.sum new.sum (most_of t) marks.starts.items old.starts.items new.starts.items led rises at starts was.starts passed.starts exact in
+      let ends_more = read-more (amount_for what t) first done s next turn time old.sum new.sum (most_of t) marks.ends.items old.ends.items new.ends.items led rises at ends was.ends passed.ends exact in
       let same : thread_of new.growth ≡ t = ap thread_of passed.growth in
       record {
         sum = subst (λ (u : Option ℕ). new.sum ≤ (n + 1) * step_of u) (sym same) (grow-sum (step_of t) was.sum rises step);
-        starts = subst (λ (u : Option ℕ). IsRead (amount_for u) first (done ++ turn ∷ []) next turn.time new.sum (most_of u) marks.starts.items new.starts.items) (sym same) starts_more;
-        ends = subst (λ (u : Option ℕ). IsRead (amount_for u) first (done ++ turn ∷ []) next turn.time new.sum (most_of u) marks.ends.items new.ends.items) (sym same) ends_more;
+        starts = subst (λ (u : Option ℕ). IsRead (amount_for what u) first (done ++ turn ∷ []) next turn.time new.sum (most_of u) marks.starts.items new.starts.items) (sym same) starts_more;
+        ends = subst (λ (u : Option ℕ). IsRead (amount_for what u) first (done ++ turn ∷ []) next turn.time new.sum (most_of u) marks.ends.items new.ends.items) (sym same) ends_more;
       }
     where
       one-more : (m k : ℕ) → (m + 1) * k ≡ m * k + k
@@ -189,11 +205,11 @@ module _ (marks : Marks) (starts : IsAscending marks.starts.items) (ends : IsAsc
       grow-sum step before rises adds = omega (arith, before, rises, adds, one-more n step)
 
 -- the gauge stays one if it is renewed
-pub gauge-renewed : (marks : Marks) (first : State) (done : List TimedTurn) (n : ℕ) (s next : State) (time : ℕ) (old new : Gauge) → IsRenewed next old new → IsGauge marks first done n s time old → IsGauge marks first done n s time new
-gauge-renewed marks first done n s next time old new renewed was = record {
+pub gauge-renewed : (what : By) (marks : Marks) (first : State) (done : List TimedTurn) (n : ℕ) (s next : State) (time : ℕ) (old new : Gauge) → IsRenewed what next old new → IsGauge what marks first done n s time old → IsGauge what marks first done n s time new
+gauge-renewed what marks first done n s next time old new renewed was = record {
   sum = by (λ (t : Option ℕ) (sum : ℕ) (starts ends : List ℕ). sum ≤ n * step_of t) was.sum;
-  starts = by (λ (t : Option ℕ) (sum : ℕ) (starts ends : List ℕ). IsRead (amount_for t) first done s time sum (most_of t) marks.starts.items starts) was.starts;
-  ends = by (λ (t : Option ℕ) (sum : ℕ) (starts ends : List ℕ). IsRead (amount_for t) first done s time sum (most_of t) marks.ends.items ends) was.ends;
+  starts = by (λ (t : Option ℕ) (sum : ℕ) (starts ends : List ℕ). IsRead (amount_for what t) first done s time sum (most_of t) marks.starts.items starts) was.starts;
+  ends = by (λ (t : Option ℕ) (sum : ℕ) (starts ends : List ℕ). IsRead (amount_for what t) first done s time sum (most_of t) marks.ends.items ends) was.ends;
 }
   where
     by : (P : Option ℕ → ℕ → List ℕ → List ℕ → Type 0) → P (thread_of old.growth) old.sum old.starts.items old.ends.items → P (thread_of new.growth) new.sum new.starts.items new.ends.items

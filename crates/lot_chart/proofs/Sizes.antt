@@ -17,7 +17,9 @@ use Rattle.lot_curves.specs.Windows.{had_in}
 use Rattle.lot_chart.specs.declared.lines.Line.{Line}
 use Rattle.lot_chart.specs.Axes.{axis_step, lead, mark_count, marks, steps, time_mark_count, time_marks}
 use Rattle.lot_chart.specs.Dues.{Dues, due_height}
-use Rattle.lot_chart.specs.Charts.{across, axes, chart, colour, column_mark, command_mark, command_marks, curve, drawn_of, due_curve, due_curves, due_point, due_points, frame, head, height_mark, heights_label, highest, label, leader, lines_in, longest_name, most_shown, name_of, name_text, picture, point, point_at, points, sample_point, stroke, strokes, time_mark, top_at, tops, total, width_for}
+use Rattle.lot_curves.specs.declared.by.By.{By}
+use Rattle.lot_curves.specs.declared.by.By.TheVariants.{Thread, Currency}
+use Rattle.lot_chart.specs.Charts.{across, axes, chart, colour, column_mark, command_mark, command_marks, curve, drawn_of, due_curve, due_curves, due_point, due_points, frame, head, height_mark, heights_label, lines_label, measure_label, highest, label, leader, lines_in, longest_name, most_shown, name_of, name_text, picture, point, point_at, points, sample_point, stroke, strokes, time_mark, top_at, tops, total, width_for}
 use Rattle.lot_chart.specs.Escapes.{escaped, escaped_byte}
 use Rattle.lot_chart.specs.Lines.{height_of, lines_after, place_of}
 use Rattle.lot_chart.specs.Marks.{first_in, marked, stands_in}
@@ -130,16 +132,23 @@ times-short curves early =
     let first = mod_below (step - origin % step) step (step-positive last) in
     marks-short (time_mark curves) 115 (λ n. lead step origin + n * step) (time_mark_count origin last) (omega arith) (time-mark-short curves early) (λ k few. omega (arith, first, mul-le-mul_left step few, step-small last))
 
-heights_label-short : (window : Option ℕ) → unwrap_or window 0 < 2 ^ 32 → length (heights_label window) ≤ 65
-heights_label-short None narrow = omega arith
-heights_label-short (Some window) narrow =
-    let number = length-decimal-le 10 window (omega arith) (omega (arith, narrow)) (omega (arith, narrow)) in
-    both 37 28 (codes "what each thread has run in the last ") (decimal window ++ codes " ticks, in percent") (omega arith) (both 10 18 (decimal window) (codes " ticks, in percent") number (omega arith))
+lines_label-short : (what : By) → length (lines_label what) ≤ 42
+lines_label-short Thread = omega arith
+lines_label-short Currency = omega arith
 
-frame-short : (window : Option ℕ) → unwrap_or window 0 < 2 ^ 32 → length (frame window) ≤ 265
-frame-short window narrow =
+measure_label-short : (window : Option ℕ) → unwrap_or window 0 < 2 ^ 32 → length (measure_label window) ≤ 41
+measure_label-short None narrow = omega arith
+measure_label-short (Some window) narrow =
+    let number = length-decimal-le 10 window (omega arith) (omega (arith, narrow)) (omega (arith, narrow)) in
+    both 13 28 (codes " in the last ") (decimal window ++ codes " ticks, in percent") (omega arith) (both 10 18 (decimal window) (codes " ticks, in percent") number (omega arith))
+
+heights_label-short : (what : By) (window : Option ℕ) → unwrap_or window 0 < 2 ^ 32 → length (heights_label what window) ≤ 83
+heights_label-short what window narrow = both 42 41 (lines_label what) (measure_label window) (lines_label-short what) (measure_label-short window narrow)
+
+frame-short : (what : By) (window : Option ℕ) → unwrap_or window 0 < 2 ^ 32 → length (frame what window) ≤ 283
+frame-short what window narrow =
     let lines = codes "<path d='M100 60V460H770' fill='none' stroke='#222222'/>\n<text x='435' y='512' text-anchor='middle'>time, in ticks</text>\n<text transform='translate(14 260) rotate(-90)' text-anchor='middle'>" in
-    both 192 73 lines (heights_label window ++ codes "</text>\n") (omega arith) (both 65 8 (heights_label window) (codes "</text>\n") (heights_label-short window narrow) (omega arith))
+    both 192 91 lines (heights_label what window ++ codes "</text>\n") (omega arith) (both 83 8 (heights_label what window) (codes "</text>\n") (heights_label-short what window narrow) (omega arith))
 
 -- ---- the marks of commands
 
@@ -181,14 +190,15 @@ marks-none : (curves : Curves) → curves.commands ≡ [] → length (command_ma
 marks-none curves none = omega (arith, marks-few curves 0 (subst (λ (ts : List ℕ). All (λ time. length (command_mark curves time) ≤ 0) ts) (sym none) (All-nil (λ time. length (command_mark curves time) ≤ 0))))
 
 -- the axes, if the marks of commands have at most so many bytes
-axes-short : (curves : Curves) (most n : ℕ) → curves.origin < 2 ^ 56 → unwrap_or curves.window 0 < 2 ^ 32 → length (command_marks curves) ≤ n → length (axes curves most) ≤ 1621 + n
+axes-short : (curves : Curves) (most n : ℕ) → curves.origin < 2 ^ 56 → unwrap_or curves.window 0 < 2 ^ 32 → length (command_marks curves) ≤ n → length (axes curves most) ≤ 1639 + n
 axes-short curves most n early narrow few =
     let times = flat_map (time_mark curves) (time_marks curves.origin (last_end curves.stretches)) in
     let commands = command_marks curves in
     let top = highest curves.window most in
-    let end : length (commands ++ frame curves.window) ≤ n + 265 = both n 265 commands (frame curves.window) few (frame-short curves.window narrow) in
-    let two : length (times ++ (commands ++ frame curves.window)) ≤ 690 + (n + 265) = both 690 (n + 265) times (commands ++ frame curves.window) (times-short curves early) end in
-    omega (arith, both 666 (690 + (n + 265)) (flat_map (height_mark top) (marks top)) (times ++ (commands ++ frame curves.window)) (heights-short top) two)
+    let bottom = frame curves.by curves.window in
+    let end : length (commands ++ bottom) ≤ n + 283 = both n 283 commands bottom few (frame-short curves.by curves.window narrow) in
+    let two : length (times ++ (commands ++ bottom)) ≤ 690 + (n + 283) = both 690 (n + 283) times (commands ++ bottom) (times-short curves early) end in
+    omega (arith, both 666 (690 + (n + 283)) (flat_map (height_mark top) (marks top)) (times ++ (commands ++ bottom)) (heights-short top) two)
 
 -- ---- the lines
 
@@ -364,9 +374,9 @@ chart-short title dues curves n m thin short early narrow marks =
     let two = both 57 31812 (codes "<g fill='none' stroke-width='2' stroke-linejoin='round'>\n") (flat_map (curve curves others heads) lines ++ (codes "</g>\n" ++ (flat_map (label curves.names (total curves)) lines ++ codes "</svg>\n"))) (omega arith) three in
     let behind = due_curves curves dues shown heads lines in
     let due = both m 31869 behind (codes "<g fill='none' stroke-width='2' stroke-linejoin='round'>\n" ++ (flat_map (curve curves others heads) lines ++ (codes "</g>\n" ++ (flat_map (label curves.names (total curves)) lines ++ codes "</svg>\n")))) (thin heads lines (omega (arith, many, few))) two in
-    let one = both (1621 + n) (m + 31869) (axes curves most) (behind ++ (codes "<g fill='none' stroke-width='2' stroke-linejoin='round'>\n" ++ (flat_map (curve curves others heads) lines ++ (codes "</g>\n" ++ (flat_map (label curves.names (total curves)) lines ++ codes "</svg>\n"))))) (axes-short curves most n early narrow marks) due in
+    let one = both (1639 + n) (m + 31869) (axes curves most) (behind ++ (codes "<g fill='none' stroke-width='2' stroke-linejoin='round'>\n" ++ (flat_map (curve curves others heads) lines ++ (codes "</g>\n" ++ (flat_map (label curves.names (total curves)) lines ++ codes "</svg>\n"))))) (axes-short curves most n early narrow marks) due in
     let width = width_for (longest_name curves.names lines) (length title) in
-    let whole = both (300 + 10 * length title) (1621 + n + (m + 31869)) (head width title) (axes curves most ++ (behind ++ (codes "<g fill='none' stroke-width='2' stroke-linejoin='round'>\n" ++ (flat_map (curve curves others heads) lines ++ (codes "</g>\n" ++ (flat_map (label curves.names (total curves)) lines ++ codes "</svg>\n")))))) (head-short width title (omega arith)) one in
+    let whole = both (300 + 10 * length title) (1639 + n + (m + 31869)) (head width title) (axes curves most ++ (behind ++ (codes "<g fill='none' stroke-width='2' stroke-linejoin='round'>\n" ++ (flat_map (curve curves others heads) lines ++ (codes "</g>\n" ++ (flat_map (label curves.names (total curves)) lines ++ codes "</svg>\n")))))) (head-short width title (omega arith)) one in
     omega (arith, whole)
 
 -- without what is due

@@ -4,6 +4,8 @@ use Rattle.std.specs.Prelude.{ℕ, ◌+◌, ◌-◌, ◌*◌, ◌%◌, min, max,
 use Rattle.std.specs.List.{flat_map, range_with_len}
 use Rattle.std.specs.Fmt.{decimal}
 use Rattle.lot_machine.specs.Numbered.{at_number}
+use Rattle.lot_curves.specs.declared.by.By.{By}
+use Rattle.lot_curves.specs.declared.by.By.TheVariants.{Thread, Currency}
 use Rattle.lot_curves.specs.declared.stretch.Measure.TheVariants.{Ticks}
 use Rattle.lot_curves.specs.declared.stretch.Stretch.{Stretch}
 use Rattle.lot_curves.specs.Curves.{Curves, sample_count, sample_tick, sample_ticks, total_at}
@@ -66,23 +68,31 @@ abbrev pub highest : Option ℕ → ℕ → ℕ
 highest None most = most
 highest (Some window) most = 100
 
+-- what lines show
+abbrev pub lines_label : By → List ℕ
+lines_label Thread = codes "what each thread has run"
+lines_label Currency = codes "what the threads of each currency have run"
+
+-- how it is measured
+abbrev pub measure_label : Option ℕ → List ℕ
+measure_label None = codes ", in ticks"
+measure_label (Some window) = codes " in the last " ++ (decimal window ++ codes " ticks, in percent")
+
 -- what heights mean
-abbrev pub heights_label : Option ℕ → List ℕ
-heights_label None = codes "what each thread has run, in ticks"
-heights_label (Some window) =
-    codes "what each thread has run in the last " ++ (decimal window ++ codes " ticks, in percent")
+abbrev pub heights_label : By → Option ℕ → List ℕ
+heights_label by window = lines_label by ++ measure_label window
 
 -- the lines of both axes, and their labels
-abbrev pub frame : Option ℕ → List ℕ
-frame window =
+abbrev pub frame : By → Option ℕ → List ℕ
+frame by window =
     codes "<path d='M100 60V460H770' fill='none' stroke='#222222'/>\n<text x='435' y='512' text-anchor='middle'>time, in ticks</text>\n<text transform='translate(14 260) rotate(-90)' text-anchor='middle'>"
-    ++ (heights_label window ++ codes "</text>\n")
+    ++ (heights_label by window ++ codes "</text>\n")
 
 -- both axes with their marks, and the marks of commands, given the most ticks of a line
 abbrev pub axes : Curves → ℕ → List ℕ
 axes curves most =
     flat_map (height_mark (highest curves.window most)) (marks (highest curves.window most))
-    ++ (flat_map (time_mark curves) (time_marks curves.origin (last_end curves.stretches)) ++ (command_marks curves ++ frame curves.window))
+    ++ (flat_map (time_mark curves) (time_marks curves.origin (last_end curves.stretches)) ++ (command_marks curves ++ frame curves.by curves.window))
 
 -- ---- the lines
 
@@ -123,7 +133,7 @@ abbrev pub points : Curves → List ℕ → List Stretch → List ℕ
 points curves tops stretches =
     flat_map (sample_point curves tops stretches) (range_with_len 0 (sample_count (last_end curves.stretches) + 1))
 
--- the stretches that a line shows: those of its thread, or of all threads without a line
+-- the stretches that a line shows: those of its thread or currency, or of all threads without a line
 abbrev pub drawn_of : Curves → List Stretch → ℕ → List Stretch
 drawn_of curves others thread = if thread == 0 then others else stretches_of thread curves.stretches
 
@@ -160,7 +170,7 @@ due_curves curves (Some dues) shown tops lines =
 
 -- ---- their names
 
--- the name of the line's thread; thread 0 stands for the others
+-- the name of the line's thread or currency; thread 0 stands for the others
 abbrev pub name_of : List (List ℕ) → ℕ → List ℕ
 name_of names thread = unwrap_or (at_number names thread) (codes "others")
 
@@ -180,7 +190,7 @@ label names total line = leader line ++ name_text names total line
 
 -- ---- the picture
 
--- all ticks that threads have run, or with a window those in the last
+-- the ticks of all turns, or with a window those in the last
 abbrev pub total : Curves → ℕ
 total curves = total_at Ticks curves (last_end curves.stretches)
 
@@ -188,7 +198,7 @@ total curves = total_at Ticks curves (last_end curves.stretches)
 abbrev pub most_shown : Curves → Option Dues → List Standing → ℕ
 most_shown curves dues shown = max (most_in shown) (most_due curves dues shown)
 
--- the lines of the selected threads, given the most ticks
+-- the lines of the selected threads or currencies, given the most ticks
 abbrev pub lines_in : Curves → ℕ → Selected → List Line
 lines_in curves most selected = lines_of (top_at curves most (last_end curves.stretches)) selected.shown
 

@@ -1,13 +1,19 @@
--- What threads are due over time: their shares, by value, of the time in which threads are live.
+-- What threads or currencies are due over time: their shares, by value, of the time in which threads are live, or in
+-- which tickets of base are active.
 use Rattle.std.specs.Prelude.{ℕ, ◌+◌, ◌-◌, ◌*◌, ◌^◌, ◌==◌, nat_le, min, max, Option, Some, None, List, [], ◌∷◌, fold, sum_by, if◌then◌else◌}
 use Rattle.std.specs.Int.{div_ceil}
-use Rattle.lot_machine.specs.State.{State, opening}
+use Rattle.lot_machine.specs.Facts.{base_value, live_value}
+use Rattle.lot_machine.specs.State.{State, opening, value_of}
 use Rattle.lot_simulation.specs.Timed.{TimedTurn, timed_turns}
-use Rattle.lot_simulation.specs.TimedReport.{due_part, live_ticks, tick_parts}
+use Rattle.lot_simulation.specs.TimedReport.{base_ticks, currency_part, due_part, live_part, live_ticks, tick_parts}
+use Rattle.lot_simulation.specs.Below.{worth_of}
 use Rattle.lot_simulation.specs.World.{Program}
+use Rattle.lot_curves.specs.declared.by.By.{By}
+use Rattle.lot_curves.specs.declared.by.By.TheVariants.{Thread, Currency}
 use Rattle.lot_curves.specs.declared.stretch.Measure.TheVariants.{Ticks}
 use Rattle.lot_curves.specs.Curves.{Curves, sample_count, sample_tick, total_at}
 use Rattle.lot_curves.specs.Stretches.{last_end}
+use Rattle.lot_curves.specs.Windows.{start_of}
 use Rattle.lot_chart.specs.declared.standings.Standing.{Standing}
 use Rattle.lot_chart.specs.Lines.{height_of}
 
@@ -18,42 +24,54 @@ sum_until amount s time [] tick = amount s (tick - time)
 sum_until amount s time (done ∷ others) tick =
     if nat_le tick done.time then amount s (tick - time) else amount s (done.time - time) + sum_until amount done.turn.world.state done.time others tick
 
--- the parts that the threads with this number are due, by their values, while the state stays so for this many ticks
-abbrev pub due_to : ℕ → State → ℕ → ℕ
-due_to t s ticks = due_part s t ticks
+-- the value that is shared out in this state: that of all live threads, or of all active tickets of base
+abbrev pub whole_value : By → State → ℕ
+whole_value Thread s = live_value s
+whole_value Currency s = base_value s
 
--- Up to each tick: the ticks in which live threads were worth anything, and the parts of ticks due to the threads that
--- have had a number.
+-- the value that a thread or currency has of it
+abbrev pub own_value : By → State → ℕ → ℕ
+own_value Thread s t = live_part s t (value_of s t)
+own_value Currency s c = worth_of s c
+
+-- these ticks, if what is shared out is worth anything in this state, and otherwise none
+abbrev pub shared_ticks : By → State → ℕ → ℕ
+shared_ticks Thread s ticks = live_ticks s ticks
+shared_ticks Currency s ticks = base_ticks s ticks
+
+-- the parts that the thread or currency with this number is due, by its value, while the state stays so for this many
+-- ticks
+abbrev pub due_to : By → ℕ → State → ℕ → ℕ
+due_to Thread t s ticks = due_part s t ticks
+due_to Currency c s ticks = currency_part s c ticks
+
+-- Up to each tick: the ticks in which what is shared out was worth anything, and the parts of ticks due to the threads
+-- or currencies that have had a number.
 pub record Dues : Type 0 where
   pub live : ℕ → ℕ
   pub parts : ℕ → ℕ → ℕ
 
 -- what is due in these turns, the first of which was made in this state (2, 4.4)
-abbrev pub dues_in : State → List TimedTurn → Dues
-dues_in s turns = record { live = sum_until live_ticks s 0 turns; parts = λ t. sum_until (due_to t) s 0 turns }
+abbrev pub dues_in : By → State → List TimedTurn → Dues
+dues_in by s turns = record { live = sum_until (shared_ticks by) s 0 turns; parts = λ t. sum_until (due_to by t) s 0 turns }
 
 -- what is due in the program's turns, if it is timed
-abbrev pub dues_of : Program → Option Dues
-dues_of program = by program.duration
+abbrev pub dues_by : By → Program → Option Dues
+dues_by by program = timed program.duration
   where
-    by : Option ℕ → Option Dues
-    by None = None
-    by (Some duration) = Some (dues_in (opening program.limits) (timed_turns program))
+    timed : Option ℕ → Option Dues
+    timed None = None
+    timed (Some duration) = Some (dues_in by (opening program.limits) (timed_turns program))
 
 -- ---- in a picture
-
--- the tick at which the window that ends at this tick begins, or the first tick without a window
-abbrev pub start_of : Option ℕ → ℕ → ℕ
-start_of None tick = 0
-start_of (Some window) tick = tick - window
 
 -- What a sum grows by in the window that ends at this tick, or since the curves begin. The tick counts from their
 -- origin.
 abbrev pub grown_at : Curves → (ℕ → ℕ) → ℕ → ℕ
 grown_at curves sum tick = sum (curves.origin + tick) - sum (curves.origin + start_of curves.window tick)
 
--- The parts due to a line: to the threads with its number, or to the others, who are thread 0, what those leave of all
--- ticks. No thread has number 0, so the others' own line takes nothing from that.
+-- The parts due to a line: to the threads or currencies with its number, or to the other threads, who are thread 0,
+-- what those leave of all ticks. No thread has number 0, so the others' own line takes nothing from that.
 abbrev pub line_parts : Curves → Dues → List Standing → ℕ → ℕ → ℕ
 line_parts curves dues shown thread tick =
     if thread == 0 then grown_at curves dues.live tick * tick_parts - sum_by (λ s. grown_at curves (dues.parts s.thread) tick) shown
@@ -68,8 +86,8 @@ due_share live parts = min (div_ceil parts (max 1 (live * 10 ^ 9))) (10 ^ 9)
 abbrev pub line_share : Curves → Dues → List Standing → ℕ → ℕ → ℕ
 line_share curves dues shown thread tick = due_share (grown_at curves dues.live tick) (line_parts curves dues shown thread tick)
 
--- The height of what a line is due at a tick, given the ticks at the top of the plot: its share of the ticks that all
--- threads have run.
+-- The height of what a line is due at a tick, given the ticks at the top of the plot: its share of the ticks of all
+-- turns.
 abbrev pub due_height : Curves → ℕ → Dues → List Standing → ℕ → ℕ → ℕ
 due_height curves top dues shown thread tick = height_of (top * 10 ^ 9) (total_at Ticks curves tick * line_share curves dues shown thread tick)
 

@@ -1,13 +1,17 @@
 -- Sums that grow from turn to turn, and what was read of them at ticks.
 use Rattle.std.specs.Prelude.{◌≡◌, ⊤, ℕ, ◌+◌, ◌-◌, ◌*◌, ◌/◌, ◌^◌, ◌<◌, ◌≤◌, ◌==◌, min, Option, Some, None, unwrap_or, List, [], ◌++◌, length, map, slice_index, slice_index_or, if◌then◌else◌}
 use Rattle.std.specs.List.{range_with_len}
-use Rattle.lot_machine.specs.Facts.{live_value}
-use Rattle.lot_machine.specs.State.{State, opening, value_of}
+use Rattle.lot_machine.specs.Bounds.{IsWithinBounds}
+use Rattle.lot_machine.specs.Facts.{IsSound}
+use Rattle.lot_machine.specs.State.{State, opening}
 use Rattle.lot_simulation.specs.Timed.{TimedTurn}
-use Rattle.lot_simulation.specs.TimedReport.{live_part, live_ticks, tick_parts}
+use Rattle.lot_simulation.specs.TimedReport.{tick_parts}
 use Rattle.lot_simulation.specs.World.{Program, World, opening_world}
+use Rattle.lot_curves.specs.declared.by.By.{By}
+use Rattle.lot_curves.specs.declared.by.By.TheVariants.{Thread, Currency}
 use Rattle.lot_curves.specs.Curves.{Curves, sample_count, sample_tick}
 use Rattle.lot_curves.specs.Stretches.{last_end}
+use Rattle.lot_curves.specs.Windows.{start_of}
 use Rattle.lot_playback.specs.Owed.{time_after}
 use Rattle.lot_playback.specs.Turns.{MadeTurn, world_after_turns}
 use Rattle.lot_chart.specs.declared.gauges.Flow.{Flow}
@@ -19,42 +23,42 @@ use Rattle.lot_chart.specs.declared.lines.Line.{Line}
 use Rattle.lot_chart.specs.declared.metering.LineDues.{LineDues}
 use Rattle.lot_chart.specs.declared.metering.Meter.{Meter}
 use Rattle.lot_chart.specs.declared.standings.Standing.{Standing}
-use Rattle.lot_chart.specs.Dues.{Dues, due_to, grown_at, start_of, sum_until}
+use Rattle.lot_chart.specs.Dues.{Dues, due_to, grown_at, own_value, shared_ticks, sum_until, whole_value}
 
 -- ---- growth
 
--- the thread of which a sum counts what it is due, or none if it counts time
+-- the thread or currency of which a sum counts what it is due, or none if it counts time
 abbrev pub thread_of : Growth → Option ℕ
 thread_of Live = None
 thread_of (Due thread value) = Some thread
 
--- by how much a sum grows in so many ticks, if all live threads are worth this much
+-- by how much a sum grows in so many ticks, if what is shared out is worth this much
 abbrev pub grown : Growth → ℕ → ℕ → ℕ
 grown Live value ticks = if value == 0 then 0 else ticks
 grown (Due thread own) value ticks = own * (if value == 0 then 0 else (ticks * tick_parts + (value - 1)) / value)
 
 -- what a sum counts while the state stays so for this many ticks
-abbrev pub amount_for : Option ℕ → State → ℕ → ℕ
-amount_for None s ticks = live_ticks s ticks
-amount_for (Some t) s ticks = due_to t s ticks
+abbrev pub amount_for : By → Option ℕ → State → ℕ → ℕ
+amount_for by None s ticks = shared_ticks by s ticks
+amount_for by (Some t) s ticks = due_to by t s ticks
 
--- the thread's own value is no more than that of all live threads
+-- the thread's or currency's own value is no more than this
 abbrev pub IsWithin : ℕ → Growth → Type 0
 IsWithin value Live = ⊤
 IsWithin value (Due thread own) = own ≤ value
 
--- the thread's own value is that of this state
-abbrev pub IsNow : State → Growth → Type 0
-IsNow s Live = ⊤
-IsNow s (Due thread own) = own ≡ live_part s thread (value_of s thread)
+-- the thread's or currency's own value is that of this state
+abbrev pub IsNow : By → State → Growth → Type 0
+IsNow by s Live = ⊤
+IsNow by s (Due thread own) = own ≡ own_value by s thread
 
 -- the sum at a tick, if no turn comes before it; it ends at the largest number
 abbrev pub flow_at : Flow → ℕ → ℕ
-flow_at flow tick = min (flow.sum + grown flow.growth flow.live_value (tick - flow.since)) (2 ^ 128 - 1)
+flow_at flow tick = min (flow.sum + grown flow.growth flow.whole_value (tick - flow.since)) (2 ^ 128 - 1)
 
 -- the sum of a gauge from this time on
 abbrev pub flow_of : ℕ → ℕ → Gauge → Flow
-flow_of value since gauge = record { growth = gauge.growth; live_value = value; since = since; sum = gauge.sum }
+flow_of value since gauge = record { growth = gauge.growth; whole_value = value; since = since; sum = gauge.sum }
 
 -- ---- the samples
 
@@ -89,7 +93,7 @@ pub record HaveReadAll (at : ℕ → ℕ) (ticks : List ℕ) (time : ℕ) (old n
   pub have : HaveRead at ticks time old new
   pub all : length new < length ticks → time < slice_index ticks (length new)
 
--- a gauge has passed a stretch of time in which the live threads were worth this much
+-- a gauge has passed a stretch of time in which what is shared out was worth this much
 pub record HasPassed (marks : Marks) (value since time : ℕ) (old new : Gauge) : Type 0 where
   pub growth : new.growth ≡ old.growth
   pub sum : new.sum ≡ flow_at (flow_of value since old) time
@@ -120,16 +124,22 @@ most_of None = 2 ^ 65
 most_of (Some t) = 2 ^ 125
 
 -- a gauge after these n turns, the first of which was made in the first state, and which led to this one
-pub record IsGauge (marks : Marks) (first : State) (done : List TimedTurn) (n : ℕ) (s : State) (time : ℕ) (gauge : Gauge) : Type 0 where
+pub record IsGauge (by : By) (marks : Marks) (first : State) (done : List TimedTurn) (n : ℕ) (s : State) (time : ℕ) (gauge : Gauge) : Type 0 where
   pub sum : gauge.sum ≤ n * step_of (thread_of gauge.growth)
-  pub starts : IsRead (amount_for (thread_of gauge.growth)) first done s time gauge.sum (most_of (thread_of gauge.growth)) marks.starts.items gauge.starts.items
-  pub ends : IsRead (amount_for (thread_of gauge.growth)) first done s time gauge.sum (most_of (thread_of gauge.growth)) marks.ends.items gauge.ends.items
+  pub starts : IsRead (amount_for by (thread_of gauge.growth)) first done s time gauge.sum (most_of (thread_of gauge.growth)) marks.starts.items gauge.starts.items
+  pub ends : IsRead (amount_for by (thread_of gauge.growth)) first done s time gauge.sum (most_of (thread_of gauge.growth)) marks.ends.items gauge.ends.items
 
 -- each of these gauges is so
 abbrev pub EachGauge : (Gauge → Type 0) → List Gauge → Type 0
 EachGauge P gauges = (place : ℕ) (d : Gauge) → place < length gauges → P (slice_index_or gauges place d)
 
--- the gauges are of the same threads as these
+-- by currency the number isn't 0, which is base's
+abbrev pub IsColumn : By → Option ℕ → Type 0
+IsColumn Thread number = ⊤
+IsColumn Currency None = ⊤
+IsColumn Currency (Some c) = 0 < c
+
+-- the gauges are of the same threads or currencies as these
 pub record KeepThreads (old new : List Gauge) : Type 0 where
   pub count : length new ≡ length old
   pub each : (place : ℕ) (d : Gauge) → place < length old → thread_of (slice_index_or new place d).growth ≡ thread_of (slice_index_or old place d).growth
@@ -139,35 +149,37 @@ pub record HaveAllPassed (marks : Marks) (value since time : ℕ) (old new : Lis
   pub count : length new ≡ length old
   pub each : (place : ℕ) (d : Gauge) → place < length old → HasPassed marks value since time (slice_index_or old place d) (slice_index_or new place d)
 
--- a gauge is as before, but for its thread's value, which is that of this state
-pub record IsRenewed (s : State) (old new : Gauge) : Type 0 where
+-- a gauge is as before, but for its thread's or currency's value, which is that of this state
+pub record IsRenewed (by : By) (s : State) (old new : Gauge) : Type 0 where
   pub thread : thread_of new.growth ≡ thread_of old.growth
-  pub now : IsNow s new.growth
+  pub now : IsNow by s new.growth
   pub sum : new.sum ≡ old.sum
   pub starts : new.starts.items ≡ old.starts.items
   pub ends : new.ends.items ≡ old.ends.items
 
 -- each gauge is renewed
-pub record AreRenewed (s : State) (old new : List Gauge) : Type 0 where
+pub record AreRenewed (by : By) (s : State) (old new : List Gauge) : Type 0 where
   pub count : length new ≡ length old
-  pub each : (place : ℕ) (d : Gauge) → place < length old → IsRenewed s (slice_index_or old place d) (slice_index_or new place d)
+  pub each : (place : ℕ) (d : Gauge) → place < length old → IsRenewed by s (slice_index_or old place d) (slice_index_or new place d)
 
 -- a meter lets time pass up to this
 pub record HasPassedAll (now : ℕ) (old new : Meter) : Type 0 where
+  pub by : new.by ≡ old.by
   pub marks : new.marks ≡ old.marks
   pub time : new.time ≡ old.time
-  pub value : new.live_value ≡ old.live_value
-  pub live : HasPassed old.marks old.live_value old.time now old.live new.live
-  pub threads : HaveAllPassed old.marks old.live_value old.time now old.threads.items new.threads.items
+  pub value : new.whole_value ≡ old.whole_value
+  pub live : HasPassed old.marks old.whole_value old.time now old.live new.live
+  pub threads : HaveAllPassed old.marks old.whole_value old.time now old.threads.items new.threads.items
 
--- a meter takes over the values of threads in this state
+-- a meter takes over the values in this state
 pub record HasRenewed (s : State) (old new : Meter) : Type 0 where
+  pub by : new.by ≡ old.by
   pub marks : new.marks ≡ old.marks
   pub time : new.time ≡ old.time
-  pub value : new.live_value ≡ live_value s
-  pub small : new.live_value < 2 ^ 96
+  pub value : new.whole_value ≡ whole_value old.by s
+  pub small : new.whole_value < 2 ^ 96
   pub live : new.live ≡ old.live
-  pub threads : AreRenewed s old.threads.items new.threads.items
+  pub threads : AreRenewed old.by s old.threads.items new.threads.items
 
 -- a gauge of this growth before the first turn: nothing was read
 pub record IsNew (growth : Growth) (gauge : Gauge) : Type 0 where
@@ -176,18 +188,23 @@ pub record IsNew (growth : Growth) (gauge : Gauge) : Type 0 where
   pub starts : gauge.starts.items ≡ []
   pub ends : gauge.ends.items ≡ []
 
--- there is a new gauge for the thread of each line
+-- there is a new gauge for the thread or currency of each line
 pub record AreNew (shown : List Standing) (gauges : List Gauge) : Type 0 where
   pub count : length gauges ≡ length shown
   pub each : (place : ℕ) (d : Gauge) (e : Standing) → place < length shown → IsNew (Due (slice_index_or shown place e).thread 0) (slice_index_or gauges place d)
 
+-- by currency no line is of number 0
+abbrev pub AreColumns : By → List Standing → Type 0
+AreColumns by shown = (place : ℕ) (e : Standing) → place < length shown → IsColumn by (Some (slice_index_or shown place e).thread)
+
 -- a meter for these lines before the first turn
 pub record IsNewMeter (curves : Curves) (shown : List Standing) (meter : Meter) : Type 0 where
+  pub by : meter.by ≡ curves.by
   pub early : curves.origin + last_end curves.stretches < 2 ^ 56
   pub starts : meter.marks.starts.items ≡ start_ticks curves
   pub ends : meter.marks.ends.items ≡ end_ticks curves
   pub time : meter.time ≡ 0
-  pub value : meter.live_value ≡ 0
+  pub value : meter.whole_value ≡ 0
   pub live : IsNew Live meter.live
   pub threads : AreNew shown meter.threads.items
 
@@ -202,22 +219,27 @@ abbrev pub state_of : Program → List MadeTurn → State
 state_of program turns = (world_after_turns (opening_world program) turns).state
 
 -- a gauge after these turns of the program
-abbrev pub IsGaugeOf : Program → List MadeTurn → Marks → Gauge → Type 0
-IsGaugeOf program turns marks gauge = IsGauge marks (opening program.limits) (map timed_turn turns) (length turns) (state_of program turns) (time_after 0 (map timed_turn turns)) gauge
+abbrev pub IsGaugeOf : By → Program → List MadeTurn → Marks → Gauge → Type 0
+IsGaugeOf by program turns marks gauge = IsGauge by marks (opening program.limits) (map timed_turn turns) (length turns) (state_of program turns) (time_after 0 (map timed_turn turns)) gauge
 
--- a meter that began so, after these turns of the program; nothing is read of more turns than a program has
+-- A meter that began so, after these turns of the program; nothing is read of more turns than a program has. No thread
+-- or currency is worth more than the whole, since the state is sound.
 pub record IsMeter (program : Program) (turns : List MadeTurn) (first now : Meter) : Type 0 where
+  pub bounds : IsWithinBounds program.limits
+  pub sound : IsSound (state_of program turns)
+  pub by : now.by ≡ first.by
+  pub columns : EachGauge (λ gauge. IsColumn first.by (thread_of gauge.growth)) first.threads.items
   pub marks : now.marks ≡ first.marks
   pub starts : IsAscending first.marks.starts.items
   pub ends : IsAscending first.marks.ends.items
   pub time : now.time ≡ time_after 0 (map timed_turn turns)
-  pub value : now.live_value ≡ live_value (state_of program turns)
-  pub small : now.live_value < 2 ^ 96
+  pub value : now.whole_value ≡ whole_value first.by (state_of program turns)
+  pub small : now.whole_value < 2 ^ 96
   pub clock : thread_of now.live.growth ≡ None
   pub threads : KeepThreads first.threads.items now.threads.items
-  pub own : EachGauge (λ gauge. IsNow (state_of program turns) gauge.growth) now.threads.items
-  pub live : length turns < 2 ^ 24 → IsGaugeOf program turns first.marks now.live
-  pub each : length turns < 2 ^ 24 → EachGauge (IsGaugeOf program turns first.marks) now.threads.items
+  pub own : EachGauge (λ gauge. IsNow first.by (state_of program turns) gauge.growth) now.threads.items
+  pub live : length turns < 2 ^ 24 → IsGaugeOf first.by program turns first.marks now.live
+  pub each : length turns < 2 ^ 24 → EachGauge (IsGaugeOf first.by program turns first.marks) now.threads.items
 
 -- a meter that awaits a turn, made in this world
 pub record IsAwaiting (program : Program) (turns : List MadeTurn) (world : World) (first now : Meter) : Type 0 where

@@ -1,32 +1,39 @@
 -- The stretches of a program's turns.
-use Rattle.std.specs.Prelude.{ℕ, ◌==◌, Option, Some, None, List, [], ◌∷◌, ◌++◌, map, if◌then◌else◌}
+use Rattle.std.specs.Prelude.{◌≡◌, ⊤, ℕ, ◌+◌, ◌*◌, ◌^◌, ◌<◌, ◌≤◌, ◌==◌, Bool, true, false, length, Option, Some, None, List, [], ◌∷◌, ◌++◌, map, if◌then◌else◌}
 use Rattle.std.specs.List.{flat_map}
 use Rattle.lot_simulation.specs.Report.{ActorTurn, ticks_in, total_of, turns_made, turns_of}
 use Rattle.lot_simulation.specs.World.{Program, opening_world}
+use Rattle.lot_machine.specs.declared.reply.Reply.{Reply}
+use Rattle.lot_machine.specs.declared.reply.Reply.TheVariants as reply
+use Rattle.lot_machine.specs.State.{State, thread_on}
+use Rattle.lot_curves.specs.declared.by.By.{By}
+use Rattle.lot_curves.specs.declared.by.By.TheVariants.{Thread, Currency}
 use Rattle.lot_curves.specs.declared.stretch.Stretch.{Stretch}
-use Rattle.lot_curves.specs.Curves.{Curves, names_in}
-use Rattle.lot_curves.specs.Stretches.{stretch_of}
+use Rattle.lot_curves.specs.Curves.{Curves, names_by}
+use Rattle.lot_curves.specs.OwnTimes.{EndedTurn}
+use Rattle.lot_curves.specs.Stretches.{last_end, turn_stretches}
+use Rattle.lot_above.specs.Found.{FoundNodes}
+use Rattle.lot_engine.specs.Searching.{HasLayoutFor, HasThoseAbove}
 use Rattle.lot_engine.specs.Seen.{Seen}
 use Rattle.lot_playback.specs.Turns.{MadeTurn, counted_turn, counted_turns, world_after_turns}
 
--- the stretch of a counted turn after these turns, which include it: it ends at the sum of its actor's ticks
-abbrev pub own_stretch : List ActorTurn → ActorTurn → Stretch
-own_stretch turns turn = stretch_of (record { time = total_of ticks_in (turns_of turn.actor turns); answer = turn.answer })
+-- a counted turn after these turns, which include it: it ends at the sum of its actor's ticks
+abbrev pub own_end : List ActorTurn → ActorTurn → EndedTurn
+own_end turns turn = record { time = total_of ticks_in (turns_of turn.actor turns); answer = turn.answer }
 
--- the stretch of a turn after these turns: it ends at this time, or, without one, at its actor's own time; none if no
--- command remained
-abbrev pub stretches_at : Option ℕ → List MadeTurn → MadeTurn → List Stretch
-stretches_at (Some time) before made = stretch_of (record { time = time; answer = made.turn.answer }) ∷ []
-stretches_at None before made = map (own_stretch (counted_turns (before ++ made ∷ []))) (counted_turn made.actor made.turn.answer)
+-- a turn after these turns: it ends at this time, or, without one, at its actor's own time; none if no command remained
+abbrev pub ended_at : Option ℕ → List MadeTurn → MadeTurn → List EndedTurn
+ended_at (Some time) before made = record { time = time; answer = made.turn.answer } ∷ []
+ended_at None before made = map (own_end (counted_turns (before ++ made ∷ []))) (counted_turn made.actor made.turn.answer)
 
--- the stretch of a turn after these turns, at its own time if it has one
-abbrev pub stretches_of_turn : List MadeTurn → MadeTurn → List Stretch
-stretches_of_turn before made = stretches_at made.time before made
+-- the stretches of a turn after these turns, at its own time if it has one
+abbrev pub stretches_of_turn : By → List MadeTurn → MadeTurn → List Stretch
+stretches_of_turn by before made = flat_map (turn_stretches by made.before.state) (ended_at made.time before made)
 
 -- the stretches of these turns, which come after the earlier ones
-abbrev pub stretches_in : List MadeTurn → List MadeTurn → List Stretch
-stretches_in before [] = []
-stretches_in before (made ∷ turns) = stretches_of_turn before made ++ stretches_in (before ++ made ∷ []) turns
+abbrev pub stretches_in : By → List MadeTurn → List MadeTurn → List Stretch
+stretches_in by before [] = []
+stretches_in by before (made ∷ turns) = stretches_of_turn by before made ++ stretches_in by (before ++ made ∷ []) turns
 
 -- the time of a turn of this actor, if it has one and the actor is the console
 abbrev pub command_time : Option ℕ → ℕ → List ℕ
@@ -38,10 +45,11 @@ abbrev pub commands_in : List MadeTurn → List ℕ
 commands_in turns = flat_map (λ made. command_time made.time made.actor) turns
 
 -- the curves of these turns of the program
-abbrev pub curves_after : Program → List MadeTurn → Curves
-curves_after program turns = record {
-  names = names_in (world_after_turns (opening_world program) turns).state;
-  stretches = stretches_in [] turns;
+abbrev pub curves_after : By → Program → List MadeTurn → Curves
+curves_after by program turns = record {
+  by = by;
+  names = names_by by (world_after_turns (opening_world program) turns).state;
+  stretches = stretches_in by [] turns;
   origin = 0;
   window = None;
   commands = commands_in turns;
@@ -51,3 +59,37 @@ curves_after program turns = record {
 abbrev pub end_in : Seen → Option ℕ → ℕ → ℕ
 end_in seen (Some time) actor = time
 end_in seen None actor = total_of ticks_in (turns_of actor (turns_made seen.setting.program seen.history))
+
+-- ---- while they are gathered
+
+-- these were noted of these turns, and the search has room for the program's graphs
+pub record HasNoted (by : By) (program : Program) (turns : List MadeTurn) (stretches : List Stretch) (commands : List ℕ) (above : FoundNodes) : Type 0 where
+  pub room : HasLayoutFor program above
+  pub stretches_are : stretches ≡ stretches_in by [] turns
+  pub few : length stretches < 2 ^ 32
+  pub early : last_end stretches ≤ (length turns + 1) * 2 ^ 32
+  pub commands_are : commands ≡ commands_in turns
+
+-- whether the reply says that a thread ran
+abbrev pub has_run : Reply → Bool
+has_run (reply.Expired t ticks) = true
+has_run (reply.Trapped t ticks came ends) = true
+has_run other = false
+
+-- if the reply says that a thread ran, that ran on this processor
+abbrev pub RanOn : State → ℕ → Reply → Type 0
+RanOn s p (reply.Expired t ticks) = (0 < p) × (thread_on s.records p ≡ Some t)
+RanOn s p (reply.Trapped t ticks came ends) = (0 < p) × (thread_on s.records p ≡ Some t)
+RanOn s p other = ⊤
+
+-- so many numbers of currencies were given before this actor's turn, and the search has found those that the thread
+-- stands below that runs on its processor
+pub record HasLooked (s : State) (actor : ℕ) (above : FoundNodes) (count : ℕ) : Type 0 where
+  pub given : count ≡ length s.currencies
+  pub within : count ≤ above.layout.currencies + 1
+  pub found : (t : ℕ) → 0 < actor → thread_on s.records actor ≡ Some t → HasThoseAbove s t above
+
+-- by currency the search was made; by thread nothing is searched for
+abbrev pub HasSearched : By → State → ℕ → FoundNodes → ℕ → Type 0
+HasSearched Thread s actor above count = ⊤
+HasSearched Currency s actor above count = HasLooked s actor above count

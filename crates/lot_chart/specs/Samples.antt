@@ -1,5 +1,7 @@
 -- A small run, and its curves as a table and as a picture, worked out by hand.
-use Rattle.std.specs.Prelude.{ℕ, ◌*◌, ◌==◌, None, List, [], ◌∷◌, codes, if◌then◌else◌}
+use Rattle.std.specs.Prelude.{ℕ, ◌*◌, ◌==◌, None, List, [], ◌∷◌, codes, map, if◌then◌else◌}
+use Rattle.std.specs.List.{range_with_len}
+use Rattle.lot_curves.specs.declared.by.By.TheVariants.{Thread}
 use Rattle.lot_curves.specs.Curves.{Curves, curves_of}
 use Rattle.lot_simulation.specs.Samples.{text}
 use Rattle.lot_simulation.specs.WorkedSystems.{first_run}
@@ -22,6 +24,7 @@ three_tick_curves = curves_of three_ticks
 -- thread a wins at tick 0 and runs to tick 4, and thread b wins then and runs to tick 7
 abbrev pub seven_tick_curves : Curves
 seven_tick_curves = record {
+  by = Thread;
   names = codes "a" ∷ codes "b" ∷ [];
   stretches =
       record { thread = 1; end = 0; ticks = 0; draws = 1 } ∷ record { thread = 1; end = 4; ticks = 4; draws = 0 }
@@ -39,9 +42,14 @@ all_to_the_first = record { live = λ tick. tick; parts = λ t tick. if t == 1 t
 abbrev pub seven_tick_standings : List Standing
 seven_tick_standings = record { thread = 1; ticks = 4 } ∷ record { thread = 2; ticks = 3 } ∷ []
 
+-- thirteen threads or currencies, which have run equally long
+abbrev pub thirteen : List Standing
+thirteen = map (λ n. record { thread = n; ticks = 1 }) (range_with_len 1 13)
+
 -- thread a runs to tick 7000; commands are made at the beginning, near it, in the middle, at the end and after it
 abbrev pub commanded_curves : Curves
 commanded_curves = record {
+  by = Thread;
   names = codes "a" ∷ [];
   stretches = record { thread = 1; end = 7000; ticks = 7000; draws = 0 } ∷ [];
   origin = 0;
@@ -143,8 +151,16 @@ two_rates = text (
     codes "lottery 3" ∷ codes "quantum 1" ∷ codes "for 4" ∷ codes "script spin" ∷ codes "compute 10" ∷ codes "endscript" ∷ codes "fundx 3 base a spin" ∷ codes "fundx 1 base b spin"
     ∷ codes "at 2" ∷ codes "settkt 1 1" ∷ [])
 
--- Its picture, with the title `due`. Thread a wins the draws at ticks 0, 1 and 3, and thread b that at tick 2. Of three
--- ticks thread a is due 2 * 3 / 4 + 1 / 2 = 2, and of four 2.5.
+-- a timed program: thread a stands below currency w, and so below u, up to tick 2, and below v from then on
+abbrev pub moved_below : List ℕ
+moved_below = text (
+    codes "lottery 3" ∷ codes "quantum 1" ∷ codes "for 4" ∷ codes "script spin" ∷ codes "compute 10" ∷ codes "endscript"
+    ∷ codes "mkcur u" ∷ codes "mkcur w" ∷ codes "mkcur v" ∷ codes "mktkt 1 base" ∷ codes "fund 1 u" ∷ codes "mktkt 1 u" ∷ codes "fund 2 w"
+    ∷ codes "mktkt 1 base" ∷ codes "fund 3 v" ∷ codes "fundx 1 w a spin"
+    ∷ codes "at 2" ∷ codes "unfund 4" ∷ codes "mktkt 1 v" ∷ codes "fund 5 a" ∷ [])
+
+-- The picture of `two_rates`, with the title `due`. Thread a wins the draws at ticks 0, 1 and 3, and thread b that at
+-- tick 2. Of three ticks thread a is due 2 * 3 / 4 + 1 / 2 = 2, and of four 2.5.
 abbrev pub two_rate_picture : List ℕ
 two_rate_picture = text (
     codes "<svg xmlns='http://www.w3.org/2000/svg' width='860' height='540' viewBox='0 0 860 540' role='img' aria-labelledby='title' font-family='sans-serif' font-size='12' fill='#222222'>"
@@ -187,7 +203,8 @@ two_rate_picture = text (
     ∷ codes "<text x='788' y='326.7' dy='4'>b 25.0%</text>"
     ∷ codes "</svg>" ∷ [])
 
--- The same with a window of two ticks. Of those from tick 1 to tick 3 thread a is due (3 / 4 + 1 / 2) / 2 = 62.5 percent.
+-- The same with a window of two ticks. Of those from tick 1 to tick 3 thread a is due (3 / 4 + 1 / 2) / 2 = 62.5
+-- percent.
 abbrev pub two_rate_window_picture : List ℕ
 two_rate_window_picture = text (
     codes "<svg xmlns='http://www.w3.org/2000/svg' width='860' height='540' viewBox='0 0 860 540' role='img' aria-labelledby='title' font-family='sans-serif' font-size='12' fill='#222222'>"

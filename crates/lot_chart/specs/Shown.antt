@@ -5,9 +5,10 @@ use Rattle.lot_simulation.specs.declared.input.InputFault.{InputFault}
 use Rattle.lot_simulation.specs.Grammar.{program_in}
 use Rattle.lot_simulation.specs.Texts.{fault_line}
 use Rattle.lot_simulation.specs.World.{Program}
+use Rattle.lot_curves.specs.declared.by.By.TheVariants.{Thread}
 use Rattle.lot_curves.specs.declared.stretch.Measure.{Measure}
 use Rattle.lot_curves.specs.Curves.{curves_of}
-use Rattle.lot_chart.specs.Dues.{dues_of}
+use Rattle.lot_chart.specs.Dues.{dues_by}
 use Rattle.lot_chart.specs.Tables.{table}
 use Rattle.lot_chart.specs.Charts.{chart}
 use Rattle.lot_io.specs.Watching.{Watch}
@@ -28,7 +29,7 @@ shares_output measure bytes = shown_of (λ program. table measure (curves_of pro
 
 -- the output of `chart` for these bytes
 abbrev pub chart_output : List ℕ → List ℕ → List ℕ
-chart_output title bytes = shown_of (λ program. chart title (dues_of program) (curves_of program)) (program_in bytes)
+chart_output title bytes = shown_of (λ program. chart title (dues_by Thread program) (curves_of program)) (program_in bytes)
 
 -- the text was written, or a beginning of it if the writer failed; without a text nothing was
 abbrev pub Shows : {T : Type 0} {V : Type 0} → (T → Option (List ℕ)) → Watch T → Watch T → Result V AllocError → (V → List ℕ) → Result Played IoFault → Type 0

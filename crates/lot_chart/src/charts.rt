@@ -3,10 +3,11 @@ ghost use Rattle.std.specs.Prelude.{◌≡◌, ◌+◌, ◌<◌, ◌≤◌, ◌^
 ghost use Rattle.std.specs.List.{flat_map};
 ghost use Rattle.lot_chart.specs.Charts as definitions;
 ghost use Rattle.lot_chart.specs.Charts.{axes, column_mark, command_mark, command_marks, curve, drawn_of, frame, head};
-ghost use Rattle.lot_chart.specs.Charts.{height_mark, heights_label, label, leader, name_text, picture, point};
+ghost use Rattle.lot_chart.specs.Charts.{height_mark, heights_label, label, leader, measure_label, name_text};
+ghost use Rattle.lot_chart.specs.Charts.{picture, point};
 ghost use Rattle.lot_chart.specs.Charts.{point_at, points, stroke, time_mark};
 ghost use Rattle.lot_chart.specs.Axes.{marks, time_marks};
-ghost use Rattle.lot_chart.specs.Dues.{Dues as DuesRecord, dues_of};
+ghost use Rattle.lot_chart.specs.Dues.{Dues as DuesRecord, dues_by};
 ghost use Rattle.lot_chart.specs.Gauges.{AreLinesOf, HaveDues};
 ghost use Rattle.lot_chart.specs.Standings as standings;
 ghost use Rattle.lot_curves.specs.Curves.{sample_count};
@@ -22,7 +23,7 @@ use crate::metering::LineDues;
 use crate::shares::{share_of, whole_at};
 use crate::standings::{Selection, select, stretches_of_thread};
 use crate::text::Text;
-use lot_curves::{Curves, Measure, Stretch, had_in};
+use lot_curves::{By, Curves, Measure, Stretch, had_in};
 use lot_machine::{Name, index_of};
 use lot_text::Program;
 use std::alloc::{AllocError, Global};
@@ -48,7 +49,8 @@ const FRAME: &str = "<path d='M100 60V460H770' fill='none' stroke='#222222'/>\n\
 
 /// The picture of the curves, an SVG with this title: a line for each thread, or for the eleven that have run longest
 /// and one for the others together. At each line's end are the thread's name and its share of all ticks. With a window,
-/// lines show shares of the last ticks, and the eleven are those that have run longest in the last window.
+/// lines show shares of the last ticks, and the eleven are those that have run longest in the last window. By currency
+/// there is a line for each of the twelve currencies whose threads have run longest, and none for the others.
 pub fn chart_of(alloc: Global, curves: &Curves, title: &str) -> Result<Vec<u8>, AllocError>
     ensures { IfOk result (λ text. text.items ≡ definitions.chart title.now None curves.now) }
 {
@@ -63,7 +65,8 @@ pub fn program_chart(
     curves: &Curves,
     title: &str,
 ) -> Result<Vec<u8>, AllocError>
-    ensures { IfOk result (λ text. text.items ≡ definitions.chart title.now (dues_of program.now) curves.now) }
+    ensures { IfOk result (λ text.
+        text.items ≡ definitions.chart title.now (dues_by curves.now.by program.now) curves.now) }
 {
     let selection = select(alloc, curves)?;
     let dues = LineDues::of(alloc, program, curves, selection.shown.as_slice())?;
@@ -186,7 +189,7 @@ fn push_axes(alloc: Global, text: &mut Text, curves: &Curves, most: u64) -> Resu
     push_height_marks(text, highest(curves, most))?;
     push_time_marks(text, curves)?;
     push_command_marks(alloc, text, curves)?;
-    push_frame(text, curves.window())?;
+    push_frame(text, curves.by(), curves.window())?;
     Ok(())
 }
 
@@ -201,30 +204,49 @@ fn highest(curves: &Curves, most: u64) -> u64
 }
 
 /// Adds the lines of both axes, and their labels.
-fn push_frame(text: &mut Text, window: Option<u32>) -> Result<(), AllocError>
-    ensures { OnOk result (text.new ≡ text.old ++ frame window) }
+fn push_frame(text: &mut Text, by: By, window: Option<u32>) -> Result<(), AllocError>
+    ensures { OnOk result (text.new ≡ text.old ++ frame by window) }
 {
     text.push(FRAME)?;
-    push_heights_label(text, window)?;
+    push_heights_label(text, by, window)?;
     text.push("</text>\n")?;
     Ok(())
 }
 
 /// Adds what heights mean.
-fn push_heights_label(text: &mut Text, window: Option<u32>) -> Result<(), AllocError>
-    ensures { OnOk result (text.new ≡ text.old ++ heights_label window) }
+fn push_heights_label(text: &mut Text, by: By, window: Option<u32>) -> Result<(), AllocError>
+    ensures { OnOk result (text.new ≡ text.old ++ heights_label by window) }
+{
+    text.push(lines_label(by))?;
+    push_measure_label(text, window)?;
+    Ok(())
+}
+
+/// What lines show.
+fn lines_label(by: By) -> &'static str
+    ensures { result.now ≡ definitions.lines_label by }
+{
+    match by {
+        By::Thread => "what each thread has run",
+        By::Currency => "what the threads of each currency have run",
+    }
+}
+
+/// Adds how it is measured.
+fn push_measure_label(text: &mut Text, window: Option<u32>) -> Result<(), AllocError>
+    ensures { OnOk result (text.new ≡ text.old ++ measure_label window) }
 {
     match window {
-        None => text.push("what each thread has run, in ticks"),
+        None => text.push(", in ticks"),
         Some(window) => push_window_label(text, window),
     }
 }
 
-/// Adds what heights mean with a window.
+/// Adds how it is measured with a window.
 fn push_window_label(text: &mut Text, window: u32) -> Result<(), AllocError>
-    ensures { OnOk result (text.new ≡ text.old ++ heights_label (Some window)) }
+    ensures { OnOk result (text.new ≡ text.old ++ measure_label (Some window)) }
 {
-    text.push("what each thread has run in the last ")?;
+    text.push(" in the last ")?;
     text.push_number(u64::from(window))?;
     text.push(" ticks, in percent")?;
     Ok(())
@@ -495,7 +517,7 @@ fn strokes(style: u32) -> &'static str
     " stroke-dasharray='7 4'"
 }
 
-/// All ticks that threads have run, or with a window those in the last.
+/// The ticks of all turns, or with a window those in the last.
 fn total_of(curves: &Curves) -> u64
     ensures { result ≡ definitions.total curves.now }
 {
@@ -554,7 +576,7 @@ fn push_name(text: &mut Text, names: &[Name], total: u64, line: &Line) -> Result
     Ok(())
 }
 
-/// The name of the thread; thread 0 stands for the others.
+/// The name of the thread or currency; thread 0 stands for the others.
 fn name_of(names: &[Name], thread: u32) -> &[u8]
     ensures name { result.now ≡ definitions.name_of names.now thread }
     ensures short { length result.now ≤ 16 }

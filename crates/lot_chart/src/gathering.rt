@@ -1,26 +1,42 @@
 //! Making the turns of a program for its curves.
-ghost use Rattle.std.specs.Prelude.{◌≡◌, ◌+◌, ◌++◌, ◌*◌, ◌^◌, ◌<◌, ◌≤◌, [], None, IfOk, OnOk, ⊤, length, vec_len};
+ghost use Rattle.std.specs.Prelude.{◌≡◌, ◌+◌, ◌++◌, ◌*◌, ◌^◌, ◌<◌, ◌≤◌, [], ◌∷◌, IfOk, None, OnOk, Some, ⊤, ℕ, false};
+ghost use Rattle.std.specs.Prelude.{filter, length, map, max, true, unwrap_or, vec_len};
 ghost use Rattle.std.specs.Fmt.{decimal};
 ghost use Rattle.lot_machine.specs.Bounds.{IsBetween};
-ghost use Rattle.lot_curves.specs.Curves.{curves_of, name_in, names_in};
-ghost use Rattle.lot_curves.specs.Stretches.{last_end};
+ghost use Rattle.lot_machine.specs.Rows as rows;
+ghost use Rattle.lot_machine.specs.State.{State, thread_on};
+ghost use Rattle.lot_machine.specs.declared.event.Event.{Event};
+ghost use Rattle.lot_simulation.specs.Below.{currency_numbers, stands_below};
+ghost use Rattle.lot_simulation.specs.World.Answer.{Answered};
+ghost use Rattle.lot_curves.specs.Curves as curves;
+ghost use Rattle.lot_curves.specs.Curves.{curves_by, names_by, numbers_by};
+ghost use Rattle.lot_curves.specs.Stretches.{in_column, last_end, turn_stretches};
+ghost use Rattle.lot_engine.specs.Searching.{HasLayoutFor, HasThoseAbove};
 ghost use Rattle.lot_engine.specs.Seen.{world_of};
 ghost use Rattle.lot_playback.specs.Stages.{HasMade};
 ghost use Rattle.lot_playback.specs.Turns.{program_turns};
-ghost use Rattle.lot_chart.specs.Noted.{command_time, commands_in, end_in, stretches_in};
+ghost use Rattle.lot_chart.specs.Noted.{HasNoted, HasSearched, RanOn, command_time, commands_in, curves_after, end_in};
+ghost use Rattle.lot_chart.specs.Noted.{stretches_in};
+ghost use Rattle.lot_chart.specs.Noted as noted;
 
 use itoa::Buffer;
-use lot_curves::{Curves, Stretch};
+use lot_above::Above;
+use lot_curves::{By, Curves, Stretch};
 use lot_engine::System;
-use lot_machine::Name;
+use lot_machine::{Name, Reply};
 use lot_play::{Warnings, note_last, play_through};
 use lot_playback::{Observer, Playback, Turn};
 use lot_text::Program;
 use std::alloc::{AllocError, Global};
 
-/// Records the stretch of each turn, and its warning; and the times of the console's commands.
+/// Records the stretches of each turn, and its warning; and the times of the console's commands.
 #[derive(Drop)]
 struct Stretches<'a> {
+    by: By,
+    /// By currency, the currencies above the thread whose turn is next.
+    above: Above,
+    /// By currency, how many numbers of currencies were given before the turn.
+    count: u32,
     stretches: Vec<Stretch>,
     commands: Vec<u32>,
     warnings: &'a mut Warnings,
@@ -29,19 +45,24 @@ struct Stretches<'a> {
 impl<'a> Observer for Stretches<'a> {
     type Fault = AllocError;
 
-    ghost observed = { λ program turns first now. (now.stretches.items ≡ stretches_in [] turns)
-        × (vec_len now.stretches ≤ length turns)
-        × (last_end now.stretches.items ≤ (length turns + 1) * 2 ^ 32)
-        × (now.commands.items ≡ commands_in turns) };
+    ghost observed = { λ program turns first now. (now.by ≡ first.by)
+        × HasNoted first.by program turns now.stretches.items now.commands.items now.above };
 
-    ghost awaits = { λ program turns world actor first now. (now.stretches.items ≡ stretches_in [] turns)
-        × (vec_len now.stretches ≤ length turns)
-        × (last_end now.stretches.items ≤ (length turns + 1) * 2 ^ 32)
-        × (now.commands.items ≡ commands_in turns) };
+    ghost awaits = { λ program turns world actor first now. (now.by ≡ first.by)
+        × HasNoted first.by program turns now.stretches.items now.commands.items now.above
+        × HasSearched first.by world.state actor now.above now.count };
 
     ghost stopped = { λ program turns first now fault. ⊤ };
 
-    fn before(&mut self, program: &Program, system: &mut System, actor: u32) {}
+    fn before(&mut self, program: &Program, system: &mut System, actor: u32) {
+        match self.by {
+            By::Thread => {}
+            By::Currency => {
+                self.count = system.currency_count();
+                search(system, actor, &mut self.above);
+            }
+        }
+    }
 
     fn after(
         &mut self,
@@ -52,12 +73,121 @@ impl<'a> Observer for Stretches<'a> {
         if turn.has_ended {
             return Ok(());
         }
-        let stretch = Stretch::new(end_of(system, turn), turn.reply);
+        let end = end_of(system, turn);
         self.warnings.note(system, turn);
-        self.stretches.push(stretch)?;
+        push_turn(
+            &mut self.stretches,
+            self.by,
+            end,
+            turn.reply,
+            &self.above,
+            self.count,
+        )?;
         push_command(&mut self.commands, turn)?;
         Ok(())
     }
+}
+
+/// Finds the currencies above the thread on the actor's processor, if one runs there.
+fn search(system: &System, actor: u32, above: &mut Above)
+    requires { HasLayoutFor system.now.setting.program above.old }
+    ensures room { HasLayoutFor system.now.setting.program above.new }
+    ensures found { (t : ℕ) → 0 < actor → thread_on (world_of system.now).state.records actor ≡ Some t
+        → HasThoseAbove (world_of system.now).state t above.new }
+{
+    if let Some(work) = system.work(actor) {
+        system.find_above(work.thread, above);
+    }
+}
+
+/// Adds the stretches of a turn with this end and this reply.
+fn push_turn(
+    stretches: &mut Vec<Stretch>,
+    by: By,
+    end: u64,
+    reply: Reply,
+    above: &Above,
+    count: u32,
+) -> Result<(), AllocError>
+    requires searched { (s : State) × (actor : ℕ) × HasSearched by s actor above.now count }
+    ensures turn { OnOk result ((s : State) (actor : ℕ) (e : Event) → RanOn s actor reply
+        → HasSearched by s actor above.now count → stretches.new.items ≡ stretches.old.items
+        ++ turn_stretches by s (record { time = end; answer = Answered e reply })) }
+    ensures few { OnOk result (length stretches.new.items < 2 ^ 32) }
+    ensures early { OnOk result (last_end stretches.new.items ≤ max end (last_end stretches.old.items)) }
+{
+    let stretch = Stretch::new(end, reply);
+    match by {
+        By::Thread => push_stretch(stretches, stretch),
+        By::Currency => push_columns(stretches, stretch, has_run(reply), above, count),
+    }
+}
+
+/// Adds a turn's stretch with number 0, and, if a thread ran, once more for each currency that was found.
+fn push_columns(
+    stretches: &mut Vec<Stretch>,
+    stretch: Stretch,
+    has_run: bool,
+    above: &Above,
+    count: u32,
+) -> Result<(), AllocError>
+    requires within { count ≤ above.now.layout.currencies + 1 }
+    ensures columns { OnOk result ((s : State) (t : ℕ) → count ≡ length s.currencies → HasThoseAbove s t above.now
+        → has_run ≡ true → stretches.new.items ≡ stretches.old.items ++ in_column 0 stretch
+        ∷ map (λ c. in_column c stretch) (filter (λ c. stands_below s c t) (currency_numbers s))) }
+    ensures none { OnOk result (has_run ≡ false
+        → stretches.new.items ≡ stretches.old.items ++ in_column 0 stretch ∷ []) }
+    ensures few { OnOk result (length stretches.new.items < 2 ^ 32) }
+    ensures early { OnOk result (last_end stretches.new.items ≤ max stretch.end (last_end stretches.old.items)) }
+{
+    push_stretch(stretches, stretch.in_column(0))?;
+    if has_run {
+        push_found(stretches, stretch, above, count)?;
+    }
+    Ok(())
+}
+
+/// Whether a thread ran in the turn with this reply.
+fn has_run(reply: Reply) -> bool
+    ensures { result ≡ noted.has_run reply }
+{
+    matches!(reply, Reply::Expired { .. } | Reply::Trapped { .. })
+}
+
+/// Adds a stretch. So many that a `u32` can't number them count as out of memory.
+fn push_stretch(stretches: &mut Vec<Stretch>, stretch: Stretch) -> Result<(), AllocError>
+    ensures pushed { OnOk result (stretches.new.items ≡ stretches.old.items ++ stretch ∷ []) }
+    ensures few { OnOk result (length stretches.new.items < 2 ^ 32) }
+    ensures early { OnOk result (last_end stretches.new.items ≤ max stretch.end (last_end stretches.old.items)) }
+{
+    if stretches.len() >= u32::MAX as usize {
+        return Err(AllocError);
+    }
+    stretches.push(stretch)?;
+    Ok(())
+}
+
+/// Adds the stretch once for each of the first so many currencies that was found, base left out.
+fn push_found(
+    stretches: &mut Vec<Stretch>,
+    stretch: Stretch,
+    above: &Above,
+    count: u32,
+) -> Result<(), AllocError>
+    requires few { length stretches.old.items < 2 ^ 32 }
+    requires within { count ≤ above.now.layout.currencies + 1 }
+    ensures columns { OnOk result ((s : State) (t : ℕ) → count ≡ length s.currencies → HasThoseAbove s t above.now
+        → stretches.new.items ≡ stretches.old.items
+        ++ map (λ c. in_column c stretch) (filter (λ c. stands_below s c t) (currency_numbers s))) }
+    ensures few { OnOk result (length stretches.new.items < 2 ^ 32) }
+    ensures early { OnOk result (last_end stretches.new.items ≤ max stretch.end (last_end stretches.old.items)) }
+{
+    for currency in 1..count {
+        if above.has(currency) {
+            push_stretch(stretches, stretch.in_column(currency))?;
+        }
+    }
+    Ok(())
 }
 
 /// Adds the turn's time, if it has one and is the console's.
@@ -85,25 +215,43 @@ fn end_of(system: &System, turn: &Turn) -> u64
 }
 
 /// Makes the turns of the program in a system of its own, timed ones if it has a duration and those of its schedule
-/// otherwise, and gathers their stretches. It stores the run's warnings in `warnings`.
+/// otherwise, and gathers their stretches, by thread or by currency. Without a duration they are by thread. It stores
+/// the run's warnings in `warnings`.
 pub fn gather(
     alloc: Global,
+    by: By,
     program: &Program,
     warnings: &mut Warnings,
 ) -> Result<Curves, AllocError>
-    ensures { IfOk result (λ curves. curves ≡ curves_of program.now) }
+    ensures { IfOk result (λ curves. curves ≡ curves_by by program.now) }
 {
-    let mut playback = Playback::open(alloc, program)?;
-    let (stretches, commands) = note_turns(alloc, program, &mut playback, warnings)?;
-    let (mut system, order) = playback.into_parts();
-    note_last(program, &mut system, &order, warnings);
-    let names = names_of(alloc, &mut system)?;
-    Ok(Curves::new(names, stretches, commands))
+    match program.duration() {
+        None => gather_by(alloc, By::Thread, program, warnings),
+        Some(_) => gather_by(alloc, by, program, warnings),
+    }
 }
 
-/// Makes the program's turns, and records the stretch of each, and its warning; and the times of the commands.
+/// The same, by currency only with a duration.
+fn gather_by(
+    alloc: Global,
+    by: By,
+    program: &Program,
+    warnings: &mut Warnings,
+) -> Result<Curves, AllocError>
+    ensures { IfOk result (λ curves. curves ≡ curves_after by program.now (program_turns program.now)) }
+{
+    let mut playback = Playback::open(alloc, program)?;
+    let (stretches, commands) = note_turns(alloc, by, program, &mut playback, warnings)?;
+    let (mut system, order) = playback.into_parts();
+    note_last(program, &mut system, &order, warnings);
+    let names = names_of(alloc, by, &mut system)?;
+    Ok(Curves::new(by, names, stretches, commands))
+}
+
+/// Makes the program's turns, and records the stretches of each, and its warning; and the times of the commands.
 fn note_turns(
     alloc: Global,
+    by: By,
     program: &Program,
     playback: &mut Playback,
     warnings: &mut Warnings,
@@ -111,7 +259,7 @@ fn note_turns(
     requires none { playback.old.made ≡ 0 }
     requires made { HasMade program.now [] playback.old.seen }
     ensures made { OnOk result (HasMade program.now (program_turns program.now) playback.new.seen) }
-    ensures noted { IfOk result (λ noted. noted.0.items ≡ stretches_in [] (program_turns program.now)) }
+    ensures noted { IfOk result (λ noted. noted.0.items ≡ stretches_in by [] (program_turns program.now)) }
     ensures commands { IfOk result (λ noted. noted.1.items ≡ commands_in (program_turns program.now)) }
     ensures few { IfOk result (λ noted. vec_len noted.0 < 2 ^ 32) }
     ensures early { IfOk result (λ noted. last_end noted.0.items < 2 ^ 56) }
@@ -119,6 +267,9 @@ fn note_turns(
     let schedule = program.schedule();
     let room = Vec::with_capacity(alloc, schedule.len())?;
     let mut noted = Stretches {
+        by,
+        above: playback.system().above(alloc)?,
+        count: 0,
         stretches: room,
         commands: Vec::new(alloc),
         warnings,
@@ -132,28 +283,60 @@ fn note_turns(
     Ok((stretches, commands))
 }
 
-/// The columns' names, in ascending order of number: each is that of the last thread with the number.
-fn names_of(alloc: Global, system: &mut System) -> Result<Vec<Name>, AllocError>
+/// The columns' names, in ascending order of number: each is that of the last thread or currency with the number.
+fn names_of(alloc: Global, by: By, system: &mut System) -> Result<Vec<Name>, AllocError>
     ensures few { IfOk result (λ names. vec_len names < 2 ^ 32) }
-    ensures names { IfOk result (λ names. names.items ≡ names_in (world_of system.old).state) }
+    ensures names { IfOk result (λ names. names.items ≡ names_by by (world_of system.old).state) }
 {
-    let count = system.thread_count();
+    let count = column_count(by, system);
     let mut names = Vec::with_capacity(alloc, count as usize)?;
     for place in 0..count {
-        names.push(name_of(system, place + 1))?;
+        names.push(name_by(by, system, place + 1))?;
     }
     Ok(names)
 }
 
-/// The name of the last thread with this number, or the number itself if that thread was removed or has no name.
-fn name_of(system: &mut System, thread: u32) -> Name
+/// How many numbers of threads have been given, or of currencies other than base.
+fn column_count(by: By, system: &System) -> u32
+    ensures { result ≡ length (numbers_by by (world_of system.now).state) }
+{
+    match by {
+        By::Thread => system.thread_count(),
+        By::Currency => system.currency_count().saturating_sub(1),
+    }
+}
+
+/// The name of the last thread or currency with this number, or the number itself if that was removed or has no name.
+fn name_by(by: By, system: &mut System, number: u32) -> Name
+    requires { IsBetween 1 (length (numbers_by by (world_of system.old).state)) number }
+    ensures same { system.new ≡ system.old }
+    ensures name { result ≡ curves.name_by by (world_of system.old).state number }
+{
+    match by {
+        By::Thread => name_or_number(thread_name(system, number), number),
+        By::Currency => name_or_number(system.currency_name(number), number),
+    }
+}
+
+/// The name of the thread with this number, unless it was removed.
+fn thread_name(system: &mut System, thread: u32) -> Option<Name>
     requires { IsBetween 1 (length (world_of system.old).state.records) thread }
     ensures same { system.new ≡ system.old }
-    ensures name { result ≡ name_in (world_of system.old).state thread }
+    ensures name { result ≡ rows.thread_name (world_of system.old).state thread }
 {
     match system.thread_row(thread) {
-        Some(row) if !row.name.is_none() => row.name,
-        _ => number_name(thread),
+        Some(row) => Some(row.name),
+        None => None,
+    }
+}
+
+/// The name, or the number if there is none.
+fn name_or_number(name: Option<Name>, number: u32) -> Name
+    ensures { result ≡ curves.name_or_number (unwrap_or name []) number }
+{
+    match name {
+        Some(name) if !name.is_none() => name,
+        _ => number_name(number),
     }
 }
 

@@ -1,65 +1,109 @@
 //! Sums that grow from turn to turn, and are read at ticks.
-ghost use Rattle.std.specs.Prelude.{◌≡◌, ◌<◌, ◌≤◌, ◌^◌, ◌/◌, ◌+◌, ◌*◌, ◌-◌, [], IfOk, OnOk, length};
+ghost use Rattle.std.specs.Prelude.{◌≡◌, ◌<◌, ◌≤◌, ◌^◌, ◌/◌, ◌+◌, ◌*◌, ◌-◌, [], IfOk, OnOk, Some, length};
 ghost use Rattle.lot_simulation.specs.TimedReport.{tick_parts};
+ghost use Rattle.lot_simulation.specs.Below.{worth_of};
 ghost use Rattle.lot_engine.specs.Seen.{world_of};
 ghost use Rattle.lot_curves.specs.Stretches.{last_end};
+ghost use Rattle.lot_machine.specs.Facts.{IsSound};
 ghost use Rattle.lot_chart.specs.Dues as dues;
 ghost use Rattle.lot_chart.specs.Gauges.{AreRenewed, EachGauge, HasPassed, HaveAllPassed, HaveReadAll, IsNow};
-ghost use Rattle.lot_chart.specs.Gauges.{IsRenewed, IsWithin, end_ticks, flow_at, grown, grown_in, start_ticks};
+ghost use Rattle.lot_chart.specs.Gauges.{IsColumn, IsRenewed, IsWithin, end_ticks, flow_at, grown, grown_in};
+ghost use Rattle.lot_chart.specs.Gauges.{start_ticks};
 ghost use Rattle.lot_chart.specs.Gauges.{thread_of};
 
-use lot_curves::Curves;
+use lot_curves::{By, Curves, start_of};
 use lot_engine::System;
+use lot_playback::live_value;
 use lot_simulation::TICK_PARTS;
 use std::alloc::{AllocError, Global};
 
 /// What makes a sum grow.
 #[derive(Clone, Copy, Debug, PartialEq, Eq)]
 pub enum Growth {
-    /// The time in which live threads are worth anything.
+    /// The time in which what is shared out is worth anything.
     Live,
-    /// What the threads with this number are due, as long as their value is this.
+    /// What the threads or currencies with this number are due, as long as their value is this.
     Due { thread: u32, value: u64 },
 }
 
 impl Growth {
-    /// By how much the sum grows in so many ticks, if all live threads are worth this much.
-    fn amount(self, live_value: u128, ticks: u64) -> u128
-        requires small { live_value < 2 ^ 96 }
-        requires within { IsWithin live_value self }
-        ensures { result ≡ grown self live_value ticks }
+    /// By how much the sum grows in so many ticks, if what is shared out is worth this much.
+    fn amount(self, whole_value: u128, ticks: u64) -> u128
+        requires small { whole_value < 2 ^ 96 }
+        requires within { IsWithin whole_value self }
+        ensures { result ≡ grown self whole_value ticks }
     {
-        if live_value == 0 {
+        if whole_value == 0 {
             return 0;
         }
         match self {
             Growth::Live => u128::from(ticks),
-            Growth::Due { value, .. } => u128::from(value) * rate_of(live_value, ticks),
+            Growth::Due { value, .. } => u128::from(value) * rate_of(whole_value, ticks),
         }
     }
 
     /// The growth after a turn that led to this system.
-    fn renewed(self, system: &mut System) -> Growth
+    fn renewed(self, by: By, system: &mut System) -> Growth
+        requires sound { IsSound (world_of system.old).state }
+        requires column { IsColumn by (thread_of self) }
         ensures same { system.new ≡ system.old }
         ensures thread { thread_of result ≡ thread_of self }
-        ensures now { IsNow (world_of system.old).state result }
+        ensures now { IsNow by (world_of system.old).state result }
     {
         match self {
             Growth::Live => Growth::Live,
             Growth::Due { thread, .. } => Growth::Due {
                 thread,
-                value: system.live_value(thread),
+                value: own_value(by, thread, system),
             },
         }
     }
 }
 
-/// The parts that each base unit of this live value, which isn't 0, is due in so many ticks.
-fn rate_of(live_value: u128, ticks: u64) -> u128
-    requires { (0 < live_value) × (live_value < 2 ^ 96) }
-    ensures { result ≡ (ticks * tick_parts + (live_value - 1)) / live_value }
+/// The value that a thread or currency has of what is shared out.
+fn own_value(by: By, number: u32, system: &mut System) -> u64
+    requires sound { IsSound (world_of system.old).state }
+    requires column { IsColumn by (Some number) }
+    ensures same { system.new ≡ system.old }
+    ensures value { result ≡ dues.own_value by (world_of system.old).state number }
 {
-    (u128::from(ticks) * TICK_PARTS + (live_value - 1)) / live_value
+    match by {
+        By::Thread => system.live_value(number),
+        By::Currency => currency_value(number, system),
+    }
+}
+
+/// The value of a currency, or 0 if it doesn't exist yet.
+fn currency_value(currency: u32, system: &mut System) -> u64
+    requires sound { IsSound (world_of system.old).state }
+    requires user { 0 < currency }
+    ensures same { system.new ≡ system.old }
+    ensures value { result ≡ worth_of (world_of system.old).state currency }
+{
+    if currency >= system.currency_count() {
+        return 0;
+    }
+    system.currency_value(currency)
+}
+
+/// The value that is shared out: that of all live threads, or of all active tickets of base.
+pub(crate) fn whole_value(by: By, system: &mut System) -> u128
+    ensures same { system.new ≡ system.old }
+    ensures value { result ≡ dues.whole_value by (world_of system.old).state }
+    ensures small { result < 2 ^ 96 }
+{
+    match by {
+        By::Thread => live_value(system),
+        By::Currency => u128::from(system.base_value()),
+    }
+}
+
+/// The parts that each base unit of this value, which isn't 0, is due in so many ticks.
+fn rate_of(whole_value: u128, ticks: u64) -> u128
+    requires { (0 < whole_value) × (whole_value < 2 ^ 96) }
+    ensures { result ≡ (ticks * tick_parts + (whole_value - 1)) / whole_value }
+{
+    (u128::from(ticks) * TICK_PARTS + (whole_value - 1)) / whole_value
 }
 
 /// A sum from the last turn on.
@@ -67,8 +111,8 @@ fn rate_of(live_value: u128, ticks: u64) -> u128
 pub struct Flow {
     /// What makes it grow.
     pub growth: Growth,
-    /// The value of all live threads.
-    pub live_value: u128,
+    /// The value that is shared out.
+    pub whole_value: u128,
     /// The time of the last turn.
     pub since: u32,
     /// The sum then.
@@ -79,13 +123,13 @@ impl Flow {
     /// The sum at this tick, if no turn comes before it. It ends at the largest number, since it isn't known here how
     /// many turns there are; no program has enough for it.
     fn at(self, tick: u64) -> u128
-        requires small { self.live_value < 2 ^ 96 }
-        requires within { IsWithin self.live_value self.growth }
+        requires small { self.whole_value < 2 ^ 96 }
+        requires within { IsWithin self.whole_value self.growth }
         ensures { result ≡ flow_at self tick }
     {
         let ticks = tick.saturating_sub(u64::from(self.since));
         self.sum
-            .saturating_add(self.growth.amount(self.live_value, ticks))
+            .saturating_add(self.growth.amount(self.whole_value, ticks))
     }
 }
 
@@ -120,17 +164,6 @@ fn starts_of(alloc: Global, curves: &Curves) -> Result<Vec<u64>, AllocError>
         starts.push(curves.origin() + start)?;
     }
     Ok(starts)
-}
-
-/// The tick at which the window that ends at this tick begins, or the first tick without a window.
-fn start_of(window: Option<u32>, tick: u64) -> u64
-    ensures start { result ≡ dues.start_of window tick }
-    ensures early { result ≤ tick }
-{
-    match window {
-        None => 0,
-        Some(window) => tick.saturating_sub(u64::from(window)),
-    }
 }
 
 /// The ticks of the samples.
@@ -178,17 +211,17 @@ impl Gauge {
     pub(crate) fn pass(
         &mut self,
         marks: &Marks,
-        live_value: u128,
+        whole_value: u128,
         since: u32,
         time: u64,
     ) -> Result<(), AllocError>
-        requires small { live_value < 2 ^ 96 }
-        requires within { IsWithin live_value self.old.growth }
-        ensures { OnOk result (HasPassed marks.now live_value since time self.old self.new) }
+        requires small { whole_value < 2 ^ 96 }
+        requires within { IsWithin whole_value self.old.growth }
+        ensures { OnOk result (HasPassed marks.now whole_value since time self.old self.new) }
     {
         let flow = Flow {
             growth: self.growth,
-            live_value,
+            whole_value,
             since,
             sum: self.sum,
         };
@@ -198,12 +231,14 @@ impl Gauge {
         Ok(())
     }
 
-    /// Takes over its thread's value in this system.
-    fn renew(&mut self, system: &mut System)
+    /// Takes over its thread's or currency's value in this system.
+    fn renew(&mut self, by: By, system: &mut System)
+        requires sound { IsSound (world_of system.old).state }
+        requires column { IsColumn by (thread_of self.old.growth) }
         ensures same { system.new ≡ system.old }
-        ensures renewed { IsRenewed (world_of system.old).state self.old self.new }
+        ensures renewed { IsRenewed by (world_of system.old).state self.old self.new }
     {
-        self.growth = self.growth.renewed(system);
+        self.growth = self.growth.renewed(by, system);
     }
 
     /// By how much the sum grew in the window of this sample.
@@ -218,8 +253,8 @@ impl Gauge {
 
 /// Reads the sum at the further ticks up to this time.
 fn read_until(read: &mut Vec<u128>, ticks: &[u64], flow: Flow, time: u64) -> Result<(), AllocError>
-    requires small { flow.live_value < 2 ^ 96 }
-    requires within { IsWithin flow.live_value flow.growth }
+    requires small { flow.whole_value < 2 ^ 96 }
+    requires within { IsWithin flow.whole_value flow.growth }
     ensures { OnOk result (HaveReadAll (flow_at flow) ticks.now time read.old.items read.new.items) }
 {
     for place in read.len()..ticks.len() {
@@ -235,28 +270,30 @@ fn read_until(read: &mut Vec<u128>, ticks: &[u64], flow: Flow, time: u64) -> Res
 pub(crate) fn pass_all(
     gauges: &mut [Gauge],
     marks: &Marks,
-    live_value: u128,
+    whole_value: u128,
     since: u32,
     time: u64,
 ) -> Result<(), AllocError>
-    requires small { live_value < 2 ^ 96 }
-    requires within { EachGauge (λ gauge. IsWithin live_value gauge.growth) gauges.old }
-    ensures { OnOk result (HaveAllPassed marks.now live_value since time gauges.old gauges.new) }
+    requires small { whole_value < 2 ^ 96 }
+    requires within { EachGauge (λ gauge. IsWithin whole_value gauge.growth) gauges.old }
+    ensures { OnOk result (HaveAllPassed marks.now whole_value since time gauges.old gauges.new) }
 {
     for place in 0..gauges.len() {
         let gauge = &mut gauges[place];
-        gauge.pass(marks, live_value, since, time)?;
+        gauge.pass(marks, whole_value, since, time)?;
     }
     Ok(())
 }
 
-/// Takes over the values of all threads with gauges in this system.
-pub(crate) fn renew_all(gauges: &mut [Gauge], system: &mut System)
+/// Takes over the values of all threads or currencies with gauges in this system.
+pub(crate) fn renew_all(gauges: &mut [Gauge], by: By, system: &mut System)
+    requires sound { IsSound (world_of system.old).state }
+    requires columns { EachGauge (λ gauge. IsColumn by (thread_of gauge.growth)) gauges.old }
     ensures same { system.new ≡ system.old }
-    ensures renewed { AreRenewed (world_of system.old).state gauges.old gauges.new }
+    ensures renewed { AreRenewed by (world_of system.old).state gauges.old gauges.new }
 {
     for place in 0..gauges.len() {
         let gauge = &mut gauges[place];
-        gauge.renew(system);
+        gauge.renew(by, system);
     }
 }

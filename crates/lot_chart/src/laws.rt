@@ -1,9 +1,11 @@
 //! Bounds and order of pictures and tables, the curves of turns, and their ends: laws of the definitions, without
 //! executable code.
 ghost use Rattle.std.specs.Prelude.{◌≡◌, ◌==◌, ◌≤◌, ◌<◌, ◌+◌, ◌-◌, ◌*◌, ◌^◌, ℕ, [], ◌∷◌, false};
-ghost use Rattle.std.specs.Prelude.{All, AllPairs, Contains, List, true, filter, length, map};
+ghost use Rattle.std.specs.Prelude.{All, AllPairs, Contains, IsSome, List, true, filter, length, map};
 ghost use Rattle.std.specs.Prelude.{slice_get, slice_index, None, Option, Some, unwrap_or};
 ghost use Rattle.lot_machine.specs.Bounds.{IsBetween, IsWithinBounds};
+ghost use Rattle.lot_curves.specs.declared.by.By.{By as What};
+ghost use Rattle.lot_curves.specs.declared.by.By.TheVariants.{Thread};
 ghost use Rattle.lot_curves.specs.declared.stretch.Measure.{Measure as Measured};
 ghost use Rattle.lot_curves.specs.Curves as curves;
 ghost use Rattle.lot_curves.specs.Stretches.{last_end, had_at, stretches_of};
@@ -23,7 +25,7 @@ ghost use Rattle.lot_simulation.specs.TimedReport.{due_in, live_time};
 ghost use Rattle.std.specs.List.Sorted.{IsNonDecreasing};
 ghost use Rattle.lot_simulation.specs.World.{IsLegal, Program, system_run};
 ghost use Rattle.lot_curves.specs.declared.stretch.Measure.TheVariants.{Ticks};
-ghost use Rattle.lot_curves.specs.Curves.{curves_of, stretches_made, timed_stretches};
+ghost use Rattle.lot_curves.specs.Curves.{curves_by, curves_of, stretches_made, timed_stretches};
 ghost use Rattle.lot_playback.specs.Turns.{program_turns};
 ghost use Rattle.lot_chart.specs.Noted.{curves_after};
 
@@ -87,7 +89,9 @@ pub fn tables_are_short()
 
 /// A program's curves are those of its turns, with a schedule and for a timed program.
 pub fn curves_are_those_of_the_turns()
-    ensures { (program : Program) → curves_of program ≡ curves_after program (program_turns program) }
+    ensures thread { (program : Program) → curves_of program ≡ curves_after Thread program (program_turns program) }
+    ensures timed { (by : What) (program : Program) → IsSome program.duration
+        → curves_by by program ≡ curves_after by program (program_turns program) }
 {}
 
 /// A thread's curve ends at its ticks in the report of a legal history, in a system with room for less than 2 ^ 32
@@ -119,9 +123,9 @@ pub fn timed_curves_end_at_the_report()
 /// its number before.
 pub fn dues_end_at_the_report()
     ensures live { (program : Program) → IsWithinBounds program.limits → IsNonDecreasing program.times
-        → (dues_in (opening program.limits) (timed_turns program)).live (last_end (timed_stretches program))
+        → (dues_in Thread (opening program.limits) (timed_turns program)).live (last_end (timed_stretches program))
         ≡ live_time (opening program.limits) (timed_turns program) }
     ensures parts { (program : Program) → IsWithinBounds program.limits → IsNonDecreasing program.times → (t : ℕ)
         → due_in (opening program.limits) (timed_turns program) t
-        ≤ (dues_in (opening program.limits) (timed_turns program)).parts t (last_end (timed_stretches program)) }
+        ≤ (dues_in Thread (opening program.limits) (timed_turns program)).parts t (last_end (timed_stretches program)) }
 {}

@@ -20,7 +20,7 @@ const APART: u32 = 160;
 /// A line of the picture.
 #[derive(Clone, Copy, Debug, PartialEq, Eq)]
 pub struct Line {
-    /// The number of its thread, or 0 for the others together.
+    /// The number of its thread or currency, or 0 for the others together.
     pub thread: u32,
     /// The ticks at its end.
     pub ticks: u64,

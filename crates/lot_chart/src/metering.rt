@@ -1,5 +1,6 @@
 //! What is due to the lines of a picture: the program is played again, now that its lines and samples are known.
 ghost use Rattle.std.specs.Prelude.{◌≡◌, ◌-◌, ◌*◌, ◌<◌, ◌≤◌, ◌^◌, ⊤, List, IfOk, IsSome, OnOk, Some, length, sum_by};
+ghost use Rattle.lot_machine.specs.Facts.{IsSound};
 ghost use Rattle.lot_simulation.specs.TimedReport.{tick_parts};
 ghost use Rattle.lot_curves.specs.Curves.{Curves as CurvesRecord, sample_count, sample_tick};
 ghost use Rattle.lot_curves.specs.Stretches.{last_end};
@@ -8,15 +9,16 @@ ghost use Rattle.lot_text.specs.Programs.{IsProgram};
 ghost use Rattle.lot_chart.specs.declared.standings.Standing.{Standing as StandingRecord};
 ghost use Rattle.lot_chart.specs.Dues as definitions;
 ghost use Rattle.lot_chart.specs.Dues.{Dues as DuesRecord};
-ghost use Rattle.lot_chart.specs.Gauges.{AreDues, AreNew, EachGauge, HasPassedAll, HasRenewed, HaveDues, IsAwaiting};
-ghost use Rattle.lot_chart.specs.Gauges.{IsLineOf, IsMeter, IsNewMeter, IsWithin, grown_in};
+ghost use Rattle.lot_chart.specs.Gauges.{AreColumns, AreDues, AreNew, EachGauge, HasPassedAll, HasRenewed, HaveDues};
+ghost use Rattle.lot_chart.specs.Gauges.{IsAwaiting, IsColumn, IsLineOf, IsMeter, IsNewMeter, IsWithin, grown_in};
+ghost use Rattle.lot_chart.specs.Gauges.{thread_of};
 
 use crate::Standing;
-use crate::gauges::{Gauge, Growth, Marks, pass_all, renew_all};
-use lot_curves::Curves;
+use crate::gauges::{Gauge, Growth, Marks, pass_all, renew_all, whole_value};
+use lot_curves::{By, Curves};
 use lot_engine::System;
 use lot_play::play_through;
-use lot_playback::{Observer, Playback, Turn, is_dispatch, live_value};
+use lot_playback::{Observer, Playback, Turn, is_dispatch};
 use lot_simulation::TICK_PARTS;
 use lot_text::Program;
 use std::alloc::{AllocError, Global};
@@ -24,17 +26,19 @@ use std::alloc::{AllocError, Global};
 /// The billionths of a whole.
 pub(crate) const BILLION: u64 = 1000000000;
 
-/// Follows what threads are due, by their values from turn to turn.
+/// Follows what threads or currencies are due, by their values from turn to turn.
 #[derive(Debug, Drop)]
 pub struct Meter {
+    /// What the lines stand for.
+    pub by: By,
     pub marks: Marks,
     /// The time of the last turn.
     pub time: u32,
-    /// The value of all live threads since then.
-    pub live_value: u128,
-    /// The time in which they were worth anything.
+    /// The value that is shared out since then: of all live threads, or of all active tickets of base.
+    pub whole_value: u128,
+    /// The time in which it was worth anything.
     pub live: Gauge,
-    /// What the thread of each line is due.
+    /// What the thread or currency of each line is due.
     pub threads: Vec<Gauge>,
 }
 
@@ -74,9 +78,10 @@ impl Meter {
         ensures { IfOk result (IsNewMeter curves.now shown.now) }
     {
         Ok(Meter {
+            by: curves.by(),
             marks: Marks::of(alloc, curves)?,
             time: 0,
-            live_value: 0,
+            whole_value: 0,
             live: Gauge::new(alloc, Growth::Live),
             threads: gauges_of(alloc, shown)?,
         })
@@ -84,33 +89,35 @@ impl Meter {
 
     /// Lets time pass up to this.
     fn pass(&mut self, time: u64) -> Result<(), AllocError>
-        requires small { self.old.live_value < 2 ^ 96 }
-        requires clock { IsWithin self.old.live_value self.old.live.growth }
-        requires within { EachGauge (λ gauge. IsWithin self.old.live_value gauge.growth) self.old.threads.items }
+        requires small { self.old.whole_value < 2 ^ 96 }
+        requires clock { IsWithin self.old.whole_value self.old.live.growth }
+        requires within { EachGauge (λ gauge. IsWithin self.old.whole_value gauge.growth) self.old.threads.items }
         ensures { OnOk result (HasPassedAll time self.old self.new) }
     {
         self.live
-            .pass(&self.marks, self.live_value, self.time, time)?;
+            .pass(&self.marks, self.whole_value, self.time, time)?;
         pass_all(
             self.threads.as_mut_slice(),
             &self.marks,
-            self.live_value,
+            self.whole_value,
             self.time,
             time,
         )
     }
 
-    /// Takes over the values of threads in this system.
+    /// Takes over the values in this system.
     fn renew(&mut self, system: &mut System)
+        requires sound { IsSound (world_of system.old).state }
+        requires columns { EachGauge (λ gauge. IsColumn self.old.by (thread_of gauge.growth)) self.old.threads.items }
         ensures same { system.new ≡ system.old }
         ensures renewed { HasRenewed (world_of system.old).state self.old self.new }
     {
-        self.live_value = live_value(system);
-        renew_all(self.threads.as_mut_slice(), system);
+        self.whole_value = whole_value(self.by, system);
+        renew_all(self.threads.as_mut_slice(), self.by, system);
     }
 }
 
-/// A gauge for the thread of each line.
+/// A gauge for the thread or currency of each line.
 fn gauges_of(alloc: Global, shown: &[Standing]) -> Result<Vec<Gauge>, AllocError>
     ensures { IfOk result (λ gauges. AreNew shown.now gauges.items) }
 {
@@ -137,7 +144,8 @@ impl LineDues {
         curves: &Curves,
         shown: &[Standing],
     ) -> Result<Option<LineDues>, AllocError>
-        ensures { IfOk result (HaveDues curves.now (definitions.dues_of program.now) shown.now) }
+        requires columns { AreColumns curves.now.by shown.now }
+        ensures { IfOk result (HaveDues curves.now (definitions.dues_by curves.now.by program.now) shown.now) }
     {
         if program.duration().is_none() {
             return Ok(None);
@@ -155,7 +163,9 @@ impl LineDues {
     ) -> Result<LineDues, AllocError>
         requires legal { IsProgram program.now }
         requires timed { IsSome program.now.duration }
-        ensures { IfOk result (λ dues. HaveDues curves.now (definitions.dues_of program.now) shown.now (Some dues)) }
+        requires columns { AreColumns curves.now.by shown.now }
+        ensures { IfOk result (λ dues.
+            HaveDues curves.now (definitions.dues_by curves.now.by program.now) shown.now (Some dues)) }
     {
         let mut playback = Playback::open(alloc, program)?;
         let mut meter = Meter::open(alloc, curves, shown)?;

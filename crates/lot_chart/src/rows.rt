@@ -1,17 +1,19 @@
 //! Worked rows for small runs, and their curves as a table and as a picture.
-ghost use Rattle.std.specs.Prelude.{◌≡◌, None, Some, [], ◌∷◌, codes};
+ghost use Rattle.std.specs.Prelude.{◌≡◌, None, Some, [], ◌∷◌, codes, map};
+ghost use Rattle.lot_curves.specs.declared.by.By.TheVariants.{Thread, Currency};
 ghost use Rattle.lot_curves.specs.declared.stretch.Measure.TheVariants.{Draws, Ticks};
-ghost use Rattle.lot_curves.specs.Curves.{curves_of, windowed};
+ghost use Rattle.lot_curves.specs.Curves.{curves_by, curves_of, windowed};
 ghost use Rattle.lot_curves.specs.Intervals.{curves_within};
 ghost use Rattle.lot_simulation.specs.Grammar.{program_in};
 ghost use Rattle.lot_simulation.specs.Samples.{text};
 ghost use Rattle.lot_chart.specs.Axes.{time_marks};
-ghost use Rattle.lot_chart.specs.Charts.{chart, command_marks, most_shown};
+ghost use Rattle.lot_chart.specs.Charts.{chart, command_marks, heights_label, most_shown};
 ghost use Rattle.lot_chart.specs.Samples.{commanded_curves, commanded_marks, commanded_marks_within};
-ghost use Rattle.lot_chart.specs.Dues.{dues_of};
+ghost use Rattle.lot_chart.specs.Dues.{dues_by};
 ghost use Rattle.lot_chart.specs.Samples.{seven_tick_curves, three_tick_curves, three_tick_picture, three_ticks};
 ghost use Rattle.lot_chart.specs.Samples.{three_tick_window_picture, two_rate_picture, two_rate_window_picture};
-ghost use Rattle.lot_chart.specs.Samples.{all_to_the_first, seven_tick_standings, two_rates};
+ghost use Rattle.lot_chart.specs.Samples.{all_to_the_first, moved_below, seven_tick_standings, thirteen, two_rates};
+ghost use Rattle.lot_chart.specs.Standings.{selected};
 ghost use Rattle.lot_chart.specs.Shown.{chart_output, shares_output, shown_of};
 ghost use Rattle.lot_chart.specs.Tables.{table};
 
@@ -59,8 +61,8 @@ pub fn windows()
 /// its picture doesn't show what is due.
 #[tactic(auto, unfolding(crate::specs::OnLiterals::pictures_on_literals))]
 pub fn pictures()
-    ensures whole { chart (codes "a < b") (dues_of three_ticks) three_tick_curves ≡ three_tick_picture }
-    ensures window { chart (codes "a < b") (dues_of three_ticks) (windowed (Some 2) three_tick_curves)
+    ensures whole { chart (codes "a < b") (dues_by Thread three_ticks) three_tick_curves ≡ three_tick_picture }
+    ensures window { chart (codes "a < b") (dues_by Thread three_ticks) (windowed (Some 2) three_tick_curves)
         ≡ three_tick_window_picture }
 {}
 
@@ -69,7 +71,8 @@ pub fn pictures()
 #[tactic(auto, unfolding(crate::specs::OnLiterals::timed_pictures_on_literals))]
 pub fn dues()
     ensures whole { chart_output (codes "due") two_rates ≡ two_rate_picture }
-    ensures window { shown_of (λ program. chart (codes "due") (dues_of program) (windowed (Some 2) (curves_of program)))
+    ensures window { shown_of
+        (λ program. chart (codes "due") (dues_by Thread program) (windowed (Some 2) (curves_of program)))
         (program_in two_rates) ≡ two_rate_window_picture }
 {}
 
@@ -104,6 +107,31 @@ pub fn numbers_again()
         ∷ codes "unfund 1" ∷ codes "rmthr a" ∷ codes "rmtkt 1" ∷ codes "fundx 1 base b short" ∷ []))
         ≡ text (codes "tick,b" ∷ codes "0,0" ∷ codes "1,1" ∷ codes "2,2" ∷ codes "3,2" ∷ codes "4,3" ∷ codes "5,4"
         ∷ []) }
+{}
+
+/// Each turn counts for the currencies that its thread stood below before it, nested ones too: the one that ends at
+/// tick 2 comes after the commands of that time. With a window, shares are of the ticks of all turns, so they add up to
+/// more.
+#[tactic(auto, unfolding(crate::specs::OnLiterals::outputs_on_literals))]
+pub fn currencies()
+    ensures ticks { shown_of (λ program. table Ticks (curves_by Currency program)) (program_in moved_below)
+        ≡ text (codes "tick,u,w,v" ∷ codes "0,0,0,0" ∷ codes "1,1,1,0" ∷ codes "2,1,1,1" ∷ codes "3,1,1,2"
+        ∷ codes "4,1,1,3" ∷ []) }
+    ensures window { shown_of (λ program. table Ticks (windowed (Some 2) (curves_by Currency program)))
+        (program_in moved_below)
+        ≡ text (codes "tick,u,w,v" ∷ codes "0,0.0,0.0,0.0" ∷ codes "1,100.0,100.0,0.0" ∷ codes "2,50.0,50.0,50.0"
+        ∷ codes "3,0.0,0.0,100.0" ∷ codes "4,0.0,0.0,100.0" ∷ []) }
+{}
+
+/// Of thirteen threads eleven have lines, and the others one together; of thirteen currencies twelve have lines, and
+/// the other has none. The label says what the lines are.
+pub fn lines()
+    ensures thread { map (λ s. s.thread) (selected (record seven_tick_curves { stretches = [] }) thirteen).shown
+        ≡ 1 ∷ 2 ∷ 3 ∷ 4 ∷ 5 ∷ 6 ∷ 7 ∷ 8 ∷ 9 ∷ 10 ∷ 11 ∷ 0 ∷ [] }
+    ensures currency { map (λ s. s.thread)
+        (selected (record seven_tick_curves { by = Currency; stretches = [] }) thirteen).shown
+        ≡ 1 ∷ 2 ∷ 3 ∷ 4 ∷ 5 ∷ 6 ∷ 7 ∷ 8 ∷ 9 ∷ 10 ∷ 11 ∷ 12 ∷ [] }
+    ensures label { heights_label Currency None ≡ codes "what the threads of each currency have run, in ticks" }
 {}
 
 /// The top of a picture stands for the most ticks at the end of a line, or due to one if that is more.

@@ -3,16 +3,16 @@ ghost use Rattle.std.specs.Prelude.{◌≡◌, false, true, OnOk};
 ghost use Rattle.lot_simulation.specs.Grammar.{program_in};
 ghost use Rattle.lot_play.specs.Played.{Plays, came_of};
 ghost use Rattle.lot_io.specs.Writing.{Writes};
-ghost use Rattle.lot_curves.specs.Curves.{curves_of, windowed};
+ghost use Rattle.lot_curves.specs.Curves.{curves_by, curves_of, windowed};
 ghost use Rattle.lot_curves.specs.Intervals.{curves_within};
 ghost use Rattle.lot_play.specs.declared.inputs.Played.TheVariants.{Done};
 ghost use Rattle.lot_chart.specs.Charts as charts;
-ghost use Rattle.lot_chart.specs.Dues.{dues_of};
+ghost use Rattle.lot_chart.specs.Dues.{dues_by};
 ghost use Rattle.lot_chart.specs.Shown.{Shows, chart_output, shares_output};
 ghost use Rattle.lot_chart.specs.Tables as tables;
 
 use crate::{gather, program_chart, table};
-use lot_curves::{Interval, Measure};
+use lot_curves::{By, Interval, Measure};
 use lot_io::{IoFault, Watched, flush, write_bytes};
 use lot_play::{Played, Warnings, refuse};
 use lot_text::{ParseFault, Program, parse};
@@ -56,7 +56,16 @@ pub fn chart_bytes<W: Write>(
         (chart_output title.now bytes.now) }
 {
     match parse(alloc, bytes) {
-        Ok(program) => chart_program(alloc, title, None, None, &program, warnings, writer),
+        Ok(program) => chart_program(
+            alloc,
+            By::Thread,
+            title,
+            None,
+            None,
+            &program,
+            warnings,
+            writer,
+        ),
         Err(ParseFault::Memory) => Err(IoFault::Memory),
         Err(ParseFault::Input(fault)) => refuse(fault, writer),
     }
@@ -79,7 +88,7 @@ pub fn shares_program<W: Write>(
     ensures shown { Plays W.contents writer.old writer.new result Done
         (tables.table measure (windowed window (curves_within interval (curves_of program.now)))) }
 {
-    match gather(alloc, program, warnings) {
+    match gather(alloc, By::Thread, program, warnings) {
         Ok(curves) => {
             let curves = curves.within(interval).with_window(window);
             write_text(table(alloc, &curves, measure), writer)
@@ -90,10 +99,12 @@ pub fn shares_program<W: Write>(
 
 /// Makes the program's turns, and writes a picture with this title of each thread's ticks over time, or in this
 /// interval of it; with a window, of the shares of the last ticks. A picture of a timed program also shows what each
-/// was due, for which its turns are made a second time. It stores the run's warnings in `warnings`. If out of memory,
-/// it writes nothing.
+/// was due, for which its turns are made a second time. By currency it shows the ticks of the threads below each
+/// currency and what the currency was due, if the program is timed; otherwise it is by thread. It stores the run's
+/// warnings in `warnings`. If out of memory, it writes nothing.
 pub fn chart_program<W: Write>(
     alloc: Global,
+    by: By,
     title: &str,
     interval: Option<Interval>,
     window: Option<u32>,
@@ -104,10 +115,10 @@ pub fn chart_program<W: Write>(
     requires { writer.old.failed ≡ false }
     ensures flushed { OnOk result (writer.new.flushed ≡ true) }
     ensures shown { Plays W.contents writer.old writer.new result Done
-        (charts.chart title.now (dues_of program.now)
-        (windowed window (curves_within interval (curves_of program.now)))) }
+        (charts.chart title.now (dues_by by program.now)
+        (windowed window (curves_within interval (curves_by by program.now)))) }
 {
-    match gather(alloc, program, warnings) {
+    match gather(alloc, by, program, warnings) {
         Ok(curves) => {
             let curves = curves.within(interval).with_window(window);
             write_text(program_chart(alloc, program, &curves, title), writer)

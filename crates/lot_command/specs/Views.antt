@@ -8,17 +8,17 @@ use Rattle.lot_simulation.specs.Texts.{fault_line}
 use Rattle.lot_simulation.specs.World.{Program}
 use Rattle.lot_play.specs.ReportTable.{report_text}
 use Rattle.lot_play.specs.Seeds.{seeds_report}
-use Rattle.lot_curves.specs.Curves.{curves_of, windowed}
+use Rattle.lot_curves.specs.Curves.{curves_by, curves_of, windowed}
 use Rattle.lot_curves.specs.Intervals.{curves_within}
 use Rattle.lot_explain.specs.Explained.{explained_program}
 use Rattle.lot_chart.specs.Charts.{chart}
-use Rattle.lot_chart.specs.Dues.{dues_of}
+use Rattle.lot_chart.specs.Dues.{dues_by}
 use Rattle.lot_chart.specs.Tables.{table}
 use Rattle.lot_command.specs.declared.view.View.{View}
 use Rattle.lot_command.specs.declared.view.View.TheVariants as views
 
 -- the output for a program, where a picture has this title; a table and a picture may be those of an interval of the
--- time, and of the shares in a window
+-- time, and of the shares in a window, and a picture by thread or by currency
 abbrev pub view_of : View → List ℕ → Program → List ℕ
 view_of views.Play title program = played_output program program.duration
 view_of (views.Report None form) title program = report_text form program
@@ -26,8 +26,8 @@ view_of (views.Report (Some seeds) form) title program = seeds_report form seeds
 view_of (views.Explain detail) title program = explained_program detail program program.duration
 view_of (views.Shares measure interval window) title program =
     table measure (windowed window (curves_within interval (curves_of program)))
-view_of (views.Chart interval window) title program =
-    chart title (dues_of program) (windowed window (curves_within interval (curves_of program)))
+view_of (views.Chart by interval window) title program =
+    chart title (dues_by by program) (windowed window (curves_within interval (curves_by by program)))
 
 -- the same for an input, or the line for a refused one
 abbrev pub shown_of : View → List ℕ → Result Program InputFault → List ℕ

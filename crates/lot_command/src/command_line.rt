@@ -4,7 +4,7 @@ use crate::view::{Showing, View};
 use clap::builder::ValueParser;
 use clap::error::ErrorKind;
 use clap::{Arg, ArgAction, ArgMatches, Command, Error};
-use lot_curves::{Interval, Measure};
+use lot_curves::{By, Interval, Measure};
 use lot_explain::Detail;
 use lot_play::{Form, Seeds};
 use lot_simulation::ranges;
@@ -15,6 +15,9 @@ use std::convert::AsStr;
 /// The title of a picture, unless the command line gives one.
 const TITLE: &str = "What each thread has run";
 
+/// The same of a picture by currency. It also suits an input of another format, whose lines are threads.
+const CURRENCIES_TITLE: &str = "Who has run how long";
+
 /// The text for an interval that is empty.
 const EMPTY_INTERVAL: &str = "the interval is empty: '--from <A>' has to be less than '--to <B>'";
 
@@ -22,6 +25,9 @@ const EMPTY_INTERVAL: &str = "the interval is empty: '--from <A>' has to be less
 const WRONG_SEEDS: &str =
     "the seeds are wrong: '--seeds <A..B>' has two numbers from 1 to 2147483646 with '..' \
     between them, of which the first is at most the second";
+
+/// What the lines of a picture and the rows of a report's table may stand for.
+const LINES: &[&str] = &["thread", "currency"];
 
 /// The word for standard input in place of a file's name.
 const STANDARD: &str = "-";
@@ -184,12 +190,19 @@ fn report_command<'a>(alloc: Global) -> Result<Command<'a>, AllocError> {
         .help(
             "Writes a table with commas between the fields: the columns' names, and a row for each thread",
         );
+    let by = by_option(
+        alloc,
+        "What the rows of the table stand for; thread if it is left out. Of an input that isn't lottery 3, and with \
+         --seeds, each row is a thread",
+    )
+    .requires_arg("csv")?;
     showing_seeds(
         alloc,
         "report",
         "Plays an input from FILE or standard input, and writes the report alone",
     )?
-    .arg(csv)
+    .arg(csv)?
+    .arg(by)
 }
 
 /// The command that writes the turns and the lots of each lottery.
@@ -247,13 +260,29 @@ fn chart_command<'a>(alloc: Global) -> Result<Command<'a>, AllocError> {
         .long("title")
         .action(ArgAction::Set)
         .help("What the picture is called");
+    let by = by_option(
+        alloc,
+        "What the lines stand for; thread if it is left out. A line of a currency has the ticks of the threads \
+         below it, so lines may add up to more than all. Of an input that isn't lottery 3 each line is a thread",
+    );
     showing_interval(
         alloc,
         "chart",
         "Reads an input from FILE or standard input, makes the turns of its schedule and writes a picture of the ticks \
          that each thread has run over time, an SVG",
     )?
-    .arg(title)
+    .arg(title)?
+    .arg(by)
+}
+
+/// The option by which lines or rows stand for currencies, with this help.
+fn by_option<'a>(alloc: Global, help: &'a str) -> Arg<'a> {
+    Arg::new(alloc, "by")
+        .long("by")
+        .value_name("LINES")
+        .action(ArgAction::Set)
+        .value_parser(ValueParser::Names(LINES))
+        .help(help)
 }
 
 /// What is wrong with the options of the subcommand with this name, if anything is.
@@ -298,6 +327,7 @@ fn view_of(name: &str, given: &ArgMatches<'_>) -> View {
             window: given.get_one("window"),
         },
         "chart" => View::Chart {
+            by: by_of(given),
             interval,
             window: given.get_one("window"),
         },
@@ -331,9 +361,26 @@ fn is_empty(interval: Option<Interval>) -> bool {
 
 /// The title of a picture, which `chart` may give.
 fn title_of<'a>(name: &str, given: &ArgMatches<'a>) -> &'a str {
-    match name {
-        "chart" => given.get_str("title").unwrap_or(TITLE),
-        _ => TITLE,
+    if name != "chart" {
+        return TITLE;
+    }
+    let title = default_title(by_of(given));
+    given.get_str("title").unwrap_or(title)
+}
+
+/// The title of a picture whose lines stand for these, if none is given.
+fn default_title(by: By) -> &'static str {
+    match by {
+        By::Thread => TITLE,
+        By::Currency => CURRENCIES_TITLE,
+    }
+}
+
+/// What the lines of a picture stand for.
+fn by_of(given: &ArgMatches<'_>) -> By {
+    match given.get_str("by") {
+        Some("currency") => By::Currency,
+        _ => By::Thread,
     }
 }
 
@@ -382,10 +429,12 @@ fn seeds_of(given: &ArgMatches<'_>) -> Option<Seeds> {
 
 /// The form of a report, which `report` may give.
 fn form_of(name: &str, given: &ArgMatches<'_>) -> Form {
-    if name == "report" && given.get_flag("csv") {
-        Form::Table
-    } else {
-        Form::Lines
+    if name != "report" || !given.get_flag("csv") {
+        return Form::Lines;
+    }
+    match by_of(given) {
+        By::Thread => Form::Table,
+        By::Currency => Form::CurrencyTable,
     }
 }
 

@@ -1,14 +1,18 @@
 //! Texts of inputs that keep their own seeds: laws of the definitions, without executable code.
-ghost use Rattle.std.specs.Prelude.{◌≡◌, ℕ, List, None};
+ghost use Rattle.std.specs.Prelude.{◌≡◌, ℕ, List, None, Option};
 ghost use Rattle.lot_simulation.specs.Output.{output};
+ghost use Rattle.lot_simulation.specs.World.{Program};
+ghost use Rattle.lot_curves.specs.declared.by.By.TheVariants.{Currency, Thread};
+ghost use Rattle.lot_curves.specs.declared.interval.Interval.{Interval};
 ghost use Rattle.lot_curves.specs.declared.stretch.Measure.{Measure};
 ghost use Rattle.lot_explain.specs.declared.detail.Detail.{Detail};
 ghost use Rattle.lot_explain.specs.Explained.{explained_output};
 ghost use Rattle.lot_chart.specs.Shown.{chart_output, shares_output};
 ghost use Rattle.lot_command.specs.declared.view.View.TheVariants as views;
-ghost use Rattle.lot_command.specs.Views.{text_of};
+ghost use Rattle.lot_command.specs.Views.{text_of, view_of};
 
-/// Without a given seed, interval or window, the text of each view is the library's output for the same bytes.
+/// Without a given seed, interval or window, the text of each view is the library's output for the same bytes; of a
+/// picture, by thread. A picture by currency of a program without a duration is that by thread.
 pub fn texts_without_a_seed()
     ensures play { (title bytes : List ℕ) → text_of views.Play title None bytes ≡ output bytes }
     ensures explain { (detail : Detail) (title bytes : List ℕ)
@@ -16,5 +20,9 @@ pub fn texts_without_a_seed()
     ensures shares { (measure : Measure) (title bytes : List ℕ)
         → text_of (views.Shares measure None None) title None bytes ≡ shares_output measure bytes }
     ensures chart { (title bytes : List ℕ)
-        → text_of (views.Chart None None) title None bytes ≡ chart_output title bytes }
+        → text_of (views.Chart Thread None None) title None bytes ≡ chart_output title bytes }
+    ensures untimed { (interval : Option Interval) (window : Option ℕ) (title : List ℕ) (program : Program)
+        → program.duration ≡ None
+        → view_of (views.Chart Currency interval window) title program
+        ≡ view_of (views.Chart Thread interval window) title program }
 {}

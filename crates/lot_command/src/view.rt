@@ -7,7 +7,7 @@ ghost use Rattle.lot_command.specs.Views.{text_of, view_of};
 
 use crate::diagnostics::Diagnostics;
 use lot_chart::{chart_program, shares_program};
-use lot_curves::{Interval, Measure};
+use lot_curves::{By, Interval, Measure};
 use lot_explain::{Detail, explain_program};
 use lot_io::{IoFault, Watched, read_input};
 use lot_play::{Form, Seeds, play_program, report_program, report_seeds};
@@ -35,9 +35,10 @@ pub(crate) enum View {
         interval: Option<Interval>,
         window: Option<u32>,
     },
-    /// A picture of the ticks of each thread over time, or in an interval of it; with a window, of the shares of the
-    /// last ticks.
+    /// A picture of the ticks of each thread over time, or of those of the threads of each currency; or in an interval
+    /// of it; with a window, of the shares of the last ticks.
     Chart {
+        by: By,
         interval: Option<Interval>,
         window: Option<u32>,
     },
@@ -130,8 +131,12 @@ fn show_program<W: Write>(
         } => shares_program(
             alloc, *measure, *interval, *window, program, warnings, writer,
         ),
-        View::Chart { interval, window } => {
-            chart_program(alloc, title, *interval, *window, program, warnings, writer)
-        }
+        View::Chart {
+            by,
+            interval,
+            window,
+        } => chart_program(
+            alloc, *by, title, *interval, *window, program, warnings, writer,
+        ),
     }
 }

@@ -3,3 +3,4 @@ pub mod Rows
 pub mod ColumnNames
 pub mod Cuts
 pub mod Windows
+pub mod Below

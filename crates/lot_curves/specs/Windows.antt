@@ -10,11 +10,16 @@ abbrev pub part_between : Measure → ℕ → ℕ → Stretch → ℕ
 part_between Ticks from to s = (stretch_between from to s).ticks
 part_between Draws from to s = (stretch_between from to s).draws
 
--- The ticks or draws of a stretch in a window that ends at this tick, or all up to it without one. A window that is
+-- The tick at which the window that ends at this tick begins, or the first tick without a window. A window that is
 -- longer than the time so far begins at tick 0.
+abbrev pub start_of : Option ℕ → ℕ → ℕ
+start_of None tick = 0
+start_of (Some window) tick = tick - window
+
+-- the ticks or draws of a stretch in a window that ends at this tick, or all up to it without one
 abbrev pub part_in : Measure → Option ℕ → ℕ → Stretch → ℕ
 part_in measure None tick s = part_at measure tick s
-part_in measure (Some window) tick s = part_between measure (tick - window) tick s
+part_in measure (Some window) tick s = part_between measure (start_of (Some window) tick) tick s
 
 -- the sum of these stretches' ticks or draws in a window that ends at this tick, or of all up to it without one
 abbrev pub had_in : Measure → Option ℕ → ℕ → List Stretch → ℕ

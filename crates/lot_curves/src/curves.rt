@@ -1,5 +1,6 @@
 //! The ticks and the draws of each thread over time: a column for each number of a thread. If numbers are given again,
-//! a column counts the turns of each thread that had its number, and has the name of the last.
+//! a column counts the turns of each thread that had its number, and has the name of the last. By currency there is a
+//! column for each number of a currency other than base, with the ticks of the threads below it.
 ghost use Rattle.std.specs.Prelude.{◌≡◌, ℕ, ◌+◌, ◌<◌, ◌≤◌, ◌^◌, ◌==◌, All, None, if◌then◌else◌, length, map};
 ghost use Rattle.std.specs.Prelude.{slice_index, vec_len};
 ghost use Rattle.lot_curves.specs.Curves as curves;
@@ -7,16 +8,18 @@ ghost use Rattle.lot_curves.specs.Curves.{row_at, windowed};
 ghost use Rattle.lot_curves.specs.Intervals.{curves_between, curves_within};
 ghost use Rattle.lot_curves.specs.Stretches.{last_end, stretch_between};
 
-use crate::{Interval, Measure, Stretch, had_in};
+use crate::{By, Interval, Measure, Stretch, had_by, had_in};
 use lot_machine::{Name, index_of};
 use std::marker::Model;
 
 /// The largest number of samples after tick 0.
 const SAMPLES: u64 = 200;
 
-/// The columns' names, and a stretch for each turn.
+/// The columns' names, and the stretches of the turns.
 #[derive(Debug, Drop)]
 pub struct Curves {
+    /// What the columns stand for.
+    by: By,
     names: Vec<Name>,
     stretches: Vec<Stretch>,
     /// The tick at which the curves begin. Other ticks count from it.
@@ -37,6 +40,7 @@ impl Model for Curves {
     ghost Value = { CurvesRecord };
 
     ghost view = { λ c. record {
+      by = c.by;
       names = c.names.items;
       stretches = c.stretches.items;
       origin = c.origin;
@@ -55,11 +59,12 @@ impl Model for Curves {
 impl Curves {
     /// The curves of columns with these names, from the stretches of the turns and the times of the console's commands.
     /// They begin at tick 0, without a window.
-    pub fn new(names: Vec<Name>, stretches: Vec<Stretch>, commands: Vec<u32>) -> Curves
+    pub fn new(by: By, names: Vec<Name>, stretches: Vec<Stretch>, commands: Vec<u32>) -> Curves
         requires threads { vec_len names < 2 ^ 32 }
         requires turns { vec_len stretches < 2 ^ 32 }
         requires early { last_end stretches.items < 2 ^ 56 }
         ensures { result ≡ record {
+          by = by;
           names = names.items;
           stretches = stretches.items;
           origin = 0;
@@ -69,6 +74,7 @@ impl Curves {
     {
         let last = last_of(stretches.as_slice());
         Curves {
+            by,
             names,
             stretches,
             origin: 0,
@@ -98,6 +104,7 @@ impl Curves {
         ensures { result ≡ curves_between from to self }
     {
         let Curves {
+            by,
             names,
             mut stretches,
             origin,
@@ -107,6 +114,7 @@ impl Curves {
         } = self;
         cut(stretches.as_mut_slice(), from, to);
         Curves {
+            by,
             names,
             stretches,
             origin: origin + from,
@@ -126,8 +134,15 @@ impl Curves {
         }
     }
 
-    /// The columns' names, in ascending order of number: each is that of the last thread with the number, or the number
-    /// itself if that thread was removed.
+    /// What the columns stand for.
+    pub fn by(&self) -> By
+        ensures { result ≡ self.now.by }
+    {
+        self.by
+    }
+
+    /// The columns' names, in ascending order of number: each is that of the last thread or currency with the number,
+    /// or the number itself if that was removed.
     pub fn names(&self) -> &[Name]
         ensures names { result.now ≡ self.now.names }
         ensures few { length self.now.names < 2 ^ 32 }
@@ -203,11 +218,17 @@ impl Curves {
         }
     }
 
-    /// The ticks or draws of all threads at this tick: all up to it, or those in the window that ends there.
+    /// The ticks or draws of all turns at this tick: all up to it, or those in the window that ends there. By currency
+    /// a turn counts once, whatever its thread stood below.
     pub fn total_at(&self, measure: Measure, tick: u64) -> u64
         ensures { result ≡ curves.total_at measure self.now tick }
     {
-        had_in(measure, self.window(), tick, self.stretches())
+        let window = self.window();
+        let stretches = self.stretches();
+        match self.by {
+            By::Thread => had_in(measure, window, tick, stretches),
+            By::Currency => had_by(0, measure, window, tick, stretches),
+        }
     }
 }
 

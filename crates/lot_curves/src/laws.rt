@@ -1,13 +1,18 @@
 //! Laws of the definitions of curves, without executable code.
-ghost use Rattle.std.specs.Prelude.{◌≡◌, ◌+◌, ◌-◌, ◌<◌, ◌≤◌, ◌^◌, ℕ, List, Some, false, length, sum_by};
+ghost use Rattle.std.specs.Prelude.{◌≡◌, ◌+◌, ◌-◌, ◌<◌, ◌≤◌, ◌^◌, ℕ, List, Option, Some, false, length, sum_by};
+ghost use Rattle.lot_machine.specs.State.{State};
+ghost use Rattle.lot_simulation.specs.TimedReport.{ticks_below};
 ghost use Rattle.lot_simulation.specs.World.{Program, system_run};
+ghost use Rattle.lot_curves.specs.declared.by.By.TheVariants as by;
 ghost use Rattle.lot_curves.specs.declared.stretch.Measure.{Measure as Measured};
 ghost use Rattle.lot_curves.specs.declared.stretch.Measure.TheVariants.{Draws, Ticks};
 ghost use Rattle.lot_curves.specs.declared.stretch.Stretch.{Stretch as StretchRecord};
 ghost use Rattle.lot_curves.specs.Curves as curves;
-ghost use Rattle.lot_curves.specs.Curves.{name_in, sample_count, sample_tick, sample_ticks, share_at};
+ghost use Rattle.lot_curves.specs.Curves.{name_in, sample_count, sample_tick, sample_ticks, share_at, timed_curves_by};
+ghost use Rattle.lot_curves.specs.Curves.{total_at, windowed};
 ghost use Rattle.lot_curves.specs.Intervals.{curves_between};
-ghost use Rattle.lot_curves.specs.Stretches.{had_at, last_end, stretches_of};
+ghost use Rattle.lot_curves.specs.OwnTimes.{EndedTurn};
+ghost use Rattle.lot_curves.specs.Stretches.{had_at, last_end, stretches_of, turn_stretches};
 ghost use Rattle.lot_curves.specs.Windows.{had_in};
 
 /// There are at most 201 samples, and the last is at the last tick.
@@ -48,6 +53,16 @@ pub fn windows_are_differences()
         ≡ had_at Ticks tick stretches }
     ensures draws { (stretches : List StretchRecord) (window tick : ℕ) → tick ≤ window
         → had_in Draws (Some window) tick stretches ≡ had_at Draws tick stretches }
+{}
+
+/// By currency a turn counts for each currency that its thread stood below in the state in which it was made: once,
+/// and with all of its ticks. The ticks and draws of all turns are the same as by thread.
+pub fn turns_count_for_currencies()
+    ensures below { (s : State) (turn : EndedTurn) (c : ℕ) → 1 ≤ c → c < length s.currencies
+        → sum_by (λ s. s.ticks) (stretches_of c (turn_stretches by.Currency s turn)) ≡ ticks_below s c turn.answer }
+    ensures whole { (measure : Measured) (program : Program) (window : Option ℕ) (tick : ℕ)
+        → total_at measure (windowed window (timed_curves_by by.Currency program)) tick
+        ≡ total_at measure (windowed window (timed_curves_by by.Thread program)) tick }
 {}
 
 /// No two curves have one name, those of removed threads and of threads without a name included, unless the program has

@@ -3,7 +3,7 @@ ghost use Rattle.std.specs.Prelude.{◌≡◌, ◌<◌, ◌≤◌, ◌^◌, leng
 ghost use Rattle.lot_machine.specs.declared.event.Event.{Event};
 ghost use Rattle.lot_simulation.specs.World.Answer.{Answered};
 ghost use Rattle.lot_curves.specs.Stretches as definitions;
-ghost use Rattle.lot_curves.specs.Stretches.{stretch_between, stretch_of};
+ghost use Rattle.lot_curves.specs.Stretches.{in_column, stretch_between, stretch_of, stretches_of};
 ghost use Rattle.lot_curves.specs.Windows as windows;
 
 use lot_machine::Reply;
@@ -17,10 +17,11 @@ pub enum Measure {
     Draws,
 }
 
-/// The ticks and draws of a turn for the thread that ran in it, or that won its draw.
+/// The ticks and draws of a turn for the thread that ran in it, or that won its draw; or for a currency above it.
 #[derive(Clone, Copy, Debug, PartialEq, Eq)]
 pub struct Stretch {
-    /// The number of the thread, or 0 if the turn belongs to no thread.
+    /// The number of the thread, or 0 if the turn belongs to no thread. By currency it is that of a currency, or 0 in
+    /// the stretch that stands for the turn itself.
     pub thread: u32,
     /// The end of the turn.
     pub end: u64,
@@ -50,6 +51,16 @@ impl Stretch {
         }
     }
 
+    /// The same stretch with this number.
+    pub fn in_column(self, number: u32) -> Stretch
+        ensures { result ≡ in_column number self }
+    {
+        Stretch {
+            thread: number,
+            ..self
+        }
+    }
+
     /// The stretch's ticks or draws up to this tick.
     pub fn part_at(self, measure: Measure, tick: u64) -> u64
         ensures part { result ≡ definitions.part_at measure tick self }
@@ -72,10 +83,10 @@ impl Stretch {
         ensures part { result ≡ windows.part_in measure window tick self }
         ensures small { result < 2 ^ 32 }
     {
-        let Some(window) = window else {
+        if window.is_none() {
             return self.part_at(measure, tick);
-        };
-        let recent = self.between(tick.saturating_sub(u64::from(window)), tick);
+        }
+        let recent = self.between(start_of(window, tick), tick);
         match measure {
             Measure::Ticks => u64::from(recent.ticks),
             Measure::Draws => u64::from(recent.draws),
@@ -103,6 +114,17 @@ impl Stretch {
     }
 }
 
+/// The tick at which the window of this many ticks that ends at this tick begins, or the first tick without a window.
+pub fn start_of(window: Option<u32>, tick: u64) -> u64
+    ensures start { result ≡ windows.start_of window tick }
+    ensures early { result ≤ tick }
+{
+    match window {
+        None => 0,
+        Some(window) => tick.saturating_sub(u64::from(window)),
+    }
+}
+
 /// The sum of these stretches' ticks or draws in a window of this many ticks that ends at this tick, or of all up to it
 /// without one.
 pub fn had_in(measure: Measure, window: Option<u32>, tick: u64, stretches: &[Stretch]) -> u64
@@ -112,6 +134,27 @@ pub fn had_in(measure: Measure, window: Option<u32>, tick: u64, stretches: &[Str
     let mut had = 0;
     for stretch in stretches {
         had += stretch.part_in(measure, window, tick);
+    }
+    had
+}
+
+/// The same of those of these stretches that have this number.
+pub fn had_by(
+    number: u32,
+    measure: Measure,
+    window: Option<u32>,
+    tick: u64,
+    stretches: &[Stretch],
+) -> u64
+    requires { length stretches.now < 2 ^ 32 }
+    ensures { result ≡ windows.had_in measure window tick (stretches_of number stretches.now) }
+{
+    let mut had = 0;
+    for stretch in stretches {
+        if stretch.thread == number {
+            let part = stretch.part_in(measure, window, tick);
+            had += part;
+        }
     }
     had
 }

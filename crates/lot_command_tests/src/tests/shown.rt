@@ -73,16 +73,49 @@ ticks_mean,ticks_least,ticks_most,share_percent_mean,share_percent_least,share_p
 2,b,2,0,0,0,0,0,0,0,0,0
 ";
 
-/// The report as a table, and that over several plays. Without threads a table has its first row alone.
+/// An input in which base funds `alice`, that one `task`, and `task` the only thread that runs.
+const CURRENCIES: &str = "lottery 3
+quantum 2
+for 4
+script spin
+compute 9
+endscript
+mkcur alice
+mkcur task
+mktkt 3 base
+fund 1 alice
+mktkt 1 alice
+fund 2 task
+fundx 1 task a spin
+mkthr b spin
+";
+
+/// The table of its currencies.
+const CURRENCY_TABLE: &str = "currency,name,ticks,share_percent,due_percent
+1,alice,4,100,100
+2,task,4,100,100
+";
+
+/// The report as a table, and that over several plays. Without threads a table has its first row alone. An input of
+/// another format has no table of currencies.
 #[test]
 fn report_tables(rt: HostRuntime) {
     let words: &[&str] = &["lot_sim", "report", "--csv"];
     let over_plays: &[&str] = &["lot_sim", "report", "--csv", "--seeds", "1..2"];
+    let by_thread: &[&str] = &["lot_sim", "report", "--csv", "--by", "thread"];
+    let by_currency: &[&str] = &["lot_sim", "report", "--by=currency", "--csv"];
     for (words, input, table) in [
         (words, INPUT, "thread,name,quanta,ticks\n1,a,2,4\n2,b,0,0\n"),
         (words, TIMED, TABLE),
         (words, "lottery 1\n", "thread,name,quanta,ticks\n"),
         (over_plays, TIMED, TABLE_OF_PLAYS),
+        (by_thread, TIMED, TABLE),
+        (by_currency, CURRENCIES, CURRENCY_TABLE),
+        (
+            by_currency,
+            INPUT,
+            "thread,name,quanta,ticks\n1,a,2,4\n2,b,0,0\n",
+        ),
     ] {
         let ended = ended_on(&rt, rt.alloc(), words, input);
         let is_table = ended.output.as_slice() == table.as_bytes();
@@ -142,6 +175,14 @@ fn options(rt: HostRuntime) {
         let words = ["lot_sim", "shares", "--window", window];
         check_words(&rt, alloc, &words, 2, false);
     }
+    for by in ["user", ""] {
+        let words = ["lot_sim", "chart", "--by", by];
+        check_words(&rt, alloc, &words, 2, false);
+    }
+    let words = ["lot_sim", "report", "--by", "currency"];
+    check_words(&rt, alloc, &words, 2, false);
+    let words = ["lot_sim", "shares", "--by", "currency"];
+    check_words(&rt, alloc, &words, 2, false);
     for (from, to) in [("3", "3"), ("3", "2"), ("x", "9"), ("0", "0")] {
         let words = ["lot_sim", "chart", "--from", from, "--to", to];
         check_words(&rt, alloc, &words, 2, false);
@@ -200,6 +241,40 @@ fn pictures(rt: HostRuntime) {
         let is_whole = picture.ends_with("</svg>\n");
         check_same_at(&rt, &words, &(ended.code, is_whole), &(0, true));
         check_parts(&rt, picture, parts);
+    }
+}
+
+/// The picture of `CURRENCIES` by currency, in parts. Both lines have all ticks and are due all of them, and the name
+/// of the second stands below that of the first.
+const CURRENCY_PARTS: [&str; 6] = [
+    "<title id='title'>Who has run how long</title>\n",
+    ">what the threads of each currency have run, in ticks</text>\n",
+    "<polyline points=' 100.0,460.0 267.5,360.0 435.0,260.0 602.5,160.0 770.0,60.0' stroke='#0072b2'/>\n",
+    "<polyline points=' 100.0,460.0 267.5,360.0 435.0,260.0 602.5,160.0 770.0,60.0' stroke='#d55e00'/>\n</g>\n",
+    "<text x='788' y='60.0' dy='4'>alice 100.0%</text>\n",
+    "<text x='788' y='76.0' dy='4'>task 100.0%</text>\n",
+];
+
+#[test]
+fn pictures_by_currency(rt: HostRuntime) {
+    let words = ["lot_sim", "chart", "--by", "currency"];
+    let ended = ended_on(&rt, rt.alloc(), &words, CURRENCIES);
+    check_same(&rt, &ended.code, &0);
+    let picture = str::from_utf8(ended.output.as_slice()).unwrap_or("");
+    check_parts(&rt, picture, &CURRENCY_PARTS);
+}
+
+/// The option changes nothing if it asks for threads, nor, except a title that isn't given, in a picture of another
+/// format.
+#[test]
+fn pictures_by_thread(rt: HostRuntime) {
+    let alloc = rt.alloc();
+    for (by, input) in [("thread", CURRENCIES), ("currency", INPUT)] {
+        let words = ["lot_sim", "chart", "--title", "x", "--by", by];
+        let with = ended_on(&rt, alloc, &words, input);
+        let without = ended_on(&rt, alloc, &words[..4], input);
+        let is_same = with.output.as_slice() == without.output.as_slice();
+        check_same_at(&rt, &by, &(with.code, is_same), &(0, true));
     }
 }
 
@@ -288,6 +363,7 @@ const EXPLAINED_FUNDING: &str = "0 0 currency 1
 report
 thread 1 a quanta 2 ticks 3 share 75% due 75% value 100% ready waits 2 mean 0.5 longest 1
 thread 2 b quanta 1 ticks 1 share 25% due 25% value 0% ready waits 1 mean 3 longest 3
+currency 1 g ticks 4 share 100% due 100%
 processor 1 quanta 3 idle 0 ticks 4 unused 0
 total turns 12 quanta 3 ticks 4 refused 0 left 0
 ";

@@ -296,6 +296,7 @@ report
 thread 1 a quanta 1 ticks 0 share 0% due 0% value 33.333% ready waits 1 mean 0 longest 0
 thread 2 b quanta 0 ticks 0 share 0% due 0% value 33.333%
 thread 3 c quanta 0 ticks 0 share 0% due 0% value 33.333%
+currency 1 g ticks 0 share 0% due 0%
 processor 1 quanta 1 idle 0 ticks 0 unused 0
 total turns 9 quanta 1 ticks 0 refused 0 left 0
 ",

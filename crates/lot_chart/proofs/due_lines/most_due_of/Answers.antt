@@ -1,7 +1,7 @@
-use Rattle.std.proofs.Common.{◌≡◌, ℕ, zero, suc, ◌*◌, ◌^◌, ◌<◌, List, [], ◌∷◌, length, get_or, refl, sym, ap, ◌∙◌, arith}
+use Rattle.std.proofs.Common.{◌≡◌, ◌*◌, ◌^◌, ◌<◌, length, sym, ap, ◌∙◌, arith}
 use Rattle.std.specs.Prelude.{max, fold}
 use Rattle.std.specs.Int.{div_ceil}
-use Rattle.std.proofs.lemmas.List.{take_all}
+use Rattle.std.proofs.lemmas.List.{get_or_default, take_all}
 use Rattle.std.proofs.lemmas.List.Sums.{fold_more}
 use Rattle.lot_curves.specs.declared.stretch.Measure.TheVariants.{Ticks}
 use Rattle.lot_curves.specs.Curves.{sample_tick, total_at}
@@ -11,19 +11,13 @@ use Rattle.lot_chart.specs.Dues.{due_ticks, last_sample, line_share}
 use Rattle.lot_chart.specs.Gauges.{IsLineOf}
 use Rattle.lot_chart.proofs.due_lines.most_due_of.Goals as goal
 
--- an element is the same by whatever is read past the end
-same-element : (xs : List Standing) (i : ℕ) (d e : Standing) → i < length xs → get_or xs i d ≡ get_or xs i e
-same-element [] i d e below = absurd (omega (arith, below))
-same-element (x ∷ xs) zero d e below = refl
-same-element (x ∷ xs) (suc i) d e below = same-element xs i d e (omega (arith, below))
-
 pub loop-place-preserved : goal.loop-place-preserved
 loop-place-preserved c due are =
     let curves = c.args.curves.now in
     let shown = c.args.shown.now in
     let place = c.loop-place.place in
     let below : place < length shown = omega (arith, c.loop-place-test.true) in
-    let line : IsLineOf shown place _ = record { there = below; same = λ e. ap (λ (s : Standing). s.thread) (same-element shown place _ e below) } in
+    let line : IsLineOf shown place _ = record { there = below; same = λ e. ap (λ (s : Standing). s.thread) (get_or_default shown place _ e below) } in
     let last = ap (sample_tick (last_end curves.stretches)) c.sample_count-last.ensures.count in
     let share = c.share-share.ensures.share curves due shown are line (omega (arith, c.sample_count-last.ensures.count)) ∙ ap (line_share curves due shown _) last in
     let ran : c.total_at-ran.result ≡ total_at Ticks curves (last_sample curves) = c.total_at-ran.ensures ∙ ap (total_at Ticks curves) (c.sample_tick.ensures.tick ∙ last) in

@@ -1,5 +1,4 @@
-use Rattle.std.proofs.Common.{◌≡◌, List, max, take, fold}
-use Rattle.lot_chart.specs.declared.standings.Standing.{Standing}
+use Rattle.std.proofs.Common.{◌≡◌, max, take, fold}
 use Rattle.lot_chart.specs.Dues.{Dues, due_ticks}
 use Rattle.lot_chart.specs.Gauges.{AreDues}
 use Rattle.lot_chart.proofs.due_lines.most_due_of.Given as goal

@@ -1,13 +1,14 @@
-use Rattle.std.proofs.Common.{◌∙◌, ap}
-use Rattle.lot_engine.specs.Seen.{Seen}
-use Rattle.lot_chart.proofs.Notes.{gathered}
+use Rattle.std.proofs.Common.{◌≡◌, ◌∙◌, refl, sym, subst}
+use Rattle.std.specs.Prelude.{IfOk, IsSome}
+use Rattle.lot_curves.specs.Curves.{Curves}
+use Rattle.lot_chart.proofs.NotedFacts.{timed-curves-are, untimed-curves-are}
 use Rattle.lot_chart.proofs.gathering.gather.Goals as goal
 
-pub note_last-requires-clause-program : goal.note_last-requires-clause-program
-note_last-requires-clause-program c =
-    ap (λ (s : Seen). s.setting.program) c.into_parts-system.ensures.system ∙ c.in_ok-stretches.ensures.made.program_is
+pub returns-in-None : goal.returns-in-None
+returns-in-None c =
+    subst (λ (made : Curves). IfOk c.gather_by.result (λ curves. curves ≡ made)) (untimed-curves-are c.args.by c.args.program.now (sym c.duration.ensures.duration ∙ c.in-None.is)) c.gather_by.ensures
 
-pub returns : goal.returns
-returns c =
-    c.new.ensures
-    ∙ gathered c.args.program.now c.note_last.new.system c.in_ok-names.names.items c.in_ok-stretches.stretches.items c.in_ok-stretches.commands.items (c.note_last.ensures.same ∙ c.into_parts-system.ensures.system) c.in_ok-stretches.ensures.made c.in_ok-names.ensures.names c.in_ok-stretches.ensures.noted c.in_ok-stretches.ensures.commands
+pub returns-in-Some : goal.returns-in-Some
+returns-in-Some c =
+    let timed : IsSome c.args.program.now.duration = subst IsSome (sym c.in-Some.is ∙ c.duration.ensures.duration) refl in
+    subst (λ (made : Curves). IfOk c.gather_by-in-Some.result (λ curves. curves ≡ made)) (sym (timed-curves-are c.args.by c.args.program.now c.args.program.now.duration refl timed)) c.gather_by-in-Some.ensures

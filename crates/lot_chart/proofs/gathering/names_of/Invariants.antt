@@ -1,13 +1,13 @@
 use Rattle.std.proofs.Common.{◌≡◌, map, vec_len}
 use Rattle.std.specs.List.{range_with_len}
-use Rattle.lot_curves.specs.Curves.{name_in}
+use Rattle.lot_curves.specs.Curves.{name_by}
 use Rattle.lot_engine.specs.Seen.{world_of}
 use Rattle.lot_chart.proofs.gathering.names_of.Given as goal
 
--- the names of the threads passed so far are there
+-- the names of the columns passed so far are there
 abbrev pub invariant-loop-place : goal.invariant-loop-place
 invariant-loop-place l = record {
   same : l.system ≡ l.initial.system;
-  names : l.names.items ≡ map (name_in (world_of l.initial.system).state) (range_with_len 1 l.place);
+  names : l.names.items ≡ map (name_by l.by (world_of l.initial.system).state) (range_with_len 1 l.place);
   count : vec_len l.names ≡ l.place;
 }

@@ -4,4 +4,4 @@ use Rattle.lot_chart.proofs.gauges.pass_all.Given as goal
 
 -- the gauges passed so far have let the time pass
 abbrev pub invariant-loop-place : goal.invariant-loop-place
-invariant-loop-place l = HaveSome (HasPassed l.marks l.live_value l.since l.time) l.place l.initial.gauges l.gauges
+invariant-loop-place l = HaveSome (HasPassed l.marks l.whole_value l.since l.time) l.place l.initial.gauges l.gauges

@@ -3,7 +3,7 @@ use Rattle.std.specs.List.{range_with_len}
 use Rattle.std.proofs.lemmas.List.FromFn.{map-range_with_len_more}
 use Rattle.lot_curves.specs.Curves.{sample_tick}
 use Rattle.lot_curves.specs.Stretches.{last_end}
-use Rattle.lot_chart.specs.Dues.{start_of}
+use Rattle.lot_curves.specs.Windows.{start_of}
 use Rattle.lot_chart.specs.Gauges.{start_tick}
 use Rattle.lot_chart.proofs.gauges.starts_of.Goals as goal
 

@@ -1,13 +1,35 @@
-use Rattle.std.proofs.Common.{ap, ◌∙◌}
-use Rattle.lot_curves.specs.Curves.{curves_of, windowed}
+use Rattle.std.proofs.Common.{◌≡◌, ℕ, Option, Some, None, refl, subst, ap, ◌∙◌}
+use Rattle.std.specs.Prelude.{IfOk}
+use Rattle.lot_simulation.specs.World.{Program}
+use Rattle.lot_curves.specs.declared.by.By.{By}
+use Rattle.lot_curves.specs.declared.interval.Interval.{Interval}
+use Rattle.lot_curves.specs.Curves.{Curves, curves_by, windowed}
 use Rattle.lot_curves.specs.Intervals.{curves_within}
 use Rattle.lot_chart.specs.Charts.{chart}
-use Rattle.lot_chart.specs.Dues.{dues_of}
+use Rattle.lot_chart.specs.Dues.{dues_by}
 use Rattle.lot_chart.proofs.Shows.{shows-plays}
 use Rattle.lot_chart.proofs.showing.chart_program.Goals as goal
 
+-- an interval and a window change nothing of what curves are by
+same-by : (window : Option ℕ) (interval : Option Interval) (curves : Curves) → (windowed window (curves_within interval curves)).by ≡ curves.by
+same-by None None curves = refl
+same-by None (Some interval) curves = refl
+same-by (Some window) None curves = refl
+same-by (Some window) (Some interval) curves = refl
+
+-- without a duration nothing is due
+dues-of : (what : By) (program : Program) (d : Option ℕ) → program.duration ≡ d → dues_by (curves_by what program).by program ≡ dues_by what program
+dues-of what program None is = rw is refl
+dues-of what program (Some duration) is = rw is refl
+
 pub returns-in-Ok-clause-shown : goal.returns-in-Ok-clause-shown
 returns-in-Ok-clause-shown g c =
-    let within = curves_within c.args.interval (curves_of c.args.program.now) in
+    let program = c.args.program.now in
+    let curves = curves_by c.args.by program in
+    let within = curves_within c.args.interval curves in
     let wanted = windowed c.args.window within in
-    shows-plays g.W.Write.contents c.args.writer.now c.write_text.new.writer (λ v. v.items) (chart c.args.title.now (dues_of c.args.program.now)) c.write_text.result c.requires wanted c.with_window-curves.result c.program_chart.result (c.with_window-curves.ensures ∙ ap (windowed c.args.window) (c.within.ensures ∙ ap (curves_within c.args.interval) c.in-Ok.ensures)) c.program_chart.ensures c.write_text.ensures.shown
+    let made = c.with_window-curves.ensures ∙ ap (windowed c.args.window) (c.within.ensures ∙ ap (curves_within c.args.interval) c.in-Ok.ensures) in
+    let due : dues_by c.with_window-curves.result.by program ≡ dues_by c.args.by program =
+    ap (λ (v : Curves). dues_by v.by program) made ∙ ap (λ what. dues_by what program) (same-by c.args.window c.args.interval curves) ∙ dues-of c.args.by program program.duration refl in
+    shows-plays g.W.Write.contents c.args.writer.now c.write_text.new.writer (λ v. v.items) (chart c.args.title.now (dues_by c.args.by program)) c.write_text.result c.requires wanted c.with_window-curves.result c.program_chart.result made
+    (subst (λ o. IfOk c.program_chart.result (λ v. v.items ≡ chart c.args.title.now o c.with_window-curves.result)) due c.program_chart.ensures) c.write_text.ensures.shown

@@ -1,19 +1,21 @@
-use Rattle.std.proofs.Common.{◌≡◌, ℕ, None, Result, Ok, Err, List, refl}
+use Rattle.std.proofs.Common.{◌≡◌, ℕ, Option, None, Result, Ok, Err, List, refl}
 use Rattle.lot_simulation.specs.declared.input.InputFault.{InputFault}
 use Rattle.lot_simulation.specs.Grammar.{program_in}
 use Rattle.lot_simulation.specs.Output.{output_of}
 use Rattle.lot_simulation.specs.Seeded.{seeded}
 use Rattle.lot_simulation.specs.World.{Program}
+use Rattle.lot_curves.specs.declared.by.By.TheVariants.{Currency, Thread}
+use Rattle.lot_curves.specs.declared.interval.Interval.{Interval}
 use Rattle.lot_curves.specs.declared.stretch.Measure.{Measure}
 use Rattle.lot_curves.specs.Curves.{curves_of}
 use Rattle.lot_explain.specs.declared.detail.Detail.{Detail}
 use Rattle.lot_explain.specs.Explained.{explained_of}
 use Rattle.lot_chart.specs.Charts.{chart}
-use Rattle.lot_chart.specs.Dues.{dues_of}
+use Rattle.lot_chart.specs.Dues.{dues_by}
 use Rattle.lot_chart.specs.Shown as charts
 use Rattle.lot_chart.specs.Tables.{table}
 use Rattle.lot_command.specs.declared.view.View.TheVariants as views
-use Rattle.lot_command.specs.Views.{shown_of}
+use Rattle.lot_command.specs.Views.{shown_of, view_of}
 use Rattle.lot_command.proofs.laws.texts_without_a_seed.Goals as goal
 
 play-is : (title : List ℕ) (input : Result Program InputFault) → shown_of views.Play title (seeded None input) ≡ output_of input
@@ -28,7 +30,7 @@ shares-is : (measure : Measure) (title : List ℕ) (input : Result Program Input
 shares-is measure title (Ok program) = refl
 shares-is measure title (Err fault) = refl
 
-chart-is : (title : List ℕ) (input : Result Program InputFault) → shown_of (views.Chart None None) title (seeded None input) ≡ charts.shown_of (λ program. chart title (dues_of program) (curves_of program)) input
+chart-is : (title : List ℕ) (input : Result Program InputFault) → shown_of (views.Chart Thread None None) title (seeded None input) ≡ charts.shown_of (λ program. chart title (dues_by Thread program) (curves_of program)) input
 chart-is title (Ok program) = refl
 chart-is title (Err fault) = refl
 
@@ -43,3 +45,6 @@ returns-clause-shares c measure title bytes = shares-is measure title (program_i
 
 pub returns-clause-chart : goal.returns-clause-chart
 returns-clause-chart c title bytes = chart-is title (program_in bytes)
+
+pub returns-clause-untimed : goal.returns-clause-untimed
+returns-clause-untimed c interval window title program none = rw none refl

@@ -10,7 +10,7 @@ duration-is None some = cc
 duration-is (Some d) some = (d, refl)
 
 pub play_through-requires-clause-ready : goal.play_through-requires-clause-ready
-play_through-requires-clause-ready c = new-meter c.args.program.now c.args.curves.now c.args.shown.now c.in_ok-meter.meter c.in_ok-meter.ensures
+play_through-requires-clause-ready c = new-meter c.args.program.now c.args.curves.now c.args.shown.now c.in_ok-meter.meter c.requires.legal.limits c.requires.columns c.in_ok-meter.ensures
 
 pub pass-requires-clause-within : goal.pass-requires-clause-within
 pass-requires-clause-within c = meter-within c.args.program.now (program_turns c.args.program.now) c.in_ok-meter.meter c.play_through.new.observer c.in_ok-play_through.ensures.observed

@@ -1,0 +1,230 @@
+-- The thread that ran in a turn, and the currencies that were found above it.
+use Rattle.std.proofs.Common.{◌≡◌, ◌≢◌, ℕ, suc, ◌+◌, ◌-◌, ◌<◌, ◌==◌, Bool, true, false, ◌≤◌, Option, Some, None, Result, Ok, Err, List, [], ◌∷◌, ◌++◌, append-nil, append_assoc, filter, length, map, ◌⊎◌, inl, inr, refl, sym, ◌∙◌, ap, subst, arith, ne_eqb, unwrap_or, nat_le}
+use Rattle.std.specs.Prelude.{◌↔◌, IsTrue, OnOk, drop, if◌then◌else◌}
+use Rattle.std.specs.List.{range_with_len}
+use Rattle.std.proofs.lemmas.List.{map-append}
+use Rattle.std.proofs.lemmas.List.Elements.{filter-append}
+use Rattle.std.proofs.lemmas.Bool.{cases_eq, eq-eqb}
+use Rattle.lot_machine.specs.declared.command.Command.{Command}
+use Rattle.lot_machine.specs.declared.command.Command.TheVariants as command
+use Rattle.lot_machine.specs.declared.drawn.Drawn.{Drawn}
+use Rattle.lot_machine.specs.declared.event.Event.{Event}
+use Rattle.lot_machine.specs.declared.event.Event.TheVariants as event
+use Rattle.lot_machine.specs.declared.refusal.Refusal.{Refusal}
+use Rattle.lot_machine.specs.declared.reply.Reply.{Reply}
+use Rattle.lot_machine.specs.declared.record.Record.{Record}
+use Rattle.lot_machine.specs.declared.record.Status.TheVariants.{Running}
+use Rattle.lot_machine.specs.declared.reply.Reply.TheVariants as reply
+use Rattle.lot_machine.specs.Bounds.{IsBetween}
+use Rattle.lot_machine.proofs.RecordsKept.{found-runs, numbered}
+use Rattle.lot_machine.specs.Commands.{Step, command_effect, command_refusal, unless_refused}
+use Rattle.lot_machine.specs.Lottery.{winner}
+use Rattle.lot_machine.specs.State.{State, ready_threads, thread_on, weight_of}
+use Rattle.lot_machine.specs.Step.{draw, event_effect, event_refusal, step, thread_there}
+use Rattle.lot_above.specs.Found.{FoundNodes, HasFound}
+use Rattle.lot_simulation.specs.declared.script.ScriptTrap.{ScriptTrap}
+use Rattle.lot_simulation.specs.Script.{Slice}
+use Rattle.lot_simulation.specs.Below.{currency_numbers, stands_below}
+use Rattle.lot_simulation.specs.World.{Program, World, Answer, action_of, actor_event, console_turn, event_of_slice, next_name, processor_event, resolved, slice_on, number_of, system_turn}
+use Rattle.lot_simulation.specs.World.Answer.{Answered, Ended}
+use Rattle.lot_simulation.proofs.OtherTurns.{event-for, event_for}
+use Rattle.lot_engine.specs.Searching.{HasThoseAbove}
+use Rattle.lot_play.proofs.ListingFacts.{numbers-push}
+use Rattle.lot_curves.specs.declared.stretch.Stretch.{Stretch}
+use Rattle.lot_curves.specs.OwnTimes.{EndedTurn}
+use Rattle.lot_curves.specs.declared.by.By.{By}
+use Rattle.lot_curves.specs.declared.by.By.TheVariants as by
+use Rattle.lot_curves.specs.Stretches.{currencies_above, in_column, stretch_of, turn_stretches}
+use Rattle.lot_chart.specs.Noted.{HasLooked, HasSearched, RanOn, has_run}
+
+-- ---- the thread of a turn
+
+unless-ran : (s : State) (p : ℕ) (o : Option Refusal) (next : Step) → RanOn s p next.reply → RanOn s p (unless_refused s o next).reply
+unless-ran s p None next ran = ran
+unless-ran s p (Some why) next ran = tt
+
+-- a command runs no thread
+command-ran : (s : State) (p : ℕ) (c : Command) → RanOn s p (command_effect s c).reply
+command-ran s p (command.MakeTicket amount currency) = tt
+command-ran s p (command.RemoveTicket n) = tt
+command-ran s p (command.MakeCurrency name) = tt
+command-ran s p (command.RemoveCurrency currency) = tt
+command-ran s p (command.Fund n to) = tt
+command-ran s p (command.Unfund n) = tt
+command-ran s p (command.SetTicket n amount) = tt
+command-ran s p (command.MakeThread name script) = tt
+command-ran s p (command.RemoveThread thread) = tt
+command-ran s p (command.Kill thread) = tt
+command-ran s p (command.MakeFunded amount currency name script) = tt
+command-ran s p (command.List kind) = tt
+
+draw-ran : (s : State) (p d : ℕ) → RanOn s p (draw s p d).reply
+draw-ran s p d = at (winner (map (weight_of s) (ready_threads s.records)) d) refl
+  where
+    at : (o : Option Drawn) → winner (map (weight_of s) (ready_threads s.records)) d ≡ o → RanOn s p (draw s p d).reply
+    at None is = rw is tt
+    at (Some w) is = rw is tt
+
+module _ (w : World) (p : ℕ) (low : 0 < p) where
+  there-is : (t : ℕ) → thread_on w.state.records p ≡ Some t → (0 < p) × (thread_on w.state.records p ≡ Some (thread_there w.state p))
+  there-is t is = (low, is ∙ ap Some (sym (ap (λ o. unwrap_or o 0) is)))
+
+  -- the end of a slice is of the thread that runs there
+  slice-ran : (t drawn : ℕ) (slice : Slice) → thread_on w.state.records p ≡ Some t → RanOn w.state p (step w.state (event_of_slice p drawn slice)).reply
+  slice-ran t drawn slice is = by slice.trap refl
+    where
+      by : (o : Option ScriptTrap) → slice.trap ≡ o → RanOn w.state p (step w.state (event_of_slice p drawn slice)).reply
+      by None none = rw none (unless-ran w.state p (event_refusal w.state (event.Expire p)) (event_effect w.state (event.Expire p)) (there-is t is))
+      by (Some trap) some =
+          let action = action_of trap slice.end.accumulator drawn in
+          rw some (unless-ran w.state p (event_refusal w.state (event.Trap p slice.ticks action)) (event_effect w.state (event.Trap p slice.ticks action)) (there-is t is))
+
+  processor-ran : RanOn w.state p (step w.state (processor_event w p)).reply
+  processor-ran = subst (λ e. RanOn w.state p (step w.state e).reply) (sym (event-for w p)) (by (thread_on w.state.records p) refl)
+    where
+      by : (o : Option ℕ) → thread_on w.state.records p ≡ o → RanOn w.state p (step w.state (event_for w p o)).reply
+      by None is = unless-ran w.state p (event_refusal w.state (event.Draw p (number_of w p))) (draw w.state p (number_of w p)) (draw-ran w.state p (number_of w p))
+      by (Some t) is = slice-ran t (number_of w p) (slice_on w p t) is
+
+-- the thread on a processor has a number
+pub runner-there : (records : List Record) (p t : ℕ) → thread_on records p ≡ Some t → IsBetween 1 (length records) t
+runner-there records p t on =
+    let (used, runs) = found-runs records p t on in
+    let (low, high) = numbered records t (Running p used) runs in
+    (low, omega (arith, high))
+
+-- a turn's reply says which thread ran
+pub ran-on : (program : Program) (w : World) (actor : ℕ) (e : Event) (r : Reply) → (system_turn program w actor).answer ≡ Answered e r → RanOn w.state actor r
+ran-on program w actor e r is = by (cases_eq actor 0)
+  where
+    reply_or : Answer → Reply
+    reply_or (Answered x y) = y
+    reply_or Ended = r
+
+    made : (x : Event) → RanOn w.state actor (step w.state x).reply → Answered x (step w.state x).reply ≡ Answered e r → RanOn w.state actor r
+    made x ran same = subst (RanOn w.state actor) (ap reply_or same) ran
+
+    console : (cs : List Command) → (console_turn program w cs).answer ≡ Answered e r → RanOn w.state actor r
+    console [] same = cc
+    console (c ∷ cs) same =
+        let command = resolved w.tickets (next_name w) c in
+        made (event.Command command) (unless-ran w.state actor (command_refusal w.state command) (command_effect w.state command) (command-ran w.state actor command)) same
+
+    other : 0 < actor → (b : Bool) → RanOn w.state actor (step w.state (if b then processor_event w actor else event.Wake (actor - program.limits.processors))).reply
+    other low true = processor-ran w actor low
+    other low false =
+        let t = actor - program.limits.processors in
+        unless-ran w.state actor (event_refusal w.state (event.Wake t)) (event_effect w.state (event.Wake t)) tt
+
+    by : (actor ≡ 0) ⊎ (actor ≢ 0) → RanOn w.state actor r
+    by (inl none) =
+        let yes : (actor == 0) ≡ true = eq-eqb actor 0 none in
+        console w.commands (rw yes at is)
+    by (inr some) =
+        let no : (actor == 0) ≡ false = ne_eqb actor 0 some in
+        made (actor_event program w actor) (other (omega (arith, some)) (nat_le actor program.limits.processors)) (rw no at is)
+
+-- ---- the currencies above it
+
+-- those above a thread that ran
+pub above-found : (s : State) (actor : ℕ) (e : Event) (r : Reply) (above : FoundNodes) (count : ℕ) → has_run r ≡ true → RanOn s actor r → HasLooked s actor above count
+    → (t : ℕ) × HasThoseAbove s t above × (currencies_above s (Answered e r) ≡ filter (λ c. stands_below s c t) (currency_numbers s))
+above-found s actor e (reply.Expired t ticks) above count ran on looked = (t, looked.found t on.0 on.1, refl)
+above-found s actor e (reply.Trapped t ticks came ends) above count ran on looked = (t, looked.found t on.0 on.1, refl)
+above-found s actor e (reply.Ticket n) above count ran on looked = cc
+above-found s actor e (reply.Currency n) above count ran on looked = cc
+above-found s actor e (reply.Thread n) above count ran on looked = cc
+above-found s actor e (reply.Funded ticket thread) above count ran on looked = cc
+above-found s actor e reply.Done above count ran on looked = cc
+above-found s actor e (reply.List kind) above count ran on looked = cc
+above-found s actor e (reply.Winner thread number total delivered) above count ran on looked = cc
+above-found s actor e reply.Idle above count ran on looked = cc
+above-found s actor e (reply.Refused why) above count ran on looked = cc
+
+filter-none : (xs : List ℕ) → filter (λ x. false) xs ≡ []
+filter-none [] = refl
+filter-none (x ∷ xs) = filter-none xs
+
+-- none, if no thread ran
+pub above-none : (s : State) (e : Event) (r : Reply) → has_run r ≡ false → currencies_above s (Answered e r) ≡ []
+above-none s e (reply.Expired t ticks) ran = cc
+above-none s e (reply.Trapped t ticks came ends) ran = cc
+above-none s e (reply.Ticket n) ran = filter-none (currency_numbers s)
+above-none s e (reply.Currency n) ran = filter-none (currency_numbers s)
+above-none s e (reply.Thread n) ran = filter-none (currency_numbers s)
+above-none s e (reply.Funded ticket thread) ran = filter-none (currency_numbers s)
+above-none s e reply.Done ran = filter-none (currency_numbers s)
+above-none s e (reply.List kind) ran = filter-none (currency_numbers s)
+above-none s e (reply.Winner thread number total delivered) ran = filter-none (currency_numbers s)
+above-none s e reply.Idle ran = filter-none (currency_numbers s)
+above-none s e (reply.Refused why) ran = filter-none (currency_numbers s)
+
+-- ---- the stretches of currencies
+
+-- one currency more, if it was found
+pub found-more : (x : Stretch) (s : State) (t : ℕ) (above : FoundNodes) (c : ℕ) (has : Bool) (old items next : List Stretch) → 1 ≤ c → c < length s.currencies → IsTrue has ↔ HasFound above c → HasThoseAbove s t above
+    → items ≡ old ++ map (λ d. in_column d x) (filter (λ d. stands_below s d t) (range_with_len 1 (c - 1))) → next ≡ (if has then items ++ in_column c x ∷ [] else items)
+    → next ≡ old ++ map (λ d. in_column d x) (filter (λ d. stands_below s d t) (range_with_len 1 c))
+found-more x s t above c has old items next low high is those items_are put =
+    let test : ℕ → Bool = λ d. stands_below s d t in
+    let numbers : List ℕ = range_with_len 1 (c - 1) in
+    let same : has ≡ stands_below s c t = same-truth has (stands_below s c t) (λ yes. (those c high).0 (is.0 yes)) (λ yes. is.1 ((those c high).1 yes)) in
+    let before : c ≡ suc (c - 1) = omega (arith, low) in
+    let after : 1 + (c - 1) ≡ c = omega (arith, low) in
+    let more : range_with_len 1 c ≡ numbers ++ c ∷ [] = ap (range_with_len 1) before ∙ numbers-push 1 (c - 1) ∙ ap (λ n. numbers ++ n ∷ []) after in
+    let split : filter test (range_with_len 1 c) ≡ filter test numbers ++ filter test (c ∷ []) = ap (filter test) more ∙ filter-append test numbers (c ∷ []) in
+    put ∙ ap (λ b. if b then items ++ in_column c x ∷ [] else items) same ∙ by (stands_below s c t) refl
+    ∙ sym (ap (λ ds. old ++ map (λ d. in_column d x) ds) split ∙ ap (λ xs. old ++ xs) (map-append (λ d. in_column d x) (filter test numbers) (filter test (c ∷ []))) ∙ sym (append_assoc old (map (λ d. in_column d x) (filter test numbers)) (map (λ d. in_column d x) (filter test (c ∷ []))))
+    ∙ ap (λ xs. xs ++ map (λ d. in_column d x) (filter test (c ∷ []))) (sym items_are))
+  where
+    same-truth : (a b : Bool) → (IsTrue a → IsTrue b) → (IsTrue b → IsTrue a) → a ≡ b
+    same-truth true true to from = refl
+    same-truth false false to from = refl
+    same-truth true false to from = let e : false ≡ true = to refl in cc
+    same-truth false true to from = let e : false ≡ true = from refl in cc
+
+    by : (b : Bool) → stands_below s c t ≡ b → (if b then items ++ in_column c x ∷ [] else items) ≡ items ++ map (λ d. in_column d x) (filter (λ d. stands_below s d t) (c ∷ []))
+    by true stands = rw stands refl
+    by false other = rw other (sym (append-nil items))
+
+-- ---- the stretches of a turn
+
+pub on-ok : {A E : Type 0} {P Q : Type 0} (r : Result A E) → (P → Q) → OnOk r P → OnOk r Q
+on-ok (Ok x) to p = to p
+on-ok (Err e) to p = p
+
+pub on-both : {A E : Type 0} {P Q R : Type 0} (r : Result A E) → (P → Q → R) → OnOk r P → OnOk r Q → OnOk r R
+on-both (Ok x) to p q = to p q
+on-both (Err e) to p q = p
+
+-- by thread, if this is the turn's stretch
+pub thread-pushed : (s : State) (what : By) (turn : EndedTurn) (x : Stretch) (old new : List Stretch) → what ≡ by.Thread → x ≡ stretch_of turn → new ≡ old ++ x ∷ [] → new ≡ old ++ turn_stretches what s turn
+thread-pushed s what turn x old new is own pushed = pushed ∙ ap (λ y. old ++ y ∷ []) own ∙ ap (λ b. old ++ turn_stretches b s turn) (sym is)
+
+-- by currency
+pub columns-pushed : (s : State) (actor : ℕ) (what : By) (time : ℕ) (e : Event) (r : Reply) (above : FoundNodes) (count : ℕ) (x : Stretch) (ran : Bool) (old new : List Stretch)
+    → what ≡ by.Currency → x ≡ stretch_of (record { time = time; answer = Answered e r }) → ran ≡ has_run r → RanOn s actor r → HasSearched what s actor above count
+    → ((s : State) (t : ℕ) → count ≡ length s.currencies → HasThoseAbove s t above → ran ≡ true → new ≡ old ++ in_column 0 x ∷ map (λ c. in_column c x) (filter (λ c. stands_below s c t) (currency_numbers s)))
+    → (ran ≡ false → new ≡ old ++ in_column 0 x ∷ [])
+    → new ≡ old ++ turn_stretches what s (record { time = time; answer = Answered e r })
+columns-pushed s actor what time e r above count x ran old new is own has on searched columns none =
+    by-run ran refl ∙ ap (λ y. old ++ in_column 0 y ∷ map (λ c. in_column c y) (currencies_above s (Answered e r))) own
+    ∙ ap (λ b. old ++ turn_stretches b s (record { time = time; answer = Answered e r })) (sym is)
+  where
+    looked : HasLooked s actor above count
+    looked = subst (λ b. HasSearched b s actor above count) is searched
+
+    by-run : (b : Bool) → ran ≡ b → new ≡ old ++ in_column 0 x ∷ map (λ c. in_column c x) (currencies_above s (Answered e r))
+    by-run true runs =
+        let (t, those, same) = above-found s actor e r above count (sym has ∙ runs) on looked in
+        columns s t looked.given those runs ∙ ap (λ cs. old ++ in_column 0 x ∷ map (λ c. in_column c x) cs) (sym same)
+    by-run false idle = none idle ∙ ap (λ cs. old ++ in_column 0 x ∷ map (λ c. in_column c x) cs) (sym (above-none s e r (sym has ∙ idle)))
+
+-- the number of elements after the first
+pub length-rest : {A : Type 0} (xs : List A) → length (drop 1 xs) ≡ length xs - 1
+length-rest [] = refl
+length-rest (x ∷ xs) = omega arith
+
+-- the numbers below this one are those of all currencies, if no more were given
+pub all-numbers : (s : State) (count currency : ℕ) → count ≡ length s.currencies → 1 ≤ currency → currency - 1 ≤ count - 1 → count ≤ currency → range_with_len 1 (currency - 1) ≡ currency_numbers s
+all-numbers s count currency given low within past = ap (range_with_len 1) (omega (arith, length-rest s.currencies, given, low, within, past))

@@ -1,0 +1,18 @@
+use Rattle.std.proofs.Common.{◌-◌, length, ◌∙◌, ap, sym}
+use Rattle.std.specs.Prelude.{drop}
+use Rattle.std.proofs.lemmas.List.FromFn.{length-range_with_len}
+use Rattle.lot_curves.specs.Curves.{numbers_by}
+use Rattle.lot_engine.specs.Seen.{world_of}
+use Rattle.lot_chart.proofs.Ran.{length-rest}
+use Rattle.lot_chart.proofs.gathering.column_count.Goals as goal
+
+pub returns-in-Thread : goal.returns-in-Thread
+returns-in-Thread c =
+    let s = (world_of c.args.system.now).state in
+    c.thread_count.ensures.count ∙ sym (ap (λ what. length (numbers_by what s)) c.in-Thread.is ∙ length-range_with_len 1 (length s.records))
+
+pub returns-in-Currency : goal.returns-in-Currency
+returns-in-Currency c =
+    let s = (world_of c.args.system.now).state in
+    c.saturating_sub.ensures ∙ ap (λ n. n - 1) c.currency_count.ensures.count
+    ∙ sym (ap (λ what. length (numbers_by what s)) c.in-Currency.is ∙ length-range_with_len 1 (length (drop 1 s.currencies)) ∙ length-rest s.currencies)

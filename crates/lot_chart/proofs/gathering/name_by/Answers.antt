@@ -1,0 +1,10 @@
+use Rattle.std.proofs.Common.{length, arith}
+use Rattle.std.proofs.lemmas.List.FromFn.{length-range_with_len}
+use Rattle.lot_engine.specs.Seen.{world_of}
+use Rattle.lot_chart.proofs.gathering.name_by.Goals as goal
+
+pub thread_name-requires : goal.thread_name-requires
+thread_name-requires c =
+    let between = rw c.in-Thread.is at c.requires in
+    let count = length-range_with_len 1 (length (world_of c.args.system.now).state.records) in
+    (omega (arith, between.0), omega (arith, between.1, count))

@@ -1,0 +1,15 @@
+use Rattle.std.proofs.Common.{◌∙◌, sym, subst}
+use Rattle.std.specs.Prelude.{◌↔◌, IsTrue}
+use Rattle.lot_machine.proofs.Tickets.{some-injective}
+use Rattle.lot_above.specs.Found.{HasFound}
+use Rattle.lot_simulation.specs.Below.{stands_below}
+use Rattle.lot_engine.specs.Seen.{world_of}
+use Rattle.lot_chart.proofs.Ran.{runner-there}
+use Rattle.lot_chart.proofs.gathering.search.Goals as goal
+
+pub find_above-requires-clause-thread : goal.find_above-requires-clause-thread
+find_above-requires-clause-thread c = runner-there (world_of c.args.system.now).state.records c.args.actor c.in-Some.work.thread c.in-Some.ensures.work.1.runs
+
+pub returns-in-Some-clause-found : goal.returns-in-Some-clause-found
+returns-in-Some-clause-found c t low on k below =
+    subst (λ u. HasFound c.find_above.new.above k ↔ IsTrue (stands_below (world_of c.args.system.now).state k u)) (some-injective c.in-Some.work.thread t (sym c.in-Some.ensures.work.1.runs ∙ on)) (c.find_above.ensures.above k below)
