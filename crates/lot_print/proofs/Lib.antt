@@ -1,5 +1,6 @@
 pub mod GroupLemmas
 pub mod HistoryBack
+pub mod NameFacts
 pub mod PageFacts
 pub mod Pairs
 pub mod PlainLemmas

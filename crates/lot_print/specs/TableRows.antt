@@ -9,11 +9,61 @@ use Rattle.lot_simulation.specs.Texts.{newline, quotient_text}
 use Rattle.lot_print.specs.declared.figures.Figures.{Figures}
 use Rattle.lot_print.specs.declared.figures.Spread.{Spread}
 use Rattle.lot_print.specs.declared.figures.Unit.{Unit}
-use Rattle.lot_print.specs.declared.figures.Unit.TheVariants.{One, PercentThousandth}
+use Rattle.lot_print.specs.declared.figures.Unit.TheVariants.{One, PercentThousandth, Thousandth}
+use Rattle.lot_print.specs.declared.figures.SpanFigures.{SpanFigures}
 use Rattle.lot_print.specs.declared.table_rows.Columns.{Columns}
 use Rattle.lot_print.specs.declared.table_rows.Columns.TheVariants as columns
+use Rattle.lot_print.specs.declared.table_rows.FiguresTable.{FiguresTable}
+use Rattle.lot_print.specs.declared.table_rows.FiguresTable.TheVariants.{OfCurrencies, Schedule, Timed}
 use Rattle.lot_print.specs.declared.timed_totals.CurrencyShares.{CurrencyShares}
 use Rattle.lot_print.specs.declared.timed_totals.ThreadShares.{ThreadShares}
+
+-- the names of three columns, for the mean, the least and the most of a figure
+unfoldable pub spread_names : List ℕ → List ℕ
+spread_names what =
+    codes "," ++ (what ++ (codes "_mean," ++ (what ++ (codes "_least," ++ (what ++ codes "_most")))))
+
+-- those of a thread's draws, ticks, and share of all ticks
+abbrev pub counts_names : List ℕ
+counts_names = spread_names (codes "quanta") ++ (spread_names (codes "ticks") ++ spread_names (codes "share_percent"))
+
+-- those of what a thread was due, and of its share of the live value
+abbrev pub dues_names : List ℕ
+dues_names = spread_names (codes "due_percent") ++ spread_names (codes "value_percent")
+
+-- those of its waits to run
+abbrev pub ready_names : List ℕ
+ready_names =
+    spread_names (codes "ready_waits") ++ (spread_names (codes "ready_mean") ++ spread_names (codes "ready_longest"))
+
+-- those of its waits for mutexes
+abbrev pub mutex_names : List ℕ
+mutex_names =
+    spread_names (codes "mutex_waits") ++ (spread_names (codes "mutex_mean") ++ spread_names (codes "mutex_longest"))
+
+-- those of its waits for replies
+abbrev pub reply_names : List ℕ
+reply_names =
+    spread_names (codes "reply_waits") ++ (spread_names (codes "reply_mean") ++ spread_names (codes "reply_longest"))
+
+-- those of its refused traps, and of when it was made and ended
+abbrev pub life_names : List ℕ
+life_names = spread_names (codes "refused") ++ (spread_names (codes "made") ++ spread_names (codes "ended"))
+
+-- those that only the rows of a timed program's threads have
+abbrev pub timed_names : List ℕ
+timed_names = dues_names ++ (ready_names ++ (mutex_names ++ (reply_names ++ life_names)))
+
+-- those of a currency's ticks, their share of all ticks, and what it was due
+abbrev pub currency_names : List ℕ
+currency_names =
+    spread_names (codes "ticks") ++ (spread_names (codes "share_percent") ++ spread_names (codes "due_percent"))
+
+-- the columns' names of this table of a report over several plays
+abbrev pub figures_header : FiguresTable → List ℕ
+figures_header Schedule = codes "thread,name,plays" ++ counts_names
+figures_header Timed = codes "thread,name,plays" ++ (counts_names ++ timed_names)
+figures_header OfCurrencies = codes "currency,name,plays" ++ currency_names
 
 -- the first row: the columns' names
 abbrev pub header_row : Columns → List ℕ
@@ -23,9 +73,7 @@ header_row columns.TimedTotals =
     ++ (codes ",ready_waits,ready_mean,ready_longest,mutex_waits,mutex_mean,mutex_longest"
     ++ codes ",reply_waits,reply_mean,reply_longest,refused,made,ended\n")
 header_row columns.Currencies = codes "currency,name,ticks,share_percent,due_percent\n"
-header_row columns.Figures =
-    codes "thread,name,plays,quanta_mean,quanta_least,quanta_most,ticks_mean,ticks_least,ticks_most"
-    ++ codes ",share_percent_mean,share_percent_least,share_percent_most\n"
+header_row (columns.Figures table) = figures_header table ++ newline
 
 -- a field after the first, with its comma
 abbrev pub next_field : List ℕ → List ℕ
@@ -93,17 +141,49 @@ timed_currency_record c name shares =
 -- one of so many parts of a figure, without a sign
 abbrev pub part_field : Unit → ℕ → ℕ → List ℕ
 part_field One figure parts = quotient_text figure parts
+part_field Thousandth figure parts = quotient_text figure (parts * 1000)
 part_field PercentThousandth figure parts = quotient_text figure (parts * 1000)
 
--- the mean, the least and the most of a figure over so many plays
-abbrev pub spread_fields : ℕ → Unit → Spread → List ℕ
-spread_fields plays unit spread =
-    next_field (part_field unit spread.sum plays)
+-- the mean, the least and the most of a figure over the plays that have it, or three empty fields if none has
+unfoldable pub spread_fields : Unit → Spread → List ℕ
+spread_fields unit spread =
+    if spread.plays == 0 then codes ",,,"
+    else next_field (part_field unit spread.sum spread.plays)
     ++ (next_field (part_field unit spread.least 1) ++ next_field (part_field unit spread.most 1))
 
--- a thread's row: the number of plays that ended with it, its draws, its ticks, and its share of all ticks
-abbrev pub figures_record : ℕ → Figures → List ℕ
-figures_record t figures =
-    decimal t ++ (next_field figures.name ++ (next_field (decimal figures.plays)
-    ++ (spread_fields figures.plays One figures.quanta ++ (spread_fields figures.plays One figures.ticks
-    ++ (spread_fields figures.plays PercentThousandth figures.share ++ newline)))))
+-- a thread's draws, its ticks, and its share of all ticks
+unfoldable pub counts_fields : Figures → List ℕ
+counts_fields figures =
+    spread_fields One figures.quanta ++ (spread_fields One figures.ticks ++ spread_fields PercentThousandth figures.share)
+
+-- the number of waits of one kind, their mean in a play, and the longest of a play
+unfoldable pub span_figures_fields : SpanFigures → List ℕ
+span_figures_fields waits =
+    spread_fields One waits.count ++ (spread_fields Thousandth waits.mean ++ spread_fields One waits.longest)
+
+-- what only the rows of a timed program's threads have: what the thread was due, its share of the live value, its waits
+-- to run, for mutexes and for replies, its refused traps, and when it was made and ended
+unfoldable pub timed_fields : Figures → List ℕ
+timed_fields figures =
+    spread_fields PercentThousandth figures.due ++ (spread_fields PercentThousandth figures.value
+    ++ (span_figures_fields figures.ready ++ (span_figures_fields figures.mutexes ++ (span_figures_fields figures.replies
+    ++ (spread_fields One figures.refused ++ (spread_fields One figures.made ++ spread_fields One figures.ended))))))
+
+-- a currency's ticks, its share of all ticks, and what it was due
+unfoldable pub currency_fields : Figures → List ℕ
+currency_fields figures =
+    spread_fields One figures.ticks
+    ++ (spread_fields PercentThousandth figures.share ++ spread_fields PercentThousandth figures.due)
+
+-- the fields of a row in this table, after the number of plays
+abbrev pub figures_fields : FiguresTable → Figures → List ℕ
+figures_fields Schedule figures = counts_fields figures
+figures_fields Timed figures = counts_fields figures ++ timed_fields figures
+figures_fields OfCurrencies figures = currency_fields figures
+
+-- the row of the thread or the currency with this number in this table; it begins with the number of plays that ended
+-- with it
+abbrev pub figures_record : FiguresTable → ℕ → Figures → List ℕ
+figures_record table n figures =
+    decimal n ++ (next_field figures.name ++ (next_field (decimal figures.plays)
+    ++ (figures_fields table figures ++ newline)))

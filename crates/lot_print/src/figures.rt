@@ -1,23 +1,31 @@
 //! The lines of a report over several plays.
 ghost use Rattle.std.specs.Prelude.{◌≡◌, ◌<◌, ◌≤◌, ◌+◌, ◌++◌, codes, false, length};
-ghost use Rattle.lot_print.specs.Figures.{figure_text, figures_line, seeds_line, spread_text};
+ghost use Rattle.lot_print.specs.Figures.{counts_text, dues_text, figure_text, figures_lines, life_line};
+ghost use Rattle.lot_print.specs.Figures.{lives_line, processor_counts, processor_figures_line, refused_line};
+ghost use Rattle.lot_print.specs.Figures.{seeds_line, shares_line, spread_text, subject_text, waits_line};
+ghost use Rattle.lot_print.specs.Figures.{whole_counts, whole_figures_lines};
 ghost use Rattle.lot_io.specs.Writing.{Writes};
 
-use crate::lengths::FIGURES_ROW;
+use crate::lengths::FIGURES_LINES;
 use crate::line::Line;
 use crate::rows::push_named;
 use lot_io::{IoFault, Watched};
 use lot_machine::Name;
 use std::io::Write;
 
-/// A line of a report over several plays.
-type FiguresLine = Line<FIGURES_ROW>;
+/// Lines of a report over several plays.
+type FiguresLines = Line<FIGURES_LINES>;
 
-/// A figure over several plays: the sum, which saturates at the largest `u128`, the least and the most.
+/// A figure over several plays.
 #[derive(Clone, Copy)]
 pub struct Spread {
+    /// The number of plays that have the figure.
+    pub plays: u64,
+    /// The sum, which saturates at the largest `u128`.
     pub sum: u128,
+    /// The least, or 0 if no play has the figure.
     pub least: u128,
+    /// The most, or 0 if no play has the figure.
     pub most: u128,
 }
 
@@ -26,88 +34,371 @@ pub struct Spread {
 pub enum Unit {
     /// One.
     One,
+    /// A thousandth.
+    Thousandth,
     /// A thousandth of a percent.
     PercentThousandth,
 }
 
-/// A thread's figures over several plays.
+/// Spans of time over several plays: a thread's waits of one kind, or the lives of threads.
+#[derive(Clone, Copy)]
+pub struct SpanFigures {
+    /// The number of spans.
+    pub count: Spread,
+    /// The mean of a play's spans, in thousandths of a tick; a play without such spans has none.
+    pub mean: Spread,
+    /// The longest of a play's spans, in ticks; a play without such spans has none.
+    pub longest: Spread,
+}
+
+/// The figures of a thread or a currency over several plays. No play has a figure that reports of its kind don't tell:
+/// those from `due` on are told of threads of timed programs alone, and `ticks`, `share` and `due` of currencies.
 #[derive(Drop)]
 pub struct Figures {
-    /// The thread's name at the end of the last play with it.
+    /// The name at the end of the last play that ended with the thread or the currency.
     pub name: Name,
-    /// The number of plays that ended with the thread.
+    /// The number of such plays.
     pub plays: u64,
     /// The draws that it won.
     pub quanta: Spread,
-    /// The ticks that it used.
+    /// The ticks that it used, or that the threads below the currency did.
     pub ticks: Spread,
-    /// Its share of the ticks of all threads, in thousandths of a percent.
+    /// Their share of the ticks of all threads, in thousandths of a percent.
     pub share: Spread,
+    /// What it was due of the time, in thousandths of a percent.
+    pub due: Spread,
+    /// Its share of the live value at the end, in thousandths of a percent.
+    pub value: Spread,
+    /// Its waits to run, for mutexes and for replies.
+    pub ready: SpanFigures,
+    pub mutexes: SpanFigures,
+    pub replies: SpanFigures,
+    /// How many of its traps were refused.
+    pub refused: Spread,
+    /// When it was made.
+    pub made: Spread,
+    /// When it ended; a play in which it didn't has no such time.
+    pub ended: Spread,
 }
 
-/// Writes a thread's line of a report over several plays.
+/// A processor's figures over several plays.
+#[derive(Clone, Copy)]
+pub struct ProcessorFigures {
+    /// The number of plays.
+    pub plays: u64,
+    /// The draws won.
+    pub quanta: Spread,
+    /// The idle draws.
+    pub idles: Spread,
+    /// The ticks used there.
+    pub ticks: Spread,
+    /// The ticks in which it was idle.
+    pub unused: Spread,
+}
+
+/// The figures of all actors over several plays.
+#[derive(Clone, Copy)]
+pub struct WholeFigures {
+    /// The number of plays.
+    pub plays: u64,
+    /// The turns.
+    pub turns: Spread,
+    /// The draws won.
+    pub quanta: Spread,
+    /// The ticks used.
+    pub ticks: Spread,
+    /// The commands refused.
+    pub refused: Spread,
+    /// The commands never made.
+    pub left: Spread,
+    /// The lives of the threads that have ended.
+    pub lives: SpanFigures,
+}
+
+/// What lines are about.
+#[derive(Clone, Copy)]
+pub enum Subject {
+    Thread,
+    Currency,
+}
+
+/// Writes the lines of the thread or the currency with this number in a report over several plays.
 pub fn write_figures<W: Write>(
     writer: &mut Watched<W>,
+    subject: Subject,
     number: u32,
     figures: &Figures,
 ) -> Result<(), IoFault>
-    requires working { writer.old.failed ≡ false }
-    requires some { 0 < figures.now.plays }
-    ensures { Writes W.contents writer.old writer.new result (figures_line number figures.now) }
+    requires { writer.old.failed ≡ false }
+    ensures { Writes W.contents writer.old writer.new result (figures_lines subject number figures.now) }
 {
-    thread_line(number, figures).write_to(writer)
+    lines_of(subject, number, figures).write_to(writer)
 }
 
-/// A thread's line of a report over several plays.
-fn thread_line(number: u32, figures: &Figures) -> FiguresLine
-    requires { 0 < figures.now.plays }
-    ensures { result ≡ figures_line number figures.now }
+/// The lines of the thread or the currency with this number in a report over several plays.
+fn lines_of(subject: Subject, number: u32, figures: &Figures) -> FiguresLines
+    ensures { result ≡ figures_lines subject number figures.now }
 {
-    let plays = figures.plays;
-    let mut line = FiguresLine::new();
-    push_named(&mut line, "thread ", number, &figures.name);
-    line.push_field(" plays ", plays);
-    push_spread(&mut line, " quanta", plays, Unit::One, figures.quanta);
-    push_spread(&mut line, " ticks", plays, Unit::One, figures.ticks);
-    push_spread(
-        &mut line,
-        " share",
-        plays,
-        Unit::PercentThousandth,
-        figures.share,
+    let mut lines = FiguresLines::new();
+    push_shares(&mut lines, subject, number, figures);
+    push_waits(
+        &mut lines,
+        subject,
+        number,
+        figures,
+        " ready",
+        figures.ready,
     );
+    push_waits(
+        &mut lines,
+        subject,
+        number,
+        figures,
+        " mutex",
+        figures.mutexes,
+    );
+    push_waits(
+        &mut lines,
+        subject,
+        number,
+        figures,
+        " reply",
+        figures.replies,
+    );
+    push_refused(&mut lines, subject, number, figures);
+    push_life(&mut lines, subject, number, figures);
+    lines
+}
+
+/// Appends the first line: the number of plays, and what the thread or the currency had and was due.
+#[tactic(auto, unfolding(crate::specs::Figures::shares_line))]
+fn push_shares(lines: &mut FiguresLines, subject: Subject, number: u32, figures: &Figures)
+    requires { length lines.old ≤ 100 }
+    ensures text { lines.new ≡ lines.old ++ shares_line subject number figures.now }
+    ensures len { length lines.new ≤ length lines.old + 869 }
+{
+    push_subject(lines, subject, number, figures);
+    lines.push_field(" plays ", figures.plays);
+    push_counts(lines, figures);
+    push_dues(lines, figures);
+    lines.push_text("\n");
+}
+
+/// Appends the draws, the ticks, and their share of all ticks.
+#[tactic(auto, unfolding(crate::specs::Figures::counts_text))]
+fn push_counts(lines: &mut FiguresLines, figures: &Figures)
+    requires { length lines.old ≤ 200 }
+    ensures text { lines.new ≡ lines.old ++ counts_text figures.now }
+    ensures len { length lines.new ≤ length lines.old + 483 }
+{
+    push_spread(lines, " quanta", Unit::One, figures.quanta);
+    push_spread(lines, " ticks", Unit::One, figures.ticks);
+    push_spread(lines, " share", Unit::PercentThousandth, figures.share);
+}
+
+/// Appends what the thread or the currency was due, and its share of the live value.
+#[tactic(auto, unfolding(crate::specs::Figures::dues_text))]
+fn push_dues(lines: &mut FiguresLines, figures: &Figures)
+    requires { length lines.old ≤ 700 }
+    ensures text { lines.new ≡ lines.old ++ dues_text figures.now }
+    ensures len { length lines.new ≤ length lines.old + 322 }
+{
+    push_spread(lines, " due", Unit::PercentThousandth, figures.due);
+    push_spread(lines, " value", Unit::PercentThousandth, figures.value);
+}
+
+/// Appends the line for waits of one kind, if there were any.
+#[tactic(auto, unfolding(crate::specs::Figures::waits_line))]
+fn push_waits(
+    lines: &mut FiguresLines,
+    subject: Subject,
+    number: u32,
+    figures: &Figures,
+    what: &str,
+    waits: SpanFigures,
+)
+    requires { (length lines.old ≤ 2000) × (length what.now ≤ 6) }
+    ensures text { lines.new ≡ lines.old ++ waits_line subject number figures.now what.now waits }
+    ensures len { length lines.new ≤ length lines.old + 526 }
+{
+    if waits.longest.plays == 0 {
+        return;
+    }
+    push_subject(lines, subject, number, figures);
+    lines.push_text(what);
+    push_spread(lines, " waits", Unit::One, waits.count);
+    push_spread(lines, " average", Unit::Thousandth, waits.mean);
+    push_spread(lines, " longest", Unit::One, waits.longest);
+    lines.push_text("\n");
+}
+
+/// Appends the line for refused traps, if there were any.
+#[tactic(auto, unfolding(crate::specs::Figures::refused_line))]
+fn push_refused(lines: &mut FiguresLines, subject: Subject, number: u32, figures: &Figures)
+    requires { length lines.old ≤ 2500 }
+    ensures text { lines.new ≡ lines.old ++ refused_line subject number figures.now }
+    ensures len { length lines.new ≤ length lines.old + 198 }
+{
+    if figures.refused.most == 0 {
+        return;
+    }
+    push_subject(lines, subject, number, figures);
+    push_spread(lines, " refused", Unit::One, figures.refused);
+    lines.push_text("\n");
+}
+
+/// Appends the line for lives, if the thread ended in a play.
+#[tactic(auto, unfolding(crate::specs::Figures::life_line))]
+fn push_life(lines: &mut FiguresLines, subject: Subject, number: u32, figures: &Figures)
+    requires { length lines.old ≤ 2650 }
+    ensures text { lines.new ≡ lines.old ++ life_line subject number figures.now }
+    ensures len { length lines.new ≤ length lines.old + 407 }
+{
+    if figures.ended.plays == 0 {
+        return;
+    }
+    push_subject(lines, subject, number, figures);
+    push_spread(lines, " made", Unit::One, figures.made);
+    push_spread(lines, " ended", Unit::One, figures.ended);
+    lines.push_field(" in ", figures.ended.plays);
+    lines.push_field(" of ", figures.plays);
+    lines.push_text("\n");
+}
+
+/// Appends what a line is about, and its name.
+fn push_subject(lines: &mut FiguresLines, subject: Subject, number: u32, figures: &Figures)
+    requires { length lines.old ≤ 2700 }
+    ensures text { lines.new ≡ lines.old ++ subject_text subject number figures.now }
+    ensures len { length lines.new ≤ length lines.old + 36 }
+{
+    match subject {
+        Subject::Thread => push_named(lines, "thread ", number, &figures.name),
+        Subject::Currency => push_named(lines, "currency ", number, &figures.name),
+    }
+}
+
+/// Appends a word, and the mean, the least and the most of a figure over the plays that have it, if any has.
+#[tactic(auto, unfolding(crate::specs::Figures::spread_text))]
+fn push_spread(lines: &mut FiguresLines, what: &str, unit: Unit, spread: Spread)
+    requires room { (length lines.old ≤ 2900) × (length what.now ≤ 8) }
+    ensures text { lines.new ≡ lines.old ++ spread_text what.now unit spread }
+    ensures len { length lines.new ≤ length lines.old + 161 }
+{
+    if spread.plays == 0 {
+        return;
+    }
+    lines.push_text(what);
+    push_figure(lines, " mean ", unit, spread.sum, spread.plays);
+    push_figure(lines, " least ", unit, spread.least, 1);
+    push_figure(lines, " most ", unit, spread.most, 1);
+}
+
+/// Appends a word, and a part of a figure, one of so many.
+fn push_figure(lines: &mut FiguresLines, what: &str, unit: Unit, figure: u128, parts: u64)
+    requires room { (length lines.old ≤ 3020) × (length what.now ≤ 7) }
+    requires some { 0 < parts }
+    ensures text { lines.new ≡ lines.old ++ (what.now ++ figure_text unit figure parts) }
+    ensures len { length lines.new ≤ length lines.old + 51 }
+{
+    match unit {
+        Unit::One => lines.push_quotient(what, figure, u128::from(parts)),
+        Unit::Thousandth => lines.push_quotient(what, figure, u128::from(parts) * 1000),
+        Unit::PercentThousandth => {
+            lines.push_quotient(what, figure, u128::from(parts) * 1000);
+            lines.push_text("%");
+        }
+    }
+}
+
+/// Writes a processor's line in a report over several plays.
+pub fn write_processor_figures<W: Write>(
+    writer: &mut Watched<W>,
+    number: u32,
+    figures: &ProcessorFigures,
+) -> Result<(), IoFault>
+    requires { writer.old.failed ≡ false }
+    ensures { Writes W.contents writer.old writer.new result (processor_figures_line number figures.now) }
+{
+    processor_line(number, figures).write_to(writer)
+}
+
+/// A processor's line in a report over several plays.
+fn processor_line(number: u32, figures: &ProcessorFigures) -> FiguresLines
+    ensures { result ≡ processor_figures_line number figures.now }
+{
+    let mut line = FiguresLines::new();
+    line.push_field("processor ", number);
+    line.push_field(" plays ", figures.plays);
+    push_processor_counts(&mut line, figures);
     line.push_text("\n");
     line
 }
 
-/// Appends a word, and the mean, the least and the most of a figure over so many plays.
-#[tactic(auto, unfolding(crate::specs::Figures::spread_text))]
-fn push_spread(line: &mut FiguresLine, what: &str, plays: u64, unit: Unit, spread: Spread)
-    requires room { (length line.old ≤ 400) × (length what.now ≤ 7) }
-    requires some { 0 < plays }
-    ensures text { line.new ≡ line.old ++ (what.now ++ spread_text plays unit spread) }
-    ensures len { length line.new ≤ length line.old + 160 }
+/// Appends the draws, the idle draws, the ticks used, and those in which the processor was idle.
+#[tactic(auto, unfolding(crate::specs::Figures::processor_counts))]
+fn push_processor_counts(line: &mut FiguresLines, figures: &ProcessorFigures)
+    requires { length line.old ≤ 200 }
+    ensures text { line.new ≡ line.old ++ processor_counts figures.now }
+    ensures len { length line.new ≤ length line.old + 644 }
 {
-    line.push_text(what);
-    push_figure(line, " mean ", unit, spread.sum, plays);
-    push_figure(line, " least ", unit, spread.least, 1);
-    push_figure(line, " most ", unit, spread.most, 1);
+    push_spread(line, " quanta", Unit::One, figures.quanta);
+    push_spread(line, " idle", Unit::One, figures.idles);
+    push_spread(line, " ticks", Unit::One, figures.ticks);
+    push_spread(line, " unused", Unit::One, figures.unused);
 }
 
-/// Appends a word, and a part of a figure, one of so many.
-fn push_figure(line: &mut FiguresLine, what: &str, unit: Unit, figure: u128, parts: u64)
-    requires room { (length line.old ≤ 550) × (length what.now ≤ 7) }
-    requires some { 0 < parts }
-    ensures text { line.new ≡ line.old ++ (what.now ++ figure_text unit figure parts) }
-    ensures len { length line.new ≤ length line.old + 51 }
+/// Writes the last lines of a report over several plays.
+pub fn write_whole_figures<W: Write>(
+    writer: &mut Watched<W>,
+    figures: &WholeFigures,
+) -> Result<(), IoFault>
+    requires { writer.old.failed ≡ false }
+    ensures { Writes W.contents writer.old writer.new result (whole_figures_lines figures.now) }
 {
-    match unit {
-        Unit::One => line.push_quotient(what, figure, u128::from(parts)),
-        Unit::PercentThousandth => {
-            line.push_quotient(what, figure, u128::from(parts) * 1000);
-            line.push_text("%");
-        }
+    whole_lines(figures).write_to(writer)
+}
+
+/// The last lines of a report over several plays.
+fn whole_lines(figures: &WholeFigures) -> FiguresLines
+    ensures { result ≡ whole_figures_lines figures.now }
+{
+    let mut lines = FiguresLines::new();
+    lines.push_field("total plays ", figures.plays);
+    push_whole_counts(&mut lines, figures);
+    lines.push_text("\n");
+    push_lives(&mut lines, figures.lives);
+    lines
+}
+
+/// Appends the turns, the draws, the ticks, and the commands refused and never made.
+#[tactic(auto, unfolding(crate::specs::Figures::whole_counts))]
+fn push_whole_counts(lines: &mut FiguresLines, figures: &WholeFigures)
+    requires { length lines.old ≤ 200 }
+    ensures text { lines.new ≡ lines.old ++ whole_counts figures.now }
+    ensures len { length lines.new ≤ length lines.old + 805 }
+{
+    push_spread(lines, " turns", Unit::One, figures.turns);
+    push_spread(lines, " quanta", Unit::One, figures.quanta);
+    push_spread(lines, " ticks", Unit::One, figures.ticks);
+    push_spread(lines, " refused", Unit::One, figures.refused);
+    push_spread(lines, " left", Unit::One, figures.left);
+}
+
+/// Appends the line of the threads that have ended, if any has.
+#[tactic(auto, unfolding(crate::specs::Figures::lives_line))]
+fn push_lives(lines: &mut FiguresLines, lives: SpanFigures)
+    requires { length lines.old ≤ 1500 }
+    ensures text { lines.new ≡ lines.old ++ lives_line lives }
+    ensures len { length lines.new ≤ length lines.old + 500 }
+{
+    if lives.longest.plays == 0 {
+        return;
     }
+    lines.push_text("total");
+    push_spread(lines, " ended", Unit::One, lives.count);
+    push_spread(lines, " average", Unit::Thousandth, lives.mean);
+    push_spread(lines, " longest", Unit::One, lives.longest);
+    lines.push_text("\n");
 }
 
 /// Writes the first line of a report over plays with these seeds.
@@ -119,10 +410,10 @@ pub fn write_seeds<W: Write>(writer: &mut Watched<W>, first: u32, last: u32) -> 
 }
 
 /// The first line of a report over plays with these seeds.
-fn seeds_text(first: u32, last: u32) -> FiguresLine
+fn seeds_text(first: u32, last: u32) -> FiguresLines
     ensures { result ≡ seeds_line first last }
 {
-    let mut line = FiguresLine::new();
+    let mut line = FiguresLines::new();
     line.push_field("seeds ", first);
     line.push_field(" to ", last);
     line.push_text("\n");

@@ -172,14 +172,49 @@ const TIMED_CURRENCY: usize = NAMED + b" ticks ".len() + LONG_NUMBER + PERCENT +
 pub(crate) const TIMED_ROW: usize = 640;
 
 /// A figure's word, and its mean, its least and its most over several plays.
-const SPREAD: usize = b" quanta".len()
+const SPREAD: usize = b" longest".len()
     + b" mean ".len()
     + b" least ".len()
     + b" most ".len()
     + 3 * (QUOTIENT + 1);
 
-/// The longest line of a report over several plays.
-pub(crate) const FIGURES_ROW: usize = 640;
+/// The number of plays, and a thread's or a currency's first figures.
+const SHARES_LINE: usize = NAMED + b" plays ".len() + LONG_NUMBER + 5 * SPREAD + 1;
+
+/// The line for waits of one kind over several plays.
+const WAITS_LINE: usize = NAMED + b" mutex".len() + 3 * SPREAD + 1;
+
+/// The line for refused traps over several plays.
+const REFUSED_LINE: usize = NAMED + SPREAD + 1;
+
+/// The line for lives over several plays.
+const LIFE_LINE: usize = NAMED
+    + 2 * SPREAD
+    + b" in ".len()
+    + LONG_NUMBER
+    + b" of ".len()
+    + LONG_NUMBER
+    + 1;
+
+/// A processor's line over several plays.
+const PROCESSOR_LINE: usize = b"processor ".len()
+    + NUMBER
+    + b" plays ".len()
+    + LONG_NUMBER
+    + 4 * SPREAD
+    + 1;
+
+/// The last lines over several plays.
+const WHOLE_LINES: usize = b"total plays ".len()
+    + LONG_NUMBER
+    + 5 * SPREAD
+    + 1
+    + b"total".len()
+    + 3 * SPREAD
+    + 1;
+
+/// All lines of a thread or a currency in a report over several plays; others are shorter.
+pub(crate) const FIGURES_LINES: usize = 3072;
 
 /// A number and its name, the first fields of a row in a table.
 const NAMED_FIELDS: usize = NUMBER + 1 + NAME;
@@ -195,11 +230,11 @@ const TIMED_FIELDS: usize = NAMED_FIELDS
 /// A currency's row in the table of a timed program's currencies.
 const CURRENCY_FIELDS: usize = NAMED_FIELDS + 1 + LONG_NUMBER + 2 * (1 + QUOTIENT) + 1;
 
-/// A thread's row in the table of a report over several plays.
-const FIGURES_FIELDS: usize = NAMED_FIELDS + 1 + LONG_NUMBER + 9 * (1 + QUOTIENT) + 1;
+/// A thread's row in the table of a report over several plays of a timed program.
+const FIGURES_FIELDS: usize = NAMED_FIELDS + 1 + LONG_NUMBER + 17 * 3 * (1 + QUOTIENT) + 1;
 
 /// The longest row of a table.
-pub(crate) const TABLE_ROW: usize = 512;
+pub(crate) const TABLE_ROW: usize = 2304;
 
 /// A `schedule` line.
 pub(crate) const SCHEDULE_LINE: usize = SCHEDULE_WORD.len() + ACTORS * (1 + ACTOR) + 1;
@@ -212,7 +247,9 @@ const _: () = prove!(LOT <= LOT_ROW);
 
 const _: () = prove!(TIMED_THREAD <= TIMED_ROW && TIMED_CURRENCY <= TIMED_ROW);
 
-const _: () = prove!(NAMED + b" plays ".len() + LONG_NUMBER + 3 * SPREAD + 1 <= FIGURES_ROW);
+const _: () = prove!(PROCESSOR_LINE <= FIGURES_LINES && WHOLE_LINES <= FIGURES_LINES);
+
+const _: () = prove!(SHARES_LINE + 3 * WAITS_LINE + REFUSED_LINE + LIFE_LINE <= FIGURES_LINES);
 
 const _: () = prove!(TIMED_FIELDS <= TABLE_ROW && FIGURES_FIELDS <= TABLE_ROW);
 

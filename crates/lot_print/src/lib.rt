@@ -20,7 +20,10 @@ mod table_rows;
 mod timed_totals;
 mod totals;
 
-pub use figures::{Figures, Spread, Unit, write_figures, write_seeds};
+pub use figures::{
+    Figures, ProcessorFigures, SpanFigures, Spread, Subject, Unit, WholeFigures, write_figures,
+    write_processor_figures, write_seeds, write_whole_figures,
+};
 pub use funds::{write_currency_funds, write_ticket_funds};
 pub use histories::write_history;
 pub use laws::histories_are_read_back;
@@ -31,8 +34,8 @@ pub use refused::write_fault;
 pub use replies::{Heading, write_ended, write_reply};
 pub use rows::{write_currency, write_listing_line, write_thread, write_ticket};
 pub use table_rows::{
-    Columns, write_figures_record, write_header, write_thread_record, write_timed_currency_record,
-    write_timed_thread_record,
+    Columns, FiguresTable, write_figures_record, write_header, write_thread_record,
+    write_timed_currency_record, write_timed_thread_record,
 };
 pub use timed_totals::{
     CurrencyShares, ThreadShares, TimedProcessorTotal, TimedWholeTotal, write_early_end,

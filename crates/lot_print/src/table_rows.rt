@@ -1,14 +1,18 @@
 //! The rows of a report as a table: fields with commas between them.
 ghost use Rattle.std.specs.Prelude.{◌≡◌, ◌<◌, ◌≤◌, ◌+◌, ◌*◌, ◌^◌, ◌++◌, codes, false, length};
 ghost use Rattle.std.specs.Fmt.{decimal};
+ghost use Rattle.lot_simulation.specs.Texts.{newline};
 ghost use Rattle.lot_simulation.specs.TimedReport.{tick_parts};
 ghost use Rattle.lot_print.specs.TableRows as rows;
-ghost use Rattle.lot_print.specs.TableRows.{figures_record, header_row, next_field, part_field, percent_field};
-ghost use Rattle.lot_print.specs.TableRows.{spread_fields, thread_fields, thread_record, timed_currency_record};
-ghost use Rattle.lot_print.specs.TableRows.{life_fields, timed_thread_record, waits_fields};
+ghost use Rattle.lot_print.specs.TableRows.{counts_fields, counts_names, currency_fields, currency_names, dues_names};
+ghost use Rattle.lot_print.specs.TableRows.{figures_header, figures_record, header_row, life_fields, life_names};
+ghost use Rattle.lot_print.specs.TableRows.{mutex_names, next_field, part_field, ready_names, reply_names};
+ghost use Rattle.lot_print.specs.TableRows.{percent_field, spread_fields, spread_names, thread_fields, thread_record};
+ghost use Rattle.lot_print.specs.TableRows.{timed_currency_record, timed_fields, timed_names, timed_thread_record};
+ghost use Rattle.lot_print.specs.TableRows.{span_figures_fields, waits_fields};
 ghost use Rattle.lot_io.specs.Writing.{Writes};
 
-use crate::figures::{Figures, Spread, Unit};
+use crate::figures::{Figures, SpanFigures, Spread, Unit};
 use crate::lengths::TABLE_ROW;
 use crate::line::Line;
 use crate::timed_totals::{CurrencyShares, ThreadShares};
@@ -30,7 +34,18 @@ pub enum Columns {
     /// Those of a timed program's currencies.
     Currencies,
     /// Those of a report over several plays.
-    Figures,
+    Figures(FiguresTable),
+}
+
+/// What a table of a report over several plays has rows for.
+#[derive(Clone, Copy, Debug)]
+pub enum FiguresTable {
+    /// The threads of a schedule.
+    Schedule,
+    /// The threads of a timed program.
+    Timed,
+    /// The currencies of a timed program.
+    OfCurrencies,
 }
 
 /// Writes the first row of a table with these columns.
@@ -56,14 +71,140 @@ fn header_of(columns: Columns) -> TableRow
             row.push_text(",reply_waits,reply_mean,reply_longest,refused,made,ended\n");
         }
         Columns::Currencies => row.push_text("currency,name,ticks,share_percent,due_percent\n"),
-        Columns::Figures => {
-            row.push_text(
-                "thread,name,plays,quanta_mean,quanta_least,quanta_most,ticks_mean,ticks_least,ticks_most",
-            );
-            row.push_text(",share_percent_mean,share_percent_least,share_percent_most\n");
+        Columns::Figures(table) => {
+            push_figures_names(&mut row, table);
+            row.push_text("\n");
         }
     }
     row
+}
+
+/// Appends the columns' names of this table of a report over several plays.
+fn push_figures_names(row: &mut TableRow, table: FiguresTable)
+    requires { length row.old ≤ 100 }
+    ensures text { row.new ≡ row.old ++ figures_header table }
+    ensures len { length row.new ≤ length row.old + 1100 }
+{
+    match table {
+        FiguresTable::Schedule => {
+            row.push_text("thread,name,plays");
+            push_counts_names(row);
+        }
+        FiguresTable::Timed => {
+            row.push_text("thread,name,plays");
+            push_counts_names(row);
+            push_timed_names(row);
+        }
+        FiguresTable::OfCurrencies => {
+            row.push_text("currency,name,plays");
+            push_currency_names(row);
+        }
+    }
+}
+
+/// Appends the names of the columns for a thread's draws, ticks, and share of all ticks.
+fn push_counts_names(row: &mut TableRow)
+    requires { length row.old ≤ 200 }
+    ensures text { row.new ≡ row.old ++ counts_names }
+    ensures len { length row.new ≤ length row.old + 174 }
+{
+    push_names(row, "quanta");
+    push_names(row, "ticks");
+    push_names(row, "share_percent");
+}
+
+/// Appends the names of the columns that only the table of a timed program's threads has.
+fn push_timed_names(row: &mut TableRow)
+    requires { length row.old ≤ 400 }
+    ensures text { row.new ≡ row.old ++ timed_names }
+    ensures len { length row.new ≤ length row.old + 812 }
+{
+    push_dues_names(row);
+    push_ready_names(row);
+    push_mutex_names(row);
+    push_reply_names(row);
+    push_life_names(row);
+}
+
+/// Appends the names of the columns for what a thread was due, and its share of the live value.
+fn push_dues_names(row: &mut TableRow)
+    requires { length row.old ≤ 400 }
+    ensures text { row.new ≡ row.old ++ dues_names }
+    ensures len { length row.new ≤ length row.old + 116 }
+{
+    push_names(row, "due_percent");
+    push_names(row, "value_percent");
+}
+
+/// Appends those for its waits to run.
+fn push_ready_names(row: &mut TableRow)
+    requires { length row.old ≤ 600 }
+    ensures text { row.new ≡ row.old ++ ready_names }
+    ensures len { length row.new ≤ length row.old + 174 }
+{
+    push_names(row, "ready_waits");
+    push_names(row, "ready_mean");
+    push_names(row, "ready_longest");
+}
+
+/// Appends those for its waits for mutexes.
+fn push_mutex_names(row: &mut TableRow)
+    requires { length row.old ≤ 800 }
+    ensures text { row.new ≡ row.old ++ mutex_names }
+    ensures len { length row.new ≤ length row.old + 174 }
+{
+    push_names(row, "mutex_waits");
+    push_names(row, "mutex_mean");
+    push_names(row, "mutex_longest");
+}
+
+/// Appends those for its waits for replies.
+fn push_reply_names(row: &mut TableRow)
+    requires { length row.old ≤ 1000 }
+    ensures text { row.new ≡ row.old ++ reply_names }
+    ensures len { length row.new ≤ length row.old + 174 }
+{
+    push_names(row, "reply_waits");
+    push_names(row, "reply_mean");
+    push_names(row, "reply_longest");
+}
+
+/// Appends those for its refused traps, and for when it was made and ended.
+fn push_life_names(row: &mut TableRow)
+    requires { length row.old ≤ 1200 }
+    ensures text { row.new ≡ row.old ++ life_names }
+    ensures len { length row.new ≤ length row.old + 174 }
+{
+    push_names(row, "refused");
+    push_names(row, "made");
+    push_names(row, "ended");
+}
+
+/// Appends the names of the columns for a currency's ticks, their share of all ticks, and what it was due.
+fn push_currency_names(row: &mut TableRow)
+    requires { length row.old ≤ 200 }
+    ensures text { row.new ≡ row.old ++ currency_names }
+    ensures len { length row.new ≤ length row.old + 174 }
+{
+    push_names(row, "ticks");
+    push_names(row, "share_percent");
+    push_names(row, "due_percent");
+}
+
+/// Appends the names of three columns, for the mean, the least and the most of a figure.
+#[tactic(auto, unfolding(crate::specs::TableRows::spread_names))]
+fn push_names(row: &mut TableRow, what: &str)
+    requires { (length row.old ≤ 1500) × (length what.now ≤ 13) }
+    ensures text { row.new ≡ row.old ++ spread_names what.now }
+    ensures len { length row.new ≤ length row.old + 58 }
+{
+    row.push_text(",");
+    row.push_text(what);
+    row.push_text("_mean,");
+    row.push_text(what);
+    row.push_text("_least,");
+    row.push_text(what);
+    row.push_text("_most");
 }
 
 /// Writes a thread's row in the table of a schedule's report.
@@ -149,33 +290,89 @@ fn currency_row(number: u32, name: &Name, shares: CurrencyShares) -> TableRow
     fields
 }
 
-/// Writes a thread's row in the table of a report over several plays.
+/// Writes the row of the thread or the currency with this number in this table of a report over several plays.
 pub fn write_figures_record<W: Write>(
     writer: &mut Watched<W>,
+    table: FiguresTable,
     number: u32,
     figures: &Figures,
 ) -> Result<(), IoFault>
-    requires working { writer.old.failed ≡ false }
-    requires some { 0 < figures.now.plays }
-    ensures { Writes W.contents writer.old writer.new result (figures_record number figures.now) }
+    requires { writer.old.failed ≡ false }
+    ensures { Writes W.contents writer.old writer.new result (figures_record table number figures.now) }
 {
-    figures_row(number, figures).write_to(writer)
+    figures_row(table, number, figures).write_to(writer)
 }
 
-/// A thread's row in the table of a report over several plays.
-fn figures_row(number: u32, figures: &Figures) -> TableRow
-    requires { 0 < figures.now.plays }
-    ensures { result ≡ figures_record number figures.now }
+/// The row of the thread or the currency with this number in this table of a report over several plays.
+fn figures_row(table: FiguresTable, number: u32, figures: &Figures) -> TableRow
+    ensures { result ≡ figures_record table number figures.now }
 {
-    let plays = figures.plays;
     let mut fields = TableRow::new();
     push_named(&mut fields, number, &figures.name);
-    fields.push_field(",", plays);
-    push_spread(&mut fields, plays, Unit::One, figures.quanta);
-    push_spread(&mut fields, plays, Unit::One, figures.ticks);
-    push_spread(&mut fields, plays, Unit::PercentThousandth, figures.share);
+    fields.push_field(",", figures.plays);
+    match table {
+        FiguresTable::Schedule => push_counts(&mut fields, figures),
+        FiguresTable::Timed => {
+            push_counts(&mut fields, figures);
+            push_timed(&mut fields, figures);
+        }
+        FiguresTable::OfCurrencies => push_currency(&mut fields, figures),
+    }
     fields.push_text("\n");
     fields
+}
+
+/// Appends a thread's draws, its ticks, and its share of all ticks, over several plays.
+#[tactic(auto, unfolding(crate::specs::TableRows::counts_fields))]
+fn push_counts(fields: &mut TableRow, figures: &Figures)
+    requires { length fields.old ≤ 100 }
+    ensures text { fields.new ≡ fields.old ++ counts_fields figures.now }
+    ensures len { length fields.new ≤ length fields.old + 396 }
+{
+    push_spread(fields, Unit::One, figures.quanta);
+    push_spread(fields, Unit::One, figures.ticks);
+    push_spread(fields, Unit::PercentThousandth, figures.share);
+}
+
+/// Appends what only the rows of a timed program's threads have, over several plays.
+#[tactic(auto, unfolding(crate::specs::TableRows::timed_fields))]
+fn push_timed(fields: &mut TableRow, figures: &Figures)
+    requires { length fields.old ≤ 444 }
+    ensures text { fields.new ≡ fields.old ++ timed_fields figures.now }
+    ensures len { length fields.new ≤ length fields.old + 1848 }
+{
+    push_spread(fields, Unit::PercentThousandth, figures.due);
+    push_spread(fields, Unit::PercentThousandth, figures.value);
+    push_span_figures(fields, figures.ready);
+    push_span_figures(fields, figures.mutexes);
+    push_span_figures(fields, figures.replies);
+    push_spread(fields, Unit::One, figures.refused);
+    push_spread(fields, Unit::One, figures.made);
+    push_spread(fields, Unit::One, figures.ended);
+}
+
+/// Appends the number of waits of one kind, their mean, and the longest, over several plays.
+#[tactic(auto, unfolding(crate::specs::TableRows::span_figures_fields))]
+fn push_span_figures(fields: &mut TableRow, waits: SpanFigures)
+    requires { length fields.old ≤ 1600 }
+    ensures text { fields.new ≡ fields.old ++ span_figures_fields waits }
+    ensures len { length fields.new ≤ length fields.old + 396 }
+{
+    push_spread(fields, Unit::One, waits.count);
+    push_spread(fields, Unit::Thousandth, waits.mean);
+    push_spread(fields, Unit::One, waits.longest);
+}
+
+/// Appends a currency's ticks, its share of all ticks, and what it was due, over several plays.
+#[tactic(auto, unfolding(crate::specs::TableRows::currency_fields))]
+fn push_currency(fields: &mut TableRow, figures: &Figures)
+    requires { length fields.old ≤ 100 }
+    ensures text { fields.new ≡ fields.old ++ currency_fields figures.now }
+    ensures len { length fields.new ≤ length fields.old + 396 }
+{
+    push_spread(fields, Unit::One, figures.ticks);
+    push_spread(fields, Unit::PercentThousandth, figures.share);
+    push_spread(fields, Unit::PercentThousandth, figures.due);
 }
 
 /// Appends a number and its name.
@@ -298,28 +495,32 @@ fn push_life(fields: &mut TableRow, lives: Spans)
     }
 }
 
-/// Appends the mean, the least and the most of a figure over so many plays.
-fn push_spread(fields: &mut TableRow, plays: u64, unit: Unit, spread: Spread)
-    requires room { length fields.old ≤ 350 }
-    requires some { 0 < plays }
-    ensures text { fields.new ≡ fields.old ++ spread_fields plays unit spread }
+/// Appends the mean, the least and the most of a figure over the plays that have it, or three empty fields if none has.
+#[tactic(auto, unfolding(crate::specs::TableRows::spread_fields))]
+fn push_spread(fields: &mut TableRow, unit: Unit, spread: Spread)
+    requires { length fields.old ≤ 2160 }
+    ensures text { fields.new ≡ fields.old ++ spread_fields unit spread }
     ensures len { length fields.new ≤ length fields.old + 132 }
 {
-    push_part(fields, unit, spread.sum, plays);
+    if spread.plays == 0 {
+        fields.push_text(",,,");
+        return;
+    }
+    push_part(fields, unit, spread.sum, spread.plays);
     push_part(fields, unit, spread.least, 1);
     push_part(fields, unit, spread.most, 1);
 }
 
 /// Appends a field with one of so many parts of a figure.
 fn push_part(fields: &mut TableRow, unit: Unit, figure: u128, parts: u64)
-    requires room { length fields.old ≤ 450 }
+    requires room { length fields.old ≤ 2250 }
     requires some { 0 < parts }
     ensures text { fields.new ≡ fields.old ++ next_field (part_field unit figure parts) }
     ensures len { length fields.new ≤ length fields.old + 44 }
 {
     let whole = match unit {
         Unit::One => u128::from(parts),
-        Unit::PercentThousandth => u128::from(parts) * 1000,
+        Unit::Thousandth | Unit::PercentThousandth => u128::from(parts) * 1000,
     };
     fields.push_quotient(",", figure, whole);
 }

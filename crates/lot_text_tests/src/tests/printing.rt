@@ -8,12 +8,14 @@ use lot_machine::{
     ThreadRow, TicketRow, TrapRefusal,
 };
 use lot_print::{
-    Columns, Figures, Heading, Page, ProcessorTotal, Spread, ThreadShares, TimedProcessorTotal,
-    TimedWholeTotal, WholeTotal, write_currency, write_early_end, write_ended, write_fault,
-    write_figures_record, write_header, write_history, write_listing_line, write_processor_total,
-    write_reply, write_report_line, write_thread, write_thread_record, write_thread_total,
-    write_ticket, write_timed_processor_total, write_timed_thread_record, write_timed_thread_total,
-    write_timed_whole_total, write_whole_total,
+    Columns, Figures, FiguresTable, Heading, Page, ProcessorFigures, ProcessorTotal, SpanFigures,
+    Spread, Subject, ThreadShares, TimedProcessorTotal, TimedWholeTotal, WholeFigures, WholeTotal,
+    write_currency, write_early_end, write_ended, write_fault, write_figures, write_figures_record,
+    write_header, write_history, write_listing_line, write_processor_figures,
+    write_processor_total, write_reply, write_report_line, write_seeds, write_thread,
+    write_thread_record, write_thread_total, write_ticket, write_timed_processor_total,
+    write_timed_thread_record, write_timed_thread_total, write_timed_whole_total,
+    write_whole_figures, write_whole_total,
 };
 use lot_simulation::{
     EarlyEnd, Format, InputFault, InputRefusal, LineStyle, PastLives, Span, Spans,
@@ -1041,9 +1043,34 @@ fn prints_headers(rt: HostRuntime) {
              mutex_waits,mutex_mean,mutex_longest,reply_waits,reply_mean,reply_longest,refused,made,ended\n",
         ),
         (
-            Columns::Figures,
+            Columns::Currencies,
+            "currency,name,ticks,share_percent,due_percent\n",
+        ),
+        (
+            Columns::Figures(FiguresTable::Schedule),
             "thread,name,plays,quanta_mean,quanta_least,quanta_most,ticks_mean,ticks_least,ticks_most,\
              share_percent_mean,share_percent_least,share_percent_most\n",
+        ),
+        (
+            Columns::Figures(FiguresTable::Timed),
+            "thread,name,plays,quanta_mean,quanta_least,quanta_most,ticks_mean,ticks_least,ticks_most,\
+             share_percent_mean,share_percent_least,share_percent_most,\
+             due_percent_mean,due_percent_least,due_percent_most,\
+             value_percent_mean,value_percent_least,value_percent_most,\
+             ready_waits_mean,ready_waits_least,ready_waits_most,ready_mean_mean,ready_mean_least,ready_mean_most,\
+             ready_longest_mean,ready_longest_least,ready_longest_most,\
+             mutex_waits_mean,mutex_waits_least,mutex_waits_most,mutex_mean_mean,mutex_mean_least,mutex_mean_most,\
+             mutex_longest_mean,mutex_longest_least,mutex_longest_most,\
+             reply_waits_mean,reply_waits_least,reply_waits_most,reply_mean_mean,reply_mean_least,reply_mean_most,\
+             reply_longest_mean,reply_longest_least,reply_longest_most,\
+             refused_mean,refused_least,refused_most,made_mean,made_least,made_most,\
+             ended_mean,ended_least,ended_most\n",
+        ),
+        (
+            Columns::Figures(FiguresTable::OfCurrencies),
+            "currency,name,plays,ticks_mean,ticks_least,ticks_most,\
+             share_percent_mean,share_percent_least,share_percent_most,\
+             due_percent_mean,due_percent_least,due_percent_most\n",
         ),
     ] {
         let mut writer = Watched::new(Vec::new(rt.alloc()));
@@ -1064,25 +1091,278 @@ fn prints_records(rt: HostRuntime) {
     check(&rt, writer, ended, "4096,thread2,4,18446744073709551615\n");
 }
 
-/// The spread of these figures.
-fn spread(sum: u128, least: u128, most: u128) -> Spread {
-    Spread { sum, least, most }
+/// The spread of a figure that so many plays have.
+fn spread(plays: u64, sum: u128, least: u128, most: u128) -> Spread {
+    Spread {
+        plays,
+        sum,
+        least,
+        most,
+    }
 }
 
-// Of three plays the draws are 10 in all, 3.333 on average; shares are in thousandths of a percent.
+/// A figure that no play has.
+const NO_FIGURE: Spread = Spread {
+    plays: 0,
+    sum: 0,
+    least: 0,
+    most: 0,
+};
+
+/// Waits that a report doesn't tell.
+const UNTOLD: SpanFigures = SpanFigures {
+    count: NO_FIGURE,
+    mean: NO_FIGURE,
+    longest: NO_FIGURE,
+};
+
+/// Three plays without waits, or without threads that have ended.
+fn no_spans() -> SpanFigures {
+    SpanFigures {
+        count: spread(3, 0, 0, 0),
+        mean: NO_FIGURE,
+        longest: NO_FIGURE,
+    }
+}
+
+/// A play without waits, and two with 3 waits of 7 ticks and 4 of 2 ticks, the longest 5 and 1 ticks.
+fn some_waits() -> SpanFigures {
+    SpanFigures {
+        count: spread(3, 7, 0, 4),
+        mean: spread(2, 2833, 500, 2333),
+        longest: spread(2, 6, 1, 5),
+    }
+}
+
+/// Plays with one wait of 0 ticks, with 2 of one tick, and with 2 of 3 ticks, the longest 0, 1 and 2 ticks.
+fn more_waits() -> SpanFigures {
+    SpanFigures {
+        count: spread(3, 5, 1, 2),
+        mean: spread(3, 2000, 0, 1500),
+        longest: spread(3, 3, 0, 2),
+    }
+}
+
+/// The figures of a thread of a schedule. Shares are in thousandths of a percent.
+fn of_schedule(rt: &impl Abort) -> Figures {
+    Figures {
+        name: name(rt, "a"),
+        plays: 3,
+        quanta: spread(3, 10, 3, 4),
+        ticks: spread(3, 90, 0, 90),
+        share: spread(3, 150000, 45500, 54001),
+        due: NO_FIGURE,
+        value: NO_FIGURE,
+        ready: UNTOLD,
+        mutexes: UNTOLD,
+        replies: UNTOLD,
+        refused: NO_FIGURE,
+        made: NO_FIGURE,
+        ended: NO_FIGURE,
+    }
+}
+
+/// Those of a thread of a timed program, which had a trap refused in one play, and ended in one.
+fn of_timed(rt: &impl Abort) -> Figures {
+    let mut figures = of_schedule(rt);
+    figures.due = spread(3, 100000, 33333, 33334);
+    figures.value = spread(3, 0, 0, 0);
+    figures.ready = some_waits();
+    figures.mutexes = no_spans();
+    figures.replies = more_waits();
+    figures.refused = spread(3, 1, 0, 1);
+    figures.made = spread(3, 10, 0, 10);
+    figures.ended = spread(1, 20, 20, 20);
+    figures
+}
+
+/// Those of a thread that waited for mutexes alone, had no trap refused, and never ended.
+fn of_waiting(rt: &impl Abort) -> Figures {
+    let mut figures = of_timed(rt);
+    figures.ready = no_spans();
+    figures.mutexes = some_waits();
+    figures.replies = no_spans();
+    figures.refused = spread(3, 0, 0, 0);
+    figures.ended = NO_FIGURE;
+    figures
+}
+
+/// Those of a currency.
+fn of_currency(rt: &impl Abort) -> Figures {
+    Figures {
+        name: name(rt, "g"),
+        plays: 2,
+        quanta: NO_FIGURE,
+        ticks: spread(2, 3, 1, 2),
+        share: spread(2, 99999, 33333, 66666),
+        due: spread(2, 100000, 50000, 50000),
+        value: NO_FIGURE,
+        ready: UNTOLD,
+        mutexes: UNTOLD,
+        replies: UNTOLD,
+        refused: NO_FIGURE,
+        made: NO_FIGURE,
+        ended: NO_FIGURE,
+    }
+}
+
+/// Checks the lines with these figures, and the row in this table, of the thread or the currency with number 2.
+fn check_figures(
+    rt: &impl Abort,
+    alloc: Global,
+    table: FiguresTable,
+    figures: &Figures,
+    wanted: &str,
+    fields: &str,
+) {
+    let subject = match table {
+        FiguresTable::Schedule | FiguresTable::Timed => Subject::Thread,
+        FiguresTable::OfCurrencies => Subject::Currency,
+    };
+    let mut writer = Watched::new(Vec::new(alloc));
+    let ended = write_figures(&mut writer, subject, 2, figures);
+    check(rt, writer, ended, wanted);
+    let mut writer = Watched::new(Vec::new(alloc));
+    let ended = write_figures_record(&mut writer, table, 2, figures);
+    check(rt, writer, ended, fields);
+}
+
+// Of three plays the draws are 10 in all, 3.333 on average. The line of a schedule has no figures behind the share. Of
+// two plays the currency's share is 99.999% in all, 49.999% on average.
 #[test]
 fn prints_figures(rt: HostRuntime) {
-    let figures = Figures {
-        name: name(&rt, "a"),
+    let wanted =
+        "thread 2 a plays 3 quanta mean 3.333 least 3 most 4 ticks mean 30 least 0 most 90 \
+        share mean 50% least 45.5% most 54.001%\n";
+    let fields = "2,a,3,3.333,3,4,30,0,90,50,45.5,54.001\n";
+    let figures = of_schedule(&rt);
+    check_figures(
+        &rt,
+        rt.alloc(),
+        FiguresTable::Schedule,
+        &figures,
+        wanted,
+        fields,
+    );
+    let wanted = "currency 2 g plays 2 ticks mean 1.5 least 1 most 2 \
+        share mean 49.999% least 33.333% most 66.666% due mean 50% least 50% most 50%\n";
+    let fields = "2,g,2,1.5,1,2,49.999,33.333,66.666,50,50,50\n";
+    let figures = of_currency(&rt);
+    check_figures(
+        &rt,
+        rt.alloc(),
+        FiguresTable::OfCurrencies,
+        &figures,
+        wanted,
+        fields,
+    );
+}
+
+// 2.333 and 0.5 are 2.833 in all: 1.416 on average over the two plays with such waits. 0, 0.5 and 1.5 are 0.666 on
+// average. There is no line for waits that no play had, for traps if none was refused, or for an end if there was none.
+#[test]
+fn prints_timed_figures(rt: HostRuntime) {
+    let wanted =
+        "thread 2 a plays 3 quanta mean 3.333 least 3 most 4 ticks mean 30 least 0 most 90 \
+        share mean 50% least 45.5% most 54.001% due mean 33.333% least 33.333% most 33.334% \
+        value mean 0% least 0% most 0%\n\
+        thread 2 a ready waits mean 2.333 least 0 most 4 average mean 1.416 least 0.5 most 2.333 \
+        longest mean 3 least 1 most 5\n\
+        thread 2 a reply waits mean 1.666 least 1 most 2 average mean 0.666 least 0 most 1.5 \
+        longest mean 1 least 0 most 2\n\
+        thread 2 a refused mean 0.333 least 0 most 1\n\
+        thread 2 a made mean 3.333 least 0 most 10 ended mean 20 least 20 most 20 in 1 of 3\n";
+    let fields = "2,a,3,3.333,3,4,30,0,90,50,45.5,54.001,33.333,33.333,33.334,0,0,0,\
+        2.333,0,4,1.416,0.5,2.333,3,1,5,0,0,0,,,,,,,1.666,1,2,0.666,0,1.5,1,0,2,\
+        0.333,0,1,3.333,0,10,20,20,20\n";
+    let figures = of_timed(&rt);
+    check_figures(
+        &rt,
+        rt.alloc(),
+        FiguresTable::Timed,
+        &figures,
+        wanted,
+        fields,
+    );
+    let wanted =
+        "thread 2 a plays 3 quanta mean 3.333 least 3 most 4 ticks mean 30 least 0 most 90 \
+        share mean 50% least 45.5% most 54.001% due mean 33.333% least 33.333% most 33.334% \
+        value mean 0% least 0% most 0%\n\
+        thread 2 a mutex waits mean 2.333 least 0 most 4 average mean 1.416 least 0.5 most 2.333 \
+        longest mean 3 least 1 most 5\n";
+    let fields = "2,a,3,3.333,3,4,30,0,90,50,45.5,54.001,33.333,33.333,33.334,0,0,0,\
+        0,0,0,,,,,,,2.333,0,4,1.416,0.5,2.333,3,1,5,0,0,0,,,,,,,\
+        0,0,0,3.333,0,10,,,\n";
+    let figures = of_waiting(&rt);
+    check_figures(
+        &rt,
+        rt.alloc(),
+        FiguresTable::Timed,
+        &figures,
+        wanted,
+        fields,
+    );
+}
+
+#[test]
+fn prints_figures_of_processors(rt: HostRuntime) {
+    let figures = ProcessorFigures {
         plays: 3,
-        quanta: spread(10, 3, 4),
-        ticks: spread(90, 0, 90),
-        share: spread(150000, 45500, 54001),
+        quanta: spread(3, 10, 3, 4),
+        idles: spread(3, 1, 0, 1),
+        ticks: spread(3, 90, 0, 90),
+        unused: spread(3, 6, 2, 2),
     };
     let mut writer = Watched::new(Vec::new(rt.alloc()));
-    let ended = write_figures_record(&mut writer, 2, &figures);
-    let wanted = "2,a,3,3.333,3,4,30,0,90,50,45.5,54.001\n";
+    let ended = write_processor_figures(&mut writer, 64, &figures);
+    let wanted =
+        "processor 64 plays 3 quanta mean 3.333 least 3 most 4 idle mean 0.333 least 0 most 1 \
+        ticks mean 30 least 0 most 90 unused mean 2 least 2 most 2\n";
     check(&rt, writer, ended, wanted);
+}
+
+// In one play no thread has ended; in the others two had lived for 5 ticks, and three for 7: 2.5 and 2.333 on average.
+#[test]
+fn prints_whole_figures(rt: HostRuntime) {
+    let lives = SpanFigures {
+        count: spread(3, 5, 0, 3),
+        mean: spread(2, 4833, 2333, 2500),
+        longest: spread(2, 9, 4, 5),
+    };
+    for (lives, wanted) in [
+        (
+            no_spans(),
+            "total plays 3 turns mean 9.666 least 9 most 10 quanta mean 3.333 least 3 most 4 \
+             ticks mean 30 least 0 most 90 refused mean 0.666 least 0 most 1 left mean 0 least 0 most 0\n",
+        ),
+        (
+            lives,
+            "total plays 3 turns mean 9.666 least 9 most 10 quanta mean 3.333 least 3 most 4 \
+             ticks mean 30 least 0 most 90 refused mean 0.666 least 0 most 1 left mean 0 least 0 most 0\n\
+             total ended mean 1.666 least 0 most 3 average mean 2.416 least 2.333 most 2.5 \
+             longest mean 4.5 least 4 most 5\n",
+        ),
+    ] {
+        let figures = WholeFigures {
+            plays: 3,
+            turns: spread(3, 29, 9, 10),
+            quanta: spread(3, 10, 3, 4),
+            ticks: spread(3, 90, 0, 90),
+            refused: spread(3, 2, 0, 1),
+            left: spread(3, 0, 0, 0),
+            lives,
+        };
+        let mut writer = Watched::new(Vec::new(rt.alloc()));
+        let ended = write_whole_figures(&mut writer, &figures);
+        check(&rt, writer, ended, wanted);
+    }
+}
+
+#[test]
+fn prints_seeds(rt: HostRuntime) {
+    let mut writer = Watched::new(Vec::new(rt.alloc()));
+    let ended = write_seeds(&mut writer, 1, 2147483646);
+    check(&rt, writer, ended, "seeds 1 to 2147483646\n");
 }
 
 #[test]
