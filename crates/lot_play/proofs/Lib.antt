@@ -5,5 +5,5 @@ pub mod TextFacts
 pub mod LineFacts
 pub mod PlayedFacts
 pub mod SeedFacts
-mod RefusedFacts
+pub mod RefusedFacts
 mod TableFacts

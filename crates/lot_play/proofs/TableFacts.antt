@@ -8,7 +8,7 @@ use Rattle.lot_playback.specs.Stages.{HasMade}
 use Rattle.lot_playback.specs.Turns.{program_turns}
 use Rattle.lot_play.specs.declared.form.Form.{Form}
 use Rattle.lot_play.specs.ReportTable.{last_table, scheduled_table, table_in}
-use Rattle.lot_play.specs.Seeds.{last_world}
+use Rattle.lot_play.specs.Last.{last_world}
 
 table-of : (form : Form) (program : Program) (d : Option ℕ) → IsSome d → table_in form (last_world program).state (timed_turns program) ≡ last_table form program d
 table-of form program None wrong = absurd (let e : false ≡ true = wrong in cc)

@@ -13,15 +13,17 @@ use Rattle.lot_machine.specs.Rows.{currency_name, row_of_thread, thread_name, th
 use Rattle.lot_machine.specs.State.{State, opening, value_of}
 use Rattle.lot_print.specs.declared.timed_totals.CurrencyShares.{CurrencyShares}
 use Rattle.lot_print.specs.declared.timed_totals.ThreadShares.{ThreadShares}
+use Rattle.lot_print.specs.declared.timed_totals.TimedProcessorTotal.{TimedProcessorTotal}
+use Rattle.lot_print.specs.declared.timed_totals.TimedWholeTotal.{TimedWholeTotal}
 use Rattle.lot_print.specs.TableRows.{timed_thread_record}
-use Rattle.lot_print.specs.Totals.{timed_currency_line, timed_processor_line, timed_thread_line, timed_total_line}
+use Rattle.lot_print.specs.Totals.{timed_currency_line, timed_thread_line}
 use Rattle.lot_simulation.specs.declared.timed.Due.{Due}
 use Rattle.lot_simulation.specs.declared.timed.EarlyEnd.{EarlyEnd}
 use Rattle.lot_simulation.specs.declared.timed.PastLives.{PastLives}
 use Rattle.lot_simulation.specs.declared.timed.Spans.{Spans}
 use Rattle.lot_simulation.specs.Report.{ActorTurn, ticks_in, total_of, turns_made, turns_of}
 use Rattle.lot_simulation.specs.Timed.{Moment, TimedTurn, clock_of, end_of, ended_at, following, last_moment, moment_after_all, opening_moment, timed_turns}
-use Rattle.lot_simulation.specs.TimedReport.{actor_turns, base_time, currency_due_in, currency_ticks_in, due_in, early_end, early_text, idle_until, life_change, live_part, live_time, mutex_change, no_lives, past_lives, ready_in, refusals_in, refused_traps_in, reply_change, report_at, timed_processor_total, timed_report, timed_report_of, timed_whole_total, spans_in, with_lives}
+use Rattle.lot_simulation.specs.TimedReport.{actor_turns, base_time, currency_due_in, currency_ticks_in, due_in, early_end, early_text, idle_until, life_change, live_part, live_time, mutex_change, no_lives, past_lives, ready_in, refusals_in, refused_traps_in, reply_change, report_at, timed_report, timed_report_of, spans_in, with_lives}
 use Rattle.lot_simulation.specs.World.{Program, World, opening_world, system_after, system_turn}
 use Rattle.lot_simulation.proofs.ClocksAddUp.{turn-limits}
 use Rattle.lot_machine.specs.declared.sizes.Sizes.{Sizes}
@@ -35,7 +37,7 @@ use Rattle.lot_playback.specs.InTime.{AreRefusedTraps, AreSpans, IsAtEnd, moment
 use Rattle.lot_engine.specs.Seen.{Seen, world_of}
 use Rattle.lot_play.specs.declared.form.Form.{Form}
 use Rattle.lot_play.specs.declared.form.Form.TheVariants.{CurrencyTable, Lines, Table}
-use Rattle.lot_play.specs.ReportTable.{currency_shares_in, shares_in, timed_currency_text, timed_thread_text}
+use Rattle.lot_play.specs.ReportTable.{currency_shares_in, processor_in, shares_in, timed_currency_text, timed_thread_text, whole_in}
 use Rattle.lot_simulation.proofs.TimedRuns.{room-small, timed-made}
 use Rattle.lot_text.proofs.SeedLemmas.{range_with_len-push}
 use Rattle.lot_playback.proofs.FollowFacts.{room-few, within-room}
@@ -143,15 +145,15 @@ lines-are seen timekeeper program ended is = ap (λ n. timed_report_of (moment_i
 
 -- ---- lines by the numbers that they show
 
-pub total-line : (c : Counts) (turns : List TimedTurn) (refused left : ℕ) (lives : PastLives) (m : Moment) → c ≡ counted (actor_turns turns) → refused ≡ total_of refusals_in (actor_turns turns)
+pub whole-is : (c : Counts) (turns : List TimedTurn) (refused left : ℕ) (lives : PastLives) (m : Moment) → c ≡ counted (actor_turns turns) → refused ≡ total_of refusals_in (actor_turns turns)
     → left ≡ length m.world.commands → lives ≡ past_lives m.world.state turns
-    → timed_total_line (record { turns = c.turns; quanta = c.quanta; ticks = c.ticks; refused = refused; left = left; lives = lives }) ≡ timed_whole_total m turns
-total-line c turns refused left lives m is refusals rest past =
+    → (let total : TimedWholeTotal = record { turns = c.turns; quanta = c.quanta; ticks = c.ticks; refused = refused; left = left; lives = lives } in total) ≡ whole_in m turns
+whole-is c turns refused left lives m is refusals rest past =
     rw (is, refusals, rest, past, length-map turns (λ (done : TimedTurn). let answer : ActorTurn = record { actor = done.actor; answer = done.turn.answer } in answer)) refl
 
-pub processor-line : (c : Counts) (turns : List ActorTurn) (p end idle : ℕ) (m : Moment) → c ≡ counted (turns_of p turns) → idle ≡ idle_until end (clock_of m.clocks p)
-    → timed_processor_line p c.quanta c.idles c.ticks idle ≡ timed_processor_total m end turns p
-processor-line c turns p end idle m is unused = rw (is, unused) refl
+pub processor-is : (c : Counts) (turns : List ActorTurn) (p end idle : ℕ) (m : Moment) → c ≡ counted (turns_of p turns) → idle ≡ idle_until end (clock_of m.clocks p)
+    → (let total : TimedProcessorTotal = record { processor = p; quanta = c.quanta; idles = c.idles; ticks = c.ticks; unused = idle } in total) ≡ processor_in m end turns p
+processor-is c turns p end idle m is unused = rw (is, unused) refl
 
 -- a thread's row shows its value
 row-value : (s : State) (t : ℕ) (row : ThreadRow) (name : Option (List ℕ)) (o : Option Record) → option_and_then (λ n. option_map (row_of_thread s t) o) name ≡ Some row → row.value ≡ value_of s t

@@ -8,6 +8,8 @@ pub mod Played
 pub mod Kept
 -- The warnings of a run.
 pub mod Leaving
+-- The end of a play.
+pub mod Last
 -- The report over several plays of a program, each with another seed.
 pub mod Seeds
 -- The report of a program, in lines or as a table.

@@ -1,25 +1,27 @@
 -- The report of a program, in lines or as a table.
-use Rattle.std.specs.Prelude.{ℕ, Option, Some, None, List, ◌++◌}
+use Rattle.std.specs.Prelude.{ℕ, Option, Some, None, List, ◌++◌, length}
 use Rattle.lot_machine.specs.declared.row.ThreadRow.{ThreadRow}
 use Rattle.lot_machine.specs.Facts as facts
 use Rattle.lot_machine.specs.Numbered.{numbers}
 use Rattle.lot_machine.specs.Rows.{currency_name, thread_row}
 use Rattle.lot_machine.specs.State.{State, opening, value_of}
 use Rattle.lot_simulation.specs.Below.{currency_numbers}
-use Rattle.lot_simulation.specs.Report.{thread_total, ticks_in, total_of}
+use Rattle.lot_simulation.specs.Report.{ActorTurn, idles_in, quanta_in, thread_total, ticks_in, total_of, turns_of}
 use Rattle.lot_simulation.specs.Texts.{lines_for}
-use Rattle.lot_simulation.specs.Timed.{TimedTurn, timed_turns}
+use Rattle.lot_simulation.specs.Timed.{Moment, TimedTurn, clock_of, timed_turns}
 use Rattle.lot_simulation.specs.TimedReport.{actor_turns, due_in, life_change, live_part, live_time, mutex_change, ready_in, refused_traps_in, reply_change}
-use Rattle.lot_simulation.specs.TimedReport.{base_time, currency_due_in, currency_ticks_in, spans_in, timed_currency_total, timed_thread_total}
+use Rattle.lot_simulation.specs.TimedReport.{base_time, currency_due_in, currency_ticks_in, idle_until, past_lives, refusals_in, spans_in, timed_currency_total, timed_thread_total}
 use Rattle.lot_simulation.specs.World.{Program}
 use Rattle.lot_print.specs.declared.table_rows.Columns.TheVariants.{TimedTotals, Totals}
 use Rattle.lot_print.specs.declared.table_rows.Columns.TheVariants as columns
 use Rattle.lot_print.specs.declared.timed_totals.CurrencyShares.{CurrencyShares}
 use Rattle.lot_print.specs.declared.timed_totals.ThreadShares.{ThreadShares}
+use Rattle.lot_print.specs.declared.timed_totals.TimedProcessorTotal.{TimedProcessorTotal}
+use Rattle.lot_print.specs.declared.timed_totals.TimedWholeTotal.{TimedWholeTotal}
 use Rattle.lot_print.specs.TableRows.{header_row, thread_record, timed_currency_record, timed_thread_record}
 use Rattle.lot_play.specs.declared.form.Form.{Form}
 use Rattle.lot_play.specs.declared.form.Form.TheVariants.{CurrencyTable, Lines, Table}
-use Rattle.lot_play.specs.Seeds.{last_world}
+use Rattle.lot_play.specs.Last.{last_world}
 use Rattle.lot_play.specs.Texts.{last_report}
 
 -- ---- threads
@@ -67,6 +69,29 @@ abbrev pub timed_currency_text : Form → State → List TimedTurn → ℕ → L
 timed_currency_text Lines s turns = timed_currency_total s turns (total_of ticks_in (actor_turns turns))
 timed_currency_text Table s turns = λ c name. timed_currency_record c name (currency_shares_in s turns c)
 timed_currency_text CurrencyTable s turns = λ c name. timed_currency_record c name (currency_shares_in s turns c)
+
+-- ---- processors and totals
+
+-- what the report of a timed program tells of a processor after these turns, which led to this moment, up to this end
+abbrev pub processor_in : Moment → ℕ → List ActorTurn → ℕ → TimedProcessorTotal
+processor_in m end turns p = record {
+  processor = p;
+  quanta = total_of quanta_in (turns_of p turns);
+  idles = total_of idles_in (turns_of p turns);
+  ticks = total_of ticks_in (turns_of p turns);
+  unused = idle_until end (clock_of m.clocks p);
+}
+
+-- what it tells of all actors
+abbrev pub whole_in : Moment → List TimedTurn → TimedWholeTotal
+whole_in m turns = record {
+  turns = length turns;
+  quanta = total_of quanta_in (actor_turns turns);
+  ticks = total_of ticks_in (actor_turns turns);
+  refused = total_of refusals_in (actor_turns turns);
+  left = length m.world.commands;
+  lives = past_lives m.world.state turns;
+}
 
 -- ---- tables
 

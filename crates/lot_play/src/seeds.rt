@@ -1,21 +1,25 @@
 //! The report over several plays of a program, each with another seed.
-ghost use Rattle.std.specs.Prelude.{◌≡◌, ◌<◌, ◌+◌, ◌||◌, ℕ, false, true, IfOk, OnOk, Some, length, slice_index_or};
-ghost use Rattle.std.specs.List.{flat_map, range_with_len};
+ghost use Rattle.std.specs.Prelude.{◌≡◌, ◌++◌, ◌||◌, false, true, IfOk, OnOk, Some, length};
 ghost use Rattle.lot_io.specs.Writing.{Writes};
 ghost use Rattle.lot_simulation.specs.Seeded.{with_seed};
-ghost use Rattle.lot_print.specs.declared.figures.Figures.{Figures as FiguresRecord};
 ghost use Rattle.lot_play.specs.Leaving.{any_ends_refused, ends_refused};
 ghost use Rattle.lot_play.specs.Played.{Plays};
-ghost use Rattle.lot_play.specs.Seeds.{AreFigures, figures_over, figures_played, figures_text, seeds_between};
-ghost use Rattle.lot_play.specs.Seeds.{seeds_heading, seeds_report};
+ghost use Rattle.lot_play.specs.Seeds as seeds_specs;
+ghost use Rattle.lot_play.specs.Seeds.{AreAllFigures, AreEach, AreOverOneMore, figures_over, figures_text, others_text};
+ghost use Rattle.lot_play.specs.Seeds.{processor_over, processor_text, processors_text, seeds_between, seeds_heading};
+ghost use Rattle.lot_play.specs.Seeds.{seeds_report, subjects_text, totals_text, whole_text};
 ghost use Rattle.lot_play.specs.declared.inputs.Played.TheVariants.{Done};
+ghost use Rattle.lot_print.specs.declared.figures.Subject.TheVariants as subjects;
 
-use crate::figures::{add_play, no_figures};
+use crate::figures::{AllFigures, add_play};
 use crate::summary::note_turns;
 use crate::{Form, Played, Warnings, note_last};
 use lot_io::{IoFault, Watched, flush};
 use lot_playback::Playback;
-use lot_print::{Columns, Figures, write_figures, write_figures_record, write_header, write_seeds};
+use lot_print::{
+    Columns, Figures, FiguresTable, ProcessorFigures, Subject, WholeFigures, write_figures,
+    write_figures_record, write_header, write_processor_figures, write_seeds, write_whole_figures,
+};
 use lot_text::{Program, Seed};
 use std::alloc::{AllocError, Global};
 use std::io::Write;
@@ -27,9 +31,9 @@ pub struct Seeds {
     pub last: Seed,
 }
 
-/// Plays the program once with each of these seeds, and writes for each thread the mean, the least and the most of
-/// its figures at the ends of the plays, in this form. It stores the warnings of the first play in `warnings`, and
-/// whether a refusal ended any of the plays. If out of memory, it writes nothing.
+/// Plays the program once with each of these seeds, and writes the mean, the least and the most of each figure that the
+/// plays' reports tell, in this form. It stores the warnings of the first play in `warnings`, and whether a refusal ended
+/// any of the plays. If out of memory, it writes nothing.
 pub fn report_seeds<W: Write>(
     alloc: Global,
     program: &Program,
@@ -45,52 +49,50 @@ pub fn report_seeds<W: Write>(
     ensures stopped { OnOk result (warnings.new.stopped ≡ (warnings.old.stopped
         || any_ends_refused program.now (seeds_between seeds.now.first seeds.now.last))) }
 {
-    let Ok(figures) = figures_of(alloc, program, seeds, warnings) else {
+    let Ok(all) = figures_of(alloc, program, seeds, warnings) else {
         return Err(IoFault::Memory);
     };
-    write_report(program, seeds, figures.as_slice(), form, writer)?;
+    write_report(program, seeds, &all, form, writer)?;
     Ok(Played::Done)
 }
 
-/// Each thread's figures over a play with each of these seeds. It stores the warnings of the first play in `warnings`,
-/// and whether a refusal ended any of the plays.
+/// The figures over a play with each of these seeds. It stores the warnings of the first play in `warnings`, and
+/// whether a refusal ended any of the plays.
 fn figures_of(
     alloc: Global,
     program: &Program,
     seeds: &Seeds,
     warnings: &mut Warnings,
-) -> Result<Vec<Figures>, AllocError>
-    ensures figures { IfOk result (λ figures.
-        AreFigures program.now (seeds_between seeds.now.first seeds.now.last) figures.items) }
+) -> Result<AllFigures, AllocError>
+    ensures figures { IfOk result (AreAllFigures program.now (seeds_between seeds.now.first seeds.now.last)) }
     ensures stopped { OnOk result (warnings.new.stopped ≡ (warnings.old.stopped
         || any_ends_refused program.now (seeds_between seeds.now.first seeds.now.last))) }
 {
-    let mut figures = no_figures(alloc, program.limits().threads)?;
-    play_with(alloc, program, seeds.first, warnings, &mut figures)?;
+    let mut all = AllFigures::over_no_plays(alloc, program)?;
+    play_with(alloc, program, seeds.first, warnings, &mut all)?;
     let mut unsaid = Warnings::none(alloc)?;
     for number in seeds.first.number() + 1..seeds.last.number() + 1 {
         let Some(seed) = Seed::new(number) else {
             unreachable!();
         };
-        play_with(alloc, program, seed, &mut unsaid, &mut figures)?;
+        play_with(alloc, program, seed, &mut unsaid, &mut all)?;
     }
     warnings.stopped |= unsaid.stopped;
-    Ok(figures)
+    Ok(all)
 }
 
-/// Plays the program with this seed, and adds each thread's figures at the end of the play.
+/// Plays the program with this seed, and adds the figures at the end of the play.
 fn play_with(
     alloc: Global,
     program: &Program,
     seed: Seed,
     warnings: &mut Warnings,
-    figures: &mut Vec<Figures>,
+    all: &mut AllFigures,
 ) -> Result<(), AllocError>
-    requires { length figures.old.items ≡ program.now.limits.threads }
-    ensures count { length figures.new.items ≡ length figures.old.items }
-    ensures each { OnOk result ((place : ℕ) (d : FiguresRecord) → place < length figures.old.items
-        → slice_index_or figures.new.items place d ≡ figures_played (place + 1)
-        (slice_index_or figures.old.items place d) (with_seed (Some seed) program.now)) }
+    requires threads { length all.old.threads.items ≡ program.now.limits.threads }
+    requires currencies { length all.old.currencies.items ≡ program.now.limits.currencies }
+    requires processors { length all.old.processors.items ≡ program.now.limits.processors }
+    ensures played { OnOk result (AreOverOneMore (with_seed (Some seed) program.now) all.old all.new) }
     ensures stopped { OnOk result (warnings.new.stopped
         ≡ (warnings.old.stopped || ends_refused (with_seed (Some seed) program.now))) }
 {
@@ -99,80 +101,214 @@ fn play_with(
     note_turns(&program, &mut playback, warnings);
     let (mut system, order) = playback.into_parts();
     note_last(&program, &mut system, &order, warnings);
-    add_play(figures, program.limits().threads, &mut system);
+    add_play(all, &program, &mut system, &order);
     Ok(())
 }
 
-/// Writes the first line and each thread's line, or the rows of the table, and flushes.
+/// The table in this form of the program, or none for lines.
+fn table_of(form: Form, program: &Program) -> Option<FiguresTable>
+    ensures { result ≡ seeds_specs.table_of form program.now.duration }
+{
+    match (form, program.duration()) {
+        (Form::Lines, _) => None,
+        (Form::Table | Form::CurrencyTable, None) => Some(FiguresTable::Schedule),
+        (Form::Table, Some(_)) => Some(FiguresTable::Timed),
+        (Form::CurrencyTable, Some(_)) => Some(FiguresTable::OfCurrencies),
+    }
+}
+
+/// Writes the first line, and the lines of each thread and of each currency, or the rows of a table, and flushes.
 fn write_report<W: Write>(
     program: &Program,
     seeds: &Seeds,
-    figures: &[Figures],
+    all: &AllFigures,
     form: Form,
     writer: &mut Watched<W>,
 ) -> Result<(), IoFault>
-    requires are { AreFigures program.now (seeds_between seeds.now.first seeds.now.last) figures.now }
+    requires are { AreAllFigures program.now (seeds_between seeds.now.first seeds.now.last) all.now }
     requires working { writer.old.failed ≡ false }
     ensures flushed { OnOk result (writer.new.flushed ≡ true) }
     ensures text { Writes W.contents writer.old writer.new result
         (seeds_report form seeds.now.first seeds.now.last program.now) }
 {
-    write_heading(seeds, form, writer)?;
-    write_threads(program, seeds, figures, form, writer)?;
+    let table = table_of(form, program);
+    write_heading(seeds, table, writer)?;
+    write_lines(program, seeds, all, table, writer)?;
     flush(writer)
 }
 
 /// Writes the first line or row.
 fn write_heading<W: Write>(
     seeds: &Seeds,
-    form: Form,
+    table: Option<FiguresTable>,
     writer: &mut Watched<W>,
 ) -> Result<(), IoFault>
     requires { writer.old.failed ≡ false }
     ensures { Writes W.contents writer.old writer.new result
-        (seeds_heading form seeds.now.first seeds.now.last) }
+        (seeds_heading table seeds.now.first seeds.now.last) }
 {
-    match form {
-        Form::Lines => write_seeds(writer, seeds.first.number(), seeds.last.number()),
-        Form::Table | Form::CurrencyTable => write_header(writer, Columns::Figures),
+    match table {
+        None => write_seeds(writer, seeds.first.number(), seeds.last.number()),
+        Some(table) => write_header(writer, Columns::Figures(table)),
     }
 }
 
-/// Writes each thread's line or row.
-fn write_threads<W: Write>(
+/// Writes the lines after the first, or the rows.
+fn write_lines<W: Write>(
     program: &Program,
     seeds: &Seeds,
-    figures: &[Figures],
-    form: Form,
+    all: &AllFigures,
+    table: Option<FiguresTable>,
     writer: &mut Watched<W>,
 ) -> Result<(), IoFault>
-    requires are { AreFigures program.now (seeds_between seeds.now.first seeds.now.last) figures.now }
+    requires are { AreAllFigures program.now (seeds_between seeds.now.first seeds.now.last) all.now }
     requires working { writer.old.failed ≡ false }
-    ensures { Writes W.contents writer.old writer.new result (flat_map
-        (λ t. figures_text form t (figures_over program.now (seeds_between seeds.now.first seeds.now.last) t))
-        (range_with_len 1 program.now.limits.threads)) }
+    ensures { Writes W.contents writer.old writer.new result
+        (subjects_text table subjects.Thread program.now (seeds_between seeds.now.first seeds.now.last)
+        ++ others_text table program.now (seeds_between seeds.now.first seeds.now.last)) }
 {
-    for place in 0..program.limits().threads {
-        write_thread(place + 1, &figures[place as usize], form, writer)?;
+    let threads = all.threads.as_slice();
+    write_subjects(program, seeds, Subject::Thread, threads, table, writer)?;
+    write_others(program, seeds, all, table, writer)
+}
+
+/// Writes the lines after those of the threads, or the rows of the currencies.
+fn write_others<W: Write>(
+    program: &Program,
+    seeds: &Seeds,
+    all: &AllFigures,
+    table: Option<FiguresTable>,
+    writer: &mut Watched<W>,
+) -> Result<(), IoFault>
+    requires are { AreAllFigures program.now (seeds_between seeds.now.first seeds.now.last) all.now }
+    requires working { writer.old.failed ≡ false }
+    ensures { Writes W.contents writer.old writer.new result
+        (others_text table program.now (seeds_between seeds.now.first seeds.now.last)) }
+{
+    let currencies = all.currencies.as_slice();
+    write_subjects(program, seeds, Subject::Currency, currencies, table, writer)?;
+    write_totals(program, seeds, all, table, writer)
+}
+
+/// Writes the lines after those of the currencies.
+fn write_totals<W: Write>(
+    program: &Program,
+    seeds: &Seeds,
+    all: &AllFigures,
+    table: Option<FiguresTable>,
+    writer: &mut Watched<W>,
+) -> Result<(), IoFault>
+    requires are { AreAllFigures program.now (seeds_between seeds.now.first seeds.now.last) all.now }
+    requires working { writer.old.failed ≡ false }
+    ensures { Writes W.contents writer.old writer.new result
+        (totals_text table program.now (seeds_between seeds.now.first seeds.now.last)) }
+{
+    write_processors(program, seeds, all.processors.as_slice(), table, writer)?;
+    write_whole(&all.whole, table, writer)
+}
+
+/// Writes the line of each processor; tables have none.
+fn write_processors<W: Write>(
+    program: &Program,
+    seeds: &Seeds,
+    figures: &[ProcessorFigures],
+    table: Option<FiguresTable>,
+    writer: &mut Watched<W>,
+) -> Result<(), IoFault>
+    requires are { AreEach program.now.limits.processors
+        (processor_over program.now (seeds_between seeds.now.first seeds.now.last)) figures.now }
+    requires working { writer.old.failed ≡ false }
+    ensures { Writes W.contents writer.old writer.new result
+        (processors_text table program.now (seeds_between seeds.now.first seeds.now.last)) }
+{
+    for place in 0..program.limits().processors {
+        write_processor(place + 1, &figures[place as usize], table, writer)?;
     }
     Ok(())
 }
 
-/// Writes the line or the row of the thread with this number, if a play ended with it.
-fn write_thread<W: Write>(
+/// Writes the line of this processor, if the plays tell of it; tables have none.
+fn write_processor<W: Write>(
     number: u32,
-    figures: &Figures,
-    form: Form,
+    figures: &ProcessorFigures,
+    table: Option<FiguresTable>,
     writer: &mut Watched<W>,
 ) -> Result<(), IoFault>
     requires { writer.old.failed ≡ false }
-    ensures { Writes W.contents writer.old writer.new result (figures_text form number figures.now) }
+    ensures { Writes W.contents writer.old writer.new result (processor_text table number figures.now) }
+{
+    if table.is_some() || figures.plays == 0 {
+        return Ok(());
+    }
+    write_processor_figures(writer, number, figures)
+}
+
+/// Writes the last lines, if the plays tell of them; tables have none.
+fn write_whole<W: Write>(
+    figures: &WholeFigures,
+    table: Option<FiguresTable>,
+    writer: &mut Watched<W>,
+) -> Result<(), IoFault>
+    requires { writer.old.failed ≡ false }
+    ensures { Writes W.contents writer.old writer.new result (whole_text table figures.now) }
+{
+    if table.is_some() || figures.plays == 0 {
+        return Ok(());
+    }
+    write_whole_figures(writer, figures)
+}
+
+/// How many threads, or currencies, the program may have at once.
+fn count_of(subject: Subject, program: &Program) -> u32
+    ensures { result ≡ seeds_specs.count_of subject program.now }
+{
+    let limits = program.limits();
+    match subject {
+        Subject::Thread => limits.threads,
+        Subject::Currency => limits.currencies,
+    }
+}
+
+/// Writes the lines or rows of each thread, or of each currency.
+fn write_subjects<W: Write>(
+    program: &Program,
+    seeds: &Seeds,
+    subject: Subject,
+    figures: &[Figures],
+    table: Option<FiguresTable>,
+    writer: &mut Watched<W>,
+) -> Result<(), IoFault>
+    requires are { AreEach (seeds_specs.count_of subject program.now)
+        (figures_over subject program.now (seeds_between seeds.now.first seeds.now.last)) figures.now }
+    requires working { writer.old.failed ≡ false }
+    ensures { Writes W.contents writer.old writer.new result
+        (subjects_text table subject program.now (seeds_between seeds.now.first seeds.now.last)) }
+{
+    for place in 0..count_of(subject, program) {
+        write_subject(subject, place + 1, &figures[place as usize], table, writer)?;
+    }
+    Ok(())
+}
+
+/// Writes the lines of the thread or the currency with this number, or its row, if a play ended with it and the table
+/// has one.
+fn write_subject<W: Write>(
+    subject: Subject,
+    number: u32,
+    figures: &Figures,
+    table: Option<FiguresTable>,
+    writer: &mut Watched<W>,
+) -> Result<(), IoFault>
+    requires { writer.old.failed ≡ false }
+    ensures { Writes W.contents writer.old writer.new result (figures_text table subject number figures.now) }
 {
     if figures.plays == 0 {
         return Ok(());
     }
-    match form {
-        Form::Lines => write_figures(writer, number, figures),
-        Form::Table | Form::CurrencyTable => write_figures_record(writer, number, figures),
+    match (table, subject) {
+        (None, _) => write_figures(writer, subject, number, figures),
+        (Some(FiguresTable::OfCurrencies), Subject::Thread) => Ok(()),
+        (Some(FiguresTable::Schedule | FiguresTable::Timed), Subject::Currency) => Ok(()),
+        (Some(table), _) => write_figures_record(writer, table, number, figures),
     }
 }

@@ -66,7 +66,7 @@ fn write_currency<W: Write>(
 }
 
 /// What the report tells of the currency with this number.
-fn shares_of(system: &System, timekeeper: &Timekeeper, currency: u32) -> CurrencyShares
+pub(crate) fn shares_of(system: &System, timekeeper: &Timekeeper, currency: u32) -> CurrencyShares
     requires end { IsAtEnd system.now timekeeper.now }
     requires there { IsBetween 1 system.now.setting.program.limits.currencies currency }
     requires given { currency < length (world_of system.now).state.currencies }

@@ -14,7 +14,7 @@ ghost use Rattle.lot_simulation.specs.TimedReport.{actor_turns};
 ghost use Rattle.lot_playback.specs.InTime.{IsAtEnd, IsFollowed, moment_in};
 ghost use Rattle.lot_engine.specs.Seen.{world_of};
 ghost use Rattle.lot_io.specs.Writing.{Writes};
-ghost use Rattle.lot_play.specs.ReportTable.{shares_in, timed_thread_text};
+ghost use Rattle.lot_play.specs.ReportTable.{processor_in, shares_in, timed_thread_text, whole_in};
 
 use crate::Form;
 use crate::timed_currencies::write_currencies;
@@ -104,7 +104,7 @@ fn write_lines<W: Write>(
 
 /// The time at which the play ended: the end that the input gives, or the last turn's time if another turn would
 /// follow.
-fn ended_at(program: &Program, system: &System, timekeeper: &Timekeeper) -> u32
+pub(crate) fn ended_at(program: &Program, system: &System, timekeeper: &Timekeeper) -> u32
     requires program { system.now.setting.program ≡ program.now }
     requires end { IsAtEnd system.now timekeeper.now }
     ensures { result ≡ timed.ended_at program.now (moment_in system.now timekeeper.now) }
@@ -168,7 +168,7 @@ fn write_thread<W: Write>(
 }
 
 /// What the report tells of the thread, in addition to its row.
-fn shares_of(
+pub(crate) fn shares_of(
     system: &mut System,
     timekeeper: &Timekeeper,
     thread: u32,
@@ -234,15 +234,29 @@ fn write_processor<W: Write>(
         (reports.timed_processor_total (moment_in system.now timekeeper.now) end
         (actor_turns (timed_turns system.now.setting.program)) processor) }
 {
+    write_timed_processor_total(writer, processor_total(system, timekeeper, end, processor))
+}
+
+/// What the report tells of the processor, up to this end.
+pub(crate) fn processor_total(
+    system: &System,
+    timekeeper: &Timekeeper,
+    end: u32,
+    processor: u32,
+) -> TimedProcessorTotal
+    requires end { IsAtEnd system.now timekeeper.now }
+    requires there { IsBetween 1 system.now.setting.program.limits.processors processor }
+    ensures { result ≡ processor_in (moment_in system.now timekeeper.now) end
+        (actor_turns (timed_turns system.now.setting.program)) processor }
+{
     let counts = system.counts(processor);
-    let total = TimedProcessorTotal {
+    TimedProcessorTotal {
         processor,
         quanta: counts.quanta,
         idles: counts.idles,
         ticks: counts.ticks,
         unused: timekeeper.clocks.idle_until(end, processor),
-    };
-    write_timed_processor_total(writer, total)
+    }
 }
 
 /// Writes the totals of all actors.
@@ -257,22 +271,33 @@ fn write_total<W: Write>(
         (reports.timed_whole_total (moment_in system.now timekeeper.now)
         (timed_turns system.now.setting.program)) }
 {
+    write_timed_whole_total(writer, whole_total(system, timekeeper))
+}
+
+/// What the report tells of all actors.
+pub(crate) fn whole_total(system: &System, timekeeper: &Timekeeper) -> TimedWholeTotal
+    requires end { IsAtEnd system.now timekeeper.now }
+    ensures total { result
+        ≡ whole_in (moment_in system.now timekeeper.now) (timed_turns system.now.setting.program) }
+    ensures small { result.lives.total < 2 ^ 118 }
+{
     let counts = system.total();
-    let total = TimedWholeTotal {
+    TimedWholeTotal {
         turns: counts.turns,
         quanta: counts.quanta,
         ticks: counts.ticks,
         refused: timekeeper.refused,
         left: system.commands_left() as u64,
         lives: past_lives(system, timekeeper),
-    };
-    write_timed_whole_total(writer, total)
+    }
 }
 
 /// The past lives of all threads, whatever numbers they had.
 fn past_lives(system: &System, timekeeper: &Timekeeper) -> PastLives
     requires end { IsAtEnd system.now timekeeper.now }
-    ensures { result ≡ reports.past_lives (world_of system.now).state (timed_turns system.now.setting.program) }
+    ensures lives { result
+        ≡ reports.past_lives (world_of system.now).state (timed_turns system.now.setting.program) }
+    ensures small { result.total < 2 ^ 118 }
 {
     let mut lives = PastLives {
         count: 0,

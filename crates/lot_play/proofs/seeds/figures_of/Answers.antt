@@ -1,27 +1,24 @@
-use Rattle.std.proofs.Common.{◌≡◌, ◌||◌, ℕ, ◌+◌, ◌-◌, Some, List, [], ◌∷◌, ◌++◌, replicate, ap, sym, ◌∙◌, subst, arith}
+use Rattle.std.proofs.Common.{◌≡◌, ◌||◌, ℕ, ◌+◌, ◌-◌, Some, List, [], ◌∷◌, ◌++◌, ap, ◌∙◌, subst, arith}
 use Rattle.std.specs.List.{range_with_len}
-use Rattle.lot_machine.specs.declared.sizes.Sizes.{Sizes}
-use Rattle.lot_play.specs.Seeds.{AreFigures, no_figures, seeds_between}
+use Rattle.lot_play.specs.Seeds.{AreAllFigures, seeds_between}
 use Rattle.lot_simulation.specs.Seeded.{with_seed}
 use Rattle.lot_play.specs.declared.warnings.Warnings.{Warnings}
 use Rattle.lot_play.specs.Leaving.{any_ends_refused, ends_refused}
 use Rattle.lot_play.proofs.RefusedFacts.{all-seeds, any-seed, first-seed}
-use Rattle.lot_play.proofs.SeedFacts.{are-more, are-none, between-first, between-more}
+use Rattle.lot_play.proofs.SeedFacts.{all-more, between-first, between-more}
 use Rattle.lot_play.proofs.seeds.figures_of.Goals as goal
 
 pub loop-number-init : goal.loop-number-init
 loop-number-init c =
     let program = c.args.program.now in
     let first = c.args.seeds.now.first in
-    let items = c.play_with.new.figures.items in
-    let threads : c.limits.result.threads ≡ program.limits.threads = ap (λ (sizes : Sizes). sizes.threads) c.limits.ensures.limits in
-    let none : AreFigures program [] c.in_ok-figures.figures.items = subst (AreFigures program []) (sym (c.in_ok-figures.ensures ∙ ap (λ n. replicate n no_figures) threads)) (are-none program) in
-    let one : AreFigures program (first ∷ []) items = are-more program [] first c.in_ok-figures.figures.items items none c.in_ok-play_with.ensures.count c.in_ok-play_with.ensures.each in
+    let all = c.play_with.new.all in
+    let one : AreAllFigures program (first ∷ []) all = all-more program [] first c.in_ok-all.all all c.in_ok-all.ensures c.in_ok-play_with.ensures.played in
     let number : c.number-number.result ≡ first = c.number-number.ensures.is in
     record {
       above = omega (arith, number);
       within = omega (arith, number);
-      are = subst (λ (seeds : List ℕ). AreFigures program seeds items) (between-first first (c.number-number.result + 1 - 1) (omega (arith, number))) one;
+      are = subst (λ (seeds : List ℕ). AreAllFigures program seeds all) (between-first first (c.number-number.result + 1 - 1) (omega (arith, number))) one;
       refused =
           ap (λ b. ends_refused (with_seed (Some first) program) || b) (ap (λ (w : Warnings). w.stopped) c.in_ok-unsaid.ensures) ∙ first-seed program first
           ∙ ap (any_ends_refused program) (between-first first (c.number-number.result + 1 - 1) (omega (arith, number)));
@@ -33,15 +30,15 @@ loop-number-preserved c =
     let first = c.args.seeds.now.first in
     let number = c.loop-number.number in
     let i = c.loop-number.invariant in
-    let items = c.play_with-in-loop-number.new.figures.items in
-    let more = are-more program (seeds_between first (number - 1)) c.in-Some.seed c.loop-number.figures.items items i.are c.in_ok-play_with-2.ensures.count c.in_ok-play_with-2.ensures.each in
+    let all = c.play_with-in-loop-number.new.all in
+    let more = all-more program (seeds_between first (number - 1)) c.in-Some.seed c.loop-number.all all i.are c.in_ok-play_with-2.ensures.played in
     let back : number ≡ number + 1 - 1 = omega arith in
     let seeds : seeds_between first (number - 1) ++ c.in-Some.seed ∷ [] ≡ seeds_between first (number + 1 - 1) =
     ap (λ n. seeds_between first (number - 1) ++ n ∷ []) c.in-Some.ensures.seed ∙ between-more first number i.above ∙ ap (seeds_between first) back in
     record {
       above = omega (arith, i.above);
       within = omega (arith, c.loop-number-test.true, c.number-number-end.ensures.is);
-      are = subst (λ (seeds : List ℕ). AreFigures program seeds items) seeds more;
+      are = subst (λ (seeds : List ℕ). AreAllFigures program seeds all) seeds more;
       refused =
           any-seed program (seeds_between first (number - 1)) c.in-Some.seed (ends_refused (with_seed (Some first) program)) c.loop-number.unsaid.stopped c.play_with-in-loop-number.new.warnings.stopped i.refused
           c.in_ok-play_with-2.ensures.stopped
@@ -57,7 +54,7 @@ returns c =
     omega (arith, i.above, i.within, c.loop-number-test.false, c.number-number-end.ensures.is) in
     let seeds : seeds_between first (c.loop-number.number - 1) ≡ seeds_between first c.args.seeds.now.last = ap (λ n. first ∷ range_with_len (first + 1) n) count in
     record {
-      figures = subst (λ (ns : List ℕ). AreFigures program ns c.loop-number.figures.items) seeds i.are;
+      figures = subst (λ (ns : List ℕ). AreAllFigures program ns c.loop-number.all) seeds i.are;
       stopped =
           ap (λ b. b || c.loop-number.unsaid.stopped) c.in_ok-play_with.ensures.stopped
           ∙ all-seeds c.args.warnings.now.stopped (ends_refused (with_seed (Some first) program)) c.loop-number.unsaid.stopped _ (i.refused ∙ ap (any_ends_refused program) seeds);

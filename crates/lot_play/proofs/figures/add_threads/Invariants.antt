@@ -4,8 +4,8 @@ use Rattle.lot_machine.specs.Rows.{thread_row}
 use Rattle.lot_simulation.specs.Report.{ticks_in, total_of, turns_made}
 use Rattle.lot_engine.specs.Seen.{world_of}
 use Rattle.lot_print.specs.declared.figures.Figures.{Figures}
-use Rattle.lot_play.specs.Seeds.{figures_after}
-use Rattle.lot_play.proofs.figures.add_play.Given as goal
+use Rattle.lot_play.specs.Seeds.{thread_after, told_at_end}
+use Rattle.lot_play.proofs.figures.add_threads.Given as goal
 
 -- the figures of the threads passed so far have those of the play, and the others are unchanged
 abbrev pub invariant-loop-place : goal.invariant-loop-place
@@ -13,6 +13,6 @@ invariant-loop-place l = record {
   same : l.system ≡ l.fn.system;
   count : length l.figures.items ≡ l.fn.threads;
   done : (place : ℕ) (d : Figures) → place < l.place → slice_index_or l.figures.items place d
-      ≡ figures_after (total_of ticks_in (turns_made l.fn.system.setting.program l.fn.system.history)) (slice_index_or l.fn.figures.items place d) (thread_row (world_of l.fn.system).state (place + 1));
+      ≡ thread_after (total_of ticks_in (turns_made l.fn.system.setting.program l.fn.system.history)) (thread_row (world_of l.fn.system).state (place + 1)) (told_at_end l.fn.system l.fn.order (place + 1)) (slice_index_or l.fn.figures.items place d);
   others : (place : ℕ) (d : Figures) → l.place ≤ place → slice_index_or l.figures.items place d ≡ slice_index_or l.fn.figures.items place d;
 }
