@@ -1,6 +1,6 @@
 //! Making the turns of a program for its curves.
 ghost use Rattle.std.specs.Prelude.{◌≡◌, ◌+◌, ◌++◌, ◌*◌, ◌^◌, ◌<◌, ◌≤◌, [], ◌∷◌, IfOk, None, OnOk, Some, ⊤, ℕ, false};
-ghost use Rattle.std.specs.Prelude.{filter, length, map, max, true, unwrap_or, vec_len};
+ghost use Rattle.std.specs.Prelude.{◌||◌, filter, length, map, max, true, unwrap_or, vec_len};
 ghost use Rattle.std.specs.Fmt.{decimal};
 ghost use Rattle.lot_machine.specs.Bounds.{IsBetween};
 ghost use Rattle.lot_machine.specs.Rows as rows;
@@ -13,7 +13,8 @@ ghost use Rattle.lot_curves.specs.Curves.{curves_by, names_by, numbers_by};
 ghost use Rattle.lot_curves.specs.Stretches.{in_column, last_end, turn_stretches};
 ghost use Rattle.lot_engine.specs.Searching.{HasLayoutFor, HasThoseAbove};
 ghost use Rattle.lot_engine.specs.Seen.{world_of};
-ghost use Rattle.lot_playback.specs.Stages.{HasMade};
+ghost use Rattle.lot_play.specs.Leaving.{ends_refused};
+ghost use Rattle.lot_playback.specs.Stages.{HasMade, turns_left};
 ghost use Rattle.lot_playback.specs.Turns.{program_turns};
 ghost use Rattle.lot_chart.specs.Noted.{HasNoted, HasSearched, RanOn, command_time, commands_in, curves_after, end_in};
 ghost use Rattle.lot_chart.specs.Noted.{stretches_in};
@@ -46,11 +47,15 @@ impl<'a> Observer for Stretches<'a> {
     type Fault = AllocError;
 
     ghost observed = { λ program turns first now. (now.by ≡ first.by)
-        × HasNoted first.by program turns now.stretches.items now.commands.items now.above };
+        × HasNoted first.by program turns now.stretches.items now.commands.items now.above
+        × (now.warnings.ghost_name ≡ first.warnings.ghost_name)
+        × (now.warnings.now.stopped ≡ first.warnings.now.stopped) };
 
     ghost awaits = { λ program turns world actor first now. (now.by ≡ first.by)
         × HasNoted first.by program turns now.stretches.items now.commands.items now.above
-        × HasSearched first.by world.state actor now.above now.count };
+        × HasSearched first.by world.state actor now.above now.count
+        × (now.warnings.ghost_name ≡ first.warnings.ghost_name)
+        × (now.warnings.now.stopped ≡ first.warnings.now.stopped) };
 
     ghost stopped = { λ program turns first now fault. ⊤ };
 
@@ -216,14 +221,15 @@ fn end_of(system: &System, turn: &Turn) -> u64
 
 /// Makes the turns of the program in a system of its own, timed ones if it has a duration and those of its schedule
 /// otherwise, and gathers their stretches, by thread or by currency. Without a duration they are by thread. It stores
-/// the run's warnings in `warnings`.
+/// the run's warnings in `warnings`, also whether a refusal ended it.
 pub fn gather(
     alloc: Global,
     by: By,
     program: &Program,
     warnings: &mut Warnings,
 ) -> Result<Curves, AllocError>
-    ensures { IfOk result (λ curves. curves ≡ curves_by by program.now) }
+    ensures curves { IfOk result (λ curves. curves ≡ curves_by by program.now) }
+    ensures stopped { OnOk result (warnings.new.stopped ≡ (warnings.old.stopped || ends_refused program.now)) }
 {
     match program.duration() {
         None => gather_by(alloc, By::Thread, program, warnings),
@@ -238,7 +244,8 @@ fn gather_by(
     program: &Program,
     warnings: &mut Warnings,
 ) -> Result<Curves, AllocError>
-    ensures { IfOk result (λ curves. curves ≡ curves_after by program.now (program_turns program.now)) }
+    ensures curves { IfOk result (λ curves. curves ≡ curves_after by program.now (program_turns program.now)) }
+    ensures stopped { OnOk result (warnings.new.stopped ≡ (warnings.old.stopped || ends_refused program.now)) }
 {
     let mut playback = Playback::open(alloc, program)?;
     let (stretches, commands) = note_turns(alloc, by, program, &mut playback, warnings)?;
@@ -258,7 +265,9 @@ fn note_turns(
 ) -> Result<(Vec<Stretch>, Vec<u32>), AllocError>
     requires none { playback.old.made ≡ 0 }
     requires made { HasMade program.now [] playback.old.seen }
+    ensures ended { OnOk result (turns_left playback.new ≡ []) }
     ensures made { OnOk result (HasMade program.now (program_turns program.now) playback.new.seen) }
+    ensures stopped { OnOk result (warnings.new.stopped ≡ warnings.old.stopped) }
     ensures noted { IfOk result (λ noted. noted.0.items ≡ stretches_in by [] (program_turns program.now)) }
     ensures commands { IfOk result (λ noted. noted.1.items ≡ commands_in (program_turns program.now)) }
     ensures few { IfOk result (λ noted. vec_len noted.0 < 2 ^ 32) }
@@ -275,9 +284,11 @@ fn note_turns(
         warnings,
     };
     play_through(program, playback, &mut noted)?;
+    // The loan of the warnings is named, so that it ends with the play's.
     let Stretches {
         stretches,
         commands,
+        warnings: _warnings,
         ..
     } = noted;
     Ok((stretches, commands))

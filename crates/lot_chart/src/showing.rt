@@ -1,6 +1,7 @@
 //! Writing curves.
-ghost use Rattle.std.specs.Prelude.{◌≡◌, false, true, OnOk};
+ghost use Rattle.std.specs.Prelude.{◌≡◌, ◌||◌, false, true, MatchResult, OnOk};
 ghost use Rattle.lot_simulation.specs.Grammar.{program_in};
+ghost use Rattle.lot_play.specs.Leaving.{ends_refused};
 ghost use Rattle.lot_play.specs.Played.{Plays, came_of};
 ghost use Rattle.lot_io.specs.Writing.{Writes};
 ghost use Rattle.lot_curves.specs.Curves.{curves_by, curves_of, windowed};
@@ -20,7 +21,8 @@ use std::alloc::{AllocError, Global};
 use std::io::Write;
 
 /// Makes the turns of the input in `bytes`, and writes a table of each thread's ticks or draws over time; or one
-/// line, if the input is refused. It stores the run's warnings in `warnings`. If out of memory, it writes nothing.
+/// line, if the input is refused. It stores the run's warnings in `warnings`, also whether a refusal ended it. If out
+/// of memory, it writes nothing.
 pub fn shares_bytes<W: Write>(
     alloc: Global,
     measure: Measure,
@@ -32,6 +34,9 @@ pub fn shares_bytes<W: Write>(
     ensures flushed { OnOk result (writer.new.flushed ≡ true) }
     ensures shown { Plays W.contents writer.old writer.new result (came_of (program_in bytes.now))
         (shares_output measure bytes.now) }
+    ensures stopped { OnOk result (MatchResult (program_in bytes.now)
+        (λ program. warnings.new.stopped ≡ (warnings.old.stopped || ends_refused program))
+        (λ fault. warnings.new.stopped ≡ warnings.old.stopped)) }
 {
     match parse(alloc, bytes) {
         Ok(program) => shares_program(alloc, measure, None, None, &program, warnings, writer),
@@ -42,7 +47,7 @@ pub fn shares_bytes<W: Write>(
 
 /// Makes the turns of the input in `bytes`, and writes a picture with this title of each thread's ticks over time, and,
 /// if the program is timed, of what each was due; or one line, if the input is refused. It stores the run's warnings in
-/// `warnings`. If out of memory, it writes nothing.
+/// `warnings`, also whether a refusal ended it. If out of memory, it writes nothing.
 pub fn chart_bytes<W: Write>(
     alloc: Global,
     title: &str,
@@ -54,6 +59,9 @@ pub fn chart_bytes<W: Write>(
     ensures flushed { OnOk result (writer.new.flushed ≡ true) }
     ensures shown { Plays W.contents writer.old writer.new result (came_of (program_in bytes.now))
         (chart_output title.now bytes.now) }
+    ensures stopped { OnOk result (MatchResult (program_in bytes.now)
+        (λ program. warnings.new.stopped ≡ (warnings.old.stopped || ends_refused program))
+        (λ fault. warnings.new.stopped ≡ warnings.old.stopped)) }
 {
     match parse(alloc, bytes) {
         Ok(program) => chart_program(
@@ -72,8 +80,8 @@ pub fn chart_bytes<W: Write>(
 }
 
 /// Makes the program's turns, and writes a table of each thread's ticks or draws over time, or in this interval of it;
-/// with a window, the shares of those in the last ticks. It stores the run's warnings in `warnings`. If out of memory,
-/// it writes nothing.
+/// with a window, the shares of those in the last ticks. It stores the run's warnings in `warnings`, also whether a
+/// refusal ended it. If out of memory, it writes nothing.
 pub fn shares_program<W: Write>(
     alloc: Global,
     measure: Measure,
@@ -87,6 +95,7 @@ pub fn shares_program<W: Write>(
     ensures flushed { OnOk result (writer.new.flushed ≡ true) }
     ensures shown { Plays W.contents writer.old writer.new result Done
         (tables.table measure (windowed window (curves_within interval (curves_of program.now)))) }
+    ensures stopped { OnOk result (warnings.new.stopped ≡ (warnings.old.stopped || ends_refused program.now)) }
 {
     match gather(alloc, By::Thread, program, warnings) {
         Ok(curves) => {
@@ -101,7 +110,7 @@ pub fn shares_program<W: Write>(
 /// interval of it; with a window, of the shares of the last ticks. A picture of a timed program also shows what each
 /// was due, for which its turns are made a second time. By currency it shows the ticks of the threads below each
 /// currency and what the currency was due, if the program is timed; otherwise it is by thread. It stores the run's
-/// warnings in `warnings`. If out of memory, it writes nothing.
+/// warnings in `warnings`, also whether a refusal ended it. If out of memory, it writes nothing.
 pub fn chart_program<W: Write>(
     alloc: Global,
     by: By,
@@ -117,6 +126,7 @@ pub fn chart_program<W: Write>(
     ensures shown { Plays W.contents writer.old writer.new result Done
         (charts.chart title.now (dues_by by program.now)
         (windowed window (curves_within interval (curves_by by program.now)))) }
+    ensures stopped { OnOk result (warnings.new.stopped ≡ (warnings.old.stopped || ends_refused program.now)) }
 {
     match gather(alloc, by, program, warnings) {
         Ok(curves) => {

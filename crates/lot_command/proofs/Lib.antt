@@ -1,1 +1,2 @@
 pub mod GivenSeeds
+pub mod Statuses

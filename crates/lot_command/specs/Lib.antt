@@ -1,2 +1,3 @@
 pub mod Running
+pub mod Statuses
 pub mod Views

@@ -1,13 +1,14 @@
--- The text of a view of an input.
-use Rattle.std.specs.Prelude.{ℕ, Option, Some, None, Result, Ok, Err, List}
+-- The text of a view of an input, and whether a refusal ends its play.
+use Rattle.std.specs.Prelude.{ℕ, Bool, false, Option, Some, None, Result, Ok, Err, List}
 use Rattle.lot_simulation.specs.declared.input.InputFault.{InputFault}
 use Rattle.lot_simulation.specs.Grammar.{program_in}
 use Rattle.lot_simulation.specs.Output.{played_output}
 use Rattle.lot_simulation.specs.Seeded.{seeded}
 use Rattle.lot_simulation.specs.Texts.{fault_line}
 use Rattle.lot_simulation.specs.World.{Program}
+use Rattle.lot_play.specs.Leaving.{any_ends_refused, ends_refused}
 use Rattle.lot_play.specs.ReportTable.{report_text}
-use Rattle.lot_play.specs.Seeds.{seeds_report}
+use Rattle.lot_play.specs.Seeds.{seeds_between, seeds_report}
 use Rattle.lot_curves.specs.Curves.{curves_by, curves_of, windowed}
 use Rattle.lot_curves.specs.Intervals.{curves_within}
 use Rattle.lot_explain.specs.Explained.{explained_program}
@@ -37,3 +38,17 @@ shown_of view title (Err fault) = fault_line fault
 -- the output for the input in these bytes, with this seed if one is given
 abbrev pub text_of : View → List ℕ → Option ℕ → List ℕ → List ℕ
 text_of view title seed bytes = shown_of view title (seeded seed (program_in bytes))
+
+-- whether a refusal ends the play of a program in this view, or one of its plays if it has several
+abbrev pub view_ends_refused : View → Program → Bool
+view_ends_refused (views.Report (Some seeds) form) program = any_ends_refused program (seeds_between seeds.first seeds.last)
+view_ends_refused other program = ends_refused program
+
+-- the same for an input: a refused one isn't played
+abbrev pub ends_refused_in : View → Result Program InputFault → Bool
+ends_refused_in view (Ok program) = view_ends_refused view program
+ends_refused_in view (Err fault) = false
+
+-- the same for the input in these bytes, with this seed if one is given
+abbrev pub input_ends_refused : View → Option ℕ → List ℕ → Bool
+input_ends_refused view seed bytes = ends_refused_in view (seeded seed (program_in bytes))

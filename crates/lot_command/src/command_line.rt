@@ -148,8 +148,8 @@ fn seeds_option<'a>(alloc: Global) -> Result<Arg<'a>, AllocError> {
         .action(ArgAction::Set)
         .conflicts_with("seed")?
         .help(
-            "Plays the input once with each seed from A to B, and writes the mean, the least and the most of each \
-             thread's draws, ticks and share",
+            "Plays the input once with each seed from A to B, and writes the mean, the least and the most of each figure \
+             of the report",
         );
     Ok(seeds)
 }
@@ -192,8 +192,8 @@ fn report_command<'a>(alloc: Global) -> Result<Command<'a>, AllocError> {
         );
     let by = by_option(
         alloc,
-        "What the rows of the table stand for; thread if it is left out. Of an input that isn't lottery 3, and with \
-         --seeds, each row is a thread",
+        "What the rows of the table stand for; thread if it is left out. Of an input that isn't lottery 3 each \
+         row is a thread",
     )
     .requires_arg("csv")?;
     showing_seeds(

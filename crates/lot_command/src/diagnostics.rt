@@ -1,4 +1,5 @@
 //! Diagnostics in words on standard error.
+ghost use Rattle.std.specs.Prelude.{◌≡◌, IfOk, false};
 
 use crate::schedule::without_schedule;
 use lot_io::Watched;
@@ -28,7 +29,9 @@ pub(crate) struct Diagnostics {
 
 impl Diagnostics {
     /// No diagnostics. It allocates the memory for the warnings of a run.
-    pub(crate) fn nothing(alloc: Global) -> Result<Self, AllocError> {
+    pub(crate) fn nothing(alloc: Global) -> Result<Self, AllocError>
+        ensures { IfOk result (λ diagnostics. diagnostics.warnings.stopped ≡ false) }
+    {
         Ok(Diagnostics {
             input: Vec::new(alloc),
             warnings: Warnings::none(alloc)?,
@@ -37,7 +40,9 @@ impl Diagnostics {
 
     /// Keeps an input that is about to be played, since only its turns determine the lines to be named. None of them is
     /// a line of the schedule, so it frees those at the end.
-    pub(crate) fn keep_played(&mut self, input: Vec<u8>) {
+    pub(crate) fn keep_played(&mut self, input: Vec<u8>)
+        ensures { self.new.warnings ≡ self.old.warnings }
+    {
         let kept = without_schedule(input.as_slice()).len();
         self.input = input;
         self.input.truncate(kept);

@@ -1,5 +1,7 @@
-//! Texts of inputs that keep their own seeds: laws of the definitions, without executable code.
-ghost use Rattle.std.specs.Prelude.{◌≡◌, ℕ, List, None, Option};
+//! Texts of inputs that keep their own seeds, and exit statuses: laws of the definitions, without executable code.
+ghost use Rattle.std.specs.Prelude.{◌≡◌, ℕ, Err, List, None, Ok, Option, false, true};
+ghost use Rattle.lot_simulation.specs.declared.input.InputFault.{InputFault};
+ghost use Rattle.lot_simulation.specs.Grammar.{program_in};
 ghost use Rattle.lot_simulation.specs.Output.{output};
 ghost use Rattle.lot_simulation.specs.World.{Program};
 ghost use Rattle.lot_curves.specs.declared.by.By.TheVariants.{Currency, Thread};
@@ -8,8 +10,11 @@ ghost use Rattle.lot_curves.specs.declared.stretch.Measure.{Measure};
 ghost use Rattle.lot_explain.specs.declared.detail.Detail.{Detail};
 ghost use Rattle.lot_explain.specs.Explained.{explained_output};
 ghost use Rattle.lot_chart.specs.Shown.{chart_output, shares_output};
+ghost use Rattle.lot_command.specs.declared.exit_status.ExitStatus.TheVariants.{Done, Refused};
+ghost use Rattle.lot_command.specs.declared.view.View.{View};
 ghost use Rattle.lot_command.specs.declared.view.View.TheVariants as views;
-ghost use Rattle.lot_command.specs.Views.{text_of, view_of};
+ghost use Rattle.lot_command.specs.Statuses.{status_of_input};
+ghost use Rattle.lot_command.specs.Views.{text_of, view_ends_refused, view_of};
 
 /// Without a given seed, interval or window, the text of each view is the library's output for the same bytes; of a
 /// picture, by thread. A picture by currency of a program without a duration is that by thread.
@@ -25,4 +30,15 @@ pub fn texts_without_a_seed()
         → program.duration ≡ None
         → view_of (views.Chart Currency interval window) title program
         ≡ view_of (views.Chart Thread interval window) title program }
+{}
+
+/// In each view and with any seed an input calls for success if its program isn't strict, and for a refusal's status if
+/// it is refused. If a refusal ends the play with its own seeds, it calls for that status, too.
+pub fn statuses_of_inputs()
+    ensures lenient { (view : View) (seed : Option ℕ) (bytes : List ℕ) (program : Program)
+        → program_in bytes ≡ Ok program → program.strict ≡ false → status_of_input view seed bytes ≡ Done }
+    ensures refused { (view : View) (seed : Option ℕ) (bytes : List ℕ) (fault : InputFault)
+        → program_in bytes ≡ Err fault → status_of_input view seed bytes ≡ Refused }
+    ensures stopped { (view : View) (bytes : List ℕ) (program : Program) → program_in bytes ≡ Ok program
+        → view_ends_refused view program ≡ true → status_of_input view None bytes ≡ Refused }
 {}

@@ -1,9 +1,10 @@
 //! The views of an input's turns.
-ghost use Rattle.std.specs.Prelude.{◌≡◌, false, true, OnOk};
+ghost use Rattle.std.specs.Prelude.{◌≡◌, ◌||◌, false, true, IfOk, OnOk};
 ghost use Rattle.lot_simulation.specs.Grammar.{program_in};
 ghost use Rattle.lot_play.specs.Played.{Plays, PlaysInput, came_of};
 ghost use Rattle.lot_play.specs.declared.inputs.Played.TheVariants.{Done};
-ghost use Rattle.lot_command.specs.Views.{text_of, view_of};
+ghost use Rattle.lot_command.specs.Statuses.{HasCome};
+ghost use Rattle.lot_command.specs.Views.{input_ends_refused, text_of, view_ends_refused, view_of};
 
 use crate::diagnostics::Diagnostics;
 use lot_chart::{chart_program, shares_program};
@@ -53,7 +54,7 @@ pub(crate) struct Showing {
 }
 
 /// Reads an input, makes its turns, and writes this view of them, a picture with this title; or one line, if the input
-/// is refused. It stores diagnostics in `diagnostics`.
+/// is refused. It stores diagnostics in `diagnostics`, also whether a refusal ended the play.
 pub(crate) fn show<R: Read, W: Write>(
     alloc: Global,
     showing: &Showing,
@@ -65,13 +66,16 @@ pub(crate) fn show<R: Read, W: Write>(
     requires { (reader.old.failed ≡ false) × (writer.old.failed ≡ false) }
     ensures plays { PlaysInput (text_of showing.now.view title.now showing.now.seed)
         R.remaining reader.old reader.new W.contents writer.old writer.new result }
+    ensures came { IfOk result (HasCome showing.now.view showing.now.seed
+        (R.remaining reader.old.inner) (R.remaining reader.new.inner)
+        diagnostics.old.warnings.stopped diagnostics.new.warnings.stopped) }
 {
     let bytes = read_input(alloc, reader)?;
     show_bytes(alloc, showing, title, bytes, diagnostics, writer)
 }
 
 /// Makes the turns of the input in `bytes`, and writes this view of them, or the line for a refused input. It stores
-/// the input and the run's warnings in `diagnostics`.
+/// the input and the run's warnings in `diagnostics`, also whether a refusal ended the play.
 #[tactic(auto, using(crate::proofs::GivenSeeds::came_seeded))]
 fn show_bytes<W: Write>(
     alloc: Global,
@@ -85,6 +89,8 @@ fn show_bytes<W: Write>(
     ensures flushed { OnOk result (writer.new.flushed ≡ true) }
     ensures shown { Plays W.contents writer.old writer.new result (came_of (program_in bytes.items))
         (text_of showing.now.view title.now showing.now.seed bytes.items) }
+    ensures stopped { OnOk result (diagnostics.new.warnings.stopped ≡ (diagnostics.old.warnings.stopped
+        || input_ends_refused showing.now.view showing.now.seed bytes.items)) }
 {
     match parse_seeded(alloc, showing.seed, bytes.as_slice()) {
         Ok(program) => {
@@ -100,7 +106,8 @@ fn show_bytes<W: Write>(
     }
 }
 
-/// Makes the program's turns, and writes this view of them. It stores the run's warnings in `warnings`.
+/// Makes the program's turns, and writes this view of them. It stores the run's warnings in `warnings`, also whether a
+/// refusal ended the play.
 fn show_program<W: Write>(
     alloc: Global,
     view: &View,
@@ -113,6 +120,8 @@ fn show_program<W: Write>(
     ensures flushed { OnOk result (writer.new.flushed ≡ true) }
     ensures shown { Plays W.contents writer.old writer.new result Done
         (view_of view.now title.now program.now) }
+    ensures stopped { OnOk result (warnings.new.stopped
+        ≡ (warnings.old.stopped || view_ends_refused view.now program.now)) }
 {
     match view {
         View::Play => play_program(alloc, program, warnings, writer),

@@ -44,7 +44,9 @@ impl<'a, W: Write> Observer for Explained<'a, W> {
         × (now.writer.now.failed ≡ false)
         × IsPut (W.contents first.writer.now.inner) (W.contents now.writer.now.inner) [] now.page
         (explained_turns first.detail turns)
-        × (now.detail ≡ first.detail) };
+        × (now.detail ≡ first.detail)
+        × (now.warnings.ghost_name ≡ first.warnings.ghost_name)
+        × (now.warnings.now.stopped ≡ first.warnings.now.stopped) };
 
     ghost awaits = { λ program turns world actor first now. (now.writer.ghost_name ≡ first.writer.ghost_name)
         × (now.lots.now.room ≡ program.limits.threads)
@@ -52,7 +54,9 @@ impl<'a, W: Write> Observer for Explained<'a, W> {
         × IsPut (W.contents first.writer.now.inner) (W.contents now.writer.now.inner) [] now.page
         (explained_turns first.detail turns)
         × HasLots program world actor now.lots.now
-        × (now.detail ≡ first.detail) };
+        × (now.detail ≡ first.detail)
+        × (now.warnings.ghost_name ≡ first.warnings.ghost_name)
+        × (now.warnings.now.stopped ≡ first.warnings.now.stopped) };
 
     ghost stopped = { λ program turns first now fault. (now.writer.ghost_name ≡ first.writer.ghost_name)
         × (fault ≡ faults.Write) × (now.writer.now.failed ≡ true)
@@ -88,6 +92,8 @@ impl<'a, W: Write> Explained<'a, W> {
     fn write_out(&mut self) -> Result<(), IoFault>
         requires { self.old.writer.now.failed ≡ false }
         ensures same { self.new.writer.ghost_name ≡ self.old.writer.ghost_name }
+        ensures warnings { (self.new.warnings.ghost_name ≡ self.old.warnings.ghost_name)
+            × (self.new.warnings.now ≡ self.old.warnings.now) }
         ensures text { Writes W.contents self.old.writer.now self.new.writer.now result self.old.page }
     {
         self.page.write_out(self.writer)
@@ -110,6 +116,7 @@ pub(crate) fn explain_turns<W: Write>(
     ensures setting { playback.new.seen.setting ≡ playback.old.seen.setting }
     ensures ended { OnOk result (turns_left playback.new ≡ []) }
     ensures text { Writes W.contents writer.old writer.new result (explained_turns detail (program_turns program.now)) }
+    ensures stopped { OnOk result (warnings.new.stopped ≡ warnings.old.stopped) }
 {
     let mut explained = Explained {
         detail,
@@ -138,6 +145,7 @@ fn put_explained<W: Write>(
     ensures same { system.new ≡ system.old }
     ensures text { (made : MadeTurn) → IsExplained system.old turn.now lots.now made
         → Puts W.contents writer.old writer.new page.old page.new result (explained_made detail made) }
+    ensures stopped { warnings.new.stopped ≡ warnings.old.stopped }
 {
     let actor = printed_actor(system, turn.actor);
     let heading = heading(system, style_of(turn), actor);

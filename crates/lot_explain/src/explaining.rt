@@ -1,6 +1,7 @@
 //! Explaining an input.
-ghost use Rattle.std.specs.Prelude.{◌≡◌, false, true, OnOk};
+ghost use Rattle.std.specs.Prelude.{◌≡◌, ◌||◌, false, true, MatchResult, OnOk};
 ghost use Rattle.lot_simulation.specs.Grammar.{program_in};
+ghost use Rattle.lot_play.specs.Leaving.{ends_refused};
 ghost use Rattle.lot_play.specs.Played.{Plays, came_of};
 ghost use Rattle.lot_play.specs.declared.inputs.Played.TheVariants.{Done};
 ghost use Rattle.lot_explain.specs.Explained.{explained_output, explained_program};
@@ -16,8 +17,8 @@ use std::alloc::Global;
 use std::io::Write;
 
 /// Makes the turns of the input in `bytes`, and writes the output of `play`, with the lots of each won lottery before
-/// its line; or one line, if the input is refused. It stores the run's warnings in `warnings`. It allocates all its
-/// memory before the first turn.
+/// its line; or one line, if the input is refused. It stores the run's warnings in `warnings`, also whether a refusal
+/// ended it. It allocates all its memory before the first turn.
 pub fn explain_bytes<W: Write>(
     alloc: Global,
     detail: Detail,
@@ -29,6 +30,9 @@ pub fn explain_bytes<W: Write>(
     ensures flushed { OnOk result (writer.new.flushed ≡ true) }
     ensures played { Plays W.contents writer.old writer.new result (came_of (program_in bytes.now))
         (explained_output detail bytes.now) }
+    ensures stopped { OnOk result (MatchResult (program_in bytes.now)
+        (λ program. warnings.new.stopped ≡ (warnings.old.stopped || ends_refused program))
+        (λ fault. warnings.new.stopped ≡ warnings.old.stopped)) }
 {
     match parse(alloc, bytes) {
         Ok(program) => explain_program(alloc, detail, &program, warnings, writer),
@@ -38,7 +42,8 @@ pub fn explain_bytes<W: Write>(
 }
 
 /// Explains the program in a system of its own: makes its turns, and writes the output of `play`, with the lots of each
-/// won lottery before its line. It allocates all its memory before the first turn.
+/// won lottery before its line. It stores the run's warnings in `warnings`, also whether a refusal ended it. It
+/// allocates all its memory before the first turn.
 pub fn explain_program<W: Write>(
     alloc: Global,
     detail: Detail,
@@ -50,6 +55,7 @@ pub fn explain_program<W: Write>(
     ensures flushed { OnOk result (writer.new.flushed ≡ true) }
     ensures played { Plays W.contents writer.old writer.new result Done
         (explained_program detail program.now program.now.duration) }
+    ensures stopped { OnOk result (warnings.new.stopped ≡ (warnings.old.stopped || ends_refused program.now)) }
 {
     let Ok(mut playback) = Playback::open(alloc, program) else {
         return Err(IoFault::Memory);

@@ -49,9 +49,25 @@ processor 1 quanta 2 idle 0 ticks 4
 total turns 8 quanta 2 ticks 4
 ";
 
-/// The report over two plays of `TIMED`, in which thread `a` wins a draw at the end, too.
+/// The report over two plays of `TIMED`, both the same: only thread `a` has tickets, so it wins each draw. These are at
+/// ticks 0, 2 and 4, the last of them at the end: `a` runs for two quanta of 2 ticks, all ticks that there are, and has
+/// the whole value. The waits that its draws end began in the same tick. `b` weighs nothing, and its only wait doesn't
+/// end. The turns are 2 commands, 3 draws and 2 ends of quanta.
 const PLAYS: &str = "seeds 1 to 2
 thread 1 a plays 2 quanta mean 3 least 3 most 3 ticks mean 4 least 4 most 4 \
+share mean 100% least 100% most 100% due mean 100% least 100% most 100% value mean 100% least 100% most 100%
+thread 1 a ready waits mean 3 least 3 most 3 average mean 0 least 0 most 0 longest mean 0 least 0 most 0
+thread 2 b plays 2 quanta mean 0 least 0 most 0 ticks mean 0 least 0 most 0 \
+share mean 0% least 0% most 0% due mean 0% least 0% most 0% value mean 0% least 0% most 0%
+processor 1 plays 2 quanta mean 3 least 3 most 3 idle mean 0 least 0 most 0 ticks mean 4 least 4 most 4 \
+unused mean 0 least 0 most 0
+total plays 2 turns mean 7 least 7 most 7 quanta mean 3 least 3 most 3 ticks mean 4 least 4 most 4 \
+refused mean 0 least 0 most 0 left mean 0 least 0 most 0
+";
+
+/// The report over two plays of `INPUT`, in which `a` wins both draws.
+const SCHEDULED_PLAYS: &str = "seeds 1 to 2
+thread 1 a plays 2 quanta mean 2 least 2 most 2 ticks mean 4 least 4 most 4 \
 share mean 100% least 100% most 100%
 thread 2 b plays 2 quanta mean 0 least 0 most 0 ticks mean 0 least 0 most 0 \
 share mean 0% least 0% most 0%
@@ -66,10 +82,28 @@ reply_waits,reply_mean,reply_longest,refused,made,ended
 2,b,0,0,0,0,0,0,,,0,,,0,,,0,0,
 ";
 
-/// The report over two plays of `TIMED` as a table.
+/// The report over two plays of `TIMED` as a table: the columns' names, and a row for each thread, with the numbers of
+/// `PLAYS`. Three fields stand for a figure, and are empty for one that no play has.
 const TABLE_OF_PLAYS: &str = "thread,name,plays,quanta_mean,quanta_least,quanta_most,\
+ticks_mean,ticks_least,ticks_most,share_percent_mean,share_percent_least,share_percent_most,\
+due_percent_mean,due_percent_least,due_percent_most,value_percent_mean,value_percent_least,value_percent_most,\
+ready_waits_mean,ready_waits_least,ready_waits_most,ready_mean_mean,ready_mean_least,ready_mean_most,\
+ready_longest_mean,ready_longest_least,ready_longest_most,\
+mutex_waits_mean,mutex_waits_least,mutex_waits_most,mutex_mean_mean,mutex_mean_least,mutex_mean_most,\
+mutex_longest_mean,mutex_longest_least,mutex_longest_most,\
+reply_waits_mean,reply_waits_least,reply_waits_most,reply_mean_mean,reply_mean_least,reply_mean_most,\
+reply_longest_mean,reply_longest_least,reply_longest_most,refused_mean,refused_least,refused_most,\
+made_mean,made_least,made_most,ended_mean,ended_least,ended_most
+1,a,2,3,3,3,4,4,4,100,100,100,100,100,100,100,100,100,3,3,3,0,0,0,0,0,0,\
+0,0,0,,,,,,,0,0,0,,,,,,,0,0,0,0,0,0,,,
+2,b,2,0,0,0,0,0,0,0,0,0,0,0,0,0,0,0,0,0,0,,,,,,,\
+0,0,0,,,,,,,0,0,0,,,,,,,0,0,0,0,0,0,,,
+";
+
+/// The report over two plays of `INPUT` as a table.
+const SCHEDULED_TABLE: &str = "thread,name,plays,quanta_mean,quanta_least,quanta_most,\
 ticks_mean,ticks_least,ticks_most,share_percent_mean,share_percent_least,share_percent_most
-1,a,2,3,3,3,4,4,4,100,100,100
+1,a,2,2,2,2,4,4,4,100,100,100
 2,b,2,0,0,0,0,0,0,0,0,0
 ";
 
@@ -96,12 +130,27 @@ const CURRENCY_TABLE: &str = "currency,name,ticks,share_percent,due_percent
 2,task,4,100,100
 ";
 
+/// The same over two plays: both run for 4 ticks of 4 each time, and are due all of them.
+const CURRENCY_TABLE_OF_PLAYS: &str = "currency,name,plays,ticks_mean,ticks_least,ticks_most,\
+share_percent_mean,share_percent_least,share_percent_most,due_percent_mean,due_percent_least,due_percent_most
+1,alice,2,4,4,4,100,100,100,100,100,100
+2,task,2,4,4,4,100,100,100,100,100,100
+";
+
 /// The report as a table, and that over several plays. Without threads a table has its first row alone. An input of
 /// another format has no table of currencies.
 #[test]
 fn report_tables(rt: HostRuntime) {
     let words: &[&str] = &["lot_sim", "report", "--csv"];
     let over_plays: &[&str] = &["lot_sim", "report", "--csv", "--seeds", "1..2"];
+    let currencies_over_plays: &[&str] = &[
+        "lot_sim",
+        "report",
+        "--csv",
+        "--by=currency",
+        "--seeds",
+        "1..2",
+    ];
     let by_thread: &[&str] = &["lot_sim", "report", "--csv", "--by", "thread"];
     let by_currency: &[&str] = &["lot_sim", "report", "--by=currency", "--csv"];
     for (words, input, table) in [
@@ -109,6 +158,9 @@ fn report_tables(rt: HostRuntime) {
         (words, TIMED, TABLE),
         (words, "lottery 1\n", "thread,name,quanta,ticks\n"),
         (over_plays, TIMED, TABLE_OF_PLAYS),
+        (over_plays, INPUT, SCHEDULED_TABLE),
+        (currencies_over_plays, CURRENCIES, CURRENCY_TABLE_OF_PLAYS),
+        (currencies_over_plays, INPUT, SCHEDULED_TABLE),
         (by_thread, TIMED, TABLE),
         (by_currency, CURRENCIES, CURRENCY_TABLE),
         (
@@ -130,9 +182,11 @@ fn several_plays(rt: HostRuntime) {
     let alloc = rt.alloc();
     for view in ["play", "report", "shares"] {
         let words = ["lot_sim", view, "--seeds", "1..2"];
-        let ended = ended_on(&rt, alloc, &words, TIMED);
-        let is_report = ended.output.as_slice() == PLAYS.as_bytes();
-        check_same(&rt, &(ended.code, is_report), &(0, true));
+        for (input, report) in [(TIMED, PLAYS), (INPUT, SCHEDULED_PLAYS)] {
+            let ended = ended_on(&rt, alloc, &words, input);
+            let is_report = ended.output.as_slice() == report.as_bytes();
+            check_same_at(&rt, &input, &(ended.code, is_report), &(0, true));
+        }
     }
     for words in [
         ["lot_sim", "explain", "--seeds", "1..2", "-"],
@@ -142,6 +196,79 @@ fn several_plays(rt: HostRuntime) {
         ["lot_sim", "shares", "--seeds", "1..2", "--from=1"],
     ] {
         check_words(&rt, alloc, &words, 2, false);
+    }
+}
+
+/// Threads `a` and `b` are worth 1 each, and `a` exits in its first tick.
+const DIFFERENT: &str = "lottery 3
+quantum 2
+for 3
+script brief
+endscript
+script spin
+compute 9
+endscript
+mkcur g
+mktkt 1 base
+fund 1 g
+fundx 1 g a brief
+fundx 1 base b spin
+";
+
+/// The report over three plays. A draw of both is of 512 units, and the first 256 are `a`'s. Modulo 512 the generator
+/// gives 265 and then 355 for seed 1, 11 for seed 2, and 270 and then 25 for seed 3, so the plays are:
+///
+/// - 1: `b` runs to tick 2, and wins again. Each is due a half, and has half of the value.
+/// - 2: `a` exits at tick 1. Then `b`, which has waited for 1 tick, runs to tick 3. `a` is due 0.5 of 3 ticks, 16.666%.
+/// - 3: `b` runs to tick 2. Then `a`, which has waited for 2 ticks, exits at tick 3. Each is due a half.
+///
+/// In the last two `b` wins once more at tick 3, and has the whole value. `a` has 0%, 33.333% and 33.333% of the ticks.
+/// It has waited in the last two alone, for 0 ticks and for 2, and lived for 1 tick and for 3; the means of these are
+/// over two plays. To 5 commands come 3, 5 and 5 turns.
+const DIFFERENT_PLAYS: &str = "seeds 1 to 3
+thread 1 a plays 3 quanta mean 0.666 least 0 most 1 ticks mean 0.666 least 0 most 1 \
+share mean 22.222% least 0% most 33.333% due mean 38.888% least 16.666% most 50% value mean 16.666% least 0% most 50%
+thread 1 a ready waits mean 0.666 least 0 most 1 average mean 1 least 0 most 2 longest mean 1 least 0 most 2
+thread 1 a made mean 0 least 0 most 0 ended mean 2 least 1 most 3 in 2 of 3
+thread 2 b plays 3 quanta mean 2 least 2 most 2 ticks mean 2 least 2 most 2 \
+share mean 77.777% least 66.666% most 100% due mean 61.111% least 50% most 83.333% \
+value mean 83.333% least 50% most 100%
+thread 2 b ready waits mean 2 least 2 most 2 average mean 0.333 least 0 most 0.5 longest mean 0.666 least 0 most 1
+currency 1 g plays 3 ticks mean 0.666 least 0 most 1 share mean 22.222% least 0% most 33.333% \
+due mean 38.888% least 16.666% most 50%
+processor 1 plays 3 quanta mean 2.666 least 2 most 3 idle mean 0 least 0 most 0 ticks mean 2.666 least 2 most 3 \
+unused mean 0 least 0 most 0
+total plays 3 turns mean 9.333 least 8 most 10 quanta mean 2.666 least 2 most 3 ticks mean 2.666 least 2 most 3 \
+refused mean 0 least 0 most 0 left mean 0 least 0 most 0
+total ended mean 0.666 least 0 most 1 average mean 2 least 1 most 3 longest mean 2 least 1 most 3
+";
+
+/// The rows of the table with the same numbers.
+const DIFFERENT_ROWS: &str = "
+1,a,3,0.666,0,1,0.666,0,1,22.222,0,33.333,38.888,16.666,50,16.666,0,50,\
+0.666,0,1,1,0,2,1,0,2,0,0,0,,,,,,,0,0,0,,,,,,,0,0,0,0,0,0,2,1,3
+2,b,3,2,2,2,2,2,2,77.777,66.666,100,61.111,50,83.333,83.333,50,100,\
+2,2,2,0.333,0,0.5,0.666,0,1,0,0,0,,,,,,,0,0,0,,,,,,,0,0,0,0,0,0,,,
+";
+
+/// The row of its currency.
+const DIFFERENT_CURRENCY: &str = "\n1,g,3,0.666,0,1,22.222,0,33.333,38.888,16.666,50\n";
+
+#[test]
+fn different_plays(rt: HostRuntime) {
+    let lines: &[&str] = &["lot_sim", "report", "--seeds", "1..3"];
+    let table: &[&str] = &["lot_sim", "report", "--seeds", "1..3", "--csv"];
+    let currencies: &[&str] = &[
+        "lot_sim", "report", "--seeds", "1..3", "--csv", "--by", "currency",
+    ];
+    for (words, wanted) in [
+        (lines, DIFFERENT_PLAYS),
+        (table, DIFFERENT_ROWS),
+        (currencies, DIFFERENT_CURRENCY),
+    ] {
+        let ended = ended_on(&rt, rt.alloc(), words, DIFFERENT);
+        let is_there = ended.output.as_slice().ends_with(wanted.as_bytes());
+        check_same_at(&rt, &words, &(ended.code, is_there), &(0, true));
     }
 }
 

@@ -1,4 +1,4 @@
-use Rattle.std.proofs.Common.{arith}
+use Rattle.std.proofs.Common.{arith, rules}
 use Rattle.lot_chart.proofs.Notes.{program-few}
 use Rattle.lot_chart.proofs.gathering.note_turns.Goals as goal
 
@@ -13,3 +13,6 @@ returns-clause-few c = omega (arith, c.in_ok-play_through.ensures.observed.1.few
 
 pub returns-clause-early : goal.returns-clause-early
 returns-clause-early c = omega (arith, c.in_ok-play_through.ensures.observed.1.early, program-few c.args.program.now c.schedule-schedule.ensures.legal)
+
+pub returns-clause-stopped : goal.returns-clause-stopped
+returns-clause-stopped c = search (rules, c.in_ok-play_through.ensures.observed.2, c.in_ok-play_through.ensures.observed.3)

@@ -7,6 +7,7 @@ use Rattle.lot_curves.specs.Curves.{Curves, curves_by, windowed}
 use Rattle.lot_curves.specs.Intervals.{curves_within}
 use Rattle.lot_chart.specs.Charts.{chart}
 use Rattle.lot_chart.specs.Dues.{dues_by}
+use Rattle.lot_chart.proofs.Ran.{on-ok}
 use Rattle.lot_chart.proofs.Shows.{shows-plays}
 use Rattle.lot_chart.proofs.showing.chart_program.Goals as goal
 
@@ -28,8 +29,11 @@ returns-in-Ok-clause-shown g c =
     let curves = curves_by c.args.by program in
     let within = curves_within c.args.interval curves in
     let wanted = windowed c.args.window within in
-    let made = c.with_window-curves.ensures ∙ ap (windowed c.args.window) (c.within.ensures ∙ ap (curves_within c.args.interval) c.in-Ok.ensures) in
+    let made = c.with_window-curves.ensures ∙ ap (windowed c.args.window) (c.within.ensures ∙ ap (curves_within c.args.interval) c.in-Ok.ensures.curves) in
     let due : dues_by c.with_window-curves.result.by program ≡ dues_by c.args.by program =
     ap (λ (v : Curves). dues_by v.by program) made ∙ ap (λ what. dues_by what program) (same-by c.args.window c.args.interval curves) ∙ dues-of c.args.by program program.duration refl in
     shows-plays g.W.Write.contents c.args.writer.now c.write_text.new.writer (λ v. v.items) (chart c.args.title.now (dues_by c.args.by program)) c.write_text.result c.requires wanted c.with_window-curves.result c.program_chart.result made
     (subst (λ o. IfOk c.program_chart.result (λ v. v.items ≡ chart c.args.title.now o c.with_window-curves.result)) due c.program_chart.ensures) c.write_text.ensures.shown
+
+pub returns-in-Ok-clause-stopped : goal.returns-in-Ok-clause-stopped
+returns-in-Ok-clause-stopped g c = on-ok c.write_text.result (λ done. c.in-Ok.ensures.stopped) c.write_text.ensures.flushed

@@ -14,11 +14,11 @@ end_of-end-requires c none =
 
 pub push_turn-requires : goal.push_turn-requires
 push_turn-requires c =
-    let (turns, made, first, just, (by, noted, searched)) = c.requires.awaits in
+    let (turns, made, first, just, (by, noted, searched, name, stopped)) = c.requires.awaits in
     record { searched = (made.before.state, made.actor, subst (λ what. HasSearched what made.before.state made.actor c.args.self.now.above c.args.self.now.count) (sym by) searched) }
 
 pub returns-then-turn-clause-ok : goal.returns-then-turn-clause-ok
-returns-then-turn-clause-ok c turns made first just (by, noted, searched) =
+returns-then-turn-clause-ok c turns made first just (by, noted, searched, name, stopped) =
     let longer = length-append turns (made ∷ []) in (
       by,
       record {
@@ -28,10 +28,12 @@ returns-then-turn-clause-ok c turns made first just (by, noted, searched) =
         early = omega (arith, noted.early, longer);
         commands_are = ended-commands c.args.program.now turns made c.args.turn.now c.args.system.now just c.if-turn.true c.args.self.now.commands.items noted.commands_are;
       },
+      name,
+      stopped,
     )
 
 pub returns-clause-ok : goal.returns-clause-ok
-returns-clause-ok c turns made first just (by, noted, searched) =
+returns-clause-ok c turns made first just (by, noted, searched, name, stopped) =
     let turn = c.args.turn.now in
     let what = c.args.self.now.by in
     let looked = subst (λ what. HasSearched what made.before.state made.actor c.args.self.now.above c.args.self.now.count) (sym by) searched in
@@ -46,4 +48,6 @@ returns-clause-ok c turns made first just (by, noted, searched) =
         early = early-noted c.args.program.now turns made turn c.args.system.now just c.end_of-end.result _ _ c.end_of-end.ensures.early noted.early c.in_ok-push_turn.ensures.early;
         commands_are = commands-noted c.args.program.now turns made turn c.args.system.now just c.args.self.now.commands.items c.push_command.new.commands.items noted.commands_are c.in_ok-push_command.ensures;
       },
+      name,
+      c.note.ensures.stopped ∙ stopped,
     )

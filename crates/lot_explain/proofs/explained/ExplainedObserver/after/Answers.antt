@@ -1,4 +1,4 @@
-use Rattle.std.proofs.Common.{◌++◌, subst}
+use Rattle.std.proofs.Common.{◌++◌, ◌∙◌, subst}
 use Rattle.lot_io.specs.Writing.{Begins, IsPut}
 use Rattle.lot_play.proofs.LineFacts.{put-err, put-ok, texts-more, texts-stop}
 use Rattle.lot_explain.specs.MadeTurns.{IsExplained, explained_made}
@@ -23,7 +23,7 @@ returns-clause-ok g c =
     (λ here turns made first just awaits.
     let is = here made (just-explained c.args.program.now c.args.system.now c.args.turn.now lots turns made just awaits.4) in
     let text = subst (λ d. IsPut mid new c.args.self.now.page c.put_explained.new.page (explained_made d made)) awaits.5 is.1 in
-    (awaits.0, awaits.1, is.0, texts-more (explained_made first.detail) (contents first.writer.now.inner) mid new c.args.self.now.page turns made awaits.3 c.put_explained.new.page text, awaits.5))
+    (awaits.0, awaits.1, is.0, texts-more (explained_made first.detail) (contents first.writer.now.inner) mid new c.args.self.now.page turns made awaits.3 c.put_explained.new.page text, awaits.5, awaits.6, c.put_explained.ensures.stopped ∙ awaits.7))
 
 pub returns-clause-err : goal.returns-clause-err
 returns-clause-err g c =

@@ -18,4 +18,6 @@ returns-clause-awaits g c turns first made observed =
           let answered = ap (λ (p : Program). (system_turn p (world_of seen) actor).answer) c.requires.program ∙ is in
           (c.gather.ensures.lots event reply answered, c.gather.ensures.loans event reply answered),
       observed.4,
+      observed.5,
+      observed.6,
     )
