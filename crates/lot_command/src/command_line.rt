@@ -148,8 +148,8 @@ fn seeds_option<'a>(alloc: Global) -> Result<Arg<'a>, AllocError> {
         .action(ArgAction::Set)
         .conflicts_with("seed")?
         .help(
-            "Plays the input once with each seed from A to B, and writes the mean, the least and the most of each figure \
-             of the report",
+            "Plays the input once with each seed from A to B, and writes the mean, the least and the most of each \
+             figure of the report",
         );
     Ok(seeds)
 }

@@ -1,6 +1,5 @@
-//! Tests of `lot_kernel`: rows of events with their replies, and what draws, unlocks and rows read; and of the threads,
-//! mutexes, ports and queues below it. They stand in a crate of their own, so that those crates aren't proved a second
-//! time for them.
+//! Tests of `lot_kernel`: rows of events with their replies, and what draws, unlocks and rows read. They stand in a
+//! crate of their own, so that `lot_kernel` isn't proved a second time for them.
 #![tactic(auto)]
 
 mod replies;

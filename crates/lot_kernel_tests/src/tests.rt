@@ -1,17 +1,12 @@
 mod amounts;
 mod bounds;
-mod helpers;
 mod kills;
-mod mutexes;
 mod nameless;
 mod names;
 mod pauses;
-mod ports;
-mod queues;
 mod reads;
 mod removals;
 mod same;
-mod threads;
 mod traps;
 
 use crate::{trapped, won};

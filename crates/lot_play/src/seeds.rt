@@ -32,8 +32,8 @@ pub struct Seeds {
 }
 
 /// Plays the program once with each of these seeds, and writes the mean, the least and the most of each figure that the
-/// plays' reports tell, in this form. It stores the warnings of the first play in `warnings`, and whether a refusal ended
-/// any of the plays. If out of memory, it writes nothing.
+/// plays' reports tell, in this form. It stores the warnings of the first play in `warnings`, and whether a refusal
+/// ended any of the plays. If out of memory, it writes nothing.
 pub fn report_seeds<W: Write>(
     alloc: Global,
     program: &Program,

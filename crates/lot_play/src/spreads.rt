@@ -57,8 +57,8 @@ pub(crate) fn percent_of(part: u64, whole: u128) -> u128
     u128::from(part) * 100000 / whole
 }
 
-/// These parts of a tick as a part of this time, in thousandths of a percent. The product with 100000 could overflow, so
-/// it divides twice.
+/// These parts of a tick as a part of this time, in thousandths of a percent. The product with 100000 could overflow,
+/// so it divides twice.
 pub(crate) fn due_percent(due: u128, time: u64) -> u128
     requires due { due < 2 ^ 121 }
     requires time { time < 2 ^ 57 }

@@ -227,8 +227,8 @@ impl Reading {
         name: Option<&[u8]>,
         command: Command,
     ) -> Result<(), LineFault>
-        ensures { Gives self.new result (after_header (ticket_added self.old (option_map (λ token. token.now) name.entry)
-            command)) }
+        ensures { Gives self.new result
+            (after_header (ticket_added self.old (option_map (λ token. token.now) name.entry) command)) }
     {
         match name {
             Some(token) => self.add_named(token, command),

@@ -2,7 +2,7 @@ use Rattle.std.proofs.Common.{◌≡◌, not, true, refl, subst}
 use Rattle.lot_graph.specs.Graphs.{LimitedFunding, IsTarget}
 use Rattle.lot_value.proofs.Applied.{target-may}
 use Rattle.lot_threads.specs.Threaded.{funding_in}
-use Rattle.lot_kernel_tests.proofs.tests.helpers.may_fund.Goals as goal
+use Rattle.lot_threads_tests.proofs.tests.helpers.may_fund.Goals as goal
 
 pub returns-clause-target : goal.returns-clause-target
 returns-clause-target c free =

@@ -1,0 +1,19 @@
+//! Comparisons that all tests share. An `assert_eq!` costs the function that it stands in a second of proof, and more
+//! where much is known; a call of these costs a tenth of that.
+use std::fmt::Debug;
+use std::process::Abort;
+
+/// Compares two values, and shows both if they differ.
+pub(crate) fn check_same<T: PartialEq + Debug>(rt: &impl Abort, found: &T, wanted: &T) {
+    assert_eq!(rt; *found, *wanted);
+}
+
+/// Compares two values at an index, row or step, which it shows too.
+pub(crate) fn check_same_at<T: PartialEq + Debug>(
+    rt: &impl Abort,
+    at: &impl Debug,
+    found: &T,
+    wanted: &T,
+) {
+    assert_eq!(rt; *found, *wanted, "at {at:?}");
+}
