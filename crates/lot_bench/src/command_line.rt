@@ -1,7 +1,7 @@
 //! The program's command line.
 
 use clap::{Arg, ArgAction, ArgMatches, Command, Error, value_parser};
-use std::alloc::Global;
+use std::alloc::{AllocError, Global};
 use std::convert::AsStr;
 
 /// The number of events in a digest, unless the command line gives one.
@@ -13,7 +13,7 @@ const ABOUT: &str =
     "Gives events to the kernel by itself, and prints what it answered, which is the same each time";
 
 /// The options for other output, and the output of each.
-const FLAGS: [(&str, &str); 5] = [
+static FLAGS: [(&str, &str); 5] = [
     ("time", "Nanoseconds for each event"),
     (
         "growth",
@@ -77,13 +77,18 @@ fn only_option<'a>(alloc: Global) -> Arg<'a> {
         .help("The one workload that is wanted")
 }
 
-/// The command line, with its options.
-fn command<'a>(alloc: Global) -> Result<Command<'a>, Error> {
-    let mut command = Command::new(alloc, "lot_bench")
+/// The command line, with its options that have a value.
+fn command_of_values<'a>(alloc: Global) -> Result<Command<'a>, AllocError> {
+    Command::new(alloc, "lot_bench")
         .about(ABOUT)
         .arg(events_option(alloc))?
-        .arg(only_option(alloc))?;
-    for (name, help) in FLAGS {
+        .arg(only_option(alloc))
+}
+
+/// The command line, with its options.
+fn command<'a>(alloc: Global) -> Result<Command<'a>, AllocError> {
+    let mut command = command_of_values(alloc)?;
+    for (name, help) in &FLAGS {
         command = command.arg(flag(alloc, name, help))?;
     }
     Ok(command)

@@ -7,15 +7,15 @@ use std::alloc::Global;
 use std::rt::Clock;
 
 /// The number of threads in each line of the table.
-const THREADS: [u32; 5] = [16, 64, 256, 1024, 4096];
+static THREADS: [u32; 5] = [16, 64, 256, 1024, 4096];
 
 /// Prints a line for each number of threads: the nanoseconds of an event with tables that just suffice and with the
 /// largest, for threads that compute and for threads that yield.
 pub(crate) fn print_growth(rt: &(impl Print + Clock), alloc: Global, events: u32) -> Result<()> {
     println!(rt; "threads draw-small draw-large yield-small yield-large")?;
-    for threads in THREADS {
-        let (draw_small, draw_large) = time_both(rt, alloc, Workload::Draws(threads), events)?;
-        let (yield_small, yield_large) = time_both(rt, alloc, Workload::Yields(threads), events)?;
+    for threads in &THREADS {
+        let (draw_small, draw_large) = time_both(rt, alloc, Workload::Draws(*threads), events)?;
+        let (yield_small, yield_large) = time_both(rt, alloc, Workload::Yields(*threads), events)?;
         println!(rt; "{threads} {draw_small} {draw_large} {yield_small} {yield_large}")?;
     }
     Ok(())

@@ -14,9 +14,9 @@ use std::rt::Clock;
 /// Prints for each selected workload the counts of the replies of each kind, their digest, and the reads for values
 /// and draws.
 pub(crate) fn print_digests(rt: &impl Print, alloc: Global, wish: Wish<'_>) -> Result<()> {
-    for (name, workload) in WORKLOADS {
+    for (name, workload) in &WORKLOADS {
         if is_wanted(name, wish.only) {
-            print_digest(rt, alloc, name, workload, wish.events)?;
+            print_digest(rt, alloc, name, *workload, wish.events)?;
         }
     }
     Ok(())
@@ -71,9 +71,9 @@ pub(crate) fn check_name(only: Option<&str>) -> Result<()> {
 
 /// Prints for each selected workload the nanoseconds of an event, in the fastest of several rounds and in all.
 pub(crate) fn print_times(rt: &(impl Print + Clock), alloc: Global, wish: Wish<'_>) -> Result<()> {
-    for (name, workload) in WORKLOADS {
+    for (name, workload) in &WORKLOADS {
         if is_wanted(name, wish.only) {
-            print_time(rt, alloc, name, workload, wish.events)?;
+            print_time(rt, alloc, name, *workload, wish.events)?;
         }
     }
     Ok(())

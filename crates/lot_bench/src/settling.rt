@@ -15,7 +15,7 @@ use std::time::Instant;
 const ROUNDS: u32 = 10;
 
 /// The fractions of the tickets used in a kernel with the largest tables: a 64th, a 16th, a quarter, and all.
-const PARTS: [u32; 4] = [64, 16, 4, 1];
+static PARTS: [u32; 4] = [64, 16, 4, 1];
 
 /// A thread funded by tickets of base and by one ticket of each currency. One ticket of base funds each currency.
 #[derive(Clone, Copy)]
@@ -47,8 +47,8 @@ impl Fan {
 /// time is proportional to the edges if the last number stays about constant.
 pub(crate) fn print_settling(rt: &(impl Print + Clock), alloc: Global) -> Result<()> {
     println!(rt; "edges draw edge")?;
-    for part in PARTS {
-        let fan = Fan::part_of_largest(part.max(1));
+    for part in &PARTS {
+        let fan = Fan::part_of_largest((*part).max(1));
         let edges = fan.edges().max(1);
         let spent = time_fan(rt, alloc, fan)?;
         println!(rt; "{edges} {spent} {}", PerEvent::of(spent, edges))?;
@@ -67,8 +67,7 @@ fn time_fan(rt: &impl Clock, alloc: Global, fan: Fan) -> Result<u64> {
     Ok(fastest)
 }
 
-/// A kernel with the fan, after a first draw and its expiry. Tickets are numbered as they are made: those of base
-/// that fund the thread, and then for each currency the one that funds it and the one that it issues.
+/// A kernel with the fan, after a first draw and its expiry.
 fn opened_fan(alloc: Global, fan: Fan) -> Result<Kernel> {
     let limits = Limits::new(Sizes {
         processors: 1,
@@ -78,39 +77,44 @@ fn opened_fan(alloc: Global, fan: Fan) -> Result<Kernel> {
     })
     .context("limits")?;
     let mut kernel = Kernel::new(alloc, limits)?;
+    make_fan(alloc, &mut kernel, fan)?;
+    make_draw(&mut kernel)?;
+    Ok(kernel)
+}
+
+/// Makes the fan. Tickets are numbered as they are made: those of base that fund the thread, and then for each currency
+/// the one that funds it and the one that it issues.
+fn make_fan(alloc: Global, kernel: &mut Kernel, fan: Fan) -> Result<()> {
     make(
-        &mut kernel,
+        kernel,
         Command::MakeThread {
             name: name("thread")?,
             script: 1,
         },
     )?;
     for ticket in 1..=fan.tickets {
-        make_ticket(alloc, &mut kernel, 0)?;
-        fund(&mut kernel, ticket, name("thread")?)?;
+        make_ticket(alloc, kernel, 0)?;
+        fund(kernel, ticket, name("thread")?)?;
     }
     for currency in 1..=fan.currencies {
-        make(
-            &mut kernel,
-            Command::MakeCurrency {
-                name: currency_name(alloc, currency)?,
-            },
-        )?;
-        make_ticket(alloc, &mut kernel, 0)?;
-        fund(
-            &mut kernel,
-            backing_ticket(fan, currency),
-            currency_name(alloc, currency)?,
-        )?;
-        make_ticket(alloc, &mut kernel, currency)?;
-        fund(
-            &mut kernel,
-            backing_ticket(fan, currency).saturating_add(1),
-            name("thread")?,
-        )?;
+        make_currency(alloc, kernel, fan, currency)?;
     }
-    make_draw(&mut kernel)?;
-    Ok(kernel)
+    Ok(())
+}
+
+/// Makes the currency with this number, with base's ticket that funds it and its own that funds the thread.
+fn make_currency(alloc: Global, kernel: &mut Kernel, fan: Fan, currency: u32) -> Result<()> {
+    make(
+        kernel,
+        Command::MakeCurrency {
+            name: currency_name(alloc, currency)?,
+        },
+    )?;
+    make_ticket(alloc, kernel, 0)?;
+    let backing = backing_ticket(fan, currency);
+    fund(kernel, backing, currency_name(alloc, currency)?)?;
+    make_ticket(alloc, kernel, currency)?;
+    fund(kernel, backing.saturating_add(1), name("thread")?)
 }
 
 /// The number of the ticket that funds a currency.

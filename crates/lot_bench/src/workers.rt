@@ -20,10 +20,10 @@ const ROUNDS: u32 = 20;
 const TURNS: u32 = 10_000;
 
 /// The number of processors in each line of the table.
-const PROCESSORS: [u32; 3] = [1, 2, 4];
+static PROCESSORS: [u32; 3] = [1, 2, 4];
 
 /// The threads' work, and the lines of their script.
-const SCRIPTS: [(&str, &str); 3] = [
+static SCRIPTS: [(&str, &str); 3] = [
     ("compute", "compute 4294967295\n"),
     ("yield", "loop 65535\ncompute 24\nyield\nend\n"),
     (
@@ -45,9 +45,9 @@ pub(crate) fn print_workers<R: Print + Clock + Threads + Wait + Sync>(
     rt: &R,
     alloc: Global,
 ) -> Result<()> {
-    for (name, script) in SCRIPTS {
-        for processors in PROCESSORS {
-            print_line(rt, alloc, name, input(alloc, script, processors)?.as_str())?;
+    for (name, script) in &SCRIPTS {
+        for processors in &PROCESSORS {
+            print_line(rt, alloc, name, input(alloc, script, *processors)?.as_str())?;
         }
     }
     Ok(())
@@ -60,14 +60,29 @@ fn print_line<R: Print + Clock + Threads + Wait + Sync>(
     name: &str,
     text: &str,
 ) -> Result<()> {
-    let program = match parse(alloc, text.as_bytes()) {
-        Ok(program) => program,
+    let program = program_of(alloc, text)?;
+    print_program(rt, alloc, name, &program)
+}
+
+/// The program of an input.
+fn program_of(alloc: Global, text: &str) -> Result<Program> {
+    match parse(alloc, text.as_bytes()) {
+        Ok(program) => Ok(program),
         Err(ParseFault::Memory) => bail!("out of memory"),
         Err(ParseFault::Input(_)) => bail!("the input is refused"),
-    };
+    }
+}
+
+/// Prints the line of a program.
+fn print_program<R: Print + Clock + Threads + Wait + Sync>(
+    rt: &R,
+    alloc: Global,
+    name: &str,
+    program: &Program,
+) -> Result<()> {
     let processors = program.limits().processors;
-    let locked = most_turns(rt, alloc, &program, Sharing::Lock)?;
-    let passed = most_turns(rt, alloc, &program, Sharing::Baton)?;
+    let locked = most_turns(rt, alloc, program, Sharing::Lock)?;
+    let passed = most_turns(rt, alloc, program, Sharing::Baton)?;
     println!(rt; "{name} workers {processors} lock {locked} baton {passed}")?;
     Ok(())
 }

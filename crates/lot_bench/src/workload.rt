@@ -26,7 +26,7 @@ pub(crate) enum Workload {
 }
 
 /// The workloads compared, by name.
-pub(crate) const WORKLOADS: [(&str, Workload); 10] = [
+pub(crate) static WORKLOADS: [(&str, Workload); 10] = [
     ("draw2", Workload::Draws(2)),
     ("draw16", Workload::Draws(16)),
     ("draw256", Workload::Draws(256)),

@@ -249,10 +249,27 @@ fn gather_by(
 {
     let mut playback = Playback::open(alloc, program)?;
     let (stretches, commands) = note_turns(alloc, by, program, &mut playback, warnings)?;
+    let names = names_at_end(alloc, by, program, playback, warnings)?;
+    Ok(Curves::new(by, names, stretches, commands))
+}
+
+/// Records the end of a play whose turns are all made, and returns the columns' names.
+fn names_at_end(
+    alloc: Global,
+    by: By,
+    program: &Program,
+    playback: Playback,
+    warnings: &mut Warnings,
+) -> Result<Vec<Name>, AllocError>
+    requires program { playback.seen.setting.program ≡ program.now }
+    requires ended { turns_left playback ≡ [] }
+    ensures few { IfOk result (λ names. vec_len names < 2 ^ 32) }
+    ensures names { IfOk result (λ names. names.items ≡ names_by by (world_of playback.seen).state) }
+    ensures stopped { warnings.new.stopped ≡ (warnings.old.stopped || ends_refused program.now) }
+{
     let (mut system, order) = playback.into_parts();
     note_last(program, &mut system, &order, warnings);
-    let names = names_of(alloc, by, &mut system)?;
-    Ok(Curves::new(by, names, stretches, commands))
+    names_of(alloc, by, &mut system)
 }
 
 /// Makes the program's turns, and records the stretches of each, and its warning; and the times of the commands.

@@ -1,10 +1,11 @@
 //! What is due to the lines of a picture: the program is played again, now that its lines and samples are known.
-ghost use Rattle.std.specs.Prelude.{◌≡◌, ◌-◌, ◌*◌, ◌<◌, ◌≤◌, ◌^◌, ⊤, List, IfOk, IsSome, OnOk, Some, length, sum_by};
+ghost use Rattle.std.specs.Prelude.{◌≡◌, ◌-◌, ◌*◌, ◌<◌, ◌≤◌, ◌^◌, ⊤, [], List, IfOk, IsSome, OnOk, Some, length, sum_by};
 ghost use Rattle.lot_machine.specs.Facts.{IsSound};
 ghost use Rattle.lot_simulation.specs.TimedReport.{tick_parts};
 ghost use Rattle.lot_curves.specs.Curves.{Curves as CurvesRecord, sample_count, sample_tick};
 ghost use Rattle.lot_curves.specs.Stretches.{last_end};
 ghost use Rattle.lot_engine.specs.Seen.{world_of};
+ghost use Rattle.lot_playback.specs.Turns.{program_turns};
 ghost use Rattle.lot_text.specs.Programs.{IsProgram};
 ghost use Rattle.lot_chart.specs.declared.standings.Standing.{Standing as StandingRecord};
 ghost use Rattle.lot_chart.specs.Dues as definitions;
@@ -117,6 +118,16 @@ impl Meter {
     }
 }
 
+/// Plays the program with this meter. The playback is alive here alone, since each way out of a function drops what is
+/// alive there.
+fn play_metered(alloc: Global, program: &Program, meter: &mut Meter) -> Result<(), AllocError>
+    requires { IsMeter program.now [] meter.old meter.old }
+    ensures { OnOk result (IsMeter program.now (program_turns program.now) meter.old meter.new) }
+{
+    let mut playback = Playback::open(alloc, program)?;
+    play_through(program, &mut playback, meter)
+}
+
 /// A gauge for the thread or currency of each line.
 fn gauges_of(alloc: Global, shown: &[Standing]) -> Result<Vec<Gauge>, AllocError>
     ensures { IfOk result (λ gauges. AreNew shown.now gauges.items) }
@@ -130,10 +141,20 @@ fn gauges_of(alloc: Global, shown: &[Standing]) -> Result<Vec<Gauge>, AllocError
 }
 
 /// What is due to the lines of a picture, at each of its samples.
-#[derive(Debug, Drop)]
+#[derive(Debug)]
 pub struct LineDues {
     pub live: Gauge,
     pub threads: Vec<Gauge>,
+}
+
+impl Drop for LineDues {
+    // An explicit drop: code that drops a `LineDues` is then proved without unfolding its fields.
+    fn drop(self) {
+        let Self {
+            live: _,
+            threads: _,
+        } = self;
+    }
 }
 
 impl LineDues {
@@ -167,9 +188,8 @@ impl LineDues {
         ensures { IfOk result (λ dues.
             HaveDues curves.now (definitions.dues_by curves.now.by program.now) shown.now (Some dues)) }
     {
-        let mut playback = Playback::open(alloc, program)?;
         let mut meter = Meter::open(alloc, curves, shown)?;
-        play_through(program, &mut playback, &mut meter)?;
+        play_metered(alloc, program, &mut meter)?;
         meter.pass(u64::MAX)?;
         let Meter { live, threads, .. } = meter;
         Ok(LineDues { live, threads })

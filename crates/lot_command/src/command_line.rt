@@ -42,8 +42,43 @@ const PLAY: CommandLine<'static> = CommandLine {
     file: None,
 };
 
+/// The subcommands, in the order of the help.
+const SUBCOMMANDS: [Subcommand; 6] = [
+    Subcommand::Play,
+    Subcommand::Report,
+    Subcommand::Explain,
+    Subcommand::Run,
+    Subcommand::Shares,
+    Subcommand::Chart,
+];
+
+/// A subcommand.
+#[derive(Clone, Copy)]
+enum Subcommand {
+    Play,
+    Report,
+    Explain,
+    Run,
+    Shares,
+    Chart,
+}
+
+impl Subcommand {
+    /// Its command, with its options.
+    fn command<'a>(self, alloc: Global) -> Result<Command<'a>, AllocError> {
+        match self {
+            Subcommand::Play => play_command(alloc),
+            Subcommand::Report => report_command(alloc),
+            Subcommand::Explain => explain_command(alloc),
+            Subcommand::Run => run_command(alloc),
+            Subcommand::Shares => shares_command(alloc),
+            Subcommand::Chart => chart_command(alloc),
+        }
+    }
+}
+
 /// What a command line asks for.
-#[derive(Clone, Copy, Debug)]
+#[derive(Clone, Copy)]
 pub(crate) struct CommandLine<'a> {
     pub(crate) request: Request,
     /// The title of a picture.
@@ -53,7 +88,7 @@ pub(crate) struct CommandLine<'a> {
 }
 
 /// The request of a command line: exactly one subcommand.
-#[derive(Clone, Copy, Debug)]
+#[derive(Clone, Copy)]
 pub(crate) enum Request {
     /// A view of the input's turns.
     Show(Showing),
@@ -66,33 +101,70 @@ pub(crate) fn command_line_of<'a, S: AsStr>(
     alloc: Global,
     words: &'a [S],
 ) -> Result<CommandLine<'a>, Error> {
-    let mut command = Command::new(alloc, "lot_sim")
-        .about("A lottery scheduler with ticket currencies, simulated")
-        .subcommand_required(true)
-        .subcommand(play_command(alloc)?)?
-        .subcommand(report_command(alloc)?)?
-        .subcommand(explain_command(alloc)?)?
-        .subcommand(run_command(alloc)?)?
-        .subcommand(shares_command(alloc)?)?
-        .subcommand(chart_command(alloc)?)?;
+    let mut command = program_command(alloc)?;
+    parse(&mut command, words)
+}
+
+/// Parses the words by this command. Only the matches are alive here, and only the command in the caller: each way out
+/// drops what is alive, step by step in a proof.
+fn parse<'a, S: AsStr>(
+    command: &mut Command<'a>,
+    words: &'a [S],
+) -> Result<CommandLine<'a>, Error> {
     let matches = command.try_get_matches_from_mut(words)?;
+    match wanted(&matches) {
+        Ok(line) => Ok(line),
+        Err(fault) => Err(command.error(ErrorKind::ValueValidation, fault)?),
+    }
+}
+
+/// What the words ask for, or what is wrong with them.
+fn wanted<'a>(matches: &ArgMatches<'a>) -> Result<CommandLine<'a>, &'static str> {
     let Some((name, given)) = matches.subcommand() else {
         return Ok(PLAY);
     };
-    if let Some(fault) = fault_of(name, given) {
-        let error = command.error(ErrorKind::ValueValidation, fault)?;
-        return Err(error);
+    match fault_of(name, given) {
+        Some(fault) => Err(fault),
+        None => Ok(line_of(name, given)),
     }
-    Ok(CommandLine {
+}
+
+/// The program's command with its subcommands.
+fn program_command<'a>(alloc: Global) -> Result<Command<'a>, AllocError> {
+    let mut command = Command::new(alloc, "lot_sim")
+        .about("A lottery scheduler with ticket currencies, simulated")
+        .subcommand_required(true);
+    for subcommand in SUBCOMMANDS {
+        command = command.subcommand(subcommand.command(alloc)?)?;
+    }
+    Ok(command)
+}
+
+/// The command with an option, unless out of memory for either.
+fn with_option<'a>(
+    command: Command<'a>,
+    option: Result<Arg<'a>, AllocError>,
+) -> Result<Command<'a>, AllocError> {
+    command.arg(option?)
+}
+
+/// What the subcommand with this name asks for, with these options.
+fn line_of<'a>(name: &str, given: &ArgMatches<'a>) -> CommandLine<'a> {
+    CommandLine {
         request: request_of(name, given),
         title: title_of(name, given),
         file: file_of(given),
-    })
+    }
 }
 
 /// A subcommand that shows an input, with a text on what it does.
 fn showing<'a>(alloc: Global, name: &'a str, about: &'a str) -> Result<Command<'a>, AllocError> {
-    let seed = Arg::new(alloc, "seed")
+    reading(alloc, name, about)?.arg(seed_option(alloc))
+}
+
+/// The option for the seed of a play.
+fn seed_option<'a>(alloc: Global) -> Arg<'a> {
+    Arg::new(alloc, "seed")
         .long("seed")
         .value_name("S")
         .action(ArgAction::Set)
@@ -103,8 +175,7 @@ fn showing<'a>(alloc: Global, name: &'a str, about: &'a str) -> Result<Command<'
         .help(
             "Replaces the input's seeds: processor 1 has the seed S, 1 to 2147483646, and the others' are computed \
              from it",
-        );
-    reading(alloc, name, about)?.arg(seed)
+        )
 }
 
 /// A subcommand that shows an interval of the time of an input, with a text on what it does.
@@ -113,13 +184,19 @@ fn showing_interval<'a>(
     name: &'a str,
     about: &'a str,
 ) -> Result<Command<'a>, AllocError> {
-    let from = tick_option(alloc, "from", "A").help(
-        "The tick at which it begins, and from which threads' ticks count; 0 if it is left out",
-    );
-    let to = tick_option(alloc, "to", "B").help(
-        "The tick at which it ends; the end of the last turn if it is left out",
-    );
-    let window = Arg::new(alloc, "window")
+    showing(alloc, name, about)?
+        .arg(tick_option(alloc, "from", "A").help(
+            "The tick at which it begins, and from which threads' ticks count; 0 if it is left out",
+        ))?
+        .arg(tick_option(alloc, "to", "B").help(
+            "The tick at which it ends; the end of the last turn if it is left out",
+        ))?
+        .arg(window_option(alloc))
+}
+
+/// The option for a window of the time.
+fn window_option<'a>(alloc: Global) -> Arg<'a> {
+    Arg::new(alloc, "window")
         .long("window")
         .value_name("T")
         .action(ArgAction::Set)
@@ -127,8 +204,7 @@ fn showing_interval<'a>(
             u64::from(ranges::DURATION.first),
             u64::from(ranges::DURATION.last),
         ))
-        .help("At each tick the share of each thread in the last T ticks, in percent");
-    showing(alloc, name, about)?.arg(from)?.arg(to)?.arg(window)
+        .help("At each tick the share of each thread in the last T ticks, in percent")
 }
 
 /// A subcommand that shows an input, or the figures of several plays of it, with a text on what it does.
@@ -137,21 +213,21 @@ fn showing_seeds<'a>(
     name: &'a str,
     about: &'a str,
 ) -> Result<Command<'a>, AllocError> {
-    showing(alloc, name, about)?.arg(seeds_option(alloc)?)
+    let command = showing(alloc, name, about)?;
+    with_option(command, seeds_option(alloc))
 }
 
 /// The option for the seeds of several plays.
 fn seeds_option<'a>(alloc: Global) -> Result<Arg<'a>, AllocError> {
-    let seeds = Arg::new(alloc, "seeds")
+    Arg::new(alloc, "seeds")
         .long("seeds")
         .value_name("A..B")
         .action(ArgAction::Set)
-        .conflicts_with("seed")?
         .help(
             "Plays the input once with each seed from A to B, and writes the mean, the least and the most of each \
              figure of the report",
-        );
-    Ok(seeds)
+        )
+        .conflicts_with("seed")
 }
 
 /// An option whose value is a tick.
@@ -165,11 +241,12 @@ fn tick_option<'a>(alloc: Global, name: &'a str, value: &'a str) -> Arg<'a> {
 
 /// A subcommand that reads an input, with a text on what it does.
 fn reading<'a>(alloc: Global, name: &'a str, about: &'a str) -> Result<Command<'a>, AllocError> {
-    let file = Arg::new(alloc, "file")
-        .value_name("FILE")
-        .action(ArgAction::Set)
-        .help("Where the input is; standard input if it is left out or -");
-    Command::new(alloc, name).about(about).arg(file)
+    Command::new(alloc, name).about(about).arg(
+        Arg::new(alloc, "file")
+            .value_name("FILE")
+            .action(ArgAction::Set)
+            .help("Where the input is; standard input if it is left out or -"),
+    )
 }
 
 /// The command that writes the turns.
@@ -184,42 +261,37 @@ fn play_command<'a>(alloc: Global) -> Result<Command<'a>, AllocError> {
 
 /// The command that writes the report.
 fn report_command<'a>(alloc: Global) -> Result<Command<'a>, AllocError> {
-    let csv = Arg::new(alloc, "csv")
-        .long("csv")
-        .action(ArgAction::SetTrue)
-        .help(
-            "Writes a table with commas between the fields: the columns' names, and a row for each thread",
-        );
-    let by = by_option(
-        alloc,
-        "What the rows of the table stand for; thread if it is left out. Of an input that isn't lottery 3 each \
-         row is a thread",
-    )
-    .requires_arg("csv")?;
-    showing_seeds(
+    let command = showing_seeds(
         alloc,
         "report",
         "Plays an input from FILE or standard input, and writes the report alone",
     )?
-    .arg(csv)?
-    .arg(by)
+    .arg(flag(
+        alloc,
+        "csv",
+        "Writes a table with commas between the fields: the columns' names, and a row for each thread",
+    ))?;
+    let by = by_option(
+        alloc,
+        "What the rows of the table stand for; thread if it is left out. Of an input that isn't lottery 3 each \
+         row is a thread",
+    );
+    with_option(command, by.requires_arg("csv"))
 }
 
 /// The command that writes the turns and the lots of each lottery.
 fn explain_command<'a>(alloc: Global) -> Result<Command<'a>, AllocError> {
-    let funding = Arg::new(alloc, "funding")
-        .long("funding")
-        .action(ArgAction::SetTrue)
-        .help(
-            "Before each draw of a lottery 3 input also writes a line for each active ticket and for its currency",
-        );
     showing(
         alloc,
         "explain",
         "Plays an input from FILE or standard input, and before each lottery that was won writes a line for each \
          thread that took part in it, with its weight and its numbers",
     )?
-    .arg(funding)
+    .arg(flag(
+        alloc,
+        "funding",
+        "Before each draw of a lottery 3 input also writes a line for each active ticket and for its currency",
+    ))
 }
 
 /// The command that has threads make the turns.
@@ -234,45 +306,59 @@ fn run_command<'a>(alloc: Global) -> Result<Command<'a>, AllocError> {
 
 /// The command that writes a table.
 fn shares_command<'a>(alloc: Global) -> Result<Command<'a>, AllocError> {
-    let quanta = Arg::new(alloc, "quanta")
-        .long("quanta")
-        .action(ArgAction::SetTrue)
-        .help("The draws that each thread has won, and not its ticks");
-    showing_interval(
+    let command = showing_interval(
         alloc,
         "shares",
         "Reads an input from FILE or standard input, makes the turns of its schedule and writes a table of the ticks \
          that each thread has run over time",
     )?
-    .arg(quanta)?
-    .arg(
-        seeds_option(alloc)?
-            .conflicts_with("quanta")?
-            .conflicts_with("from")?
-            .conflicts_with("to")?
-            .conflicts_with("window")?,
-    )
+    .arg(flag(
+        alloc,
+        "quanta",
+        "The draws that each thread has won, and not its ticks",
+    ))?;
+    with_option(command, whole_seeds_option(alloc))
+}
+
+/// The option for the seeds of several plays of the whole time, which have ticks alone.
+fn whole_seeds_option<'a>(alloc: Global) -> Result<Arg<'a>, AllocError> {
+    let mut seeds = seeds_option(alloc)?;
+    for other in ["quanta", "from", "to", "window"] {
+        seeds = seeds.conflicts_with(other)?;
+    }
+    Ok(seeds)
 }
 
 /// The command that writes a picture.
 fn chart_command<'a>(alloc: Global) -> Result<Command<'a>, AllocError> {
-    let title = Arg::new(alloc, "title")
-        .long("title")
-        .action(ArgAction::Set)
-        .help("What the picture is called");
-    let by = by_option(
-        alloc,
-        "What the lines stand for; thread if it is left out. A line of a currency has the ticks of the threads \
-         below it, so lines may add up to more than all. Of an input that isn't lottery 3 each line is a thread",
-    );
     showing_interval(
         alloc,
         "chart",
         "Reads an input from FILE or standard input, makes the turns of its schedule and writes a picture of the ticks \
          that each thread has run over time, an SVG",
     )?
-    .arg(title)?
-    .arg(by)
+    .arg(title_option(alloc))?
+    .arg(by_option(
+        alloc,
+        "What the lines stand for; thread if it is left out. A line of a currency has the ticks of the threads \
+         below it, so lines may add up to more than all. Of an input that isn't lottery 3 each line is a thread",
+    ))
+}
+
+/// The option for the title of a picture.
+fn title_option<'a>(alloc: Global) -> Arg<'a> {
+    Arg::new(alloc, "title")
+        .long("title")
+        .action(ArgAction::Set)
+        .help("What the picture is called")
+}
+
+/// An option without a value, with this help.
+fn flag<'a>(alloc: Global, name: &'a str, help: &'a str) -> Arg<'a> {
+    Arg::new(alloc, name)
+        .long(name)
+        .action(ArgAction::SetTrue)
+        .help(help)
 }
 
 /// The option by which lines or rows stand for currencies, with this help.

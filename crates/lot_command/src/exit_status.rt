@@ -27,7 +27,7 @@ const NOT_UTF8: &str = "error: invalid UTF-8 was detected in one or more argumen
 const BUFFER: usize = 65536;
 
 /// An exit status.
-#[derive(Clone, Copy, Debug)]
+#[derive(Clone, Copy)]
 enum ExitStatus {
     /// Success, or help was requested.
     Done,

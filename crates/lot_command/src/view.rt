@@ -18,7 +18,7 @@ use std::alloc::Global;
 use std::io::{Read, Write};
 
 /// A view of the turns of an input.
-#[derive(Clone, Copy, Debug)]
+#[derive(Clone, Copy)]
 pub(crate) enum View {
     /// A line for each turn, and the report.
     Play,
@@ -46,7 +46,7 @@ pub(crate) enum View {
 }
 
 /// A view of an input, and the seed that the input is played with.
-#[derive(Clone, Copy, Debug)]
+#[derive(Clone, Copy)]
 pub(crate) struct Showing {
     pub(crate) view: View,
     /// The seed of processor 1, from which the others' are computed; none for the input's own seeds.

@@ -21,6 +21,7 @@ use std::io::{ErrorKind, Read, Write};
 use std::process::Abort;
 use std::sync::Wait;
 use std::thread::Threads;
+use told::VIEWS;
 
 /// Two threads that compute, with base tickets of 10 and 5.
 const SPINNERS: &str = "script spin
@@ -55,11 +56,34 @@ fn check_play<H: Abort + Threads + Wait + Sync>(
 }
 
 /// The result of a call of the program: its exit status, and the text on each output.
-#[derive(Drop)]
 struct Ended {
     code: u8,
     output: Vec<u8>,
     errors: Vec<u8>,
+}
+
+impl Drop for Ended {
+    // An explicit drop: code that drops an `Ended` is then proved without unfolding its fields.
+    fn drop(self) {
+        let Self {
+            code: _,
+            output: _,
+            errors: _,
+        } = self;
+    }
+}
+
+impl Ended {
+    /// The exit status, whether this is the output, and whether there are diagnostics.
+    fn found(&self, expected: &str) -> (u8, bool, bool) {
+        let is_written = self.output.as_slice() == expected.as_bytes();
+        (self.code, is_written, !self.errors.is_empty())
+    }
+
+    /// The diagnostics.
+    fn told(&self) -> &str {
+        str::from_utf8(self.errors.as_slice()).unwrap_or("?")
+    }
 }
 
 /// Calls the program with these words and this input on standard input.
@@ -84,8 +108,7 @@ fn ended_of<H: Threads + Wait + Sync, I: Inputs>(
     }
 }
 
-/// Plays or runs the input, and compares the exit status and the output. There must be a diagnostic if the status
-/// isn't 0.
+/// Plays or runs the input, and compares the exit status and the output.
 fn check_words_on<H: Abort + Threads + Wait + Sync>(
     rt: &H,
     alloc: Global,
@@ -94,24 +117,69 @@ fn check_words_on<H: Abort + Threads + Wait + Sync>(
     code: u8,
     expected: &str,
 ) {
-    let ended = ended_on(rt, alloc, &["lot_sim", word], input);
-    let is_written = ended.output.as_slice() == expected.as_bytes();
-    let is_told = code == 0 || !ended.errors.is_empty();
-    check_same_at(
-        rt,
-        &input,
-        &(ended.code, is_written, is_told),
-        &(code, true, true),
-    );
+    check_output_of(rt, alloc, &["lot_sim", word], input, code, expected);
+}
+
+/// Calls the program with these words and this input, and compares the exit status and the output. There must be a
+/// diagnostic if the status isn't 0.
+fn check_output_of<H: Abort + Threads + Wait + Sync>(
+    rt: &H,
+    alloc: Global,
+    words: &[&str],
+    input: &str,
+    code: u8,
+    expected: &str,
+) {
+    let (ended, is_written, is_told) = ended_on(rt, alloc, words, input).found(expected);
+    let found = (ended, is_written, is_told || code == 0);
+    check_same_at(rt, &(words, input), &found, &(code, true, true));
+}
+
+/// Words, an input, and then the exit status and the output.
+type Row = (&'static [&'static str], &'static str, u8, &'static str);
+
+/// Calls the program as each row says, and compares the exit status and the output.
+fn check_rows<H: Abort + Threads + Wait + Sync>(rt: &H, alloc: Global, rows: &[Row]) {
+    for (words, input, code, output) in rows {
+        check_output_of(rt, alloc, words, input, *code, output);
+    }
+}
+
+/// Plays the input of each row, and compares the exit status, and the output with that of the row.
+fn check_plays<H: Abort + Threads + Wait + Sync>(
+    rt: &H,
+    alloc: Global,
+    code: u8,
+    rows: &[(&str, &str)],
+) {
+    for (input, output) in rows {
+        check_play(rt, alloc, input, code, output);
+    }
+}
+
+/// Plays the two threads above after this header and with this schedule, and compares what is written after the lines
+/// of their commands.
+fn check_spinners<H: Abort + Threads + Wait + Sync>(
+    rt: &H,
+    alloc: Global,
+    header: &str,
+    schedule: &str,
+    expected: &str,
+) {
+    let input = format!(in alloc; "{header}{SPINNERS}{schedule}").expect(rt, "memory");
+    let output = joined(rt, alloc, SPINNERS_MADE, expected);
+    check_play(rt, alloc, input.as_str(), 0, output.as_str());
+}
+
+/// The two texts as one.
+fn joined(rt: &impl Abort, alloc: Global, front: &str, rest: &str) -> String {
+    format!(in alloc; "{front}{rest}").expect(rt, "memory")
 }
 
 #[test]
 fn two_threads(rt: HostRuntime) {
-    let alloc = rt.alloc();
-    let input = format!(in alloc; "lottery 1\n{SPINNERS}schedule 0 0 0 0 0 0 1 1 1 1 1 1\n");
-    let input = input.expect(&rt, "memory");
-    let output = format!(in alloc;
-        "{SPINNERS_MADE}1 draw 9 of 15 thread 1
+    let schedule = "schedule 0 0 0 0 0 0 1 1 1 1 1 1\n";
+    let output = "1 draw 9 of 15 thread 1
 1 thread 1 ticks 100 expire
 1 draw 4 of 15 thread 1
 1 thread 1 ticks 100 expire
@@ -122,31 +190,23 @@ thread 1 a quanta 2 ticks 200
 thread 2 b quanta 1 ticks 100
 processor 1 quanta 3 idle 0 ticks 300
 total turns 12 quanta 3 ticks 300
-"
-    );
-    let output = output.expect(&rt, "memory");
-    check_play(&rt, alloc, input.as_str(), 0, output.as_str());
+";
+    check_spinners(&rt, rt.alloc(), "lottery 1\n", schedule, output);
 }
 
 #[test]
 fn finer_values(rt: HostRuntime) {
-    let alloc = rt.alloc();
-    let output = format!(in alloc;
-        "{SPINNERS_MADE}1 draw 2724 of 3840 thread 2
+    let output = "1 draw 2724 of 3840 thread 2
 1 thread 2 ticks 100 expire
 report
 thread 1 a quanta 0 ticks 0
 thread 2 b quanta 1 ticks 100
 processor 1 quanta 1 idle 0 ticks 100
 total turns 8 quanta 1 ticks 100
-"
-    );
-    let output = output.expect(&rt, "memory");
-    for schedule in ["schedule 0 0 0 0 0 0 1 1", "runs 0 6 1 2"] {
-        let input = format!(in alloc; "lottery 2\n{SPINNERS}{schedule}\n");
-        let input = input.expect(&rt, "memory");
-        check_play(&rt, alloc, input.as_str(), 0, output.as_str());
-    }
+";
+    let schedule = "schedule 0 0 0 0 0 0 1 1\n";
+    check_spinners(&rt, rt.alloc(), "lottery 2\n", schedule, output);
+    check_spinners(&rt, rt.alloc(), "lottery 2\n", "runs 0 6 1 2\n", output);
 }
 
 /// Nothing to do.
@@ -491,26 +551,26 @@ processor 1 quanta 3 idle 0 ticks 4
 total turns 11 quanta 3 ticks 4
 ";
 
+/// Inputs, and what playing them writes.
+static PLAYS: [(&str, &str); 13] = [
+    ("lottery 1", EMPTY_REPORT),
+    ("lottery 1\n", EMPTY_REPORT),
+    (ENDING, ENDED),
+    (TWO_PROCESSORS, TWO_PROCESSORS_PLAYED),
+    (REFUSED_COMMANDS, COMMANDS_REFUSED),
+    ("lottery 1\nlstkt\n", EMPTY_REPORT),
+    (CURRENCY_GRAPH, CURRENCY_LISTINGS),
+    (CALL_AND_REPLY, CALL_AND_REPLY_PLAYED),
+    (LOOP_IN_TWO, LOOP_IN_TWO_PLAYED),
+    (LOOP_IN_ONE, LOOP_IN_ONE_PLAYED),
+    (LESS_THAN_ONE, LESS_THAN_ONE_PLAYED),
+    (A_THIRD_EACH, A_THIRD_EACH_PLAYED),
+    (CHAIN_OF_LENDS, CHAIN_OF_LENDS_PLAYED),
+];
+
 #[test]
 fn played(rt: HostRuntime) {
-    let rows = [
-        ("lottery 1", 0, EMPTY_REPORT),
-        ("lottery 1\n", 0, EMPTY_REPORT),
-        (ENDING, 0, ENDED),
-        (TWO_PROCESSORS, 0, TWO_PROCESSORS_PLAYED),
-        (REFUSED_COMMANDS, 0, COMMANDS_REFUSED),
-        ("lottery 1\nlstkt\n", 0, EMPTY_REPORT),
-        (CURRENCY_GRAPH, 0, CURRENCY_LISTINGS),
-        (CALL_AND_REPLY, 0, CALL_AND_REPLY_PLAYED),
-        (LOOP_IN_TWO, 0, LOOP_IN_TWO_PLAYED),
-        (LOOP_IN_ONE, 0, LOOP_IN_ONE_PLAYED),
-        (LESS_THAN_ONE, 0, LESS_THAN_ONE_PLAYED),
-        (A_THIRD_EACH, 0, A_THIRD_EACH_PLAYED),
-        (CHAIN_OF_LENDS, 0, CHAIN_OF_LENDS_PLAYED),
-    ];
-    for (input, code, output) in rows {
-        check_play(&rt, rt.alloc(), input, code, output);
-    }
+    check_plays(&rt, rt.alloc(), 0, &PLAYS);
 }
 
 /// The front of a call and its reply, up to the first line of the server's script.
@@ -519,41 +579,68 @@ const CALL: &str = "lottery 1\nquantum 10\nport p\nscript srv\n";
 /// The front of a script, up to its first line.
 const SCRIPT: &str = "lottery 1\nscript s\n";
 
+/// The front of an input and its rest, and what playing it writes.
+const REFUSED: &[(&str, &str, &str)] = &[
+    ("", "", "refused line 1 50 BadHeader\n"),
+    (SCRIPT, "compute 5\n", "refused line 2 54 OpenScript\n"),
+    (
+        SCRIPT,
+        "loop 1\nloop 1\nloop 1\nloop 1\nloop 1\nloop 1\nloop 1\nloop 1\nloop 1\n",
+        "refused line 11 55 TooDeep\n",
+    ),
+    (
+        "lottery 1\n",
+        "schedule 0 2\n",
+        "refused line 2 57 BadActor\n",
+    ),
+    (CALL, "receive p\n", "refused line 4 54 OpenScript\n"),
+    (CALL, "recei", "refused line 5 51 BadLine\n"),
+    (CALL, "receive", "refused line 5 51 BadLine\n"),
+    (
+        "lottery 1\n",
+        "mktkt 007 base\n",
+        "refused line 2 52 BadNumber\n",
+    ),
+    (
+        "lottery 1\n",
+        "quantum 10\nprocessors 2\n",
+        "refused line 3 50 BadHeader\n",
+    ),
+    (
+        "lottery 1\n",
+        "schedule 0\nseed 1\n",
+        "refused line 3 50 BadHeader\n",
+    ),
+    ("lottery 1\n", "seed 1 2\n", "refused line 2 51 BadLine\n"),
+    (SCRIPT, "call q\n", "refused line 3 53 UnknownName\n"),
+    ("lottery 3\n", "", "refused line 1 50 BadHeader\n"),
+    ("lottery 2\n", "runs 0\n", "refused line 2 51 BadLine\n"),
+    ("lottery 2\n", "runs 0 0\n", "refused line 2 52 BadNumber\n"),
+    ("lottery 2\n", "runs 2 1\n", "refused line 2 57 BadActor\n"),
+    (
+        "lottery 2\n",
+        "runs 0 1000000 0 1\n",
+        "refused line 2 56 TooLong\n",
+    ),
+    ("lottery 1\n", "runs 0 1\n", "refused line 2 51 BadLine\n"),
+];
+
 #[test]
 fn refused_inputs(rt: HostRuntime) {
-    let rows = [
-        ("", "", "1 50 BadHeader"),
-        (SCRIPT, "compute 5\n", "2 54 OpenScript"),
-        (
-            SCRIPT,
-            "loop 1\nloop 1\nloop 1\nloop 1\nloop 1\nloop 1\nloop 1\nloop 1\nloop 1\n",
-            "11 55 TooDeep",
-        ),
-        ("lottery 1\n", "schedule 0 2\n", "2 57 BadActor"),
-        (CALL, "receive p\n", "4 54 OpenScript"),
-        (CALL, "recei", "5 51 BadLine"),
-        (CALL, "receive", "5 51 BadLine"),
-        ("lottery 1\n", "mktkt 007 base\n", "2 52 BadNumber"),
-        (
-            "lottery 1\n",
-            "quantum 10\nprocessors 2\n",
-            "3 50 BadHeader",
-        ),
-        ("lottery 1\n", "schedule 0\nseed 1\n", "3 50 BadHeader"),
-        ("lottery 1\n", "seed 1 2\n", "2 51 BadLine"),
-        (SCRIPT, "call q\n", "3 53 UnknownName"),
-        ("lottery 3\n", "", "1 50 BadHeader"),
-        ("lottery 2\n", "runs 0\n", "2 51 BadLine"),
-        ("lottery 2\n", "runs 0 0\n", "2 52 BadNumber"),
-        ("lottery 2\n", "runs 2 1\n", "2 57 BadActor"),
-        ("lottery 2\n", "runs 0 1000000 0 1\n", "2 56 TooLong"),
-        ("lottery 1\n", "runs 0 1\n", "2 51 BadLine"),
-    ];
-    for (front, rest, refusal) in rows {
-        let input = format!(in rt.alloc(); "{front}{rest}").expect(&rt, "memory");
-        let output = format!(in rt.alloc(); "refused line {refusal}\n").expect(&rt, "memory");
-        check_play(&rt, rt.alloc(), input.as_str(), 1, output.as_str());
+    for (front, rest, refusal) in REFUSED {
+        check_refused(&rt, rt.alloc(), (front, rest), refusal);
     }
+}
+
+/// Plays an input of this front and this rest, which is refused.
+fn check_refused<H: Abort + Threads + Wait + Sync>(
+    rt: &H,
+    alloc: Global,
+    (front, rest): (&str, &str),
+    refusal: &str,
+) {
+    let input = joined(rt, alloc, front, rest);
+    check_play(rt, alloc, input.as_str(), 1, refusal);
 }
 
 #[test]
@@ -599,19 +686,20 @@ ended at 2 of 12: 4 turns made
 fn strict_inputs(rt: HostRuntime) {
     let alloc = rt.alloc();
     check_play(&rt, alloc, STRICT, 1, STRICT_PLAYED);
-    for word in ["report", "explain", "shares", "chart"] {
-        let ended = ended_on(&rt, alloc, &["lot_sim", word], STRICT);
-        check_same_at(
-            &rt,
-            &word,
-            &(ended.code, ended.errors.is_empty()),
-            &(1, false),
-        );
+    for word in VIEWS {
+        let found = strict_end(&rt, alloc, &["lot_sim", *word]);
+        check_same_at(&rt, word, &found, &(1, false));
     }
-    let seeds = &["lot_sim", "report", "--seeds", "1..3"];
-    check_same_at(&rt, &"seeds", &ended_on(&rt, alloc, seeds, STRICT).code, &1);
-    let ended = ended_on(&rt, alloc, &["lot_sim", "run"], STRICT);
-    check_same_at(&rt, &"run", &ended.code, &0);
+    let (code, _) = strict_end(&rt, alloc, &["lot_sim", "report", "--seeds", "1..3"]);
+    check_same_at(&rt, &"seeds", &code, &1);
+    let (code, _) = strict_end(&rt, alloc, &["lot_sim", "run"]);
+    check_same_at(&rt, &"run", &code, &0);
+}
+
+/// The exit status for the strict input, and whether nothing was told.
+fn strict_end<H: Threads + Wait + Sync>(rt: &H, alloc: Global, words: &[&str]) -> (u8, bool) {
+    let ended = ended_on(rt, alloc, words, STRICT);
+    (ended.code, ended.errors.is_empty())
 }
 
 /// Without a refusal the status of a strict play is 0.
@@ -643,13 +731,24 @@ fn check_words<H: Abort + Threads + Wait + Sync>(
     );
 }
 
+/// Calls the program with each of these rows of words, which it refuses.
+fn check_refused_words<H: Abort + Threads + Wait + Sync>(rt: &H, alloc: Global, rows: &[&[&str]]) {
+    for words in rows {
+        check_words(rt, alloc, words, 2, false);
+    }
+}
+
+const REFUSED_WORDS: &[&[&str]] = &[
+    &["lot_sim"],
+    &["lot_sim", "replay"],
+    &["lot_sim", "play", "x", "y"],
+    &["lot_sim", "play", "--seed"],
+    &["lot_sim", "run", "x", "y"],
+];
+
 #[test]
 fn command_lines(rt: HostRuntime) {
-    check_words(&rt, rt.alloc(), &["lot_sim"], 2, false);
-    check_words(&rt, rt.alloc(), &["lot_sim", "replay"], 2, false);
-    check_words(&rt, rt.alloc(), &["lot_sim", "play", "x", "y"], 2, false);
-    check_words(&rt, rt.alloc(), &["lot_sim", "play", "--seed"], 2, false);
-    check_words(&rt, rt.alloc(), &["lot_sim", "run", "x", "y"], 2, false);
+    check_refused_words(&rt, rt.alloc(), REFUSED_WORDS);
     check_words(&rt, rt.alloc(), &["lot_sim", "--help"], 0, true);
 }
 
@@ -735,7 +834,6 @@ fn failures(rt: HostRuntime) {
 
 /// A writer that keeps what it takes and whether all of that was flushed, and whose call of this number fails: with
 /// an error of this kind, or by taking nothing.
-#[derive(Drop)]
 struct FailingCall {
     written: Vec<u8>,
     is_flushed: bool,
@@ -744,7 +842,42 @@ struct FailingCall {
     kind: Option<ErrorKind>,
 }
 
+impl Drop for FailingCall {
+    // An explicit drop: code that drops a `FailingCall` is then proved without unfolding its fields.
+    fn drop(self) {
+        let Self {
+            written: _,
+            is_flushed: _,
+            calls: _,
+            fails_at: _,
+            kind: _,
+        } = self;
+    }
+}
+
 impl FailingCall {
+    /// A writer whose call of this number fails.
+    fn new(alloc: Global, fails_at: u32, kind: Option<ErrorKind>) -> FailingCall {
+        FailingCall {
+            written: Vec::new(alloc),
+            is_flushed: false,
+            calls: 0,
+            fails_at,
+            kind,
+        }
+    }
+
+    /// If it has failed, whether that was its last call, and it took a beginning of this text. Otherwise whether it
+    /// took the whole text, and that was flushed.
+    fn has_taken(&self, text: &[u8], has_failed: bool) -> bool {
+        let written = self.written.as_slice();
+        if has_failed {
+            self.calls == self.fails_at && text.starts_with(written)
+        } else {
+            self.is_flushed && text == written
+        }
+    }
+
     /// Counts one more call, and fails if it is to.
     fn call(&mut self) -> io::Result<()> {
         self.calls = self.calls.saturating_add(1);
@@ -772,6 +905,21 @@ impl Write for FailingCall {
     }
 }
 
+/// Plays the input to a writer whose call of this number fails. Returns how that ended, whether the writer has failed,
+/// and the writer.
+fn played_to(
+    alloc: Global,
+    input: &str,
+    fails_at: u32,
+    kind: Option<ErrorKind>,
+) -> (Result<Played, IoFault>, bool, FailingCall) {
+    let mut writer = Watched::new(FailingCall::new(alloc, fails_at, kind));
+    let mut reader = Watched::new(input.as_bytes());
+    let ended = play(alloc, &mut reader, &mut writer);
+    let has_failed = writer.failed();
+    (ended, has_failed, writer.into_inner())
+}
+
 /// Plays the input to a writer whose call of this number fails, and returns whether it has failed: then what it took
 /// is a beginning of the whole output.
 fn writing_fails(
@@ -781,35 +929,14 @@ fn writing_fails(
     fails_at: u32,
     kind: Option<ErrorKind>,
 ) -> bool {
-    let mut writer = Watched::new(FailingCall {
-        written: Vec::new(alloc),
-        is_flushed: false,
-        calls: 0,
-        fails_at,
-        kind,
-    });
-    let mut reader = Watched::new(input.as_bytes());
-    let ended = play(alloc, &mut reader, &mut writer);
-    let has_failed = writer.failed();
-    let FailingCall {
-        written,
-        calls,
-        is_flushed,
-        ..
-    } = writer.into_inner();
-    let whole = output.as_bytes();
-    if has_failed {
-        let found = (ended, calls, whole.starts_with(written.as_slice()));
-        check_same_at(
-            rt,
-            &fails_at,
-            &found,
-            &(Err(IoFault::Write), fails_at, true),
-        );
+    let (ended, has_failed, writer) = played_to(alloc, input, fails_at, kind);
+    let wanted = if has_failed {
+        Err(IoFault::Write)
     } else {
-        let found = (ended, is_flushed, whole == written.as_slice());
-        check_same_at(rt, &fails_at, &found, &(Ok(Played::Done), true, true));
-    }
+        Ok(Played::Done)
+    };
+    let is_taken = writer.has_taken(output.as_bytes(), has_failed);
+    check_same_at(rt, &fails_at, &(ended, is_taken), &(wanted, true));
     has_failed
 }
 
@@ -834,23 +961,36 @@ fn with_limits(rt: &impl Abort, alloc: Global, input: &str, front: &str, limits:
     format!(in alloc; "{front}limits {limits}\n{rest}").expect(rt, "memory")
 }
 
-/// Plays the input to writers that fail in each way at each of their calls. The page of turns, five lines of the report
-/// and, if it can fail, the flush: at least that many calls fail.
-fn check_failing_writers(rt: &impl Abort, alloc: Global, row: (&str, &str)) {
-    for kind in [Some(ErrorKind::Other), Some(ErrorKind::Interrupted), None] {
-        let unmade = first_unmade_write(rt, alloc, row, kind);
-        assert!(rt; 6 < unmade, "{unmade}");
+/// The ways in which a call fails: with an error of this kind, or by accepting no byte.
+const WAYS: &[Option<ErrorKind>] = &[Some(ErrorKind::Other), Some(ErrorKind::Interrupted), None];
+
+/// Plays the input with tables of these limits, which come after this front, to writers that fail in each way at each
+/// of their calls. The page of turns, five lines of the report and, if it can fail, the flush: at least that many calls
+/// fail.
+fn check_failing_writers(
+    rt: &impl Abort,
+    alloc: Global,
+    (input, output): (&str, &str),
+    front: &str,
+    limits: &str,
+) {
+    let input = with_limits(rt, alloc, input, front, limits);
+    for kind in WAYS {
+        let unmade = first_unmade_write(rt, alloc, (input.as_str(), output), *kind);
+        check_same_at(rt, &unmade, &(6 < unmade), &true);
     }
 }
+
+/// The front of the input of a call and its reply, which the limits come after.
+const CALL_FRONT: &str = "lottery 1\nquantum 10\n";
 
 #[test]
 fn failing_writers(rt: HostRuntime) {
     let alloc = rt.alloc();
-    let graph = with_limits(&rt, alloc, CURRENCY_GRAPH, "lottery 1\n", "8 5 3");
-    check_failing_writers(&rt, alloc, (graph.as_str(), CURRENCY_LISTINGS));
-    let front = "lottery 1\nquantum 10\n";
-    let call = with_limits(&rt, alloc, CALL_AND_REPLY, front, "2 1 2");
-    check_failing_writers(&rt, alloc, (call.as_str(), CALL_AND_REPLY_PLAYED));
+    let graph = (CURRENCY_GRAPH, CURRENCY_LISTINGS);
+    check_failing_writers(&rt, alloc, graph, "lottery 1\n", "8 5 3");
+    let call = (CALL_AND_REPLY, CALL_AND_REPLY_PLAYED);
+    check_failing_writers(&rt, alloc, call, CALL_FRONT, "2 1 2");
 }
 
 /// A reader of a few bytes at a time, whose call of this number fails.
@@ -913,13 +1053,14 @@ fn first_unmade_read(rt: &impl Abort, alloc: Global, row: (&str, &str), kind: Er
     0
 }
 
+const READ_FAILURES: &[ErrorKind] = &[ErrorKind::Other, ErrorKind::Interrupted];
+
 #[test]
 fn failing_readers(rt: HostRuntime) {
     let alloc = rt.alloc();
-    let front = "lottery 1\nquantum 10\n";
-    let call = with_limits(&rt, alloc, CALL_AND_REPLY, front, "2 1 2");
-    for kind in [ErrorKind::Other, ErrorKind::Interrupted] {
-        let unmade = first_unmade_read(&rt, alloc, (call.as_str(), CALL_AND_REPLY_PLAYED), kind);
-        assert!(rt; 30 < unmade, "{unmade}");
+    let call = with_limits(&rt, alloc, CALL_AND_REPLY, CALL_FRONT, "2 1 2");
+    for kind in READ_FAILURES {
+        let unmade = first_unmade_read(&rt, alloc, (call.as_str(), CALL_AND_REPLY_PLAYED), *kind);
+        check_same_at(&rt, &unmade, &(30 < unmade), &true);
     }
 }

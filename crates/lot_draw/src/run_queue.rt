@@ -34,13 +34,25 @@ const COMPETITOR_BYTES: u64 = size_of::<Option<Competitor>>() as u64;
 ///
 /// Only a draw writes to the tree of weights. A thread whose weight may have to change before the next draw is
 /// listed.
-#[derive(Drop)]
 pub struct RunQueue {
     tree: SumTree,
     changed: Lists,
     competitors: Vec<Option<Competitor>>,
     quantum: u32,
     visits: u64,
+}
+
+impl Drop for RunQueue {
+    // An explicit drop: code that drops a `RunQueue` is then proved without unfolding its fields.
+    fn drop(self) {
+        let Self {
+            tree: _,
+            changed: _,
+            competitors: _,
+            quantum: _,
+            visits: _,
+        } = self;
+    }
 }
 
 impl Model for RunQueue {

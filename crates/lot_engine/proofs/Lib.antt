@@ -1,3 +1,4 @@
+pub mod Errors
 pub mod HistoryFacts
 pub mod StepFacts
 pub mod ReplyFacts

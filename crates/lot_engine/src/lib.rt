@@ -8,6 +8,7 @@ mod generators;
 mod history;
 mod known;
 pub mod laws;
+mod opening;
 mod places;
 mod slices;
 mod system;

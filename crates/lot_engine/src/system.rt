@@ -25,11 +25,12 @@ ghost use Rattle.lot_script.specs.Places.{Place as PlaceRecord};
 ghost use Rattle.lot_engine.specs.Turns.{Answers, Faults, Goes, IfStale, IsEnded, IsFresh, IsWorkOf, Prevents, work_at};
 
 use crate::TurnFault;
-use crate::counts::{Counts, count_turn, no_counts};
-use crate::generators::{generators_of, next_event};
+use crate::counts::{Counts, count_turn};
+use crate::generators::next_event;
 use crate::history::History;
 use crate::known::known;
-use crate::places::{follow_command, follow_turn, pass_slice, places_for, receive};
+use crate::opening::{programmed, recorded};
+use crate::places::{follow_command, follow_turn, pass_slice, receive};
 use crate::slices::script_numbered;
 use crate::tickets::NamedTickets;
 use crate::turn::{
@@ -159,17 +160,19 @@ impl System {
         ensures { IfOk result (λ s. s
             ≡ record { setting = record { program = program.now; room = room; timer = has_timer }; history = [] }) }
     {
-        let limits = program.limits();
+        let kernel = Kernel::new(alloc, program.limits())?;
+        let (copy, tickets, generators) = programmed(alloc, program)?;
+        let (places, history, counts) = recorded(alloc, program, room, has_timer)?;
         Ok(System {
-            kernel: Kernel::new(alloc, limits)?,
-            program: program.copied(alloc)?,
+            kernel,
+            program: copy,
             spent: 0,
-            tickets: NamedTickets::new(alloc, program.ticket_names())?,
-            generators: generators_of(alloc, program)?,
+            tickets,
+            generators,
             is_wide: program.format().draws_wide_numbers(),
-            places: places_for(alloc, limits.threads)?,
-            history: History::new(alloc, limits.processors, room, has_timer)?,
-            counts: no_counts(alloc, limits.processors as usize + 1)?,
+            places,
+            history,
+            counts,
             total: Counts::NONE,
             room,
             has_timer,

@@ -20,7 +20,6 @@ use std::alloc::{AllocError, Global};
 use std::marker::Model;
 
 /// The lots of a lottery and the loans at it, with room for those of all threads.
-#[derive(Drop)]
 pub(crate) struct Lots {
     lots: Vec<Lot>,
     loans: Vec<Loan>,
@@ -28,6 +27,18 @@ pub(crate) struct Lots {
     waiters: Vec<u32>,
     /// The largest number of threads.
     room: u32,
+}
+
+impl Drop for Lots {
+    // An explicit drop: code that drops a `Lots` is then proved without unfolding its fields.
+    fn drop(self) {
+        let Self {
+            lots: _,
+            loans: _,
+            waiters: _,
+            room: _,
+        } = self;
+    }
 }
 
 impl Model for Lots {

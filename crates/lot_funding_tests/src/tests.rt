@@ -8,6 +8,7 @@ mod generator;
 mod graph;
 mod lists;
 mod lottery;
+mod required;
 mod same;
 mod tree;
 mod value;

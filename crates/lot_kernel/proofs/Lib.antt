@@ -19,3 +19,6 @@ pub mod Stacks
 pub mod Reusing
 pub mod ThreadsAgain
 pub mod TicketsAgain
+pub mod Refusing
+pub mod Looking
+pub mod Keeping

@@ -1,5 +1,5 @@
 -- Rows, put together from what was read.
-use Rattle.std.proofs.Common.{◌≡◌, ℕ, Bool, true, false, Option, Some, List, [], option_and_then, unwrap_or, ap, refl, sym}
+use Rattle.std.proofs.Common.{◌≡◌, ℕ, Bool, true, false, Option, Some, None, List, [], option_and_then, option_map, unwrap_or, ap, refl, sym}
 use Rattle.lot_machine.specs.declared.record.Record.{Record}
 use Rattle.lot_machine.specs.declared.row.ThreadRow.{ThreadRow}
 use Rattle.lot_machine.specs.declared.row.TicketRow.{TicketRow}
@@ -8,7 +8,7 @@ use Rattle.lot_machine.specs.Activity.{is_active}
 use Rattle.lot_machine.specs.Funding.{ticket_in}
 use Rattle.lot_machine.specs.Lottery.{weight}
 use Rattle.lot_machine.specs.Numbered.{at_number}
-use Rattle.lot_machine.specs.Rows.{currency_name, target_name, thread_name, thread_row, ticket_row}
+use Rattle.lot_machine.specs.Rows.{currency_name, row_of_thread, target_name, thread_name, thread_row, ticket_row}
 use Rattle.lot_machine.specs.State.{State, funding_of, live_of, value_of, weight_of}
 use Rattle.lot_machine.specs.Value.{ticket_value}
 
@@ -29,3 +29,14 @@ pub same-truth : (a b : Bool) → (a ≡ true → b ≡ true) → (b ≡ true �
 same-truth true b to from = sym (to refl)
 same-truth false true to from = from refl
 same-truth false false to from = refl
+
+and-none : {A B : Type 0} (f : A → Option B) (o : Option A) → ((a : A) → f a ≡ None) → option_and_then f o ≡ None
+and-none f None none = refl
+and-none f (Some a) none = none a
+
+-- a thread without a record, or without a name, has no row
+pub no-record-row : (s : State) (t : ℕ) → at_number s.records t ≡ None → thread_row s t ≡ None
+no-record-row s t none = and-none (λ (name : List ℕ). option_map (row_of_thread s t) (at_number s.records t)) (thread_name s t) (λ (name : List ℕ). ap (option_map (row_of_thread s t)) none)
+
+pub no-name-row : (s : State) (t : ℕ) → thread_name s t ≡ None → thread_row s t ≡ None
+no-name-row s t none = rw none refl

@@ -9,7 +9,7 @@ ghost use Rattle.lot_machine.specs.Traps.{after_trap, with_ticks};
 use lot_machine::{After, Limits, Processor, Record, Status, ThreadNumber};
 
 /// A trap: its thread and processor, its cost with the work before it, and the quantum used after it, both in ticks.
-#[derive(Clone, Copy, Debug)]
+#[derive(Clone, Copy)]
 pub(crate) struct Trap {
     pub(crate) processor: Processor,
     pub(crate) thread: ThreadNumber,

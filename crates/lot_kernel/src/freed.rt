@@ -12,11 +12,21 @@ use std::mem::size_of;
 const PLACE_BYTES: u64 = size_of::<u32>() as u64;
 
 /// The free places of tickets, currencies and threads.
-#[derive(Drop)]
 pub(crate) struct Freed {
     pub(crate) tickets: FreePlaces,
     pub(crate) currencies: FreePlaces,
     pub(crate) threads: FreePlaces,
+}
+
+impl Drop for Freed {
+    // An explicit drop: code that drops a `Freed` is then proved without unfolding its parts.
+    fn drop(self) {
+        let Self {
+            tickets: _,
+            currencies: _,
+            threads: _,
+        } = self;
+    }
 }
 
 impl Freed {

@@ -80,10 +80,19 @@ impl<'a> Hashed<'a> {
 
 /// An index of a table of names, such as those of the currencies: each place of the table that has a name is in the
 /// list of the name's bucket, and any other place is in no list.
-#[derive(Drop)]
 pub(crate) struct NameIndex {
     lists: Lists,
     buckets: u32,
+}
+
+impl Drop for NameIndex {
+    // An explicit drop: code that drops a `NameIndex` is then proved without unfolding its parts.
+    fn drop(self) {
+        let Self {
+            lists: _,
+            buckets: _,
+        } = self;
+    }
 }
 
 impl Model for NameIndex {

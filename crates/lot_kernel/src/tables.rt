@@ -2,12 +2,13 @@
 ghost use Rattle.std.specs.Prelude.{◌≡◌, ◌<◌, ◌≤◌, ◌+◌, ◌^◌, ◌∷◌, [], IfOk, Some, codes, length, vec_len, vec_capacity};
 ghost use Rattle.lot_machine.specs.Mutexes.{mutex_at};
 ghost use Rattle.lot_machine.specs.Order.{IsInOrder};
-ghost use Rattle.lot_machine.specs.State.{sizes_of};
+ghost use Rattle.lot_machine.specs.State.{opening, sizes_of};
 ghost use Rattle.lot_machine.specs.Step.{step};
+ghost use Rattle.lot_queues.specs.QueueLists.{empty_queues};
 ghost use Rattle.lot_kernel.specs.Counted.{Counts};
 ghost use Rattle.lot_kernel.specs.Memory.{bytes_of};
 ghost use Rattle.lot_kernel.specs.Names.{IsIndexOf};
-ghost use Rattle.lot_kernel.specs.Snapshots.{MakesStale, starting};
+ghost use Rattle.lot_kernel.specs.Snapshots.{MakesStale, starting, threads_of};
 
 mod above;
 mod commands;
@@ -92,15 +93,18 @@ impl Tables {
         ensures { IfOk result (λ k. k ≡ starting (sizes_of limits)) }
     {
         let (currencies, currency_index) = opening_currencies(alloc, limits.currencies + 1)?;
+        let (threads, thread_index) = opening_threads(alloc, &limits)?;
+        let freed = Freed::new(alloc, &limits)?;
+        let (queues, lottery) = opening_queues(alloc, &limits)?;
         Ok(Tables {
             limits,
             currencies,
-            threads: Threads::new(alloc, &limits)?,
-            queues: Queues::new(alloc, limits.ports, limits.mutexes, limits.threads)?,
+            threads,
+            queues,
             currency_index,
-            thread_index: NameIndex::new(alloc, limits.threads)?,
-            lottery: Lottery::new(alloc, limits.threads)?,
-            freed: Freed::new(alloc, &limits)?,
+            thread_index,
+            lottery,
+            freed,
         })
     }
 
@@ -215,4 +219,26 @@ fn opening_currencies(
     index.add(0, &Hashed::new(&base));
     names.push_reserved(Some(base));
     Ok((names, index))
+}
+
+/// No thread yet, and the index of their names.
+fn opening_threads(alloc: Global, limits: &Limits) -> Result<(Threads, NameIndex), AllocError>
+    ensures threads { IfOk result (λ made. made.0
+        ≡ threads_of (opening (sizes_of limits.now)) [] (starting (sizes_of limits.now)).meter) }
+    ensures index { IfOk result (λ made. IsIndexOf made.1 []) }
+    ensures places { IfOk result (λ made. made.1.nodes ≡ limits.now.threads) }
+{
+    let index = NameIndex::new(alloc, limits.threads)?;
+    Ok((Threads::new(alloc, limits)?, index))
+}
+
+/// Empty ports and free mutexes, and memory for the lotteries of the mutexes.
+fn opening_queues(alloc: Global, limits: &Limits) -> Result<(Queues, Lottery), AllocError>
+    ensures queues { IfOk result (λ made. made.0
+        ≡ empty_queues limits.now.ports limits.now.mutexes limits.now.threads) }
+    ensures room { IfOk result (λ made. made.1.room ≡ limits.now.threads) }
+{
+    let lottery = Lottery::new(alloc, limits.threads)?;
+    let queues = Queues::new(alloc, limits.ports, limits.mutexes, limits.threads)?;
+    Ok((queues, lottery))
 }

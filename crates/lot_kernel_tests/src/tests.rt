@@ -20,7 +20,7 @@ use std::alloc::Global;
 use std::process::Abort;
 
 /// A command with its names as texts.
-#[derive(Clone, Copy, Debug)]
+#[derive(Clone, Copy)]
 enum Line<'a> {
     Mktkt(u64, &'a str),
     Rmtkt(u64),
@@ -64,9 +64,11 @@ enum Step<'a> {
     NoThread(u32),
 }
 
-/// An end of a thread's run without a trap, with its processor and ticks, or the thread to wake.
-#[derive(Clone, Copy, Debug)]
+/// An end of a thread's run, with its processor, its ticks and its trap, or the thread to wake.
+#[derive(Clone, Copy)]
 enum Pause {
+    Expire(u32),
+    Trap(u32, u32, Action),
     Preempt(u32, u32),
     Overrun(u32, u32),
     Wake(u32),
@@ -144,7 +146,7 @@ fn answer(rt: &impl Abort, kernel: &mut Kernel, line: Line<'_>) -> Reply {
 
 /// Makes a command, and compares the reply.
 fn check_answer(rt: &impl Abort, kernel: &mut Kernel, line: Line<'_>, reply: Reply) {
-    check_same_at(rt, &line, &answer(rt, kernel, line), &reply);
+    check_event(rt, kernel, Event::Command(command(rt, line)), reply)
 }
 
 /// Makes an event, and compares the reply.
@@ -241,37 +243,40 @@ fn check_value(rt: &impl Abort, kernel: &mut Kernel, thread: u32, value: u64) {
 
 fn event_of(pause: Pause) -> Event {
     match pause {
+        Pause::Expire(processor) => Event::Expire(processor),
+        Pause::Trap(processor, ran, action) => Event::Trap(processor, ran, action),
         Pause::Preempt(processor, ticks) => Event::Preempt { processor, ticks },
         Pause::Overrun(processor, ticks) => Event::Overrun { processor, ticks },
         Pause::Wake(thread) => Event::Wake { thread },
     }
 }
 
-/// Takes a step.
-fn take(rt: &impl Abort, kernel: &mut Kernel, step: Step<'_>) {
+/// The event of a step, and the reply that it wants, if it is an event.
+fn event_of_step(rt: &impl Abort, step: Step<'_>) -> Option<(Event, Reply)> {
     match step {
-        Step::Gives(line, reply) => check_answer(rt, kernel, line, reply),
+        Step::Gives(line, reply) => Some((Event::Command(command(rt, line)), reply)),
         Step::Wins(processor, d, winner, delivered) => {
-            check_event(
-                rt,
-                kernel,
-                Event::Draw(processor, d),
-                winning(winner, delivered),
-            );
+            Some((Event::Draw(processor, d), winning(winner, delivered)))
         }
-        Step::Idles(processor, d) => {
-            check_event(rt, kernel, Event::Draw(processor, d), Reply::Idle);
-        }
+        Step::Idles(processor, d) => Some((Event::Draw(processor, d), Reply::Idle)),
         Step::Traps(processor, action, thread, outcome) => {
             let event = Event::Trap(processor, 0, action);
-            check_event(rt, kernel, event, trapped(thread, outcome));
+            Some((event, trapped(thread, outcome)))
         }
         Step::Works(processor, ran, action, thread, outcome) => {
             let event = Event::Trap(processor, ran, action);
-            check_event(rt, kernel, event, trapped_after(thread, ran, outcome));
+            Some((event, trapped_after(thread, ran, outcome)))
         }
-        Step::Pauses(pause, reply) => check_event(rt, kernel, event_of(pause), reply),
-        _ => check_shown(rt, kernel, step),
+        Step::Pauses(pause, reply) => Some((event_of(pause), reply)),
+        _ => None,
+    }
+}
+
+/// Takes a step.
+fn take(rt: &impl Abort, kernel: &mut Kernel, step: Step<'_>) {
+    match event_of_step(rt, step) {
+        Some((event, reply)) => check_event(rt, kernel, event, reply),
+        None => check_shown(rt, kernel, step),
     }
 }
 
@@ -305,6 +310,34 @@ fn take_all(rt: &impl Abort, kernel: &mut Kernel, steps: &[Step<'_>]) {
 /// Takes the steps in a new kernel of the largest tables.
 fn play(rt: &impl Abort, alloc: Global, steps: &[Step<'_>]) {
     let mut kernel = largest(rt, alloc, 1);
+    take_all(rt, &mut kernel, steps)
+}
+
+/// Takes the steps in a new kernel of the largest tables, after it got threads of these names with this much base each.
+fn play_funded(rt: &impl Abort, alloc: Global, threads: &[(u64, &str)], steps: &[Step<'_>]) {
+    let mut kernel = largest(rt, alloc, 1);
+    fund(rt, &mut kernel, threads);
+    take_all(rt, &mut kernel, steps)
+}
+
+/// Takes the first and then the last steps in a new kernel, after it got threads of these names with this much base
+/// each.
+fn play_both(
+    rt: &impl Abort,
+    alloc: Global,
+    threads: &[(u64, &str)],
+    first: &[Step<'_>],
+    last: &[Step<'_>],
+) {
+    let mut kernel = largest(rt, alloc, 1);
+    fund(rt, &mut kernel, threads);
+    take_all(rt, &mut kernel, first);
+    take_all(rt, &mut kernel, last)
+}
+
+/// Takes the steps in a new kernel of these sizes.
+fn play_sized(rt: &impl Abort, alloc: Global, sizes: Sizes, steps: &[Step<'_>]) {
+    let mut kernel = kernel_of(rt, alloc, sizes);
     take_all(rt, &mut kernel, steps)
 }
 
@@ -387,15 +420,20 @@ fn fund_thread(rt: &impl Abort, kernel: &mut Kernel, number: u64, amount: u64, n
     answer(rt, kernel, Line::Fund(number, name));
 }
 
-/// Makes threads of these names, funded with this much base, in order.
-fn fund(rt: &impl Abort, kernel: &mut Kernel, threads: &[(u64, &str)]) {
+/// Makes threads of these names, funded with this much of the currency, in order.
+fn fund_of(rt: &impl Abort, kernel: &mut Kernel, currency: &str, threads: &[(u64, &str)]) {
     for (amount, name) in threads {
-        answer(rt, kernel, Line::Fundx(*amount, "base", name, 1));
+        answer(rt, kernel, Line::Fundx(*amount, currency, name, 1));
     }
 }
 
+/// Makes threads of these names, funded with this much base, in order.
+fn fund(rt: &impl Abort, kernel: &mut Kernel, threads: &[(u64, &str)]) {
+    fund_of(rt, kernel, "base", threads)
+}
+
 /// Tickets of base with their numbers and amounts, and the threads that they fund.
-const FIVE: [(u64, u64, &str); 5] = [
+const FIVE: &[(u64, u64, &str)] = &[
     (1, 10, "a"),
     (2, 2, "b"),
     (3, 5, "c"),
@@ -406,7 +444,7 @@ const FIVE: [(u64, u64, &str); 5] = [
 /// Five threads with 10, 2, 5, 1 and 2 of base.
 fn fund_five(rt: &impl Abort, kernel: &mut Kernel) {
     for (number, amount, name) in FIVE {
-        fund_thread(rt, kernel, number, amount, name);
+        fund_thread(rt, kernel, *number, *amount, name);
     }
 }
 
@@ -422,7 +460,7 @@ fn check_draw(rt: &impl Abort, kernel: &mut Kernel, d: u128, thread: u32, number
 }
 
 /// Drawn numbers, with the threads that win of 20 with them, and these numbers of 20.
-const DRAWS: [(u128, u32, u128); 13] = [
+const DRAWS: &[(u128, u32, u128)] = &[
     (15, 3, 15),
     (9, 1, 9),
     (10, 2, 10),
@@ -440,16 +478,17 @@ const DRAWS: [(u128, u32, u128); 13] = [
 
 fn check_draws(rt: &impl Abort, kernel: &mut Kernel) {
     for (d, thread, number) in DRAWS {
-        check_draw(rt, kernel, d, thread, number);
+        check_draw(rt, kernel, *d, *thread, *number);
     }
 }
 
 #[test]
 fn list_lottery(rt: HostRuntime) {
-    let mut kernel = largest(&rt, rt.alloc(), 1);
+    let alloc = rt.alloc();
+    let mut kernel = largest(&rt, alloc, 1);
     fund_five(&rt, &mut kernel);
     check_draws(&rt, &mut kernel);
-    let mut funded = largest(&rt, rt.alloc(), 1);
+    let mut funded = largest(&rt, alloc, 1);
     fund(
         &rt,
         &mut funded,
@@ -458,7 +497,7 @@ fn list_lottery(rt: HostRuntime) {
     check_draws(&rt, &mut funded);
 }
 
-const ONE_FUNDED: [Step<'_>; 4] = [
+const ONE_FUNDED: &[Step<'static>] = &[
     Step::Gives(Line::Mkthr("a", 1), Reply::Thread(1)),
     Step::Gives(Line::Mktkt(10, "base"), Reply::Ticket(1)),
     Step::Gives(Line::Fund(1, "a"), Reply::Done),
@@ -466,14 +505,26 @@ const ONE_FUNDED: [Step<'_>; 4] = [
 ];
 
 /// Events while no thread runs: the processor is checked first, then whether a thread runs there, then the ticks.
-const NO_THREAD_RUNS: [(Event, Refusal); 7] = [
-    (Event::Expire(0), Refusal::BadProcessor),
-    (Event::Expire(3), Refusal::BadProcessor),
-    (Event::Trap(0, 0, Action::Yield), Refusal::BadProcessor),
-    (Event::Trap(3, 100, Action::Exit), Refusal::BadProcessor),
-    (Event::Expire(1), Refusal::NotRunning),
-    (Event::Trap(1, 0, Action::Exit), Refusal::NotRunning),
-    (Event::Trap(2, 100, Action::Receive(3)), Refusal::NotRunning),
+const NO_THREAD_RUNS: &[Step<'static>] = &[
+    Step::Pauses(Pause::Expire(0), Reply::Refused(Refusal::BadProcessor)),
+    Step::Pauses(Pause::Expire(3), Reply::Refused(Refusal::BadProcessor)),
+    Step::Pauses(
+        Pause::Trap(0, 0, Action::Yield),
+        Reply::Refused(Refusal::BadProcessor),
+    ),
+    Step::Pauses(
+        Pause::Trap(3, 100, Action::Exit),
+        Reply::Refused(Refusal::BadProcessor),
+    ),
+    Step::Pauses(Pause::Expire(1), Reply::Refused(Refusal::NotRunning)),
+    Step::Pauses(
+        Pause::Trap(1, 0, Action::Exit),
+        Reply::Refused(Refusal::NotRunning),
+    ),
+    Step::Pauses(
+        Pause::Trap(2, 100, Action::Receive(3)),
+        Reply::Refused(Refusal::NotRunning),
+    ),
 ];
 
 const OUT_OF_PLACE: [Event; 10] = [
@@ -489,7 +540,7 @@ const OUT_OF_PLACE: [Event; 10] = [
     Event::Draw(1, 0),
 ];
 
-const OUT_OF_PLACE_REPLIES: [Reply; 10] = [
+static OUT_OF_PLACE_REPLIES: [Reply; 10] = [
     Reply::Refused(Refusal::BadProcessor),
     Reply::Refused(Refusal::BadProcessor),
     Reply::Refused(Refusal::NotRunning),
@@ -512,16 +563,23 @@ const OUT_OF_PLACE_REPLIES: [Reply; 10] = [
     Reply::Idle,
 ];
 
+const DEAD_TARGET: &[Step<'static>] = &[Step::Gives(
+    Line::Fund(2, "a"),
+    Reply::Refused(Refusal::DeadThread),
+)];
+
+/// Makes the events out of place, and compares the replies.
+fn run_out_of_place(rt: &impl Abort, kernel: &mut Kernel) {
+    check_run(rt, kernel, &OUT_OF_PLACE, &OUT_OF_PLACE_REPLIES)
+}
+
 #[test]
 fn events_out_of_place(rt: HostRuntime) {
     let mut kernel = largest(&rt, rt.alloc(), 1);
-    take_all(&rt, &mut kernel, &ONE_FUNDED);
-    for (event, refusal) in NO_THREAD_RUNS {
-        check_event(&rt, &mut kernel, event, Reply::Refused(refusal));
-    }
-    check_run(&rt, &mut kernel, &OUT_OF_PLACE, &OUT_OF_PLACE_REPLIES);
-    let dead = Reply::Refused(Refusal::DeadThread);
-    check_answer(&rt, &mut kernel, Line::Fund(2, "a"), dead)
+    take_all(&rt, &mut kernel, ONE_FUNDED);
+    take_all(&rt, &mut kernel, NO_THREAD_RUNS);
+    run_out_of_place(&rt, &mut kernel);
+    take_all(&rt, &mut kernel, DEAD_TARGET)
 }
 
 /// Gives one thread as many tickets as possible, of the largest amount.
@@ -533,7 +591,7 @@ fn fund_fully(rt: &impl Abort, kernel: &mut Kernel) {
     }
 }
 
-const NO_MORE_TICKETS: [Step<'_>; 3] = [
+const NO_MORE_TICKETS: &[Step<'static>] = &[
     Step::Gives(Line::Mktkt(1, "base"), Reply::Refused(Refusal::Full)),
     Step::Gives(Line::Mktkt(0, "base"), Reply::Refused(Refusal::BadAmount)),
     Step::Gives(
@@ -546,14 +604,15 @@ const NO_MORE_TICKETS: [Step<'_>; 3] = [
 fn all_tickets(rt: &impl Abort, alloc: Global, unit: u32, total: u128) {
     let mut kernel = largest(rt, alloc, unit);
     fund_fully(rt, &mut kernel);
-    take_all(rt, &mut kernel, &NO_MORE_TICKETS);
+    take_all(rt, &mut kernel, NO_MORE_TICKETS);
     check_event(rt, &mut kernel, Event::Draw(1, 7), won(1, 7, total, None));
 }
 
 #[test]
 fn largest_totals(rt: HostRuntime) {
-    all_tickets(&rt, rt.alloc(), 1, 281470681677825);
-    all_tickets(&rt, rt.alloc(), 256, 72056494509523200)
+    let alloc = rt.alloc();
+    all_tickets(&rt, alloc, 1, 281470681677825);
+    all_tickets(&rt, alloc, 256, 72056494509523200)
 }
 
 /// The third reply to a draw, a yield at once, and the greatest draw.
@@ -578,7 +637,7 @@ fn largest_compensated_total(rt: HostRuntime) {
     check_same(&rt, &third_reply(&mut kernel), &last);
 }
 
-const PAPERS_GRAPH: [Step<'_>; 38] = [
+const PAPERS_GRAPH: &[Step<'static>] = &[
     Step::Gives(Line::Mkcur("alice"), Reply::Currency(1)),
     Step::Gives(Line::Mkcur("bob"), Reply::Currency(2)),
     Step::Gives(Line::Mkcur("task1"), Reply::Currency(3)),
@@ -639,10 +698,10 @@ const PAPERS_GRAPH: [Step<'_>; 38] = [
 
 #[test]
 fn papers_graph(rt: HostRuntime) {
-    play(&rt, rt.alloc(), &PAPERS_GRAPH)
+    play(&rt, rt.alloc(), PAPERS_GRAPH)
 }
 
-const ROWS_OF_NOTHING: [Step<'_>; 18] = [
+const ROWS_OF_NOTHING: &[Step<'static>] = &[
     Step::Gives(Line::Mkcur("g"), Reply::Currency(1)),
     Step::Gives(Line::Mktkt(1, "base"), Reply::Ticket(1)),
     Step::Gives(Line::Mktkt(1, "base"), Reply::Ticket(2)),
@@ -665,20 +724,13 @@ const ROWS_OF_NOTHING: [Step<'_>; 18] = [
 
 #[test]
 fn rows_of_nothing(rt: HostRuntime) {
-    play(&rt, rt.alloc(), &ROWS_OF_NOTHING)
+    play(&rt, rt.alloc(), ROWS_OF_NOTHING)
 }
 
 /// Makes the commands in turn.
 fn answer_all(rt: &impl Abort, kernel: &mut Kernel, lines: &[Line<'_>]) {
     for line in lines {
         answer(rt, kernel, *line);
-    }
-}
-
-/// Makes a thread of currency `g` for each of these amounts.
-fn share(rt: &impl Abort, kernel: &mut Kernel, amounts: &[(u64, &str)]) {
-    for (amount, thread) in amounts {
-        answer(rt, kernel, Line::Fundx(*amount, "g", thread, 1));
     }
 }
 
@@ -697,7 +749,7 @@ fn shares(
         Line::Fund(1, "g"),
     ];
     answer_all(rt, &mut kernel, &lines);
-    share(rt, &mut kernel, amounts);
+    fund_of(rt, &mut kernel, "g", amounts);
     kernel
 }
 
@@ -719,7 +771,7 @@ struct Shared<'a> {
     winner: Winner,
 }
 
-const SHARED_AMOUNTS: [Shared<'_>; 4] = [
+const SHARED_AMOUNTS: &[Shared<'static>] = &[
     Shared {
         unit: 1,
         whole: 100,
@@ -769,11 +821,11 @@ fn check_shared(rt: &impl Abort, alloc: Global, row: Shared<'_>) {
 #[test]
 fn rounding(rt: HostRuntime) {
     for row in SHARED_AMOUNTS {
-        check_shared(&rt, rt.alloc(), row);
+        check_shared(&rt, rt.alloc(), *row);
     }
 }
 
-const NOTHING: [Step<'_>; 7] = [
+const NOTHING: &[Step<'static>] = &[
     Step::Value(1, 0),
     Step::Value(2, 0),
     Step::Idles(1, 0),
@@ -792,10 +844,10 @@ const NOTHING: [Step<'_>; 7] = [
 #[test]
 fn rounded_to_nothing(rt: HostRuntime) {
     let mut kernel = shares(&rt, rt.alloc(), 1, 1, &[(1, "a"), (1, "b")]);
-    take_all(&rt, &mut kernel, &NOTHING)
+    take_all(&rt, &mut kernel, NOTHING)
 }
 
-const TWO_LEVELS: [Step<'_>; 10] = [
+const TWO_LEVELS: &[Step<'static>] = &[
     Step::Gives(Line::Mkcur("g"), Reply::Currency(1)),
     Step::Gives(Line::Mkcur("h"), Reply::Currency(2)),
     Step::Gives(Line::Mktkt(100, "base"), Reply::Ticket(1)),
@@ -821,7 +873,7 @@ const TWO_LEVELS: [Step<'_>; 10] = [
 ];
 
 /// The state once the lower thread has exited.
-const ONE_LEVEL: [Step<'_>; 9] = [
+const ONE_LEVEL: &[Step<'static>] = &[
     Step::Gives(Line::Fund(4, "a"), Reply::Refused(Refusal::DeadThread)),
     Step::Wins(1, 99, (2, 99, 100), None),
     Step::Currency((0, "base", 0, 1, 100, 100)),
@@ -844,20 +896,25 @@ const ONE_LEVEL: [Step<'_>; 9] = [
     )),
 ];
 
+/// The lower thread wins a draw, and exits.
+fn exit_lower(rt: &impl Abort, kernel: &mut Kernel) {
+    check_run(
+        rt,
+        kernel,
+        &[Event::Draw(1, 0), Event::Trap(1, 0, Action::Exit)],
+        &[won(1, 0, 100, None), trapped(1, Outcome::Exited)],
+    )
+}
+
 #[test]
 fn two_levels(rt: HostRuntime) {
     let mut kernel = largest(&rt, rt.alloc(), 1);
-    take_all(&rt, &mut kernel, &TWO_LEVELS);
-    check_run(
-        &rt,
-        &mut kernel,
-        &[Event::Draw(1, 0), Event::Trap(1, 0, Action::Exit)],
-        &[won(1, 0, 100, None), trapped(1, Outcome::Exited)],
-    );
-    take_all(&rt, &mut kernel, &ONE_LEVEL)
+    take_all(&rt, &mut kernel, TWO_LEVELS);
+    exit_lower(&rt, &mut kernel);
+    take_all(&rt, &mut kernel, ONE_LEVEL)
 }
 
-const CYCLES: [Step<'_>; 16] = [
+const CYCLES: &[Step<'static>] = &[
     Step::Gives(Line::Mkcur("a"), Reply::Currency(1)),
     Step::Gives(Line::Mkcur("b"), Reply::Currency(2)),
     Step::Gives(Line::Mkcur("c"), Reply::Currency(3)),
@@ -878,7 +935,7 @@ const CYCLES: [Step<'_>; 16] = [
 
 #[test]
 fn cycles(rt: HostRuntime) {
-    play(&rt, rt.alloc(), &CYCLES)
+    play(&rt, rt.alloc(), CYCLES)
 }
 
 /// Makes this many currencies: `c1`, `c2` and so on.
@@ -937,7 +994,7 @@ fn chain(
     fund_anew(rt, kernel, base, "base", "c1")
 }
 
-const DIAMONDS: [Step<'_>; 5] = [
+const DIAMONDS: &[Step<'static>] = &[
     Step::Gives(Line::Mktkt(1, "c64"), Reply::Ticket(129)),
     Step::Gives(Line::Fund(129, "c1"), Reply::Refused(Refusal::Cycle)),
     Step::Currency((1, "c1", 1, 2, 2, 7)),
@@ -947,12 +1004,13 @@ const DIAMONDS: [Step<'_>; 5] = [
 
 #[test]
 fn chain_of_diamonds(rt: HostRuntime) {
-    let mut kernel = largest(&rt, rt.alloc(), 1);
-    chain(&rt, &mut kernel, rt.alloc(), 7, 64, 2);
-    take_all(&rt, &mut kernel, &DIAMONDS)
+    let alloc = rt.alloc();
+    let mut kernel = largest(&rt, alloc, 1);
+    chain(&rt, &mut kernel, alloc, 7, 64, 2);
+    take_all(&rt, &mut kernel, DIAMONDS)
 }
 
-const REMOVAL: [Step<'_>; 13] = [
+const REMOVAL: &[Step<'static>] = &[
     Step::Gives(Line::Mkcur("g"), Reply::Currency(1)),
     Step::Gives(Line::Mktkt(5, "g"), Reply::Ticket(1)),
     Step::Gives(Line::Rmcur("g"), Reply::Refused(Refusal::InUse)),
@@ -970,7 +1028,7 @@ const REMOVAL: [Step<'_>; 13] = [
 
 #[test]
 fn removal_in_order(rt: HostRuntime) {
-    play(&rt, rt.alloc(), &REMOVAL)
+    play(&rt, rt.alloc(), REMOVAL)
 }
 
 const FIRST_FUNDED: Reply = Reply::Funded {
@@ -978,14 +1036,14 @@ const FIRST_FUNDED: Reply = Reply::Funded {
     thread: 1,
 };
 
-const TWO_TICKETS: [Step<'_>; 4] = [
+const TWO_TICKETS: &[Step<'static>] = &[
     Step::Gives(Line::Mktkt(1, "base"), Reply::Ticket(1)),
     Step::Gives(Line::Rmtkt(1), Reply::Done),
     Step::Gives(Line::Mktkt(1, "base"), Reply::Ticket(2)),
     Step::Gives(Line::Mktkt(1, "base"), Reply::Refused(Refusal::Full)),
 ];
 
-const ONE_TICKET: [Step<'_>; 4] = [
+const ONE_TICKET: &[Step<'static>] = &[
     Step::Gives(Line::Fundx(1, "base", "a", 1), FIRST_FUNDED),
     Step::Gives(
         Line::Fundx(1, "base", "b", 1),
@@ -995,7 +1053,7 @@ const ONE_TICKET: [Step<'_>; 4] = [
     Step::Gives(Line::Mkthr("c", 1), Reply::Refused(Refusal::Full)),
 ];
 
-const ONE_THREAD: [Step<'_>; 3] = [
+const ONE_THREAD: &[Step<'static>] = &[
     Step::Gives(Line::Fundx(1, "base", "a", 1), FIRST_FUNDED),
     Step::Gives(
         Line::Fundx(1, "base", "b", 1),
@@ -1004,7 +1062,7 @@ const ONE_THREAD: [Step<'_>; 3] = [
     Step::Gives(Line::Mktkt(1, "base"), Reply::Ticket(2)),
 ];
 
-const TWO_CURRENCIES: [Step<'_>; 4] = [
+const TWO_CURRENCIES: &[Step<'static>] = &[
     Step::Gives(Line::Mkcur("a"), Reply::Currency(1)),
     Step::Gives(Line::Rmcur("a"), Reply::Done),
     Step::Gives(Line::Mkcur("b"), Reply::Currency(2)),
@@ -1024,13 +1082,14 @@ fn play_small(
 
 #[test]
 fn full_tables(rt: HostRuntime) {
-    play_small(&rt, rt.alloc(), (2, 1, 1), &TWO_TICKETS);
-    play_small(&rt, rt.alloc(), (1, 1, 2), &ONE_TICKET);
-    play_small(&rt, rt.alloc(), (2, 1, 1), &ONE_THREAD);
-    play_small(&rt, rt.alloc(), (1, 2, 1), &TWO_CURRENCIES)
+    let alloc = rt.alloc();
+    play_small(&rt, alloc, (2, 1, 1), TWO_TICKETS);
+    play_small(&rt, alloc, (1, 1, 2), ONE_TICKET);
+    play_small(&rt, alloc, (2, 1, 1), ONE_THREAD);
+    play_small(&rt, alloc, (1, 2, 1), TWO_CURRENCIES)
 }
 
-const REFUSED: [Step<'_>; 41] = [
+const REFUSED: &[Step<'static>] = &[
     Step::Gives(Line::Mktkt(0, "no"), Reply::Refused(Refusal::BadAmount)),
     Step::Gives(
         Line::Mktkt(4294967296, "no"),
@@ -1095,7 +1154,7 @@ const REFUSED: [Step<'_>; 41] = [
 /// In each line the reply names the first check that fails, though later ones would fail too.
 #[test]
 fn refused_commands(rt: HostRuntime) {
-    play_small(&rt, rt.alloc(), (2, 1, 1), &REFUSED)
+    play_small(&rt, rt.alloc(), (2, 1, 1), REFUSED)
 }
 
 fn check_unit(rt: &impl Abort, alloc: Global, unit: u32) {
@@ -1105,6 +1164,7 @@ fn check_unit(rt: &impl Abort, alloc: Global, unit: u32) {
 
 #[test]
 fn units(rt: HostRuntime) {
-    check_unit(&rt, rt.alloc(), 1);
-    check_unit(&rt, rt.alloc(), 256)
+    let alloc = rt.alloc();
+    check_unit(&rt, alloc, 1);
+    check_unit(&rt, alloc, 256)
 }

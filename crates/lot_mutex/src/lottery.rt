@@ -21,12 +21,22 @@ use std::mem::size_of;
 const WAITER_BYTES: u64 = size_of::<u32>() as u64 + size_of::<u128>() as u64;
 
 /// Scratch memory for the lottery of a mutex: its waiters and their values.
-#[derive(Drop)]
 pub struct Lottery {
     /// The largest number of waiters.
     room: u32,
     waiters: Vec<u32>,
     worths: Vec<u128>,
+}
+
+impl Drop for Lottery {
+    // An explicit drop: code that drops a `Lottery` is then proved without unfolding its fields.
+    fn drop(self) {
+        let Self {
+            room: _,
+            waiters: _,
+            worths: _,
+        } = self;
+    }
 }
 
 impl Model for Lottery {

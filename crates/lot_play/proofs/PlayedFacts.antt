@@ -1,5 +1,6 @@
 -- A play whose turns are written first, and then the report.
 use Rattle.std.proofs.Common.{◌≡◌, ℕ, Bool, true, false, Option, Result, Ok, Err, List, ◌++◌, refl, sym, ap, subst}
+use Rattle.std.specs.Prelude.{IfOk, OnOk}
 use Rattle.std.specs.Result.{IsErrAnd}
 use Rattle.std.specs.Io.KnownBytes.{Appends}
 use Rattle.lot_io.specs.declared.fault.IoFault.{IoFault}
@@ -28,7 +29,17 @@ module _ (old new : Option (List ℕ)) (turns last all : List ℕ) (is : all ≡
 pub ends-err : (old new : Option (List ℕ)) (text : List ℕ) (failed : Bool) (r : Result Played IoFault) (fault : IoFault) → r ≡ Err fault → (fault ≡ Write) × (failed ≡ true) × Begins old new text → EndsPlay old new failed r Done text
 ends-err old new text failed r fault err told = rw err (rw told.0 (told.1, told.2))
 
+-- what is so anyhow is so on success
+pub on-any : {A E P : Type 0} (r : Result A E) → P → OnOk r P
+on-any (Ok done) p = p
+on-any (Err fault) p = tt
+
+-- a failure made nothing
+pub nothing-made : {A E : Type 0} (P : A → Type 0) (Q : E → Type 0) (r : Result A E) → IsErrAnd r Q → IfOk r P
+nothing-made P Q (Ok x) wrong = absurd wrong
+nothing-made P Q (Err fault) is = tt
+
 -- the fault that `?` hands on
-pub err-is : {A : Type 0} (r : Result A IoFault) (fault : IoFault) → IsErrAnd r (λ other. other ≡ fault) → r ≡ Err fault
+pub err-is : {A E : Type 0} (r : Result A E) (fault : E) → IsErrAnd r (λ other. other ≡ fault) → r ≡ Err fault
 err-is (Ok x) fault told = absurd told
 err-is (Err other) fault told = ap Err told

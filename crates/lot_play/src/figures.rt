@@ -33,12 +33,23 @@ use std::alloc::{AllocError, Global};
 
 /// The figures over several plays: of threads, currencies and processors, each starting with number 1, and of all
 /// actors.
-#[derive(Drop)]
 pub(crate) struct AllFigures {
     pub(crate) threads: Vec<Figures>,
     pub(crate) currencies: Vec<Figures>,
     pub(crate) processors: Vec<ProcessorFigures>,
     pub(crate) whole: WholeFigures,
+}
+
+impl Drop for AllFigures {
+    // An explicit drop: code that drops an `AllFigures` is then proved without unfolding its fields.
+    fn drop(self) {
+        let Self {
+            threads: _,
+            currencies: _,
+            processors: _,
+            whole: _,
+        } = self;
+    }
 }
 
 /// The figures of a processor over no plays.

@@ -1,16 +1,16 @@
 //! Playing an input.
 ghost use Rattle.std.specs.Prelude.{◌≡◌, false, true, OnOk};
 ghost use Rattle.lot_simulation.specs.Grammar.{program_in};
-ghost use Rattle.lot_simulation.specs.Output.{output};
+ghost use Rattle.lot_simulation.specs.Output.{output, played_output};
 ghost use Rattle.lot_simulation.specs.Texts.{fault_line};
 ghost use Rattle.lot_play.specs.Played.{Plays, PlaysInput, came_of};
-ghost use Rattle.lot_play.specs.declared.inputs.Played.TheVariants.{Refused};
+ghost use Rattle.lot_play.specs.declared.inputs.Played.TheVariants.{Done, Refused};
 
 use crate::{Warnings, play_program};
 use lot_io::{IoFault, Watched, flush, read_input};
 use lot_print::write_fault;
 use lot_simulation::InputFault;
-use lot_text::{ParseFault, parse};
+use lot_text::{ParseFault, Program, parse};
 use std::alloc::Global;
 use std::io::{Read, Write};
 
@@ -34,10 +34,24 @@ pub fn play<R: Read, W: Write>(
     ensures plays { PlaysInput output R.remaining reader.old reader.new W.contents writer.old writer.new result }
 {
     let bytes = read_input(alloc, reader)?;
+    play_unwarned(alloc, bytes.as_slice(), writer)
+}
+
+/// Plays the input in `bytes`, or writes its refusal, and forgets its warnings.
+fn play_unwarned<W: Write>(
+    alloc: Global,
+    bytes: &[u8],
+    writer: &mut Watched<W>,
+) -> Result<Played, IoFault>
+    requires { writer.old.failed ≡ false }
+    ensures flushed { OnOk result (writer.new.flushed ≡ true) }
+    ensures played { Plays W.contents writer.old writer.new result (came_of (program_in bytes.now))
+        (output bytes.now) }
+{
     let Ok(mut warnings) = Warnings::none(alloc) else {
         return Err(IoFault::Memory);
     };
-    play_bytes(alloc, bytes.as_slice(), &mut warnings, writer)
+    play_bytes(alloc, bytes, &mut warnings, writer)
 }
 
 /// Plays the input in `bytes`, or writes its refusal, as `play` does, for callers that report more: it stores the
@@ -54,10 +68,24 @@ pub fn play_bytes<W: Write>(
         (output bytes.now) }
 {
     match parse(alloc, bytes) {
-        Ok(program) => play_program(alloc, &program, warnings, writer),
+        Ok(program) => play_parsed(alloc, program, warnings, writer),
         Err(ParseFault::Memory) => Err(IoFault::Memory),
         Err(ParseFault::Input(fault)) => refuse(fault, writer),
     }
+}
+
+/// Plays the program of an input, and lets go of it.
+fn play_parsed<W: Write>(
+    alloc: Global,
+    program: Program,
+    warnings: &mut Warnings,
+    writer: &mut Watched<W>,
+) -> Result<Played, IoFault>
+    requires { writer.old.failed ≡ false }
+    ensures flushed { OnOk result (writer.new.flushed ≡ true) }
+    ensures played { Plays W.contents writer.old writer.new result Done (played_output program program.duration) }
+{
+    play_program(alloc, &program, warnings, writer)
 }
 
 /// Writes the one line of a refused input, as `play` does.

@@ -124,6 +124,25 @@ fn write_turns<W: Write>(
     lines.write_out()
 }
 
+/// Makes the program's turns, writes their lines, and ends the play.
+fn write_play<W: Write>(
+    program: &Program,
+    mut playback: Playback,
+    warnings: &mut Warnings,
+    writer: &mut Watched<W>,
+) -> Result<(), IoFault>
+    requires none { playback.made ≡ 0 }
+    requires made { HasMade program.now [] playback.seen }
+    requires working { writer.old.failed ≡ false }
+    ensures flushed { OnOk result (writer.new.flushed ≡ true) }
+    ensures text { Writes W.contents writer.old writer.new result
+        (played_output program.now program.now.duration) }
+    ensures stopped { OnOk result (warnings.new.stopped ≡ (warnings.old.stopped || ends_refused program.now)) }
+{
+    write_turns(program, &mut playback, warnings, writer)?;
+    end_play(program, playback, warnings, writer)
+}
+
 /// Plays the program in a system of its own: writes a line for each turn, and then the report. It stores the run's
 /// warnings in `warnings`, also whether a refusal ended it. It allocates all its memory before the first turn.
 pub fn play_program<W: Write>(
@@ -138,10 +157,9 @@ pub fn play_program<W: Write>(
         (played_output program.now program.now.duration) }
     ensures stopped { OnOk result (warnings.new.stopped ≡ (warnings.old.stopped || ends_refused program.now)) }
 {
-    let Ok(mut playback) = Playback::open(alloc, program) else {
+    let Ok(playback) = Playback::open(alloc, program) else {
         return Err(IoFault::Memory);
     };
-    write_turns(program, &mut playback, warnings, writer)?;
-    end_play(program, playback, warnings, writer)?;
+    write_play(program, playback, warnings, writer)?;
     Ok(Played::Done)
 }

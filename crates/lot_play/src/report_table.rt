@@ -10,8 +10,9 @@ ghost use Rattle.lot_playback.specs.Turns.{program_turns};
 ghost use Rattle.lot_play.specs.Leaving.{ends_refused};
 ghost use Rattle.lot_play.specs.ReportTable.{currency_table, last_table, scheduled_table, table_in, timed_table};
 
+use crate::reports::note_ended;
 use crate::timed_currencies::write_currencies;
-use crate::{Form, Warnings, note_last, report, timed_report};
+use crate::{Form, Warnings, report, timed_report};
 use lot_engine::System;
 use lot_io::{IoFault, Watched, flush};
 use lot_playback::{Order, Playback, Timekeeper};
@@ -19,7 +20,8 @@ use lot_print::{Columns, write_header};
 use lot_text::Program;
 use std::io::Write;
 
-/// Ends a play whose turns are all made: writes the table, flushes, and records the end of the system in the warnings.
+/// Ends a play whose turns are all made: writes the table, flushes, and records the end of the system in the warnings,
+/// also if the writer failed.
 pub(crate) fn end_with_table<W: Write>(
     program: &Program,
     playback: Playback,
@@ -35,10 +37,29 @@ pub(crate) fn end_with_table<W: Write>(
     ensures stopped { OnOk result (warnings.new.stopped ≡ (warnings.old.stopped || ends_refused program.now)) }
 {
     let (mut system, order) = playback.into_parts();
-    write_table(program, &mut system, &order, form, writer)?;
-    flush(writer)?;
-    note_last(program, &mut system, &order, warnings);
-    Ok(())
+    let written = write_flushed(program, &mut system, &order, form, writer);
+    note_ended(program, system, order, warnings);
+    written
+}
+
+/// Writes the table of a system that has made all of its program's turns, and flushes.
+fn write_flushed<W: Write>(
+    program: &Program,
+    system: &mut System,
+    order: &Order,
+    form: Form,
+    writer: &mut Watched<W>,
+) -> Result<(), IoFault>
+    requires made { HasMade program.now (program_turns program.now) system.old }
+    requires order { IsInOrder system.old order.now }
+    requires ended { turns_left (record { seen = system.old; made = made_in system.old order.now }) ≡ [] }
+    requires working { writer.old.failed ≡ false }
+    ensures same { system.new ≡ system.old }
+    ensures flushed { OnOk result (writer.new.flushed ≡ true) }
+    ensures text { Writes W.contents writer.old writer.new result (last_table form program.now program.now.duration) }
+{
+    write_table(program, system, order, form, writer)?;
+    flush(writer)
 }
 
 /// Writes the table of a system that has made all of its program's turns.

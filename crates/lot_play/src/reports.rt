@@ -18,7 +18,7 @@ use lot_text::Program;
 use std::io::Write;
 
 /// Ends a play whose turns are all made: writes the report, flushes, and records the end of the system in the
-/// warnings.
+/// warnings, also if the writer failed.
 pub fn end_play<W: Write>(
     program: &Program,
     playback: Playback,
@@ -33,10 +33,42 @@ pub fn end_play<W: Write>(
     ensures stopped { OnOk result (warnings.new.stopped ≡ (warnings.old.stopped || ends_refused program.now)) }
 {
     let (mut system, order) = playback.into_parts();
-    write_last_report(program, &mut system, &order, writer)?;
-    flush(writer)?;
+    let written = write_flushed(program, &mut system, &order, writer);
+    note_ended(program, system, order, warnings);
+    written
+}
+
+/// Writes the report of a system that has made all of its program's turns, and flushes.
+fn write_flushed<W: Write>(
+    program: &Program,
+    system: &mut System,
+    order: &Order,
+    writer: &mut Watched<W>,
+) -> Result<(), IoFault>
+    requires program { system.old.setting.program ≡ program.now }
+    requires order { IsInOrder system.old order.now }
+    requires ended { turns_left (record { seen = system.old; made = made_in system.old order.now }) ≡ [] }
+    requires working { writer.old.failed ≡ false }
+    ensures same { system.new ≡ system.old }
+    ensures flushed { OnOk result (writer.new.flushed ≡ true) }
+    ensures text { Writes W.contents writer.old writer.new result (last_report program.now program.now.duration) }
+{
+    write_last_report(program, system, order, writer)?;
+    flush(writer)
+}
+
+/// Records the end of a play in its warnings, as `note_last` does, and lets go of the play.
+pub(crate) fn note_ended(
+    program: &Program,
+    mut system: System,
+    order: Order,
+    warnings: &mut Warnings,
+)
+    requires program { system.setting.program ≡ program.now }
+    requires order { IsInOrder system order }
+    ensures { warnings.new.stopped ≡ (warnings.old.stopped || stopped_in program.now system order) }
+{
     note_last(program, &mut system, &order, warnings);
-    Ok(())
 }
 
 /// Records the end of a play in its warnings: the state of its system; if it is timed and ended before its time, how;

@@ -1,5 +1,5 @@
 //! The report over several plays of a program, each with another seed.
-ghost use Rattle.std.specs.Prelude.{◌≡◌, ◌++◌, ◌||◌, false, true, IfOk, OnOk, Some, length};
+ghost use Rattle.std.specs.Prelude.{◌≡◌, [], ◌∷◌, ◌++◌, ◌||◌, false, true, IfOk, OnOk, Some, length};
 ghost use Rattle.lot_io.specs.Writing.{Writes};
 ghost use Rattle.lot_simulation.specs.Seeded.{with_seed};
 ghost use Rattle.lot_play.specs.Leaving.{any_ends_refused, ends_refused};
@@ -9,11 +9,13 @@ ghost use Rattle.lot_play.specs.Seeds.{AreAllFigures, AreEach, AreOverOneMore, f
 ghost use Rattle.lot_play.specs.Seeds.{processor_over, processor_text, processors_text, seeds_between, seeds_heading};
 ghost use Rattle.lot_play.specs.Seeds.{seeds_report, subjects_text, totals_text, whole_text};
 ghost use Rattle.lot_play.specs.declared.inputs.Played.TheVariants.{Done};
+ghost use Rattle.lot_playback.specs.Stages.{HasMade};
 ghost use Rattle.lot_print.specs.declared.figures.Subject.TheVariants as subjects;
 
 use crate::figures::{AllFigures, add_play};
+use crate::reports::note_ended;
 use crate::summary::note_turns;
-use crate::{Form, Played, Warnings, note_last};
+use crate::{Form, Played, Warnings};
 use lot_io::{IoFault, Watched, flush};
 use lot_playback::Playback;
 use lot_print::{
@@ -69,16 +71,56 @@ fn figures_of(
         || any_ends_refused program.now (seeds_between seeds.now.first seeds.now.last))) }
 {
     let mut all = AllFigures::over_no_plays(alloc, program)?;
-    play_with(alloc, program, seeds.first, warnings, &mut all)?;
+    play_each(alloc, program, seeds, warnings, &mut all)?;
+    Ok(all)
+}
+
+/// Plays the program once with each of these seeds, and adds the figures at the end of each play to those of no plays.
+/// It stores the warnings of the first play in `warnings`, and whether a refusal ended any of the plays.
+fn play_each(
+    alloc: Global,
+    program: &Program,
+    seeds: &Seeds,
+    warnings: &mut Warnings,
+    all: &mut AllFigures,
+) -> Result<(), AllocError>
+    requires { AreAllFigures program.now [] all.old }
+    ensures figures { OnOk result
+        (AreAllFigures program.now (seeds_between seeds.now.first seeds.now.last) all.new) }
+    ensures stopped { OnOk result (warnings.new.stopped ≡ (warnings.old.stopped
+        || any_ends_refused program.now (seeds_between seeds.now.first seeds.now.last))) }
+{
+    play_with(alloc, program, seeds.first, warnings, all)?;
     let mut unsaid = Warnings::none(alloc)?;
+    play_others(alloc, program, seeds, &mut unsaid, all)?;
+    warnings.stopped |= unsaid.stopped;
+    Ok(())
+}
+
+/// Plays the program once with each of these seeds after the first, and adds the figures to those of the first play.
+/// It stores in `warnings`, which say of no refusal yet, whether one ended any of these plays.
+fn play_others(
+    alloc: Global,
+    program: &Program,
+    seeds: &Seeds,
+    warnings: &mut Warnings,
+    all: &mut AllFigures,
+) -> Result<(), AllocError>
+    requires first { AreAllFigures program.now (seeds.now.first ∷ []) all.old }
+    requires unsaid { warnings.old.stopped ≡ false }
+    ensures figures { OnOk result
+        (AreAllFigures program.now (seeds_between seeds.now.first seeds.now.last) all.new) }
+    ensures stopped { OnOk result
+        ((ends_refused (with_seed (Some seeds.now.first) program.now) || warnings.new.stopped)
+        ≡ any_ends_refused program.now (seeds_between seeds.now.first seeds.now.last)) }
+{
     for number in seeds.first.number() + 1..seeds.last.number() + 1 {
         let Some(seed) = Seed::new(number) else {
             unreachable!();
         };
-        play_with(alloc, program, seed, &mut unsaid, &mut all)?;
+        play_with(alloc, program, seed, warnings, all)?;
     }
-    warnings.stopped |= unsaid.stopped;
-    Ok(all)
+    Ok(())
 }
 
 /// Plays the program with this seed, and adds the figures at the end of the play.
@@ -96,13 +138,54 @@ fn play_with(
     ensures stopped { OnOk result (warnings.new.stopped
         ≡ (warnings.old.stopped || ends_refused (with_seed (Some seed) program.now))) }
 {
-    let program = program.copied(alloc)?.with_seed(alloc, Some(seed))?;
-    let mut playback = Playback::open(alloc, &program)?;
-    note_turns(&program, &mut playback, warnings);
-    let (mut system, order) = playback.into_parts();
-    note_last(&program, &mut system, &order, warnings);
-    add_play(all, &program, &mut system, &order);
+    let program = seeded(alloc, program, seed)?;
+    play_seeded(alloc, &program, warnings, all)
+}
+
+/// A copy of the program with this seed.
+fn seeded(alloc: Global, program: &Program, seed: Seed) -> Result<Program, AllocError>
+    ensures { IfOk result (λ seeded. seeded ≡ with_seed (Some seed) program.now) }
+{
+    program.copied(alloc)?.with_seed(alloc, Some(seed))
+}
+
+/// Plays the program with the seed that it has, and adds the figures at the end of the play.
+fn play_seeded(
+    alloc: Global,
+    program: &Program,
+    warnings: &mut Warnings,
+    all: &mut AllFigures,
+) -> Result<(), AllocError>
+    requires threads { length all.old.threads.items ≡ program.now.limits.threads }
+    requires currencies { length all.old.currencies.items ≡ program.now.limits.currencies }
+    requires processors { length all.old.processors.items ≡ program.now.limits.processors }
+    ensures played { OnOk result (AreOverOneMore program.now all.old all.new) }
+    ensures stopped { OnOk result (warnings.new.stopped ≡ (warnings.old.stopped || ends_refused program.now)) }
+{
+    let playback = Playback::open(alloc, program)?;
+    add_playback(program, playback, warnings, all);
     Ok(())
+}
+
+/// Makes the program's turns, none of which has been made, and adds the figures at their end.
+fn add_playback(
+    program: &Program,
+    mut playback: Playback,
+    warnings: &mut Warnings,
+    all: &mut AllFigures,
+)
+    requires none { playback.made ≡ 0 }
+    requires made { HasMade program.now [] playback.seen }
+    requires threads { length all.old.threads.items ≡ program.now.limits.threads }
+    requires currencies { length all.old.currencies.items ≡ program.now.limits.currencies }
+    requires processors { length all.old.processors.items ≡ program.now.limits.processors }
+    ensures played { AreOverOneMore program.now all.old all.new }
+    ensures stopped { warnings.new.stopped ≡ (warnings.old.stopped || ends_refused program.now) }
+{
+    note_turns(program, &mut playback, warnings);
+    let (mut system, order) = playback.into_parts();
+    add_play(all, program, &mut system, &order);
+    note_ended(program, system, order, warnings);
 }
 
 /// The table in this form of the program, or none for lines.

@@ -45,7 +45,7 @@ pub struct Owner {
 }
 
 /// The warnings of a run, which aren't part of its output.
-#[derive(Debug, Drop)]
+#[derive(Debug)]
 pub struct Warnings {
     /// The number of commands made.
     pub made: usize,
@@ -65,6 +65,22 @@ pub struct Warnings {
     pub waiting: FirstFew<StuckThread>,
 }
 
+impl Drop for Warnings {
+    // An explicit drop: code that drops a `Warnings` is then proved without unfolding its fields.
+    fn drop(self) {
+        let Self {
+            made: _,
+            refused: _,
+            refused_traps: _,
+            unmade: _,
+            early: _,
+            stopped: _,
+            weightless: _,
+            waiting: _,
+        } = self;
+    }
+}
+
 impl Warnings {
     /// No warnings. It allocates all the memory that recording will ever use.
     pub fn none(alloc: Global) -> Result<Self, AllocError>
@@ -80,15 +96,17 @@ impl Warnings {
               waiting = none_kept;
             }) }
     {
+        let (refused, refused_traps) = no_refusals(alloc)?;
+        let (weightless, waiting) = no_stuck(alloc)?;
         Ok(Warnings {
             made: 0,
-            refused: FirstFew::none(alloc)?,
-            refused_traps: FirstFew::none(alloc)?,
+            refused,
+            refused_traps,
             unmade: 0,
             early: None,
             stopped: false,
-            weightless: FirstFew::none(alloc)?,
-            waiting: FirstFew::none(alloc)?,
+            weightless,
+            waiting,
         })
     }
 
@@ -177,6 +195,22 @@ impl Warnings {
             self.waiting.add(thread);
         }
     }
+}
+
+/// No refused commands, and no refused traps.
+fn no_refusals(
+    alloc: Global,
+) -> Result<(FirstFew<RefusedCommand>, FirstFew<RefusedTrap>), AllocError>
+    ensures { IfOk result (λ both. (both.0 ≡ none_kept) × (both.1 ≡ none_kept)) }
+{
+    Ok((FirstFew::none(alloc)?, FirstFew::none(alloc)?))
+}
+
+/// No threads that weigh nothing, and none that wait.
+fn no_stuck(alloc: Global) -> Result<(FirstFew<StuckThread>, FirstFew<StuckThread>), AllocError>
+    ensures { IfOk result (λ both. (both.0 ≡ none_kept) × (both.1 ≡ none_kept)) }
+{
+    Ok((FirstFew::none(alloc)?, FirstFew::none(alloc)?))
 }
 
 /// Whether no thread can run any more: none is Running, or Ready with a weight, or sleeps, since a sleep ends.

@@ -1,5 +1,5 @@
 -- A system that has made turns of its program, and one turn more.
-use Rattle.std.proofs.Common.{◌≡◌, ℕ, List, [], ◌∷◌, ◌++◌, refl, sym, ◌∙◌, ap, append-nil}
+use Rattle.std.proofs.Common.{◌≡◌, ℕ, Bool, List, [], ◌∷◌, ◌++◌, refl, sym, ◌∙◌, ap, append-nil}
 use Rattle.std.proofs.lemmas.Grind.{flat_map-append}
 use Rattle.lot_machine.specs.declared.command.Command.{Command}
 use Rattle.lot_machine.specs.declared.event.Event.{Event}
@@ -12,7 +12,9 @@ use Rattle.lot_engine.specs.Seen.{Seen, Setting, after_turn, world_of}
 use Rattle.lot_engine.specs.Turns.{IsEnded}
 use Rattle.lot_engine.proofs.CountFacts.{turns_made-answered}
 use Rattle.lot_playback.specs.Turns.{MadeTurn, counted_turn, counted_turns, world_after_turns}
-use Rattle.lot_playback.specs.Stages.{HasMade}
+use Rattle.lot_playback.specs.declared.playback.Order.{Order}
+use Rattle.lot_playback.specs.Orders.{made_in}
+use Rattle.lot_playback.specs.Stages.{HasMade, Stage}
 
 -- the world after turns is that which the last of them leaves
 pub world-one_more : (w : World) (turns : List MadeTurn) (made : MadeTurn) → world_after_turns w (turns ++ made ∷ []) ≡ made.turn.world
@@ -22,6 +24,17 @@ world-one_more w (t ∷ turns) made = world-one_more t.turn.world turns made
 pub counted-one_more : (turns : List MadeTurn) (made : MadeTurn) → counted_turns (turns ++ made ∷ []) ≡ counted_turns turns ++ counted_turn made.actor made.turn.answer
 counted-one_more turns made =
     flat_map-append (λ (m : MadeTurn). counted_turn m.actor m.turn.answer) turns (made ∷ []) ∙ ap (λ ts. counted_turns turns ++ ts) (append-nil (counted_turn made.actor made.turn.answer))
+
+-- the progress of a play in this order
+abbrev pub stage_in : Seen → Order → Stage
+stage_in seen order = record { seen = seen; made = made_in seen order }
+
+pub stage-known : (now : Stage) (seen : Seen) (order known : Order) → stage_in seen order ≡ now → order ≡ known → stage_in seen known ≡ now
+stage-known now seen order known view is = ap (stage_in seen) (sym is) ∙ view
+
+-- a system that was opened for the program has made no turn of it
+pub opened-made : (program : Program) (room : ℕ) (timer : Bool) → HasMade program [] (record { setting = record { program = program; room = room; timer = timer }; history = [] })
+opened-made program room timer = record { program_is = refl; world = refl; counted = refl }
 
 module _ (old now : Seen) (actor : ℕ) (setting : now.setting ≡ old.setting) (world : world_of now ≡ (turn_in old actor).world) (made : MadeTurn) (its_actor : made.actor ≡ actor) (its_turn : made.turn ≡ turn_in old actor) (counted : turns_made old.setting.program now.history ≡ turns_made old.setting.program old.history ++ counted_turn actor (turn_in old actor).answer) where
   -- it has made one turn more

@@ -197,19 +197,15 @@ module _ (above : FoundNodes) (ticks : ℕ) (old : List ℕ) where
             by (inr other) = was.found place (omega (arith, before, other)) below is
 
 -- no currency beyond the table's
-pub all-added : (above : FoundNodes) (ticks count least : ℕ) (old new : List ℕ) → (least ≡ length old) ⊎ (least ≡ count) → least ≤ count → HaveAdded above ticks least old new → HaveAdded above ticks count old new
-all-added above ticks count least old new is within added = record {
+pub all-added : (above : FoundNodes) (ticks least count : ℕ) (old new : List ℕ) → ((place : ℕ) → place < count → place < length old → place < least) → least ≤ count → HaveAdded above ticks least old new → HaveAdded above ticks count old new
+all-added above ticks least count old new reached within added = record {
   count = added.count;
-  found = λ place before below has. added.found place (by is place before below) below has;
+  found = λ place before below has. added.found place (reached place before below) below has;
   others = added.others;
   left = λ place past below. added.left place (omega (arith, past, within)) below;
   least = added.least;
   most = added.most;
 }
-  where
-    by : (least ≡ length old) ⊎ (least ≡ count) → (place : ℕ) → place < count → place < length old → place < least
-    by (inl all) place before below = omega (arith, all, below)
-    by (inr same) place before below = omega (arith, same, before)
 
 -- ---- a turn
 

@@ -117,6 +117,19 @@ impl SpanTable {
     }
 }
 
+/// Two tables of this many threads, none of which has had a span.
+pub(crate) fn open_two(alloc: Global, threads: u32) -> Result<(SpanTable, SpanTable), AllocError>
+    ensures none { (kind : WorldTurn → SpanChangeRecord)
+        → IfOk result (λ two. AreSpans kind [] 0 two.0.threads.items × AreSpans kind [] 0 two.1.threads.items) }
+    ensures ready { (sizes : Sizes)
+        → IfOk result (λ two. AreReadyFor [] 0 (opening sizes) two.1.threads.items) }
+    ensures count { IfOk result (λ two. (vec_len two.0.threads ≡ threads) × (vec_len two.1.threads ≡ threads)) }
+{
+    let first = SpanTable::open(alloc, threads)?;
+    let second = SpanTable::open(alloc, threads)?;
+    Ok((first, second))
+}
+
 /// The spans after the current one, if any, ends at this time.
 pub(crate) fn span_ended(spans: Spans, time: u32) -> Spans
     requires { (spans.count < 2 ^ 31) × (spans.total < 2 ^ 63) }
@@ -139,7 +152,6 @@ pub(crate) fn span_ended(spans: Spans, time: u32) -> Spans
 }
 
 /// The change that a turn with this event and reply makes to the threads that wait for a mutex.
-#[tactic(auto, using(crate::proofs::SpanFacts::change_by_locking))]
 pub(crate) fn mutex_wait(event: &Event, reply: Reply) -> SpanChange
     ensures { result ≡ timed.mutex_wait (Answered event.now reply) }
 {

@@ -3,6 +3,7 @@ ghost use Rattle.std.specs.Prelude.{◌≡◌, ℕ, ◌<◌, ◌≤◌, ◌+◌,
 ghost use Rattle.std.specs.Prelude.{IfOk, IfSome, replicate, vec_len};
 ghost use Rattle.lot_machine.specs.Bounds.{IsWithinBounds};
 ghost use Rattle.lot_machine.specs.State.{State, opening};
+ghost use Rattle.lot_machine.specs.declared.sizes.Sizes.{Sizes};
 ghost use Rattle.lot_simulation.specs.TimedReport as reports;
 ghost use Rattle.lot_simulation.specs.Timed as timed;
 ghost use Rattle.lot_simulation.specs.Timed.{Moment, TimedTurn, alarms_after, clocks_after, is_idle_draw};
@@ -11,10 +12,11 @@ ghost use Rattle.lot_simulation.specs.World.{Program as ProgramRecord, sleeper_o
 ghost use Rattle.lot_simulation.specs.World.Answer.{Answered};
 ghost use Rattle.lot_engine.specs.Searching.{HasLayoutFor};
 ghost use Rattle.lot_engine.specs.Seen.{Seen, world_of};
-ghost use Rattle.lot_playback.specs.InTime.{AreAlarms, CanFollow, HasDues, HasFollowed, HasRoomFor, IsFollowed};
-ghost use Rattle.lot_playback.specs.InTime.{alarms_in, moment_in};
-ghost use Rattle.lot_playback.specs.Owed.{Answers};
-ghost use Rattle.lot_playback.specs.TicksBelow.{HasFoundFor};
+ghost use Rattle.lot_playback.specs.declared.sharers.Sharers.TheVariants.{Threads};
+ghost use Rattle.lot_playback.specs.InTime.{AreAlarms, AreRefusedTraps, CanFollow, HasDues, HasFollowed, HasRoomFor};
+ghost use Rattle.lot_playback.specs.InTime.{IsFollowed, alarms_in, moment_in};
+ghost use Rattle.lot_playback.specs.Owed.{Answers, AreDue};
+ghost use Rattle.lot_playback.specs.TicksBelow.{AreCurrencies, HasFoundFor};
 ghost use Rattle.lot_text.specs.Programs.{IsProgram};
 
 use crate::alarms::Alarms;
@@ -23,7 +25,7 @@ use crate::currencies::CurrencyTable;
 use crate::dues::DueTable;
 use crate::refused_traps::RefusedTraps;
 use crate::sharers::Sharers;
-use crate::spans::{SpanTable, life, mutex_wait, reply_wait};
+use crate::spans::{SpanTable, life, mutex_wait, open_two, reply_wait};
 use lot_engine::System;
 use lot_machine::{Event, Outcome, Reply};
 use lot_simulation::{Due, Sleeper};
@@ -34,7 +36,6 @@ use std::alloc::{AllocError, Global};
 pub const MOST_TURNS: u32 = 16000000;
 
 /// The records that a timed play keeps from turn to turn, in addition to the system.
-#[derive(Drop)]
 pub struct Timekeeper {
     /// The processors' clocks.
     pub clocks: Clocks,
@@ -60,6 +61,25 @@ pub struct Timekeeper {
     pub has_refused: bool,
 }
 
+impl Drop for Timekeeper {
+    // An explicit drop: code that drops a `Timekeeper` is then proved without unfolding its fields.
+    fn drop(self) {
+        let Self {
+            clocks: _,
+            alarms: _,
+            mutexes: _,
+            replies: _,
+            lives: _,
+            ready: _,
+            dues: _,
+            currencies: _,
+            refused_traps: _,
+            refused: _,
+            has_refused: _,
+        } = self;
+    }
+}
+
 impl Timekeeper {
     /// The records of a system before the program's first turn. It allocates all the memory that they will ever use,
     /// and fails only if out of memory.
@@ -78,16 +98,26 @@ impl Timekeeper {
         ensures legal { IsProgram program.now }
     {
         let limits = program.limits();
+        // They are made in groups: the proof of each `?` then has few of them to drop.
+        let (clocks, alarms) = open_times(alloc, limits.processors, limits.threads)?;
+        let (mutexes, replies) = open_two(alloc, limits.threads)?;
+        let (lives, ready) = open_two(alloc, limits.threads)?;
+        let (dues, currencies, refused_traps) = open_shares(
+            alloc,
+            system,
+            limits.threads,
+            limits.currencies,
+        )?;
         Ok(Timekeeper {
-            clocks: Clocks::open(alloc, limits.processors)?,
-            alarms: Alarms::open(alloc, limits.threads)?,
-            mutexes: SpanTable::open(alloc, limits.threads)?,
-            replies: SpanTable::open(alloc, limits.threads)?,
-            lives: SpanTable::open(alloc, limits.threads)?,
-            ready: SpanTable::open(alloc, limits.threads)?,
-            dues: DueTable::open(alloc, Sharers::Threads, limits.threads)?,
-            currencies: CurrencyTable::open(alloc, system, limits.currencies)?,
-            refused_traps: RefusedTraps::open(alloc, limits.threads)?,
+            clocks,
+            alarms,
+            mutexes,
+            replies,
+            lives,
+            ready,
+            dues,
+            currencies,
+            refused_traps,
             refused: 0,
             has_refused: false,
         })
@@ -179,6 +209,39 @@ impl Timekeeper {
         self.refused += refusals_in(reply);
         self.has_refused |= is_refusal(event, reply);
     }
+}
+
+/// The clocks at 0, and the alarms of threads none of which sleeps.
+fn open_times(alloc: Global, processors: u32, threads: u32) -> Result<(Clocks, Alarms), AllocError>
+    ensures opened { IfOk result (λ opened. (opened.0.time ≡ 0) × (opened.0.processors.items
+        ≡ replicate processors (record { time = 0; waits = false; idle = 0 }))
+        × (opened.1.threads.items ≡ replicate threads None) × (opened.1.highest ≡ 0) × (opened.1.next ≡ None)) }
+{
+    let clocks = Clocks::open(alloc, processors)?;
+    let alarms = Alarms::open(alloc, threads)?;
+    Ok((clocks, alarms))
+}
+
+/// What threads and currencies are due, and threads' refused traps, before the first turn.
+fn open_shares(
+    alloc: Global,
+    system: &System,
+    threads: u32,
+    currencies: u32,
+) -> Result<(DueTable, CurrencyTable, RefusedTraps), AllocError>
+    ensures none { (sizes : Sizes) → IsWithinBounds sizes
+        → IfOk result (λ opened. AreDue Threads (opening sizes) [] 0 (opening sizes) opened.0
+        × AreCurrencies (opening sizes) [] 0 (opening sizes) opened.1
+        × AreRefusedTraps [] 0 opened.2.threads.items) }
+    ensures count { IfOk result (λ opened. (vec_len opened.0.places ≡ threads)
+        × (vec_len opened.1.ticks ≡ currencies) × (vec_len opened.1.dues.places ≡ currencies)
+        × HasLayoutFor system.now.setting.program opened.1.above × (vec_len opened.2.threads ≡ threads)) }
+{
+    let dues = DueTable::open(alloc, Sharers::Threads, threads)?;
+    let refused_traps = RefusedTraps::open(alloc, threads)?;
+    // Last, since it owns the most: no error drops it.
+    let table = CurrencyTable::open(alloc, system, currencies)?;
+    Ok((dues, table, refused_traps))
 }
 
 /// Whether the kernel refused a command or a trap.

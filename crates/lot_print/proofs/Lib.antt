@@ -4,6 +4,7 @@ pub mod NameFacts
 pub mod PageFacts
 pub mod Pairs
 pub mod PlainLemmas
+pub mod Pushed
 pub mod ReadBack
 pub mod RunLemmas
 pub mod RunsBack

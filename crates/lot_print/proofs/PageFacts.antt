@@ -28,3 +28,8 @@ module _ (old mid new : Option (List ℕ)) (before waits after text more : List 
 -- a beginning of what waited is one of that and the text
 pub put-stop : (old new : Option (List ℕ)) (before text : List ℕ) → Begins old new (before ++ []) → Begins old new (before ++ text)
 put-stop old new before text one = subst (λ xs. Begins old new (xs ++ text)) (append-nil before) (begins-front old new (before ++ []) text one)
+
+-- a line after those that wait, once the page has room for it
+pub put-line : (old new : Option (List ℕ)) (before waits after text : List ℕ) → IsPut old new before waits [] → after ≡ waits ++ text → IsPut old new before after text
+put-line old new before waits after text one is =
+    (one.0, ap (λ xs. xs ++ text) (sym (append-nil before) ∙ one.1) ∙ append_assoc one.0 waits text ∙ ap (λ xs. one.0 ++ xs) (sym is), one.2)

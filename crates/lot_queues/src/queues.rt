@@ -32,7 +32,7 @@ pub struct TakenCall {
 }
 
 /// The queues. Threads, ports and mutexes are numbered from 1.
-#[derive(Debug, Drop)]
+#[derive(Debug)]
 pub struct Queues {
     lists: Lists,
     // The number that each thread sent with its last queued call.
@@ -40,6 +40,19 @@ pub struct Queues {
     owners: Vec<Option<u32>>,
     threads: u32,
     layout: Layout,
+}
+
+impl Drop for Queues {
+    // An explicit drop: code that drops a `Queues` is then proved without unfolding its fields.
+    fn drop(self) {
+        let Self {
+            lists: _,
+            sent: _,
+            owners: _,
+            threads: _,
+            layout: _,
+        } = self;
+    }
 }
 
 impl Model for Queues {

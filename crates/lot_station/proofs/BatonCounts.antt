@@ -1,8 +1,9 @@
 -- What is counted of an actor's turns while a history grows.
-use Rattle.std.proofs.Common.{◌≡◌, ℕ, ◌+◌, ◌==◌, Bool, true, false, cond, List, [], ◌∷◌, ◌++◌, refl, sym, ap, ◌∙◌, arith}
-use Rattle.std.specs.Prelude.{if◌then◌else◌}
+use Rattle.std.proofs.Common.{◌≡◌, ◌⊎◌, ℕ, zero, suc, ◌+◌, ◌<◌, ◌==◌, Bool, true, false, cond, List, [], ◌∷◌, ◌++◌, length, Some, inl, inr, ⊎_elim, refl, sym, ap, ◌∙◌, arith}
+use Rattle.std.specs.Prelude.{if◌then◌else◌, slice_get}
 use Rattle.lot_simulation.specs.Report.{ActorTurn, beside, turns_made, turns_of}
 use Rattle.lot_simulation.specs.World.{Program, World, opening_world, system_turn, system_answers}
+use Rattle.lot_engine.specs.declared.counts.Counts.{Counts}
 use Rattle.lot_engine.specs.declared.turn.Answer.{Answer}
 use Rattle.lot_engine.specs.Counted.{counted, counted_with}
 use Rattle.lot_engine.specs.Seen.{Seen, after_turn}
@@ -48,3 +49,20 @@ counts-still x s actor begins turns =
 -- a turn of its own is counted
 pub counts-more : (x : Seen) (actor : ℕ) (answer : Answer) → Answers x actor answer → counts_in (after_turn x actor) actor ≡ counted_with (counts_in x actor) answer.reply
 counts-more x actor answer answers = counted-own_more x.setting.program x.history actor answer.event answer.reply answers.turn
+
+-- a list with one more at its end has it there, and before it what it had
+pushed_at : (l : List Counts) (y : Counts) (j : ℕ) → j < length l + 1 → ((j < length l) × (slice_get (l ++ y ∷ []) j ≡ slice_get l j)) ⊎ ((j ≡ length l) × (slice_get (l ++ y ∷ []) j ≡ Some y))
+pushed_at [] y zero low = inr (refl, refl)
+pushed_at [] y (suc j) low = absurd (omega (arith, low))
+pushed_at (x ∷ xs) y zero low = inl (omega arith, refl)
+pushed_at (x ∷ xs) y (suc j) low =
+    ⊎_elim (λ p. inl (omega (arith, p.0), p.1)) (λ p. inr (ap suc p.0, p.1)) (pushed_at xs y j (omega (arith, low)))
+
+-- one actor more is counted
+pub counted_one : (x : Seen) (old new : List Counts) (n : ℕ) (y : Counts) → length old ≡ n → ((j : ℕ) → j < n → slice_get old j ≡ Some (counts_in x j)) → y ≡ counts_in x n → new ≡ old ++ y ∷ []
+    → (j : ℕ) → j < n + 1 → slice_get new j ≡ Some (counts_in x j)
+counted_one x old new n y len each is now j low =
+    ⊎_elim
+    (λ (p : (j < length old) × (slice_get (old ++ y ∷ []) j ≡ slice_get old j)). ap (λ l. slice_get l j) now ∙ p.1 ∙ each j (omega (arith, p.0, len)))
+    (λ (p : (j ≡ length old) × (slice_get (old ++ y ∷ []) j ≡ Some y)). ap (λ l. slice_get l j) now ∙ p.1 ∙ ap Some (is ∙ ap (counts_in x) (sym (p.0 ∙ len))))
+    (pushed_at old y j (omega (arith, low, len)))

@@ -1,17 +1,17 @@
 -- What a seat may say after it had the system in its hands.
-use Rattle.std.proofs.Common.{◌≡◌, ℕ, ◌+◌, Option, [], ◌∷◌, Result, Ok, Err, IfOk, IfErr, refl, sym, ap, ◌∙◌, subst, inl, inr, arith}
+use Rattle.std.proofs.Common.{◌≡◌, ℕ, ◌+◌, ◌≤◌, false, Option, List, [], ◌∷◌, Result, Ok, Err, IfOk, IfErr, refl, sym, ap, ◌∙◌, subst, inl, inr, arith}
 use Rattle.lot_script.specs.Slices.{Parts}
 use Rattle.lot_engine.specs.declared.counts.Counts.{Counts}
 use Rattle.lot_engine.specs.declared.fault.TurnFault.{TurnFault}
 use Rattle.lot_engine.specs.declared.turn.Answer.{Answer}
 use Rattle.lot_engine.specs.Counted.{counted_with}
-use Rattle.lot_engine.specs.Seen.{Seen, after_turn}
+use Rattle.lot_engine.specs.Seen.{Setting, Seen, after_turn}
 use Rattle.lot_engine.specs.Turns.{Answers, Faults, Goes}
 use Rattle.lot_station.specs.declared.baton.view.Claim.{Claim}
 use Rattle.lot_station.specs.declared.baton.view.View.{View}
-use Rattle.lot_station.specs.BatonViews.{claim, resting, holding, took, gave, note_of, together, Extends, Sees, Next}
+use Rattle.lot_station.specs.BatonViews.{claim, resting, holding, took, gave, note_of, together, Extends, Sees, SeesAll, Next}
 use Rattle.lot_station.specs.Settings.{IsLegalIn, counts_in, turns_by}
-use Rattle.lot_station.specs.BatonSeats.{Seat, Looks, Turns}
+use Rattle.lot_station.specs.BatonSeats.{Seat, Looks, Turns, seen_in}
 use Rattle.lot_station.proofs.BatonCounts.{counts-still, counts-more}
 use Rattle.lot_station.proofs.BatonShares.{turns_by-append, turns_by-own}
 
@@ -76,9 +76,46 @@ refused old new given was x (Err f) is sees legal err =
     (looks old new was same sees (subst (λ (y : Seen). IsLegalIn y) err.1 legal), subst (λ (y : Seen). Faults y old.actor given f) (sym same) err.0)
 
 -- a seat's pass with the note of another
-pub with_note : (p q n m : View) (a b : ℕ) (s t : Seen) → p ≡ resting (claim a (a + 1) s ∷ []) → q ≡ resting (claim b (b + 1) t ∷ []) → n ≡ note_of q → m ≡ together p n → m ≡ resting (claim a (a + 1) s ∷ claim 0 0 t ∷ [])
+with_note : (p q n m : View) (a b : ℕ) (s t : Seen) → p ≡ resting (claim a (a + 1) s ∷ []) → q ≡ resting (claim b (b + 1) t ∷ []) → n ≡ note_of q → m ≡ together p n → m ≡ resting (claim a (a + 1) s ∷ claim 0 0 t ∷ [])
 with_note p q n m a b s t own other noted joined = joined ∙ (λ i. together (own i) ((noted ∙ ap note_of other) i))
 
 -- what it holds then is of the seat alone
-pub back_after : (m q r : View) (a : ℕ) (s t x : Seen) → m ≡ resting (claim a (a + 1) s ∷ claim 0 0 t ∷ []) → q ≡ took m x → r ≡ gave q x → r ≡ resting (claim a (a + 1) x ∷ [])
+back_after : (m q r : View) (a : ℕ) (s t x : Seen) → m ≡ resting (claim a (a + 1) s ∷ claim 0 0 t ∷ []) → q ≡ took m x → r ≡ gave q x → r ≡ resting (claim a (a + 1) x ∷ [])
 back_after m q r a s t x joined held now = now ∙ ap (λ (y : View). gave y x) (held ∙ ap (λ (y : View). took y x) joined)
+
+-- what the seat knows then: the system is as both saw it, and the pass saw it last
+pub record Told (r : View) (a : ℕ) (s u x : Seen) : Type 0 where
+  pub sees : Sees x (claim a (a + 1) s)
+  pub told : Extends x u
+  pub back : r ≡ resting (claim a (a + 1) x ∷ [])
+
+pub told_by : (p q n m t r : View) (a b : ℕ) (s u x : Seen) → p ≡ resting (claim a (a + 1) s ∷ []) → q ≡ resting (claim b (b + 1) u ∷ []) → n ≡ note_of q → m ≡ together p n → SeesAll x m.claims → t ≡ took m x → r ≡ gave t x → Told r a s u x
+told_by p q n m t r a b s u x own other noted joined sees held now =
+    let is = with_note p q n m a b s u own other noted joined in
+    let all = subst (λ (y : View). SeesAll x y.claims) is sees in
+    record { sees = all.0; told = all.1.0.0; back = back_after m t r a s u x is held now }
+
+-- while it holds the system
+pub held_with_note : (p q n m t : View) (a b : ℕ) (s u x : Seen) → p ≡ resting (claim a (a + 1) s ∷ []) → q ≡ resting (claim b (b + 1) u ∷ []) → n ≡ note_of q → m ≡ together p n → t ≡ took m x → t ≡ holding x (claim a (a + 1) s)
+held_with_note p q n m t a b s u x own other noted joined held =
+    held ∙ ap (λ (y : View). took y x) (with_note p q n m a b s u own other noted joined)
+
+-- ---- what holds of a seat, as its pass changes
+
+-- once it has given the system back
+pub kept_seat : {X : Type 0} (m : List X) (r : View) (a : ℕ) (n : Counts) (s x : Seen) → m ≡ [] → r ≡ resting (claim a (a + 1) x ∷ []) → x.setting ≡ s.setting → a ≤ s.setting.program.limits.processors → n ≡ counts_in x a → s.setting.timer ≡ false
+    → (m ≡ []) × (r ≡ resting (claim a (a + 1) (seen_in r.claims) ∷ [])) × (a ≤ (seen_in r.claims).setting.program.limits.processors) × (n ≡ counts_in (seen_in r.claims) a) × ((seen_in r.claims).setting.timer ≡ false)
+kept_seat m r a n s x empty is setting there counts untimed =
+    subst
+    (λ (y : View). (m ≡ []) × (y ≡ resting (claim a (a + 1) (seen_in y.claims) ∷ [])) × (a ≤ (seen_in y.claims).setting.program.limits.processors) × (n ≡ counts_in (seen_in y.claims) a) × ((seen_in y.claims).setting.timer ≡ false))
+    (sym is)
+    (empty, refl, subst (λ (z : Setting). a ≤ z.program.limits.processors) (sym setting) there, counts, ap (λ (z : Setting). z.timer) setting ∙ untimed)
+
+-- once it has written a note
+pub noted_seat : {X : Type 0} (m : List X) (p r : View) (a : ℕ) (n : Counts) → m ≡ [] → r ≡ p → p ≡ resting (claim a (a + 1) (seen_in p.claims) ∷ []) → a ≤ (seen_in p.claims).setting.program.limits.processors → n ≡ counts_in (seen_in p.claims) a → (seen_in p.claims).setting.timer ≡ false
+    → (m ≡ []) × (r ≡ resting (claim a (a + 1) (seen_in r.claims) ∷ [])) × (a ≤ (seen_in r.claims).setting.program.limits.processors) × (n ≡ counts_in (seen_in r.claims) a) × ((seen_in r.claims).setting.timer ≡ false)
+noted_seat m p r a n empty same is there counts untimed =
+    subst
+    (λ (y : View). (m ≡ []) × (y ≡ resting (claim a (a + 1) (seen_in y.claims) ∷ [])) × (a ≤ (seen_in y.claims).setting.program.limits.processors) × (n ≡ counts_in (seen_in y.claims) a) × ((seen_in y.claims).setting.timer ≡ false))
+    (sym same)
+    (empty, is, there, counts, untimed)

@@ -1,3 +1,5 @@
+pub mod Errors
+pub mod Loops
 pub mod Totals
 pub mod Counting
 pub mod Dealing

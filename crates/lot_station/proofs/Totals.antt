@@ -1,8 +1,9 @@
 -- What a system's history has after one turn more.
-use Rattle.std.proofs.Common.{◌≡◌, ℕ, ◌+◌, ◌≤◌, ◌==◌, List, [], ◌∷◌, ◌++◌, cond, Option, Some, refl, sym, ◌∙◌, ap, subst, arith, length-append}
+use Rattle.std.proofs.Common.{◌≡◌, ℕ, ◌+◌, ◌≤◌, ◌==◌, List, [], ◌∷◌, ◌++◌, length, cond, Option, Some, refl, sym, ◌∙◌, ap, subst, arith, length-append}
 use Rattle.std.proofs.lemmas.List.Elements.{All-pop}
 use Rattle.std.proofs.lemmas.List.Sums.{sum_by_push}
 use Rattle.lot_simulation.specs.Report.{quanta_in, ticks_in, total_of}
+use Rattle.lot_machine.specs.declared.reply.Reply.{Reply}
 use Rattle.lot_simulation.specs.World.{Program, IsLegal}
 use Rattle.lot_engine.specs.declared.counts.Counts.{Counts}
 use Rattle.lot_engine.specs.declared.turn.Answer.{Answer}
@@ -10,8 +11,9 @@ use Rattle.lot_engine.specs.declared.fault.TurnFault.{TurnFault}
 use Rattle.lot_engine.specs.Counted.{counted, counted_with}
 use Rattle.lot_script.specs.Slices.{Parts}
 use Rattle.lot_engine.specs.Seen.{Setting, Seen, after_turn}
-use Rattle.lot_engine.specs.Turns.{Answers, Faults, Goes}
+use Rattle.lot_engine.specs.Turns.{Answers, Faults, Goes, IsWorkOf}
 use Rattle.lot_engine.proofs.CountFacts.{counted-one_more}
+use Rattle.lot_station.specs.Holders.{Holder, with_turn}
 use Rattle.lot_station.specs.Settings.{AtSome, turns_in}
 
 -- ---- the totals
@@ -26,6 +28,17 @@ module _ (old new : Seen) (actor : ℕ) (answer : Answer) (total : Counts) (made
 
   pub more_ticks : (k n : ℕ) → k ≡ total_of ticks_in (turns_in old) → n ≡ ticks_in answer.reply → k + n ≡ total.ticks
   more_ticks k n all more = (λ i. all i + more i) ∙ sym (ap (λ (c : Counts). c.ticks) grown)
+
+-- one turn more, in the history and in the book of turns
+pub more_turns : (old new : Seen) (actor : ℕ) → new ≡ after_turn old actor → (t n : ℕ) → t ≡ length old.history → n ≡ length new.history → t + 1 ≡ n
+more_turns old new actor made t n all is = omega (arith, all, is, ap (λ (x : Seen). length x.history) made, length-append old.history (actor ∷ []))
+
+-- the seat with one turn more, from its fields
+pub turned_once : (seat : Holder) (actor t q k t' q' k' n m : ℕ) (stopped : Option TurnFault) (reply : Reply) → record { actor = actor; turns = t; quanta = q; ticks = k; stopped = stopped } ≡ seat → t' ≡ t + 1 → q' ≡ q + n → k' ≡ k + m → n ≡ quanta_in reply → m ≡ ticks_in reply
+    → record { actor = actor; turns = t'; quanta = q'; ticks = k'; stopped = stopped } ≡ with_turn seat reply
+turned_once seat actor t q k t' q' k' n m stopped reply is turns quanta ticks won spent =
+    (λ i. record { actor = actor; turns = turns i; quanta = (quanta ∙ ap (λ x. q + x) won) i; ticks = (ticks ∙ ap (λ x. k + x) spent) i; stopped = stopped })
+    ∙ ap (λ (h : Holder). with_turn h reply) is
 
 -- ---- legal histories
 
@@ -53,3 +66,11 @@ answered_at setting old new actor named given answer is same goes made answers l
     let before = legal_before old.setting.program old.setting.room old.history actor (subst (λ (x : Seen). IsLegal x.setting.program x.setting.room x.history) made legal) in
     let here : AtSome old.setting (λ x. Goes x actor given × Answers x actor answer) = record { history = old.history; legal = before; is_so = (goes, answers) } in
     subst (λ a. AtSome setting (λ x. Goes x a given × Answers x a answer)) same (subst (λ s. AtSome s (λ x. Goes x actor given × Answers x actor answer)) is here)
+
+-- the next work is that at the history with the turn
+pub next_at : (setting : Setting) (old new : Seen) (actor named : ℕ) (answer : Answer) → old.setting ≡ setting → actor ≡ named → new ≡ after_turn old actor → Answers old actor answer
+    → IsLegal new.setting.program new.setting.room new.history → AtSome setting (λ x. IsWorkOf x named answer.next)
+next_at setting old new actor named answer is same made answers legal =
+    let after = subst (λ (x : Seen). IsLegal x.setting.program x.setting.room x.history) made legal in
+    let here : AtSome old.setting (λ x. IsWorkOf x actor answer.next) = record { history = old.history ++ actor ∷ []; legal = after; is_so = answers.next } in
+    subst (λ a. AtSome setting (λ x. IsWorkOf x a answer.next)) same (subst (λ s. AtSome s (λ x. IsWorkOf x actor answer.next)) is here)

@@ -23,6 +23,7 @@ use lot_engine::System;
 use lot_machine::Reply;
 use lot_play::write_end;
 use lot_text::{Program, Watched, parse};
+use same::check_same;
 use seats::Shares;
 use std::alloc::Global;
 use std::process::Abort;
@@ -75,7 +76,7 @@ schedule 0 1 2 1 2
 ";
 
 /// The seats' shares after these turns.
-const ENDED: [Shares; 3] = [(1, 0, 0), (2, 1, 100), (2, 1, 0)];
+static ENDED: [Shares; 3] = [(1, 0, 0), (2, 1, 100), (2, 1, 0)];
 
 /// The program of an input.
 fn parsed(rt: &impl Abort, alloc: Global, input: &str) -> Program {
@@ -94,4 +95,10 @@ fn end_of(rt: &impl Abort, alloc: Global, mut system: System) -> Vec<u8> {
     let mut writer = Watched::new(Vec::new(alloc));
     write_end(&mut system, &mut writer).expect(rt, "memory for the end");
     writer.into_inner()
+}
+
+/// Compares the report and the history with those after these turns.
+fn check_end(rt: &impl Abort, alloc: Global, system: System) {
+    let end = end_of(rt, alloc, system);
+    check_same(rt, &end.as_slice(), &END.as_bytes());
 }

@@ -15,8 +15,9 @@ mod turns;
 use lot_system::System;
 use lot_text::{Program, parse};
 use moves::make_turn;
+use same::check_same;
 use std::alloc::Global;
-use std::test::Fail;
+use std::process::Abort;
 
 /// One thread that computes.
 const SPINNER: &str = "lottery 1
@@ -46,25 +47,33 @@ schedule 0 0 1 1 1 1 1 1 1 1 1 1
 ";
 
 /// The program that the input says.
-fn program_of(alloc: Global, input: &str) -> Result<Program, Fail> {
-    match parse(alloc, input.as_bytes()) {
-        Ok(program) => Ok(program),
-        Err(_) => Err("a program".into()),
-    }
+fn parsed(rt: &impl Abort, alloc: Global, input: &str) -> Program {
+    parse(alloc, input.as_bytes()).expect(rt, "a program")
+}
+
+/// A system of the program with room for this many turns.
+fn opened(rt: &impl Abort, alloc: Global, program: &Program, room: u32) -> System
+    ensures { result.setting.program ≡ program.now }
+{
+    System::open(alloc, program, room).expect(rt, "memory for a system")
 }
 
 /// A turn of each of these actors, in order.
-fn make_turns(system: &mut System, program: &Program, actors: &[u8]) -> Result<(), Fail>
+fn make_turns(rt: &impl Abort, system: &mut System, program: &Program, actors: &[u8])
     ensures { system.new.setting ≡ system.old.setting }
 {
     for actor in actors {
         let actor = u32::from(*actor);
         if actor > system.processors() {
-            return Err("an actor".into());
+            rt.panic("an actor")
         }
         if make_turn(system, program, actor).is_err() {
-            return Err("a turn".into());
+            rt.panic("a turn")
         }
     }
-    Ok(())
+}
+
+/// Compares the history.
+fn check_history(rt: &impl Abort, system: &System, wanted: &[u8]) {
+    check_same(rt, &system.history(), &wanted);
 }

@@ -1,9 +1,11 @@
 pub mod FaultLemmas
 pub mod FirstLine
 pub mod HeaderLemmas
+pub mod NameLemmas
 pub mod NumberLemmas
 pub mod PackedLemmas
 pub mod PhraseLemmas
+pub mod ReadingLemmas
 pub mod RunLemmas
 pub mod ScriptLemmas
 pub mod SeedLemmas

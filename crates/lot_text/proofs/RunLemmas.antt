@@ -1,9 +1,10 @@
 -- Runs of turns of one actor.
-use Rattle.std.proofs.Common.{◌≡◌, ◌≤◌, ◌%◌, ◌==◌, ◌↔◌, ◌||◌, Bool, true, false, not, ℕ, Result, Ok, List, [], ◌∷◌, length, replicate, refl, sym, arith, ◌∙◌}
+use Rattle.std.proofs.Common.{◌≡◌, ◌≤◌, ◌%◌, ◌==◌, ◌↔◌, ◌||◌, Bool, true, false, not, ℕ, Result, Ok, Err, List, [], ◌∷◌, length, replicate, refl, sym, arith, ◌∙◌}
 use Rattle.std.specs.Prelude.{All, IsTrue}
-use Rattle.std.proofs.lemmas.Bool.{not-true, true≢false}
+use Rattle.std.proofs.lemmas.Bool.{eq-eqb, not-false, not-true, true≢false}
 use Rattle.std.proofs.lemmas.List.Elements.{All-append, All-replicate, All-nil, All-head, All-tail}
 use Rattle.lot_simulation.specs.declared.input.InputRefusal.{InputRefusal}
+use Rattle.lot_simulation.specs.declared.input.InputRefusal.TheVariants.{BadLine}
 use Rattle.lot_simulation.specs.declared.input.BodyWord.TheVariants as body
 use Rattle.lot_simulation.specs.Reading.{Reading, each_pair}
 use Rattle.lot_simulation.specs.Grammar.{ActorRun, actors_of, add_runs, body_after_header, run_of}
@@ -25,7 +26,8 @@ All-actors_of p (run ∷ runs) each =
 
 -- an odd number of tokens is refused, and so is a line of runs if the unit is 1 or turns come in the order of time: else the runs are read, and then added
 pub runs_line-pairs : (n : ℕ) (before r : Reading) (tokens : List (List ℕ)) (is_empty has_runs are_pairs : Bool) → before ≡ r
-    → IsTrue is_empty ↔ (length tokens ≡ 0) → is_empty ≡ false → has_runs ≡ not (before.unit == 1 || before.is_timed) → has_runs ≡ true → IsTrue are_pairs ↔ (length tokens % 2 ≡ 0) → are_pairs ≡ true
+    → IsTrue is_empty ↔ (length tokens ≡ 0) → is_empty ≡ false → has_runs ≡ not (before.unit == 1 || before.is_timed) → has_runs ≡ true → IsTrue are_pairs ↔
+    (length tokens % 2 ≡ 0) → are_pairs ≡ true
     → body_after_header n r body.Runs tokens ≡ after_header (pairs_added r tokens)
 runs_line-pairs n before r [] is_empty has_runs are_pairs same empty none runs has pairs all = absurd (true≢false (sym (empty.1 refl) ∙ none))
 runs_line-pairs n before r (first ∷ others) is_empty has_runs are_pairs same empty none runs has pairs all =
@@ -37,3 +39,32 @@ runs_line-pairs n before r (first ∷ others) is_empty has_runs are_pairs same e
 pub pairs_added-read : (before r : Reading) (tokens : List (List ℕ)) (runs : List ActorRun) → before ≡ r → each_pair (run_of before.processors) tokens ≡ Ok runs
     → pairs_added r tokens ≡ add_runs r runs
 pairs_added-read before r tokens runs same read = rw (← same, read) refl
+
+-- a line of runs without tokens is refused
+pub runs_line-none : (n : ℕ) (r : Reading) (tokens : List (List ℕ)) (is_empty : Bool) → IsTrue is_empty ↔ (length tokens ≡ 0) → is_empty ≡ true
+    → body_after_header n r body.Runs tokens ≡ Err BadLine
+runs_line-none n r [] is_empty empty none = refl
+runs_line-none n r (first ∷ others) is_empty empty none = absurd (omega (arith, empty.0 none))
+
+-- so is one of an input without runs
+pub runs_line-without : (n : ℕ) (before r : Reading) (tokens : List (List ℕ)) (has_runs : Bool) → before ≡ r
+    → has_runs ≡ not (before.unit == 1 || before.is_timed) → has_runs ≡ false
+    → body_after_header n r body.Runs tokens ≡ Err BadLine
+runs_line-without n before r [] has_runs same runs none = refl
+runs_line-without n before r (first ∷ others) has_runs same runs none =
+    let refused : (r.unit == 1 || r.is_timed) ≡ true = rw (← same) (not-false (before.unit == 1 || before.is_timed) (sym runs ∙ none)) in
+    rw refused refl
+
+-- and one with an odd number of tokens
+pub runs_line-odd : (n : ℕ) (r : Reading) (tokens : List (List ℕ)) (are_pairs : Bool) → IsTrue are_pairs ↔ (length tokens % 2 ≡ 0) → are_pairs ≡ false
+    → body_after_header n r body.Runs tokens ≡ Err BadLine
+runs_line-odd n r [] are_pairs pairs odd = refl
+runs_line-odd n r (first ∷ others) are_pairs pairs odd =
+    let ne : length (first ∷ others) % 2 ≡ 0 → ⊥ = λ even. true≢false (sym (pairs.1 even) ∙ odd) in
+    let one : (length (first ∷ others) % 2 == 1) ≡ true = eq-eqb (length (first ∷ others) % 2) 1 (omega (arith, ne)) in
+    at one (r.unit == 1 || r.is_timed) refl
+  where
+    at : (length (first ∷ others) % 2 == 1) ≡ true → (b : Bool) → (r.unit == 1 || r.is_timed) ≡ b
+        → body_after_header n r body.Runs (first ∷ others) ≡ Err BadLine
+    at one true is = rw is refl
+    at one false is = rw (is, one) refl

@@ -1,7 +1,8 @@
 //! Lines of the body.
 ghost use Rattle.std.specs.Prelude.{◌≡◌, ℕ, ◌≤◌, All, IfOk, MatchResult, Ok};
 ghost use Rattle.lot_simulation.specs.Grammar.{body_after_header, script_names};
-ghost use Rattle.lot_simulation.specs.Reading.{actor_below as actor_read, each, script_number as script_number_read};
+ghost use Rattle.lot_simulation.specs.Reading.{actor_below as actor_read, each, new_name as new_name_read};
+ghost use Rattle.lot_simulation.specs.Reading.{script_number as script_number_read};
 ghost use Rattle.lot_text.specs.Faults.{Fails, Gives};
 ghost use Rattle.lot_text.specs.Readings.{after_header, pairs_added};
 
@@ -12,7 +13,7 @@ use crate::reading::{BODY, MOST_ENTRIES, OpenScript, Reading};
 use crate::runs::read_runs;
 use crate::ticket::{any_ticket, name_at_end, ticket_name, ticket_number};
 use crate::tokens::Tokens;
-use lot_machine::{Command, CurrencyRef, Kind, Sizes, TargetRef, ThreadRef, is_good_name};
+use lot_machine::{Command, CurrencyRef, Kind, Name, Sizes, TargetRef, ThreadRef, is_good_name};
 use lot_script::ScriptBuilder;
 use lot_simulation::{BodyWord, InputRefusal, Range, ranges};
 use std::alloc::Global;
@@ -89,10 +90,7 @@ fn open_script(
     ensures { Gives reading.new result (body_after_header number reading.old BodyWord.Script tokens.entry) }
 {
     let token = tokens.only()?;
-    let name = any_name(token)?;
-    if !is_good_name(token) || reading.script_number(token) != 0 {
-        return Err(LineFault::Refused(InputRefusal::BadLine));
-    }
+    let name = new_script_name(reading, token)?;
     if Sizes::LARGEST.scripts as usize <= reading.scripts.len() {
         return Err(LineFault::Refused(InputRefusal::TooLong));
     }
@@ -103,6 +101,17 @@ fn open_script(
     });
     reading.place = BODY;
     Ok(())
+}
+
+/// The name of a new script: a good one that no other has.
+fn new_script_name(reading: &Reading, token: &[u8]) -> Result<Name, InputRefusal>
+    ensures { result ≡ new_name_read (script_names reading.now) token.now }
+{
+    let name = any_name(token)?;
+    if !is_good_name(token) || reading.script_number(token) != 0 {
+        return Err(InputRefusal::BadLine);
+    }
+    Ok(name)
 }
 
 /// `mktkt AMOUNT CURRENCY`, and in an input of `lottery 3` with `as TICKET` or without

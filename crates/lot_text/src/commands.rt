@@ -70,10 +70,13 @@ impl CommandList {
 }
 
 /// The commands of a program, in order. A copy of the program shares them. Each takes 24 bytes and those of its names.
-#[derive(Debug, Drop)]
+#[derive(Drop)]
+#[derive_where(Debug)]
 pub struct Commands {
     /// The bytes of the names.
+    #[derive_where(skip)]
     pool: ArcSlice<u8>,
+    #[derive_where(skip)]
     packed: ArcSlice<PackedCommand>,
 }
 

@@ -28,7 +28,7 @@ impl From<AllocError> for ParseFault {
 }
 
 /// The reason why a line isn't read.
-#[derive(PartialEq, Eq, Drop)]
+#[derive(Drop)]
 pub(crate) enum LineFault {
     Memory,
     Refused(InputRefusal),

@@ -8,7 +8,7 @@ use std::alloc::AllocError;
 use std::marker::Model;
 
 /// A number of 32 bits, aligned like a byte.
-#[derive(Debug, Drop)]
+#[derive(Drop)]
 pub(crate) struct Unaligned32 {
     bytes: [u8; 4],
 }
@@ -41,7 +41,7 @@ impl Unaligned32 {
 }
 
 /// A number of 64 bits, aligned like a byte.
-#[derive(Debug, Drop)]
+#[derive(Drop)]
 pub(crate) struct Unaligned64 {
     bytes: [u8; 8],
 }
@@ -74,21 +74,21 @@ impl Unaligned64 {
 }
 
 /// The place of a name in the pool.
-#[derive(Debug, Drop)]
+#[derive(Drop)]
 pub(crate) struct PackedName {
     start: Unaligned32,
     len: u8,
 }
 
 /// A currency or a thread, by its name or by its number.
-#[derive(Debug, Drop)]
+#[derive(Drop)]
 pub(crate) enum PackedReference {
     Named(PackedName),
     Numbered(Unaligned32),
 }
 
 /// A ticket's new target.
-#[derive(Debug, Drop)]
+#[derive(Drop)]
 pub(crate) enum PackedTarget {
     Named(PackedName),
     Currency(Unaligned32),
@@ -96,7 +96,7 @@ pub(crate) enum PackedTarget {
 }
 
 /// A command. Each variant has the fields of its namesake in `Command`, in the same order.
-#[derive(Debug, Drop)]
+#[derive(Drop)]
 pub(crate) enum PackedCommand {
     MakeTicket(Unaligned64, PackedReference),
     RemoveTicket(Unaligned64),

@@ -18,7 +18,7 @@ use std::sync::ArcSlice;
 
 /// A system and its commands; the turns of each processor in a free run, and the schedule; or the duration, if the
 /// program is timed.
-#[derive(Debug, Drop)]
+#[derive(Debug)]
 pub struct Program {
     pub(crate) format: Format,
     pub(crate) limits: Limits,
@@ -32,6 +32,26 @@ pub struct Program {
     pub(crate) ticket_names: u32,
     pub(crate) names: ArcSlice<Option<u16>>,
     pub(crate) strict: bool,
+}
+
+impl Drop for Program {
+    // An explicit drop: code that drops a `Program` is then proved without unfolding its fields.
+    fn drop(self) {
+        let Self {
+            format: _,
+            limits: _,
+            seeds: _,
+            turns: _,
+            scripts: _,
+            commands: _,
+            schedule: _,
+            duration: _,
+            times: _,
+            ticket_names: _,
+            names: _,
+            strict: _,
+        } = self;
+    }
 }
 
 impl Model for Program {

@@ -172,7 +172,7 @@ const FIRST_RUN: &str =
     "lottery 1\n# no header\nscript spin\n  compute   1000 \n\nendscript\nmktkt 10 base\nmkthr a spin\nfund 1 a\n\
     mktkt 18446744073709551615 base\nmkthr b none\nfund 2 b\nschedule 0 0 0\nschedule 1 1 0";
 
-const FIRST_RUN_SAYS: Said<'_> = Said {
+const FIRST_RUN_SAYS: &Said<'static> = &Said {
     sizes: Sizes {
         tickets: 65535,
         currencies: 4096,
@@ -209,27 +209,34 @@ const FIRST_RUN_SAYS: Said<'_> = Said {
 
 #[test]
 fn reads_the_first_run(rt: HostRuntime) {
-    check_said(&rt, rt.alloc(), FIRST_RUN, &FIRST_RUN_SAYS);
+    check_said(&rt, rt.alloc(), FIRST_RUN, FIRST_RUN_SAYS);
 }
+
+/// Compares the seeds of an input that names three, read with this one in their place.
+fn check_seeds(rt: &impl Abort, alloc: Global, given: Option<Seed>, wanted: &[u32]) {
+    let text = "lottery 3\nprocessors 3\nfor 1\nseed 7 8 9\n";
+    let program = parse_seeded(alloc, given, text.as_bytes()).expect(rt, "it is read");
+    check_items(rt, program.seeds(), wanted);
+}
+
+const SEEDS: &[u32] = &[7, 8, 9];
+
+const SEEDS_AFTER_5: &[u32] = &[5, 241355, 913028970];
 
 /// Of three processors each further one has 48271 times the seed before it, modulo 2147483647: 5 * 48271 = 241355, and
 /// 241355 * 48271 - 5 * 2147483647 = 913028970.
 #[test]
 fn given_seeds(rt: HostRuntime) {
-    let text = "lottery 3\nprocessors 3\nfor 1\nseed 7 8 9\n";
-    for (given, wanted) in [(None, [7, 8, 9]), (Seed::new(5), [5, 241355, 913028970])] {
-        let program = parse_seeded(rt.alloc(), given, text.as_bytes()).expect(&rt, "it is read");
-        check_items(&rt, program.seeds(), wanted.as_slice());
-    }
-    for number in [0, 2147483647] {
-        check_same(&rt, &Seed::new(number), &None);
-    }
+    check_seeds(&rt, rt.alloc(), None, SEEDS);
+    check_seeds(&rt, rt.alloc(), Seed::new(5), SEEDS_AFTER_5);
+    check_same(&rt, &Seed::new(0), &None);
+    check_same(&rt, &Seed::new(2147483647), &None);
 }
 
 const HEADERS: &str =
     "\n#\x07\n  lottery  2  \nquantum 7\nseed 2147483646\nlimits 3 2 1\nscript s\nendscript\n";
 
-const HEADERS_SAY: Said<'_> = Said {
+const HEADERS_SAY: &Said<'static> = &Said {
     sizes: Sizes {
         tickets: 3,
         currencies: 2,
@@ -259,7 +266,7 @@ const HEADERS_SAY: Said<'_> = Said {
 
 #[test]
 fn reads_headers(rt: HostRuntime) {
-    check_said(&rt, rt.alloc(), HEADERS, &HEADERS_SAY);
+    check_said(&rt, rt.alloc(), HEADERS, HEADERS_SAY);
 }
 
 /// Every kind of line of inputs whose turns follow a schedule. Two names have 16 bytes, the longest.
@@ -270,7 +277,7 @@ const WHOLE_GRAMMAR: &str =
     rmtkt 1\nmkcur a\nrmcur a\nfund 3 a\nunfund 2\nmkthr abcdefghijklmnop t\nfundx 9 a v s\nlstkt\nlscur\nlsthr\n\
     runs 0 2 2 1\nschedule 1 0";
 
-const WHOLE_GRAMMAR_SAYS: Said<'_> = Said {
+const WHOLE_GRAMMAR_SAYS: &Said<'static> = &Said {
     sizes: Sizes {
         tickets: 9,
         currencies: 8,
@@ -327,7 +334,7 @@ const WHOLE_GRAMMAR_SAYS: Said<'_> = Said {
 
 #[test]
 fn reads_the_whole_grammar(rt: HostRuntime) {
-    check_said(&rt, rt.alloc(), WHOLE_GRAMMAR, &WHOLE_GRAMMAR_SAYS);
+    check_said(&rt, rt.alloc(), WHOLE_GRAMMAR, WHOLE_GRAMMAR_SAYS);
 }
 
 /// The parts that only timed inputs have. One name has 16 bytes, the longest, and isn't good.
@@ -338,7 +345,7 @@ const TIMED: &str =
     at 4294967295";
 
 /// The seeds are those after 1 of the generator that multiplies by 48271 modulo 2147483647.
-const TIMED_SAYS: Said<'_> = Said {
+const TIMED_SAYS: &Said<'static> = &Said {
     sizes: Sizes {
         tickets: 65535,
         currencies: 4096,
@@ -386,11 +393,11 @@ const TIMED_SAYS: Said<'_> = Said {
 
 #[test]
 fn reads_turns_in_the_order_of_time(rt: HostRuntime) {
-    check_said(&rt, rt.alloc(), TIMED, &TIMED_SAYS);
+    check_said(&rt, rt.alloc(), TIMED, TIMED_SAYS);
 }
 
 /// One header of a timed input in three orders.
-const HEADER_ORDERS: [&str; 3] = [
+const HEADER_ORDERS: &[&str] = &[
     "processors 2\nquantum 50\nturns 5\nfor 9\nseed 7 8\nlimits 4 3 2\nreuse\nwithout lending\nwithout compensation\n\
      strict",
     "strict\nwithout compensation\nreuse\nlimits 4 3 2\nwithout lending\nprocessors 2\nseed 7 8\nfor 9\nturns 5\n\
@@ -399,7 +406,7 @@ const HEADER_ORDERS: [&str; 3] = [
      seed 7 8",
 ];
 
-const HEADER_ORDERS_SAY: Said<'_> = Said {
+const HEADER_ORDERS_SAY: &Said<'static> = &Said {
     sizes: Sizes {
         tickets: 4,
         currencies: 3,
@@ -427,11 +434,15 @@ const HEADER_ORDERS_SAY: Said<'_> = Said {
     strict: true,
 };
 
+fn check_header_order(rt: &impl Abort, alloc: Global, header: &str) {
+    let text = format!(in alloc; "lottery 3\n{header}\nport p\n").expect(rt, "memory");
+    check_said(rt, alloc, text.as_str(), HEADER_ORDERS_SAY);
+}
+
 #[test]
 fn reads_timed_headers_in_any_order(rt: HostRuntime) {
     for header in HEADER_ORDERS {
-        let text = format!(in rt.alloc(); "lottery 3\n{header}\nport p\n").expect(&rt, "memory");
-        check_said(&rt, rt.alloc(), text.as_str(), &HEADER_ORDERS_SAY);
+        check_header_order(&rt, rt.alloc(), header);
     }
 }
 
@@ -452,7 +463,7 @@ rmtkt gift
 lstkt
 ";
 
-const NAMED_SAYS: Said<'_> = Said {
+const NAMED_SAYS: &Said<'static> = &Said {
     sizes: Sizes {
         tickets: 65535,
         currencies: 4096,
@@ -502,16 +513,21 @@ const NAMED_SAYS: Said<'_> = Said {
 
 #[test]
 fn reads_names_of_tickets(rt: HostRuntime) {
-    check_said(&rt, rt.alloc(), NAMED, &NAMED_SAYS);
+    check_said(&rt, rt.alloc(), NAMED, NAMED_SAYS);
+}
+
+/// Reads the text, unless memory lacks.
+fn check_read(rt: &impl Abort, alloc: Global, text: &str) {
+    let result = parse(alloc, text.as_bytes());
+    assert!(rt; matches!(&result, Ok(_) | Err(ParseFault::Memory)));
 }
 
 // For runs in which one allocation is refused: the tests above fail in those that refuse one of these.
 #[test]
 fn reads_or_lacks_memory(rt: HostRuntime) {
-    for text in [WHOLE_GRAMMAR, TIMED, NAMED] {
-        let result = parse(rt.alloc(), text.as_bytes());
-        assert!(rt; matches!(&result, Ok(_) | Err(ParseFault::Memory)));
-    }
+    check_read(&rt, rt.alloc(), WHOLE_GRAMMAR);
+    check_read(&rt, rt.alloc(), TIMED);
+    check_read(&rt, rt.alloc(), NAMED);
 }
 
 /// The ends of inputs that are refused on one line, for one reason.
@@ -545,7 +561,7 @@ fn check_table(rt: &impl Abort, alloc: Global, beginning: &str, table: &[Refusal
     }
 }
 
-const FIRST_LINES: [Refusals<'_>; 3] = [
+const FIRST_LINES: &[Refusals<'static>] = &[
     Refusals {
         line: 1,
         refusal: InputRefusal::BadHeader,
@@ -573,10 +589,10 @@ const FIRST_LINES: [Refusals<'_>; 3] = [
 
 #[test]
 fn refuses_first_lines(rt: HostRuntime) {
-    check_table(&rt, rt.alloc(), "", &FIRST_LINES);
+    check_table(&rt, rt.alloc(), "", FIRST_LINES);
 }
 
-const REFUSED_HEADERS: [Refusals<'_>; 6] = [
+const REFUSED_HEADERS: &[Refusals<'static>] = &[
     Refusals {
         line: 2,
         refusal: InputRefusal::BadHeader,
@@ -626,10 +642,10 @@ const REFUSED_HEADERS: [Refusals<'_>; 6] = [
 
 #[test]
 fn refuses_headers(rt: HostRuntime) {
-    check_table(&rt, rt.alloc(), "lottery 1\n", &REFUSED_HEADERS);
+    check_table(&rt, rt.alloc(), "lottery 1\n", REFUSED_HEADERS);
 }
 
-const REFUSED_BODIES: [Refusals<'_>; 8] = [
+const REFUSED_BODIES: &[Refusals<'static>] = &[
     Refusals {
         line: 2,
         refusal: InputRefusal::BadLine,
@@ -713,13 +729,13 @@ const REFUSED_BODIES: [Refusals<'_>; 8] = [
 
 #[test]
 fn refuses_bodies(rt: HostRuntime) {
-    check_table(&rt, rt.alloc(), "lottery 1\n", &REFUSED_BODIES);
+    check_table(&rt, rt.alloc(), "lottery 1\n", REFUSED_BODIES);
 }
 
 /// The call and its reply, up to a line of the server's script.
 const CALL: &str = "lottery 1\nquantum 10\nport p\nscript srv\n";
 
-const REFUSED_SCRIPTS: [Refusals<'_>; 7] = [
+const REFUSED_SCRIPTS: &[Refusals<'static>] = &[
     Refusals {
         line: 4,
         refusal: InputRefusal::OpenScript,
@@ -766,10 +782,10 @@ const REFUSED_SCRIPTS: [Refusals<'_>; 7] = [
 
 #[test]
 fn refuses_scripts(rt: HostRuntime) {
-    check_table(&rt, rt.alloc(), CALL, &REFUSED_SCRIPTS);
+    check_table(&rt, rt.alloc(), CALL, REFUSED_SCRIPTS);
 }
 
-const REFUSED_RUNS: [Refusals<'_>; 4] = [
+const REFUSED_RUNS: &[Refusals<'static>] = &[
     Refusals {
         line: 2,
         refusal: InputRefusal::BadLine,
@@ -804,11 +820,11 @@ const REFUSED_RUNS: [Refusals<'_>; 4] = [
 
 #[test]
 fn refuses_runs(rt: HostRuntime) {
-    check_table(&rt, rt.alloc(), "lottery 2\n", &REFUSED_RUNS);
+    check_table(&rt, rt.alloc(), "lottery 2\n", REFUSED_RUNS);
 }
 
 /// Header lines of a timed input.
-const REFUSED_DURATIONS: [Refusals<'_>; 4] = [
+const REFUSED_DURATIONS: &[Refusals<'static>] = &[
     Refusals {
         line: 2,
         refusal: InputRefusal::BadHeader,
@@ -849,7 +865,7 @@ const REFUSED_DURATIONS: [Refusals<'_>; 4] = [
 ];
 
 /// Lines after its header.
-const REFUSED_TIMES: [Refusals<'_>; 5] = [
+const REFUSED_TIMES: &[Refusals<'static>] = &[
     Refusals {
         line: 3,
         refusal: InputRefusal::BadLine,
@@ -902,7 +918,7 @@ const REFUSED_TIMES: [Refusals<'_>; 5] = [
 ];
 
 /// Lines of a script, which may have several words.
-const REFUSED_PHRASES: [Refusals<'_>; 4] = [
+const REFUSED_PHRASES: &[Refusals<'static>] = &[
     Refusals {
         line: 5,
         refusal: InputRefusal::BadLine,
@@ -936,21 +952,21 @@ const REFUSED_PHRASES: [Refusals<'_>; 4] = [
 #[test]
 fn refuses_phrases(rt: HostRuntime) {
     let opened = "lottery 3\nfor 5\nmutex m\nscript s\n";
-    check_table(&rt, rt.alloc(), opened, &REFUSED_PHRASES);
+    check_table(&rt, rt.alloc(), opened, REFUSED_PHRASES);
 }
 
 #[test]
 fn refuses_durations(rt: HostRuntime) {
-    check_table(&rt, rt.alloc(), "lottery 3\n", &REFUSED_DURATIONS);
+    check_table(&rt, rt.alloc(), "lottery 3\n", REFUSED_DURATIONS);
 }
 
 #[test]
 fn refuses_times(rt: HostRuntime) {
-    check_table(&rt, rt.alloc(), "lottery 3\nfor 5\n", &REFUSED_TIMES);
+    check_table(&rt, rt.alloc(), "lottery 3\nfor 5\n", REFUSED_TIMES);
 }
 
 /// Lines after one that names a ticket `gift`.
-const REFUSED_NAMES: [Refusals<'_>; 4] = [
+const REFUSED_NAMES: &[Refusals<'static>] = &[
     Refusals {
         line: 4,
         refusal: InputRefusal::UnknownName,
@@ -992,7 +1008,7 @@ const REFUSED_NAMES: [Refusals<'_>; 4] = [
 ];
 
 /// In the other formats.
-const NAMES_OF_OTHERS: [Refusals<'_>; 2] = [
+const NAMES_OF_OTHERS: &[Refusals<'static>] = &[
     Refusals {
         line: 2,
         refusal: InputRefusal::BadLine,
@@ -1007,30 +1023,33 @@ const NAMES_OF_OTHERS: [Refusals<'_>; 2] = [
 
 #[test]
 fn refuses_names_of_tickets(rt: HostRuntime) {
+    let alloc = rt.alloc();
     let named = "lottery 3\nfor 5\nmktkt 5 base as gift\n";
-    check_table(&rt, rt.alloc(), named, &REFUSED_NAMES);
-    for beginning in ["lottery 1\n", "lottery 2\n"] {
-        check_table(&rt, rt.alloc(), beginning, &NAMES_OF_OTHERS);
-    }
+    check_table(&rt, alloc, named, REFUSED_NAMES);
+    check_table(&rt, alloc, "lottery 1\n", NAMES_OF_OTHERS);
+    check_table(&rt, alloc, "lottery 2\n", NAMES_OF_OTHERS);
 }
+
+/// Inputs, each with the line that is refused and the refusal.
+const REFUSED_STRICT: &[(&str, u32, InputRefusal)] = &[
+    ("lottery 2\nstrict", 2, InputRefusal::BadLine),
+    ("lottery 3\nfor 5\nstrict 1", 3, InputRefusal::BadLine),
+    (
+        "lottery 3\nstrict\nfor 5\nstrict",
+        4,
+        InputRefusal::BadHeader,
+    ),
+    (
+        "lottery 3\nfor 5\nlstkt\nstrict",
+        4,
+        InputRefusal::BadHeader,
+    ),
+];
 
 #[test]
 fn refuses_strict(rt: HostRuntime) {
-    for (text, line, refusal) in [
-        ("lottery 2\nstrict", 2, InputRefusal::BadLine),
-        ("lottery 3\nfor 5\nstrict 1", 3, InputRefusal::BadLine),
-        (
-            "lottery 3\nstrict\nfor 5\nstrict",
-            4,
-            InputRefusal::BadHeader,
-        ),
-        (
-            "lottery 3\nfor 5\nlstkt\nstrict",
-            4,
-            InputRefusal::BadHeader,
-        ),
-    ] {
-        check_refused(&rt, rt.alloc(), text, line, refusal);
+    for (text, line, refusal) in REFUSED_STRICT {
+        check_refused(&rt, rt.alloc(), text, *line, *refusal);
     }
 }
 
@@ -1073,33 +1092,46 @@ fn check_long(rt: &impl Abort, alloc: Global, text: &str, wanted: Option<(u32, I
     check_same_at(rt, &text.len(), &refused(rt, alloc, text), &wanted);
 }
 
+fn check_line(
+    rt: &impl Abort,
+    alloc: Global,
+    first: &str,
+    count: usize,
+    wanted: Option<(u32, InputRefusal)>,
+) {
+    let text = long_line(rt, alloc, first, count);
+    check_long(rt, alloc, text.as_str(), wanted);
+}
+
 #[test]
 fn meets_limits_of_lines(rt: HostRuntime) {
-    for (first, count, wanted) in [
-        ("#", 4096, None),
-        ("#", 4097, Some((2, InputRefusal::TooLong))),
-        ("x", 4096, Some((2, InputRefusal::BadLine))),
-        ("x", 4097, Some((2, InputRefusal::TooLong))),
-    ] {
-        let text = long_line(&rt, rt.alloc(), first, count);
-        check_long(&rt, rt.alloc(), text.as_str(), wanted);
-    }
+    let alloc = rt.alloc();
+    check_line(&rt, alloc, "#", 4096, None);
+    check_line(&rt, alloc, "#", 4097, Some((2, InputRefusal::TooLong)));
+    check_line(&rt, alloc, "x", 4096, Some((2, InputRefusal::BadLine)));
+    check_line(&rt, alloc, "x", 4097, Some((2, InputRefusal::TooLong)));
+}
+
+fn check_script(rt: &impl Abort, alloc: Global, count: u32, wanted: Option<(u32, InputRefusal)>) {
+    let text = long_script(rt, alloc, count);
+    check_long(rt, alloc, text.as_str(), wanted);
 }
 
 #[test]
 fn meets_limits_of_scripts(rt: HostRuntime) {
-    for (count, wanted) in [(1024, None), (1025, Some((1027, InputRefusal::TooLong)))] {
-        let text = long_script(&rt, rt.alloc(), count);
-        check_long(&rt, rt.alloc(), text.as_str(), wanted);
-    }
+    check_script(&rt, rt.alloc(), 1024, None);
+    check_script(&rt, rt.alloc(), 1025, Some((1027, InputRefusal::TooLong)));
+}
+
+fn check_phrases(rt: &impl Abort, alloc: Global, count: u32, wanted: Option<(u32, InputRefusal)>) {
+    let text = long_phrases(rt, alloc, count);
+    check_long(rt, alloc, text.as_str(), wanted);
 }
 
 #[test]
 fn meets_limits_of_phrases(rt: HostRuntime) {
-    for (count, wanted) in [(1024, None), (1025, Some((6, InputRefusal::TooLong)))] {
-        let text = long_phrases(&rt, rt.alloc(), count);
-        check_long(&rt, rt.alloc(), text.as_str(), wanted);
-    }
+    check_phrases(&rt, rt.alloc(), 1024, None);
+    check_phrases(&rt, rt.alloc(), 1025, Some((6, InputRefusal::TooLong)));
 }
 
 fn check_text(rt: &impl Abort, alloc: Global, fault: ParseFault, text: &str) {

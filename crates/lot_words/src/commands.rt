@@ -2,9 +2,9 @@
 
 use crate::forms::{is_command, place_of};
 use crate::input::{OpenScript, words_of};
-use crate::keywords::row_spelled;
+use crate::keywords::row_of;
 use crate::phrases::after_line;
-use lot_simulation::{BODY_WORDS, BodyWord, Form};
+use lot_simulation::{BodyWord, Form};
 
 /// A command of an input that isn't refused.
 #[derive(Clone, Copy)]
@@ -30,7 +30,7 @@ impl<'a> CommandLine<'a> {
                 script = after_line(open, line);
                 continue;
             }
-            match row_spelled(&BODY_WORDS, words_of(line).next().unwrap_or("")) {
+            match row_of(words_of(line).next().unwrap_or("")) {
                 Some((_, BodyWord::Script, _)) => script = Some(OpenScript::opened(number)),
                 Some((_, _, form)) if is_command(form) && before == place => {
                     return Some(CommandLine { number, line, form });

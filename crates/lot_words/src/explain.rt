@@ -6,7 +6,7 @@ use crate::forms::{
 };
 use crate::header::HeaderLines;
 use crate::input::{OpenScript, Refused, words_of};
-use crate::keywords::{body_word, header_word, is_only_timed, script_row};
+use crate::keywords::{Keyword, body_word, header_word, is_only_timed, row_of};
 use crate::names::{Named, name_numbered};
 use crate::nearest::nearest_word;
 use crate::phrases::phrases_problem;
@@ -17,8 +17,7 @@ use crate::problem::{
 use crate::word::{new_problem, word_problem};
 use lot_machine::is_good_name;
 use lot_simulation::{
-    AS_WORD, BODY_WORDS, BodyWord, FIRST_WORD, Form, Format, HeaderWord, InputRefusal,
-    SCRIPT_WORDS, ScriptWord,
+    AS_WORD, BodyWord, FIRST_WORD, Form, Format, HeaderWord, InputRefusal, ScriptWord,
 };
 use std::alloc::Global;
 
@@ -127,7 +126,7 @@ fn script_problem<'a>(
     if refused.is_timed() {
         return phrases_problem(alloc, refused, script);
     }
-    let Some((_, keyword, form)) = script_row(word) else {
+    let Some((_, keyword, form)) = row_of::<ScriptWord>(word) else {
         let problem = no_script_word(alloc, refused, script, word);
         return Some(Problem::Keyword(problem));
     };
@@ -165,7 +164,7 @@ pub(crate) fn no_script_word<'a>(
     }
     KeywordProblem::NoScriptWord {
         word,
-        nearest: nearest_word(alloc, &SCRIPT_WORDS, refused.is_timed(), word),
+        nearest: nearest_word(alloc, ScriptWord::rows(), refused.is_timed(), word),
     }
 }
 
@@ -180,10 +179,10 @@ fn body_problem<'a>(alloc: Global, refused: &Refused<'a>, word: &'a str) -> Opti
     if let Some(form) = form_outside(word) {
         return form_problem(alloc, refused, word, form_in(refused.is_timed(), form));
     }
-    if script_row(word).is_some() {
+    if row_of::<ScriptWord>(word).is_some() {
         return Some(Problem::Keyword(KeywordProblem::OutsideScript(word)));
     }
-    let nearest = nearest_word(alloc, &BODY_WORDS, refused.is_timed(), word);
+    let nearest = nearest_word(alloc, BodyWord::rows(), refused.is_timed(), word);
     Some(Problem::Keyword(KeywordProblem::NoBodyLine { word, nearest }))
 }
 

@@ -1,8 +1,8 @@
 //! The forms of lines.
 
 use crate::input::words_of;
-use crate::keywords::{header_word, row_spelled};
-use lot_simulation::{Argument, BODY_WORDS, Form, HEADER_WORDS, HeaderWord};
+use crate::keywords::{header_word, row_of};
+use lot_simulation::{Argument, BodyWord, Form, HeaderWord};
 use std::fmt;
 
 /// A whole line: its first word, and placeholders for the others.
@@ -102,7 +102,7 @@ pub(crate) fn has_room_for(form: Form, count: usize, processors: u32) -> bool {
 pub(crate) fn form_outside(word: &str) -> Option<Form> {
     match header_word(word) {
         Some(HeaderWord::Lottery) => None,
-        Some(_) => Some(row_spelled(&HEADER_WORDS, word)?.2),
-        None => Some(row_spelled(&BODY_WORDS, word)?.2),
+        Some(_) => Some(row_of::<HeaderWord>(word)?.2),
+        None => Some(row_of::<BodyWord>(word)?.2),
     }
 }

@@ -1,7 +1,6 @@
 //! The lines of a header.
 
-use crate::keywords::Keyword;
-use crate::nearest::text_of;
+use crate::keywords::{Keyword, text_of};
 use lot_simulation::{Format, HEADER_WORDS, HeaderWord};
 use std::fmt;
 
@@ -30,7 +29,7 @@ impl fmt::Display for HeaderLines {
 /// The place of the last line that a header has in inputs of this format.
 fn last_place(format: Format) -> u32 {
     let mut last = 0;
-    for (spelling, word, _) in &HEADER_WORDS {
+    for (spelling, word, _) in HeaderWord::rows() {
         if HeaderWord::is_read(format, *spelling) {
             last = word.place().max(last);
         }
@@ -40,7 +39,7 @@ fn last_place(format: Format) -> u32 {
 
 /// The spelling of the word whose line has this place in a header, if inputs of this format have such a line.
 fn spelling_at(format: Format, place: u32) -> Option<&'static str> {
-    for (spelling, word, _) in &HEADER_WORDS {
+    for (spelling, word, _) in HeaderWord::rows() {
         if word.place() == place && HeaderWord::is_read(format, *spelling) {
             return Some(text_of(*spelling));
         }

@@ -1,6 +1,9 @@
 //! The words of all formats. The input's format decides where a word may stand.
 
-use lot_simulation::{BodyWord, Format, HeaderWord, SCRIPT_WORDS, ScriptWord, WordRow};
+use lot_simulation::{
+    BODY_WORDS, BodyWord, Format, HEADER_WORDS, HeaderWord, SCRIPT_WORDS, ScriptWord, WordRow,
+};
+use std::str;
 
 /// The word of the header with this spelling, if there is one.
 pub(crate) fn header_word(word: &str) -> Option<HeaderWord> {
@@ -12,25 +15,47 @@ pub(crate) fn body_word(word: &str) -> Option<BodyWord> {
     BodyWord::of_token(Format::V3, word.as_bytes())
 }
 
+// The tables as static data: a constant would be built anew at each call.
+static HEADER_TABLE: [WordRow<HeaderWord>; 10] = HEADER_WORDS;
+
+static BODY_TABLE: [WordRow<BodyWord>; 20] = BODY_WORDS;
+
+static SCRIPT_TABLE: [WordRow<ScriptWord>; 14] = SCRIPT_WORDS;
+
 /// A word of the header, of the body or of a script.
-pub(crate) trait Keyword {
+pub(crate) trait Keyword: Copy + PartialEq + 'static {
+    /// The rows of all such words.
+    fn rows() -> &'static [WordRow<Self>];
+
     /// Whether inputs of this format have such a word with this spelling.
     fn is_read(format: Format, spelling: &[u8]) -> bool;
 }
 
 impl Keyword for HeaderWord {
+    fn rows() -> &'static [WordRow<HeaderWord>] {
+        &HEADER_TABLE
+    }
+
     fn is_read(format: Format, spelling: &[u8]) -> bool {
         HeaderWord::of_token(format, spelling).is_some()
     }
 }
 
 impl Keyword for BodyWord {
+    fn rows() -> &'static [WordRow<BodyWord>] {
+        &BODY_TABLE
+    }
+
     fn is_read(format: Format, spelling: &[u8]) -> bool {
         BodyWord::of_token(format, spelling).is_some()
     }
 }
 
 impl Keyword for ScriptWord {
+    fn rows() -> &'static [WordRow<ScriptWord>] {
+        &SCRIPT_TABLE
+    }
+
     fn is_read(format: Format, spelling: &[u8]) -> bool {
         ScriptWord::of_token(format, spelling).is_some()
     }
@@ -41,17 +66,27 @@ pub(crate) fn is_only_timed<W: Keyword>(word: &str) -> bool {
     W::is_read(Format::V3, word.as_bytes()) && !W::is_read(Format::V1, word.as_bytes())
 }
 
-/// The row of the script's word with this spelling, if there is one.
-pub(crate) fn script_row(word: &str) -> Option<WordRow<ScriptWord>> {
-    row_spelled(&SCRIPT_WORDS, word)
-}
-
-/// The row of this table with this spelling, if there is one.
-pub(crate) fn row_spelled<W: Copy>(table: &[WordRow<W>], word: &str) -> Option<WordRow<W>> {
-    for row in table {
+/// The row of the word with this spelling, if there is one.
+pub(crate) fn row_of<W: Keyword>(word: &str) -> Option<WordRow<W>> {
+    for row in W::rows() {
         if row.0 == word.as_bytes() {
             return Some((row.0, row.1, row.2));
         }
     }
     None
+}
+
+/// The spelling of a word.
+pub(crate) fn spelling_of<W: Keyword>(word: W) -> &'static str {
+    for (spelling, other, _) in W::rows() {
+        if *other == word {
+            return text_of(*spelling);
+        }
+    }
+    ""
+}
+
+/// A spelling as text.
+pub(crate) fn text_of(spelling: &'static [u8]) -> &'static str {
+    str::from_utf8(spelling).unwrap_or("")
 }

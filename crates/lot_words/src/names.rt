@@ -2,9 +2,8 @@
 
 use crate::forms::{form_outside, place_of, words_at_end};
 use crate::input::words_of;
-use crate::keywords::body_word;
-use crate::nearest::text_of;
-use lot_simulation::{AS_WORD, BODY_WORDS, BodyWord};
+use crate::keywords::{body_word, spelling_of};
+use lot_simulation::{AS_WORD, BodyWord};
 use std::fmt;
 
 /// A kind of things that have names.
@@ -32,16 +31,6 @@ impl fmt::Display for Named {
             Named::Ticket => f.write_str("ticket"),
         }
     }
-}
-
-/// The spelling of a word of the body.
-fn spelling_of(word: BodyWord) -> &'static str {
-    for (spelling, other, _) in &BODY_WORDS {
-        if *other == word {
-            return text_of(*spelling);
-        }
-    }
-    ""
 }
 
 /// The name that the line gives, if it begins with one of these words: each is a word of lines that give a name.

@@ -1,10 +1,10 @@
 //! Suggestions for misspelt words.
 
-use crate::keywords::Keyword;
+use crate::keywords::{Keyword, text_of};
 use crate::names::Named;
 use lot_simulation::{Format, WordRow};
 use std::alloc::Global;
-use std::{fmt, str};
+use std::fmt;
 use strsim::levenshtein;
 
 /// The largest number of wrong, missing or extra letters.
@@ -92,11 +92,6 @@ pub(crate) fn nearer_word<'a, W: Keyword>(
         }
     }
     nearest
-}
-
-/// The spelling of a word as text.
-pub(crate) fn text_of(spelling: &'static [u8]) -> &'static str {
-    str::from_utf8(spelling).unwrap_or("")
 }
 
 /// The name nearest to this one that one of these lines gives, among the names of these kinds.

@@ -3,9 +3,10 @@
 use crate::explain::{loop_problem, no_script_word};
 use crate::forms::{Shape, argument_at};
 use crate::input::{OpenScript, Refused, words_of};
-use crate::keywords::script_row;
+use crate::keywords::row_of;
 use crate::problem::{FormProblem, Problem};
 use crate::word::word_problem;
+use lot_simulation::ScriptWord;
 use std::alloc::Global;
 
 /// The script after a line inside it that isn't refused, if it is still open.
@@ -18,7 +19,7 @@ pub(crate) fn after_line(script: OpenScript, line: &[u8]) -> Option<OpenScript> 
         }
         if is_argument {
             is_argument = false;
-        } else if let Some((_, word, form)) = script_row(word) {
+        } else if let Some((_, word, form)) = row_of::<ScriptWord>(word) {
             open = open.after(word)?;
             is_argument = !form.arguments().is_empty();
         }
@@ -69,7 +70,7 @@ impl<'a> Before<'a> {
         if word.starts_with('#') {
             return Some(Problem::Form(FormProblem::LateComment));
         }
-        let Some((_, keyword, form)) = script_row(word) else {
+        let Some((_, keyword, form)) = row_of::<ScriptWord>(word) else {
             let problem = no_script_word(alloc, refused, script, word);
             return Some(Problem::Keyword(problem));
         };

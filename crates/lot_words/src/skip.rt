@@ -2,10 +2,10 @@
 
 use crate::forms::form_outside;
 use crate::input::{Refused, words_of};
-use crate::keywords::{body_word, header_word, script_row};
-use crate::nearest::{Nearest, nearer_word};
+use crate::keywords::{Keyword, body_word, header_word, row_of};
+use crate::nearest::{nearer_word, nearest_word};
 use crate::problem::{ByteProblem, KeywordProblem, Problem};
-use lot_simulation::{AS_WORD, BODY_WORDS, BodyWord, Form, HEADER_WORDS, SCRIPT_WORDS, ScriptWord};
+use lot_simulation::{AS_WORD, BodyWord, Form, HeaderWord, ScriptWord};
 use std::alloc::Global;
 use std::str;
 
@@ -37,12 +37,13 @@ fn is_of_one_line(problem: Problem<'_>) -> bool {
 fn can_skip_body_line(alloc: Global, refused: &Refused<'_>) -> bool {
     let word = words_of(refused.line).next().unwrap_or("");
     let is_timed = refused.is_timed();
-    let nearest = nearer_word(alloc, Nearest::NONE, &BODY_WORDS, is_timed, word);
-    let nearest = nearer_word(alloc, nearest, &HEADER_WORDS, is_timed, word);
-    let nearest = nearer_word(alloc, nearest, &SCRIPT_WORDS, is_timed, word);
+    let nearest = nearest_word(alloc, BodyWord::rows(), is_timed, word);
+    let nearest = nearer_word(alloc, nearest, HeaderWord::rows(), is_timed, word);
+    let nearest = nearer_word(alloc, nearest, ScriptWord::rows(), is_timed, word);
     match nearest.text() {
         Some(meant) => {
-            let is_elsewhere = header_word(meant).is_some() || script_row(meant).is_some();
+            let is_elsewhere = header_word(meant).is_some()
+                || row_of::<ScriptWord>(meant).is_some();
             let is_needed = others_depend_on(meant) || may_name_ticket(refused, meant);
             is_plain(word) && !is_elsewhere && !is_needed
         }
@@ -75,8 +76,8 @@ fn can_skip_steps(alloc: Global, refused: &Refused<'_>) -> bool {
 /// Whether an argument follows this word of a script, or the one meant by it. None if the line can't be skipped because
 /// of the word, or if out of memory.
 fn has_argument(alloc: Global, is_timed: bool, word: &str) -> Option<bool> {
-    let nearest = nearer_word(alloc, Nearest::NONE, &SCRIPT_WORDS, is_timed, word);
-    let nearest = nearer_word(alloc, nearest, &BODY_WORDS, is_timed, word);
+    let nearest = nearest_word(alloc, ScriptWord::rows(), is_timed, word);
+    let nearest = nearer_word(alloc, nearest, BodyWord::rows(), is_timed, word);
     match nearest.text() {
         Some(meant) if is_plain(word) && !others_depend_on(meant) => Some(takes_argument(meant)),
         _ => None,
@@ -103,7 +104,7 @@ fn is_plain(word: &str) -> bool {
 
 /// Whether this word of a script takes an argument.
 fn takes_argument(word: &str) -> bool {
-    match script_row(word) {
+    match row_of::<ScriptWord>(word) {
         Some((_, _, form)) => !form.arguments().is_empty(),
         None => false,
     }
@@ -111,7 +112,7 @@ fn takes_argument(word: &str) -> bool {
 
 /// Whether other lines depend on one with this word, which opens or closes a script or a loop, or declares a name.
 fn others_depend_on(word: &str) -> bool {
-    match script_row(word) {
+    match row_of::<ScriptWord>(word) {
         Some((_, ScriptWord::Loop | ScriptWord::End | ScriptWord::EndScript, _)) => true,
         Some(_) => false,
         None => match body_word(word) {

@@ -1,14 +1,13 @@
 //! Traps that the kernel refused.
 
 use crate::input::{OpenScript, words_of};
-use crate::keywords::script_row;
+use crate::keywords::{row_of, spelling_of};
 use crate::names::{Named, argument_given, name_given, name_numbered};
-use crate::nearest::text_of;
 use crate::phrases::after_line;
 use crate::stuck::Called;
 use lot_machine::TrapRefusal;
 use lot_play::RefusedTrap;
-use lot_simulation::{BodyWord, SCRIPT_WORDS, ScriptTrap, ScriptWord};
+use lot_simulation::{BodyWord, ScriptTrap, ScriptWord};
 use std::{fmt, str};
 
 /// A word of a script that makes a trap, and the name of its port or mutex, if it has one.
@@ -49,7 +48,7 @@ impl<'a> TrapWords<'a> {
                 if before == self.word && self.name == Some(word) {
                     return true;
                 }
-            } else if let Some((_, keyword, form)) = script_row(word) {
+            } else if let Some((_, keyword, form)) = row_of::<ScriptWord>(word) {
                 if !form.arguments().is_empty() {
                     unfinished = Some(keyword);
                 } else if keyword == self.word {
@@ -69,16 +68,6 @@ impl fmt::Display for TrapWords<'_> {
             None => Ok(()),
         }
     }
-}
-
-/// The spelling of a word of a script.
-fn spelling_of(word: ScriptWord) -> &'static str {
-    for (spelling, other, _) in &SCRIPT_WORDS {
-        if *other == word {
-            return text_of(*spelling);
-        }
-    }
-    ""
 }
 
 /// The lines of a script with the words of a trap.

@@ -72,7 +72,7 @@ const SHARES: &str = "tick,a\n0,0.0\n1,100.0\n2,100.0\n3,100.0\n4,100.0\n";
 const DRAW_SHARES: &str = "tick,a\n0,100.0\n1,100.0\n2,100.0\n3,100.0\n4,0.0\n";
 
 /// The words, and what the program writes.
-const ROWS: [(&[&str], &str); 21] = [
+static ROWS: [(&[&str], &str); 21] = [
     (&["lot_sim", "play", "x.lot"], PLAYED),
     (&["lot_sim", "play", "--", "x.lot"], PLAYED),
     (&["lot_sim", "explain", "x.lot"], EXPLAINED),
@@ -144,34 +144,47 @@ fn check_written<H: Abort + Threads + Wait + Sync>(
     words: &[&str],
     expected: &str,
 ) {
-    let ended = ended_with(rt, alloc, words, FILED.as_bytes());
-    let is_written = ended.output.as_slice() == expected.as_bytes();
-    check_same_at(
-        rt,
-        &words,
-        &(ended.code, is_written, ended.errors.is_empty()),
-        &(0, true, true),
-    );
+    let found = ended_with(rt, alloc, words, FILED.as_bytes()).found(expected);
+    check_same_at(rt, &words, &found, &(0, true, false));
+}
+
+/// Calls the program as each row says.
+fn check_rows_of_file<H: Abort + Threads + Wait + Sync>(
+    rt: &H,
+    alloc: Global,
+    rows: &[(&[&str], &str)],
+) {
+    for (words, expected) in rows {
+        check_written(rt, alloc, words, expected);
+    }
 }
 
 #[test]
 fn named_inputs(rt: HostRuntime) {
-    for (words, expected) in ROWS {
-        check_written(&rt, rt.alloc(), words, expected);
-    }
+    check_rows_of_file(&rt, rt.alloc(), &ROWS);
 }
+
+/// The words with a title before the file or after it.
+const TITLED: &[&[&str]] = &[
+    &["lot_sim", "chart", "--title", "One", "x.lot"],
+    &["lot_sim", "chart", "x.lot", "--title", "One"],
+];
 
 // A picture's title may come before the file or after it.
 #[test]
 fn titled(rt: HostRuntime) {
     let alloc = rt.alloc();
     let wanted = ended_on(&rt, alloc, &["lot_sim", "chart", "--title", "One"], FILED);
-    let picture = str::from_utf8(wanted.output.as_slice()).unwrap_or("");
-    check_same(&rt, &picture.contains(">One</title>\n"), &true);
-    let before = ["lot_sim", "chart", "--title", "One", "x.lot"];
-    check_written(&rt, alloc, &before, picture);
-    let after = ["lot_sim", "chart", "x.lot", "--title", "One"];
-    check_written(&rt, alloc, &after, picture);
+    check_titled(&rt, alloc, wanted.output.as_slice());
+}
+
+/// Compares the pictures of the file that have a title with this one.
+fn check_titled<H: Abort + Threads + Wait + Sync>(rt: &H, alloc: Global, wanted: &[u8]) {
+    let picture = str::from_utf8(wanted).unwrap_or("");
+    check_same(rt, &picture.contains(">One</title>\n"), &true);
+    for words in TITLED {
+        check_written(rt, alloc, words, picture);
+    }
 }
 
 /// Has the program read the file of this name, which fails in this way, and compares the diagnostics.
@@ -183,67 +196,91 @@ fn check_unread<H: Abort + Threads + Wait + Sync>(
     expected: &str,
 ) {
     let ended = ended_with(rt, alloc, &["lot_sim", word, name], file);
-    let told = str::from_utf8(ended.errors.as_slice()).unwrap_or("");
-    check_same_at(
-        rt,
-        &word,
-        &(ended.code, ended.output.is_empty(), told),
-        &(3, true, expected),
-    );
+    let found = (ended.code, ended.output.is_empty(), ended.told());
+    check_same_at(rt, &word, &found, &(3, true, expected));
 }
 
-/// A directory, which can be opened and not be read.
-const DIRECTORY: Failing = Failing {
-    given: true,
-    kind: ErrorKind::IsADirectory,
-};
+/// A name of a file, whether it has given all its bytes, how it fails then, and the diagnostics.
+type Unread = (&'static str, bool, ErrorKind, &'static str);
 
-/// A file that fails after a byte.
-const BROKEN: Failing = Failing {
-    given: false,
-    kind: ErrorKind::Interrupted,
-};
+/// A file that isn't there, a directory, which can be opened and not be read, and a file that fails after a byte.
+const UNREAD: &[Unread] = &[
+    (
+        "y.lot",
+        true,
+        ErrorKind::IsADirectory,
+        "error: can't read 'y.lot': no such file\n",
+    ),
+    (
+        "x.lot",
+        true,
+        ErrorKind::IsADirectory,
+        "error: can't read 'x.lot': is a directory\n",
+    ),
+    (
+        "x.lot",
+        false,
+        ErrorKind::Interrupted,
+        "error: can't read 'x.lot': operation interrupted\n",
+    ),
+];
+
+/// Has the program read each of these files with this subcommand.
+fn check_unread_files<H: Abort + Threads + Wait + Sync>(rt: &H, alloc: Global, word: &str) {
+    for (name, given, kind, expected) in UNREAD {
+        let file = Failing {
+            given: *given,
+            kind: *kind,
+        };
+        check_unread(rt, alloc, (word, name), file, expected);
+    }
+}
+
+pub(crate) const WORDS: &[&str] = &["play", "report", "explain", "run", "shares", "chart"];
 
 #[test]
 fn unread_files(rt: HostRuntime) {
-    let missing = "error: can't read 'y.lot': no such file\n";
-    let directory = "error: can't read 'x.lot': is a directory\n";
-    let broken = "error: can't read 'x.lot': operation interrupted\n";
-    for word in ["play", "report", "explain", "run", "shares", "chart"] {
-        check_unread(&rt, rt.alloc(), (word, "y.lot"), DIRECTORY, missing);
-        check_unread(&rt, rt.alloc(), (word, "x.lot"), DIRECTORY, directory);
-        check_unread(&rt, rt.alloc(), (word, "x.lot"), BROKEN, broken);
+    for word in WORDS {
+        check_unread_files(&rt, rt.alloc(), word);
     }
 }
 
 // The input of the file is refused as one of standard input.
 #[test]
 fn refused_file(rt: HostRuntime) {
-    let words = ["lot_sim", "play", "x.lot"];
-    let ended = ended_with(
-        &rt,
-        rt.alloc(),
-        &words,
-        "lottery 1\nmktk 5 base\n".as_bytes(),
-    );
-    let told = str::from_utf8(ended.errors.as_slice()).unwrap_or("");
-    let is_written = ended.output.as_slice() == "refused line 2 51 BadLine\n".as_bytes();
+    let file = "lottery 1\nmktk 5 base\n".as_bytes();
+    let ended = ended_with(&rt, rt.alloc(), &["lot_sim", "play", "x.lot"], file);
+    let (code, is_written, _) = ended.found("refused line 2 51 BadLine\n");
     let expected = "line 2: 'mktk' is no body line; did you mean 'mktkt'?\n";
-    check_same(&rt, &(ended.code, is_written, told), &(1, true, expected));
+    check_same(&rt, &(code, is_written, ended.told()), &(1, true, expected));
+}
+
+/// Plays the file of this name, of which there is only a directory `x.lot`, with an output for diagnostics that fails.
+/// Returns the exit status and whether nothing was written.
+fn ended_untold<H: Threads + Wait + Sync>(rt: &H, alloc: Global, name: &str) -> (u8, bool) {
+    let mut output = Vec::new(alloc);
+    let inputs = Fake {
+        standard: STANDARD.as_bytes(),
+        name: "x.lot",
+        file: Failing {
+            given: true,
+            kind: ErrorKind::IsADirectory,
+        },
+    };
+    let errors = Failing {
+        given: false,
+        kind: ErrorKind::Interrupted,
+    };
+    let words = ["lot_sim", "play", name];
+    let code = status(rt, alloc, &words, inputs, &mut output, errors);
+    (code, output.is_empty())
 }
 
 // If the diagnostics can't be written either, the status is the same.
 #[test]
 fn failing_errors(rt: HostRuntime) {
     for name in ["x.lot", "y.lot"] {
-        let mut output = Vec::new(rt.alloc());
-        let inputs = Fake {
-            standard: STANDARD.as_bytes(),
-            name: "x.lot",
-            file: DIRECTORY,
-        };
-        let words = ["lot_sim", "play", name];
-        let code = status(&rt, rt.alloc(), &words, inputs, &mut output, BROKEN);
-        check_same(&rt, &(code, output.is_empty()), &(3, true));
+        let ended = ended_untold(&rt, rt.alloc(), name);
+        check_same_at(&rt, &name, &ended, &(3, true));
     }
 }

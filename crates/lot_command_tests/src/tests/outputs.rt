@@ -2,16 +2,13 @@
 
 use super::inputs::on_standard;
 use super::same::{check_same, check_same_at};
-use super::{EMPTY_REPORT, FailingCall};
+use super::{EMPTY_REPORT, FailingCall, WAYS};
 use lot_command::status;
 use std::alloc::Global;
 use std::io::ErrorKind;
 use std::process::Abort;
 use std::sync::Wait;
 use std::thread::Threads;
-
-/// The ways in which a call fails: with an error of this kind, or by accepting no byte.
-const WAYS: [Option<ErrorKind>; 3] = [Some(ErrorKind::Other), Some(ErrorKind::Interrupted), None];
 
 /// A request to the program, its input, and then its exit status, its output, and the number of writes before the
 /// flush.
@@ -25,7 +22,7 @@ struct Asked<'a> {
 }
 
 /// Inputs whose output takes a single write.
-const SHORT: [Asked<'static>; 4] = [
+const SHORT: &[Asked<'static>] = &[
     Asked {
         word: "play",
         input: "lottery 1\n",
@@ -56,17 +53,6 @@ const SHORT: [Asked<'static>; 4] = [
     },
 ];
 
-/// An output whose call of this number fails.
-fn failing(alloc: Global, fails_at: u32, kind: Option<ErrorKind>) -> FailingCall {
-    FailingCall {
-        written: Vec::new(alloc),
-        is_flushed: false,
-        calls: 0,
-        fails_at,
-        kind,
-    }
-}
-
 /// Makes this request with an output whose call of this number fails, and returns whether the program failed: then it
 /// made no further call, and the output is a beginning of the text.
 fn output_fails<H: Abort + Threads + Wait + Sync>(
@@ -76,49 +62,61 @@ fn output_fails<H: Abort + Threads + Wait + Sync>(
     fails_at: u32,
     kind: Option<ErrorKind>,
 ) -> bool {
-    let Asked {
-        word,
-        input,
-        code,
-        text,
-        ..
-    } = asked;
-    let mut output = failing(alloc, fails_at, kind);
+    let (ended, is_taken, is_told) = ended_to(rt, alloc, asked, fails_at, kind);
+    let has_failed = ended == 3;
+    let code = if has_failed { 3 } else { asked.code };
+    let found = (ended, is_taken, is_told);
+    check_same_at(rt, &asked.input, &found, &(code, true, code == 1));
+    has_failed
+}
+
+/// Makes this request with an output whose call of this number fails. Returns the exit status, whether the output has
+/// what it should have, and whether something was told.
+fn ended_to<H: Threads + Wait + Sync>(
+    rt: &H,
+    alloc: Global,
+    asked: Asked,
+    fails_at: u32,
+    kind: Option<ErrorKind>,
+) -> (u8, bool, bool) {
+    let mut output = FailingCall::new(alloc, fails_at, kind);
     let mut errors = Vec::new(alloc);
-    let words = ["lot_sim", word];
-    let inputs = on_standard(input.as_bytes());
+    let words = ["lot_sim", asked.word];
+    let inputs = on_standard(asked.input.as_bytes());
     let ended = status(rt, alloc, &words, inputs, &mut output, &mut errors);
-    let whole = text.as_bytes();
-    let written = output.written.as_slice();
-    if ended == 3 {
-        let found = (output.calls, whole.starts_with(written), errors.is_empty());
-        check_same_at(rt, &input, &found, &(fails_at, true, true));
-    } else {
-        let is_whole = output.is_flushed && whole == written;
-        let found = (ended, is_whole, errors.is_empty());
-        check_same_at(rt, &input, &found, &(code, true, code != 1));
-    }
-    ended == 3
+    let is_taken = output.has_taken(asked.text.as_bytes(), ended == 3);
+    (ended, is_taken, !errors.is_empty())
 }
 
 /// Asks for this with an output that fails at each of its calls, and at none. A flush takes no bytes, so it fails
 /// with an error alone.
 fn check_output<H: Abort + Threads + Wait + Sync>(rt: &H, alloc: Global, asked: Asked) {
-    let Asked { input, writes, .. } = asked;
     for kind in WAYS {
         for call in 0..10 {
-            let is_write = 0 < call && call <= writes;
-            let is_failing_flush = call == writes.saturating_add(1) && kind.is_some();
-            let fails = output_fails(rt, alloc, asked, call, kind);
-            check_same_at(rt, &(call, input), &fails, &(is_write || is_failing_flush));
+            check_call(rt, alloc, asked, call, *kind);
         }
     }
+}
+
+/// Asks for this with an output whose call of this number fails, and checks whether the program fails.
+fn check_call<H: Abort + Threads + Wait + Sync>(
+    rt: &H,
+    alloc: Global,
+    asked: Asked,
+    call: u32,
+    kind: Option<ErrorKind>,
+) {
+    let is_write = 0 < call && call <= asked.writes;
+    let is_failing_flush = call == asked.writes.saturating_add(1) && kind.is_some();
+    let fails = output_fails(rt, alloc, asked, call, kind);
+    let is_failing = is_write || is_failing_flush;
+    check_same_at(rt, &(call, asked.input), &fails, &is_failing);
 }
 
 #[test]
 fn failing_outputs(rt: HostRuntime) {
     for asked in SHORT {
-        check_output(&rt, rt.alloc(), asked);
+        check_output(&rt, rt.alloc(), *asked);
     }
 }
 
@@ -153,8 +151,8 @@ fn ended_with<H: Abort + Threads + Wait + Sync>(
     fails_at: u32,
     kind: Option<ErrorKind>,
 ) -> (u8, FailingCall) {
-    let mut output = failing(alloc, fails_at, kind);
-    let mut errors = failing(alloc, fails_at, kind);
+    let mut output = FailingCall::new(alloc, fails_at, kind);
+    let mut errors = FailingCall::new(alloc, fails_at, kind);
     let inputs = on_standard("".as_bytes());
     let ended = status(rt, alloc, words, inputs, &mut output, &mut errors);
     assert!(rt; output.calls == 0 || errors.calls == 0, "{words:?}");
@@ -176,30 +174,59 @@ fn check_told<H: Abort + Threads + Wait + Sync>(
 ) {
     let (ended, whole) = ended_with(rt, alloc, words, 0, None);
     check_same_at(rt, &words, &(ended, whole.is_flushed), &(code, true));
+    check_begun(rt, alloc, words, kind, &whole);
+}
+
+/// Calls the program with these words and an output that fails at each of the calls that the whole output had.
+fn check_begun<H: Abort + Threads + Wait + Sync>(
+    rt: &H,
+    alloc: Global,
+    words: &[&str],
+    kind: ErrorKind,
+    whole: &FailingCall,
+) {
     let text = whole.written.as_slice();
     for call in 1..=whole.calls {
-        let (ended, begun) = ended_with(rt, alloc, words, call, Some(kind));
-        let is_begun = text.starts_with(begun.written.as_slice());
-        check_same_at(
-            rt,
-            &words,
-            &(ended, begun.calls, is_begun),
-            &(3, call, true),
-        );
+        let found = has_begun(rt, alloc, words, call, kind, text);
+        check_same_at(rt, &(words, call), &found, &(3, true));
     }
 }
+
+/// Calls the program with these words and an output whose call of this number fails. Returns the exit status, and
+/// whether that call was the last, and the output is a beginning of the text.
+fn has_begun<H: Abort + Threads + Wait + Sync>(
+    rt: &H,
+    alloc: Global,
+    words: &[&str],
+    call: u32,
+    kind: ErrorKind,
+    text: &[u8],
+) -> (u8, bool) {
+    let (ended, begun) = ended_with(rt, alloc, words, call, Some(kind));
+    (ended, begun.has_taken(text, true))
+}
+
+/// Words that have a text written, and the exit status.
+const TEXTS: &[(&[&str], u8)] = &[
+    (&["lot_sim", "--help"], 0),
+    (&["lot_sim", "play", "--help"], 0),
+    (&["lot_sim"], 2),
+    (&["lot_sim", "replay"], 2),
+];
 
 // Help, and the errors of the command line.
 #[test]
 fn failing_texts(rt: HostRuntime) {
-    let alloc = rt.alloc();
-    for kind in [ErrorKind::Other, ErrorKind::Interrupted] {
-        check_told(&rt, alloc, &["lot_sim", "--help"], 0, kind);
-        check_told(&rt, alloc, &["lot_sim", "play", "--help"], 0, kind);
-        check_told(&rt, alloc, &["lot_sim"], 2, kind);
-        check_told(&rt, alloc, &["lot_sim", "replay"], 2, kind);
+    for (words, code) in TEXTS {
+        check_told(&rt, rt.alloc(), words, *code, ErrorKind::Other);
+        check_told(&rt, rt.alloc(), words, *code, ErrorKind::Interrupted);
     }
-    let (ended, output) = ended_with(&rt, alloc, &["lot_sim", "--help"], 1, None);
+    check_untaken(&rt, rt.alloc());
+}
+
+/// Asks for help with an output that takes no byte.
+fn check_untaken<H: Abort + Threads + Wait + Sync>(rt: &H, alloc: Global) {
+    let (ended, output) = ended_with(rt, alloc, &["lot_sim", "--help"], 1, None);
     let found = (ended, output.calls, output.written.is_empty());
-    check_same(&rt, &found, &(3, 1, true));
+    check_same(rt, &found, &(3, 1, true));
 }

@@ -1,9 +1,10 @@
 //! The faults that are reported of a refused input.
 
+use super::files::WORDS;
 use super::inputs::on_standard;
 use super::same::{check_same, check_same_at};
 use super::told::check_told;
-use super::{FailingCall, check_play, ended_on};
+use super::{FailingCall, check_play, ended_on, joined};
 use lot_command::status;
 use std::alloc::Global;
 use std::io::ErrorKind;
@@ -90,10 +91,12 @@ const AT_THE_END: (&str, &str) = (
     "lottery 1
 mktk 5 base
 mkcur",
-    "line 2: 'mktk' is no body line; did you mean 'mktkt'?
-line 3: this line is written 'mkcur NAME', and here is 1 word
-",
+    AT_THE_END_TOLD,
 );
+
+const AT_THE_END_TOLD: &str = "line 2: 'mktk' is no body line; did you mean 'mktkt'?
+line 3: this line is written 'mkcur NAME', and here is 1 word
+";
 
 /// That the script isn't closed shows only at the end.
 const UNCLOSED: (&str, &str) = (
@@ -115,7 +118,7 @@ line 2: the header doesn't say how long the input runs: 'for TICKS' comes before
 ",
 );
 
-const ROWS: [(&str, &str); 7] = [
+const ROWS: &[(&str, &str)] = &[
     OF_FIRST,
     OF_SECOND,
     OF_THIRD,
@@ -128,15 +131,15 @@ const ROWS: [(&str, &str); 7] = [
 #[test]
 fn faults(rt: HostRuntime) {
     for (input, expected) in ROWS {
-        check_told(&rt, rt.alloc(), ["lot_sim", "play"], input, 1, expected);
+        check_told(&rt, rt.alloc(), "play", input, 1, expected);
     }
 }
 
 #[test]
 fn faults_of_each_request(rt: HostRuntime) {
     let (input, expected) = OF_THIRD;
-    for word in ["play", "report", "explain", "run", "shares", "chart"] {
-        check_told(&rt, rt.alloc(), ["lot_sim", word], input, 1, expected);
+    for word in WORDS {
+        check_told(&rt, rt.alloc(), word, input, 1, expected);
     }
 }
 
@@ -174,19 +177,26 @@ line 10: this line is written 'lscur', and here are 2 words
 line 11: this line is written 'lsthr', and here are 2 words
 ";
 
+/// Last lines of that input, and of what is told of it.
+const MORE_TOLD: &[(&str, &str)] = &[
+    ("", ""),
+    ("lsthr\n", ""),
+    ("lsthr 1\n", "there are more faults\n"),
+    ("lsthr 1\nlsthr 1\n", "there are more faults\n"),
+];
+
 #[test]
 fn ten_faults_and_more(rt: HostRuntime) {
-    let words = ["lot_sim", "play"];
-    for (last, closing) in [
-        ("", ""),
-        ("lsthr\n", ""),
-        ("lsthr 1\n", "there are more faults\n"),
-        ("lsthr 1\nlsthr 1\n", "there are more faults\n"),
-    ] {
-        let input = format!(in rt.alloc(); "{TEN}{last}").expect(&rt, "memory");
-        let expected = format!(in rt.alloc(); "{TEN_TOLD}{closing}").expect(&rt, "memory");
-        check_told(&rt, rt.alloc(), words, input.as_str(), 1, expected.as_str());
+    for (last, closing) in MORE_TOLD {
+        check_ten(&rt, rt.alloc(), last, closing);
     }
+}
+
+/// Plays the input with these last lines.
+fn check_ten<H: Abort + Threads + Wait + Sync>(rt: &H, alloc: Global, last: &str, closing: &str) {
+    let input = joined(rt, alloc, TEN, last);
+    let expected = joined(rt, alloc, TEN_TOLD, closing);
+    check_told(rt, alloc, "play", input.as_str(), 1, expected.as_str());
 }
 
 /// Plays the input with an output for diagnostics whose call of this number fails.
@@ -197,13 +207,7 @@ fn told_before<H: Abort + Threads + Wait + Sync>(
     fails_at: u32,
 ) -> FailingCall {
     let mut output = Vec::new(alloc);
-    let mut errors = FailingCall {
-        written: Vec::new(alloc),
-        is_flushed: false,
-        calls: 0,
-        fails_at,
-        kind: Some(ErrorKind::Other),
-    };
+    let mut errors = FailingCall::new(alloc, fails_at, Some(ErrorKind::Other));
     let words = ["lot_sim", "play"];
     let inputs = on_standard(input.as_bytes());
     let code = status(rt, alloc, &words, inputs, &mut output, &mut errors);
@@ -211,21 +215,33 @@ fn told_before<H: Abort + Threads + Wait + Sync>(
     errors
 }
 
+/// Numbers of the write of diagnostics that fails, and what was told before.
+const TOLD_BEFORE: &[(u32, &str)] = &[
+    (1, ""),
+    (2, "line 2: 'mktk' is no body line; did you mean 'mktkt'?\n"),
+    (3, AT_THE_END_TOLD),
+];
+
 // Each fault is one write, and the first write that fails is the last.
 #[test]
 fn failing_errors(rt: HostRuntime) {
-    let (input, expected) = AT_THE_END;
-    let first = "line 2: 'mktk' is no body line; did you mean 'mktkt'?\n";
-    for (fails_at, told) in [(1, ""), (2, first), (3, expected)] {
-        let errors = told_before(&rt, rt.alloc(), input, fails_at);
-        let is_told = errors.written.as_slice() == told.as_bytes();
-        check_same_at(
-            &rt,
-            &fails_at,
-            &(errors.calls, is_told),
-            &(fails_at.min(2), true),
-        );
+    for (fails_at, told) in TOLD_BEFORE {
+        check_told_before(&rt, rt.alloc(), *fails_at, told);
     }
+}
+
+/// Has the write of this number fail, and compares what was told before.
+fn check_told_before<H: Abort + Threads + Wait + Sync>(
+    rt: &H,
+    alloc: Global,
+    fails_at: u32,
+    told: &str,
+) {
+    let (input, _) = AT_THE_END;
+    let errors = told_before(rt, alloc, input, fails_at);
+    let is_told = errors.written.as_slice() == told.as_bytes();
+    let wanted = (fails_at.min(2), true);
+    check_same_at(rt, &fails_at, &(errors.calls, is_told), &wanted);
 }
 
 /// Whether these lines are the first of the others, where each may lack its suggestion.
@@ -248,7 +264,7 @@ fn are_first(lines: &str, others: &str) -> bool {
 fn tells_or_lacks_memory(rt: HostRuntime) {
     let (input, expected) = OF_FIRST;
     let ended = ended_on(&rt, rt.alloc(), &["lot_sim", "play"], input);
-    let told = str::from_utf8(ended.errors.as_slice()).unwrap_or("?");
+    let told = ended.told();
     let is_refused = ended.code == 1 && are_first(told, expected);
     let is_failed = ended.code == 3 && told.is_empty();
     assert!(rt; is_refused || is_failed, "{told}");

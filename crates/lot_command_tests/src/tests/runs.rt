@@ -1,7 +1,7 @@
 //! Free runs.
 
 use super::same::{check_same, check_same_at};
-use super::{check_words_on, ended_on};
+use super::{Row, check_rows, ended_on, joined};
 use lot_command::InputRunFault;
 use lot_io::IoFault;
 use lot_processors::FreeRunFault;
@@ -11,8 +11,9 @@ use std::sync::Wait;
 use std::thread::Threads;
 
 /// Inputs, and what running them writes whatever the order of turns is.
-const RUNS: [(&str, u8, &str); 5] = [
+static RUNS: [Row; 5] = [
     (
+        &["lot_sim", "run"],
         "lottery 1
 turns 3
 ",
@@ -24,6 +25,7 @@ schedule 1 1 1
 ",
     ),
     (
+        &["lot_sim", "run"],
         "lottery 1
 turns 0
 ",
@@ -34,6 +36,7 @@ total turns 0 quanta 0 ticks 0
 ",
     ),
     (
+        &["lot_sim", "run"],
         "lottery 2
 turns 3
 ",
@@ -45,6 +48,7 @@ runs 1 3
 ",
     ),
     (
+        &["lot_sim", "run"],
         "lottery 1
 turns 10001
 ",
@@ -53,6 +57,7 @@ turns 10001
 ",
     ),
     (
+        &["lot_sim", "run"],
         "lottery 1
 schedule 0 2
 ",
@@ -64,9 +69,7 @@ schedule 0 2
 
 #[test]
 fn runs(rt: HostRuntime) {
-    for (input, code, expected) in RUNS {
-        check_words_on(&rt, rt.alloc(), "run", input, code, expected);
-    }
+    check_rows(&rt, rt.alloc(), &RUNS);
 }
 
 /// The output of playing or running the input, which is done.
@@ -78,11 +81,12 @@ fn written<H: Abort + Threads + Wait + Sync>(
 ) -> String {
     let ended = ended_on(rt, alloc, &["lot_sim", word], input);
     check_same_at(rt, &input, &ended.code, &0);
-    String::from_utf8(ended.output).expect(rt, "a text")
+    let text = str::from_utf8(ended.output.as_slice()).expect(rt, "a text");
+    String::from_str(alloc, text).expect(rt, "memory")
 }
 
 /// Programs whose workers have turns to make, with a word of their last lines when they are run.
-const PROGRAMS: [(&str, &str); 3] = [
+const PROGRAMS: &[(&str, &str)] = &[
     (
         "lottery 1
 processors 2
@@ -150,18 +154,28 @@ fn check_played_back<H: Abort + Threads + Wait + Sync>(
     total: &str,
 ) {
     let run = written(rt, alloc, "run", program);
-    let lines = run
-        .as_str()
-        .find("\nschedule ")
-        .or(run.as_str().find("\nruns "));
-    let (report, schedule) = run.as_str().split_at(lines.expect(rt, "a schedule") + 1);
-    let input = format!(in alloc; "{played}{schedule}").expect(rt, "memory");
+    check_same_at(rt, &program, &run.as_str().contains(total), &true);
+    check_replayed(rt, alloc, run.as_str(), played);
+}
+
+/// Plays the schedule of what a run has written with this program, and compares the reports of both.
+fn check_replayed<H: Abort + Threads + Wait + Sync>(
+    rt: &H,
+    alloc: Global,
+    run: &str,
+    program: &str,
+) {
+    let (report, schedule) = report_and_schedule(rt, run);
+    let input = joined(rt, alloc, program, schedule);
     let played = written(rt, alloc, "play", input.as_str());
-    let found = (
-        run.as_str().contains(total),
-        played.as_str().ends_with(report),
-    );
-    check_same_at(rt, &program, &found, &(true, true));
+    let is_same = played.as_str().ends_with(report);
+    check_same_at(rt, &program, &is_same, &true);
+}
+
+/// The report of what a run has written, and the lines of its schedule.
+fn report_and_schedule<'a>(rt: &impl Abort, run: &'a str) -> (&'a str, &'a str) {
+    let lines = run.find("\nschedule ").or(run.find("\nruns "));
+    run.split_at(lines.expect(rt, "a schedule") + 1)
 }
 
 // The schedule that a run prints gives `play` the report that the run printed.
@@ -205,16 +219,16 @@ fn a_run_takes_sleeps_as_yields(rt: HostRuntime) {
     check_played_back(&rt, rt.alloc(), SLEEPS, YIELDS, "total turns 81 ");
 }
 
+/// Compares the text of why a run stopped.
+fn check_stop(rt: &impl Abort, alloc: Global, stop: InputRunFault, text: &str) {
+    let shown = format!(in alloc; "{stop}").expect(rt, "memory");
+    check_same(rt, &shown.as_str(), &text);
+}
+
 #[test]
 fn texts_of_stops(rt: HostRuntime) {
-    for (stop, text) in [
-        (InputRunFault::Play(IoFault::Read), "the reader has failed"),
-        (
-            InputRunFault::Workers(FreeRunFault::Memory),
-            "out of memory",
-        ),
-    ] {
-        let shown = format!(in rt.alloc(); "{stop}").expect(&rt, "memory");
-        check_same(&rt, &shown.as_str(), &text);
-    }
+    let reader = InputRunFault::Play(IoFault::Read);
+    check_stop(&rt, rt.alloc(), reader, "the reader has failed");
+    let memory = InputRunFault::Workers(FreeRunFault::Memory);
+    check_stop(&rt, rt.alloc(), memory, "out of memory");
 }

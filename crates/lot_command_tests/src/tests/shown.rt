@@ -1,8 +1,12 @@
 //! Tables and pictures of what threads have run, and lotteries that are explained.
-use super::same::{check_same, check_same_at};
-use super::{check_words, check_words_on, ended_on};
+use super::same::check_same_at;
+use super::{
+    Row, check_output_of, check_refused_words, check_rows, check_words, check_words_on, ended_on,
+};
 use std::alloc::Global;
 use std::process::Abort;
+use std::sync::Wait;
+use std::thread::Threads;
 
 /// Thread `a` has the only ticket: it wins both draws, and runs for two quanta of 2 ticks.
 const INPUT: &str = "lottery 1
@@ -28,17 +32,23 @@ fundx 1 base a spin
 mkthr b spin
 ";
 
+/// The table of both.
+const TICKS: &str = "tick,a,b\n0,0,0\n1,1,0\n2,2,0\n3,3,0\n4,4,0\n";
+
+/// What refuses the header of an unknown format.
+const BAD_HEADER: &str = "refused line 1 50 BadHeader\n";
+
+static TABLES: [Row; 5] = [
+    (&["lot_sim", "shares"], INPUT, 0, TICKS),
+    (&["lot_sim", "shares"], TIMED, 0, TICKS),
+    (&["lot_sim", "shares"], "lottery 1\n", 0, "tick\n0\n"),
+    (&["lot_sim", "shares"], "lottery 9\n", 1, BAD_HEADER),
+    (&["lot_sim", "chart"], "lottery 9\n", 1, BAD_HEADER),
+];
+
 #[test]
 fn tables(rt: HostRuntime) {
-    let alloc = rt.alloc();
-    for input in [INPUT, TIMED] {
-        let ticks = "tick,a,b\n0,0,0\n1,1,0\n2,2,0\n3,3,0\n4,4,0\n";
-        check_words_on(&rt, alloc, "shares", input, 0, ticks);
-    }
-    check_words_on(&rt, alloc, "shares", "lottery 1\n", 0, "tick\n0\n");
-    let refused = "refused line 1 50 BadHeader\n";
-    check_words_on(&rt, alloc, "shares", "lottery 9\n", 1, refused);
-    check_words_on(&rt, alloc, "chart", "lottery 9\n", 1, refused);
+    check_rows(&rt, rt.alloc(), &TABLES);
 }
 
 /// The report of `INPUT`.
@@ -137,66 +147,90 @@ share_percent_mean,share_percent_least,share_percent_most,due_percent_mean,due_p
 2,task,2,4,4,4,100,100,100,100,100,100
 ";
 
-/// The report as a table, and that over several plays. Without threads a table has its first row alone. An input of
-/// another format has no table of currencies.
+/// The table of `INPUT`.
+const SHORT_TABLE: &str = "thread,name,quanta,ticks\n1,a,2,4\n2,b,0,0\n";
+
+/// Words for the report as a table, and for that over several plays.
+const TABLE_WORDS: &[&str] = &["lot_sim", "report", "--csv"];
+
+const OVER_PLAYS: &[&str] = &["lot_sim", "report", "--csv", "--seeds", "1..2"];
+
+const CURRENCIES_OVER_PLAYS: &[&str] = &[
+    "lot_sim",
+    "report",
+    "--csv",
+    "--by=currency",
+    "--seeds",
+    "1..2",
+];
+
+const BY_THREAD: &[&str] = &["lot_sim", "report", "--csv", "--by", "thread"];
+
+const BY_CURRENCY: &[&str] = &["lot_sim", "report", "--by=currency", "--csv"];
+
+/// Words, inputs and tables. Without threads a table has its first row alone. An input of another format has no table
+/// of currencies.
+static REPORT_TABLES: [Row; 10] = [
+    (TABLE_WORDS, INPUT, 0, SHORT_TABLE),
+    (TABLE_WORDS, TIMED, 0, TABLE),
+    (TABLE_WORDS, "lottery 1\n", 0, "thread,name,quanta,ticks\n"),
+    (OVER_PLAYS, TIMED, 0, TABLE_OF_PLAYS),
+    (OVER_PLAYS, INPUT, 0, SCHEDULED_TABLE),
+    (
+        CURRENCIES_OVER_PLAYS,
+        CURRENCIES,
+        0,
+        CURRENCY_TABLE_OF_PLAYS,
+    ),
+    (CURRENCIES_OVER_PLAYS, INPUT, 0, SCHEDULED_TABLE),
+    (BY_THREAD, TIMED, 0, TABLE),
+    (BY_CURRENCY, CURRENCIES, 0, CURRENCY_TABLE),
+    (BY_CURRENCY, INPUT, 0, SHORT_TABLE),
+];
+
 #[test]
 fn report_tables(rt: HostRuntime) {
-    let words: &[&str] = &["lot_sim", "report", "--csv"];
-    let over_plays: &[&str] = &["lot_sim", "report", "--csv", "--seeds", "1..2"];
-    let currencies_over_plays: &[&str] = &[
-        "lot_sim",
-        "report",
-        "--csv",
-        "--by=currency",
-        "--seeds",
-        "1..2",
-    ];
-    let by_thread: &[&str] = &["lot_sim", "report", "--csv", "--by", "thread"];
-    let by_currency: &[&str] = &["lot_sim", "report", "--by=currency", "--csv"];
-    for (words, input, table) in [
-        (words, INPUT, "thread,name,quanta,ticks\n1,a,2,4\n2,b,0,0\n"),
-        (words, TIMED, TABLE),
-        (words, "lottery 1\n", "thread,name,quanta,ticks\n"),
-        (over_plays, TIMED, TABLE_OF_PLAYS),
-        (over_plays, INPUT, SCHEDULED_TABLE),
-        (currencies_over_plays, CURRENCIES, CURRENCY_TABLE_OF_PLAYS),
-        (currencies_over_plays, INPUT, SCHEDULED_TABLE),
-        (by_thread, TIMED, TABLE),
-        (by_currency, CURRENCIES, CURRENCY_TABLE),
-        (
-            by_currency,
-            INPUT,
-            "thread,name,quanta,ticks\n1,a,2,4\n2,b,0,0\n",
-        ),
-    ] {
-        let ended = ended_on(&rt, rt.alloc(), words, input);
-        let is_table = ended.output.as_slice() == table.as_bytes();
-        check_same(&rt, &(ended.code, is_table), &(0, true));
-    }
+    check_rows(&rt, rt.alloc(), &REPORT_TABLES);
 }
 
-/// `play`, `report` and `shares` write the same over several plays. `explain` and `chart` have no figures, and several
-/// plays have no time.
+/// `play`, `report` and `shares` write the same over several plays.
+static SEVERAL_PLAYS: [Row; 6] = [
+    (&["lot_sim", "play", "--seeds", "1..2"], TIMED, 0, PLAYS),
+    (&["lot_sim", "report", "--seeds", "1..2"], TIMED, 0, PLAYS),
+    (&["lot_sim", "shares", "--seeds", "1..2"], TIMED, 0, PLAYS),
+    (
+        &["lot_sim", "play", "--seeds", "1..2"],
+        INPUT,
+        0,
+        SCHEDULED_PLAYS,
+    ),
+    (
+        &["lot_sim", "report", "--seeds", "1..2"],
+        INPUT,
+        0,
+        SCHEDULED_PLAYS,
+    ),
+    (
+        &["lot_sim", "shares", "--seeds", "1..2"],
+        INPUT,
+        0,
+        SCHEDULED_PLAYS,
+    ),
+];
+
+/// `explain` and `chart` have no figures, and several plays have no time.
+const NOT_OF_PLAYS: &[&[&str]] = &[
+    &["lot_sim", "explain", "--seeds", "1..2", "-"],
+    &["lot_sim", "chart", "--seeds", "1..2", "-"],
+    &["lot_sim", "play", "--seeds", "2..1", "-"],
+    &["lot_sim", "shares", "--seeds", "1..2", "--quanta"],
+    &["lot_sim", "shares", "--seeds", "1..2", "--from=1"],
+];
+
 #[test]
 fn several_plays(rt: HostRuntime) {
-    let alloc = rt.alloc();
-    for view in ["play", "report", "shares"] {
-        let words = ["lot_sim", view, "--seeds", "1..2"];
-        for (input, report) in [(TIMED, PLAYS), (INPUT, SCHEDULED_PLAYS)] {
-            let ended = ended_on(&rt, alloc, &words, input);
-            let is_report = ended.output.as_slice() == report.as_bytes();
-            check_same_at(&rt, &input, &(ended.code, is_report), &(0, true));
-        }
-    }
-    for words in [
-        ["lot_sim", "explain", "--seeds", "1..2", "-"],
-        ["lot_sim", "chart", "--seeds", "1..2", "-"],
-        ["lot_sim", "play", "--seeds", "2..1", "-"],
-        ["lot_sim", "shares", "--seeds", "1..2", "--quanta"],
-        ["lot_sim", "shares", "--seeds", "1..2", "--from=1"],
-    ] {
-        check_words(&rt, alloc, &words, 2, false);
-    }
+    check_rows(&rt, rt.alloc(), &SEVERAL_PLAYS);
+    check_refused_words(&rt, rt.alloc(), NOT_OF_PLAYS);
 }
 
 /// Threads `a` and `b` are worth 1 each, and `a` exits in its first tick.
@@ -254,81 +288,93 @@ const DIFFERENT_ROWS: &str = "
 /// The row of its currency.
 const DIFFERENT_CURRENCY: &str = "\n1,g,3,0.666,0,1,22.222,0,33.333,38.888,16.666,50\n";
 
+/// Words, and the end of what they have written.
+const DIFFERENT_ENDS: &[(&[&str], &str)] = &[
+    (&["lot_sim", "report", "--seeds", "1..3"], DIFFERENT_PLAYS),
+    (
+        &["lot_sim", "report", "--seeds", "1..3", "--csv"],
+        DIFFERENT_ROWS,
+    ),
+    (
+        &[
+            "lot_sim", "report", "--seeds", "1..3", "--csv", "--by", "currency",
+        ],
+        DIFFERENT_CURRENCY,
+    ),
+];
+
 #[test]
 fn different_plays(rt: HostRuntime) {
-    let lines: &[&str] = &["lot_sim", "report", "--seeds", "1..3"];
-    let table: &[&str] = &["lot_sim", "report", "--seeds", "1..3", "--csv"];
-    let currencies: &[&str] = &[
-        "lot_sim", "report", "--seeds", "1..3", "--csv", "--by", "currency",
-    ];
-    for (words, wanted) in [
-        (lines, DIFFERENT_PLAYS),
-        (table, DIFFERENT_ROWS),
-        (currencies, DIFFERENT_CURRENCY),
-    ] {
-        let ended = ended_on(&rt, rt.alloc(), words, DIFFERENT);
-        let is_there = ended.output.as_slice().ends_with(wanted.as_bytes());
-        check_same_at(&rt, &words, &(ended.code, is_there), &(0, true));
+    for (words, wanted) in DIFFERENT_ENDS {
+        check_end(&rt, rt.alloc(), words, wanted);
     }
 }
+
+/// Compares the end of what these words have written.
+fn check_end<H: Abort + Threads + Wait + Sync>(
+    rt: &H,
+    alloc: Global,
+    words: &[&str],
+    wanted: &str,
+) {
+    let ended = ended_on(rt, alloc, words, DIFFERENT);
+    let is_there = ended.output.as_slice().ends_with(wanted.as_bytes());
+    check_same_at(rt, &words, &(ended.code, is_there), &(0, true));
+}
+
+/// Seeds that aren't from one to another.
+const NO_SEEDS: &[&[&str]] = &[
+    &["lot_sim", "report", "--seeds", "1"],
+    &["lot_sim", "report", "--seeds", "2..1"],
+    &["lot_sim", "report", "--seeds", "0..2"],
+    &["lot_sim", "report", "--seeds", "1..2147483647"],
+];
 
 /// The report alone, and seeds that aren't from one to another.
 #[test]
 fn reports(rt: HostRuntime) {
-    let alloc = rt.alloc();
-    check_words_on(&rt, alloc, "report", INPUT, 0, REPORT);
-    for seeds in ["1", "2..1", "0..2", "1..2147483647"] {
-        check_words(
-            &rt,
-            alloc,
-            &["lot_sim", "report", "--seeds", seeds],
-            2,
-            false,
-        );
-    }
+    check_words_on(&rt, rt.alloc(), "report", INPUT, 0, REPORT);
+    check_refused_words(&rt, rt.alloc(), NO_SEEDS);
 }
+
+/// Options that these subcommands don't have, or that have a wrong value.
+const REFUSED_OPTIONS: &[&[&str]] = &[
+    &["lot_sim", "shares", "x", "y"],
+    &["lot_sim", "shares", "--title", "x"],
+    &["lot_sim", "chart", "--title"],
+    &["lot_sim", "play", "--quanta"],
+    &["lot_sim", "play", "--csv"],
+    &["lot_sim", "play", "--from", "1"],
+    &["lot_sim", "play", "--window", "1"],
+    &["lot_sim", "shares", "--window", "0"],
+    &["lot_sim", "shares", "--window", "4294967296"],
+    &["lot_sim", "shares", "--window", "x"],
+    &["lot_sim", "chart", "--by", "user"],
+    &["lot_sim", "chart", "--by", ""],
+    &["lot_sim", "report", "--by", "currency"],
+    &["lot_sim", "shares", "--by", "currency"],
+    &["lot_sim", "chart", "--from", "3", "--to", "3"],
+    &["lot_sim", "chart", "--from", "3", "--to", "2"],
+    &["lot_sim", "chart", "--from", "x", "--to", "9"],
+    &["lot_sim", "chart", "--from", "0", "--to", "0"],
+];
 
 #[test]
 fn options(rt: HostRuntime) {
-    let alloc = rt.alloc();
-    check_words(&rt, alloc, &["lot_sim", "shares", "x", "y"], 2, false);
-    check_words(&rt, alloc, &["lot_sim", "shares", "--title", "x"], 2, false);
-    check_words(&rt, alloc, &["lot_sim", "chart", "--title"], 2, false);
-    check_words(&rt, alloc, &["lot_sim", "play", "--quanta"], 2, false);
-    check_words(&rt, alloc, &["lot_sim", "play", "--csv"], 2, false);
-    check_words(&rt, alloc, &["lot_sim", "play", "--from", "1"], 2, false);
-    check_words(&rt, alloc, &["lot_sim", "play", "--window", "1"], 2, false);
-    for window in ["0", "4294967296", "x"] {
-        let words = ["lot_sim", "shares", "--window", window];
-        check_words(&rt, alloc, &words, 2, false);
-    }
-    for by in ["user", ""] {
-        let words = ["lot_sim", "chart", "--by", by];
-        check_words(&rt, alloc, &words, 2, false);
-    }
-    let words = ["lot_sim", "report", "--by", "currency"];
-    check_words(&rt, alloc, &words, 2, false);
-    let words = ["lot_sim", "shares", "--by", "currency"];
-    check_words(&rt, alloc, &words, 2, false);
-    for (from, to) in [("3", "3"), ("3", "2"), ("x", "9"), ("0", "0")] {
-        let words = ["lot_sim", "chart", "--from", from, "--to", to];
-        check_words(&rt, alloc, &words, 2, false);
-    }
+    check_refused_words(&rt, rt.alloc(), REFUSED_OPTIONS);
 }
 
 /// The columns count draws.
 #[test]
 fn draws(rt: HostRuntime) {
     let words = ["lot_sim", "shares", "--quanta"];
-    let ended = ended_on(&rt, rt.alloc(), &words, INPUT);
     let table = "tick,a,b\n0,1,0\n1,1,0\n2,2,0\n3,2,0\n4,2,0\n";
-    let is_table = ended.output.as_slice() == table.as_bytes();
-    check_same(&rt, &(ended.code, is_table), &(0, true));
+    check_output_of(&rt, rt.alloc(), &words, INPUT, 0, table);
 }
 
 /// The words, and parts of the picture that the program draws. Between ticks 1 and 4 thread a runs for three ticks.
 /// It is alone, and in each window that isn't empty it has all ticks.
-const PICTURES: [(&[&str], &[&str]); 3] = [
+const PICTURES: &[(&[&str], &[&str])] = &[
     (
         &["lot_sim", "chart", "--title", "One & none"],
         &["<title id='title'>One &amp; none</title>\n"],
@@ -360,20 +406,31 @@ fn check_parts(rt: &impl Abort, picture: &str, parts: &[&str]) {
     }
 }
 
+/// Draws this input with these words, and checks that the picture is whole and has each of these parts.
+fn check_picture<H: Abort + Threads + Wait + Sync>(
+    rt: &H,
+    alloc: Global,
+    words: &[&str],
+    input: &str,
+    parts: &[&str],
+) {
+    let ended = ended_on(rt, alloc, words, input);
+    let picture = str::from_utf8(ended.output.as_slice()).unwrap_or("");
+    let is_whole = picture.ends_with("</svg>\n");
+    check_same_at(rt, &words, &(ended.code, is_whole), &(0, true));
+    check_parts(rt, picture, parts);
+}
+
 #[test]
 fn pictures(rt: HostRuntime) {
     for (words, parts) in PICTURES {
-        let ended = ended_on(&rt, rt.alloc(), words, INPUT);
-        let picture = str::from_utf8(ended.output.as_slice()).unwrap_or("");
-        let is_whole = picture.ends_with("</svg>\n");
-        check_same_at(&rt, &words, &(ended.code, is_whole), &(0, true));
-        check_parts(&rt, picture, parts);
+        check_picture(&rt, rt.alloc(), words, INPUT, parts);
     }
 }
 
 /// The picture of `CURRENCIES` by currency, in parts. Both lines have all ticks and are due all of them, and the name
 /// of the second stands below that of the first.
-const CURRENCY_PARTS: [&str; 6] = [
+const CURRENCY_PARTS: &[&str] = &[
     "<title id='title'>Who has run how long</title>\n",
     ">what the threads of each currency have run, in ticks</text>\n",
     "<polyline points=' 100.0,460.0 267.5,360.0 435.0,260.0 602.5,160.0 770.0,60.0' stroke='#0072b2'/>\n",
@@ -385,23 +442,56 @@ const CURRENCY_PARTS: [&str; 6] = [
 #[test]
 fn pictures_by_currency(rt: HostRuntime) {
     let words = ["lot_sim", "chart", "--by", "currency"];
-    let ended = ended_on(&rt, rt.alloc(), &words, CURRENCIES);
-    check_same(&rt, &ended.code, &0);
-    let picture = str::from_utf8(ended.output.as_slice()).unwrap_or("");
-    check_parts(&rt, picture, &CURRENCY_PARTS);
+    check_picture(&rt, rt.alloc(), &words, CURRENCIES, CURRENCY_PARTS);
 }
+
+/// Words, and an input.
+type Call<'a> = (&'a [&'a str], &'a str);
+
+/// Calls the program twice. The first call ends well, and its output is that of the second, or differs.
+fn check_alike<H: Abort + Threads + Wait + Sync>(
+    rt: &H,
+    alloc: Global,
+    first: Call,
+    second: Call,
+    is_alike: bool,
+) {
+    let (words, input) = second;
+    let wanted = ended_on(rt, alloc, words, input);
+    let found = ended_alike(rt, alloc, first, wanted.output.as_slice());
+    check_same_at(rt, &first, &found, &(0, is_alike));
+}
+
+/// Calls the program, and returns the exit status and whether this is the output.
+fn ended_alike<H: Threads + Wait + Sync>(
+    rt: &H,
+    alloc: Global,
+    (words, input): Call,
+    output: &[u8],
+) -> (u8, bool) {
+    let ended = ended_on(rt, alloc, words, input);
+    (ended.code, ended.output.as_slice() == output)
+}
+
+/// Words for a picture by a kind, without the kind, and the input.
+const BY_KIND: &[(&[&str], &str)] = &[
+    (
+        &["lot_sim", "chart", "--title", "x", "--by", "thread"],
+        CURRENCIES,
+    ),
+    (
+        &["lot_sim", "chart", "--title", "x", "--by", "currency"],
+        INPUT,
+    ),
+];
 
 /// The option changes nothing if it asks for threads, nor, except a title that isn't given, in a picture of another
 /// format.
 #[test]
 fn pictures_by_thread(rt: HostRuntime) {
-    let alloc = rt.alloc();
-    for (by, input) in [("thread", CURRENCIES), ("currency", INPUT)] {
-        let words = ["lot_sim", "chart", "--title", "x", "--by", by];
-        let with = ended_on(&rt, alloc, &words, input);
-        let without = ended_on(&rt, alloc, &words[..4], input);
-        let is_same = with.output.as_slice() == without.output.as_slice();
-        check_same_at(&rt, &by, &(with.code, is_same), &(0, true));
+    let without: &[&str] = &["lot_sim", "chart", "--title", "x"];
+    for (words, input) in BY_KIND {
+        check_alike(&rt, rt.alloc(), (words, input), (without, input), true);
     }
 }
 
@@ -425,13 +515,15 @@ processor 1 quanta 2 idle 0 ticks 4
 total turns 8 quanta 2 ticks 4
 ";
 
+static EXPLAINED_ROWS: [Row; 2] = [
+    (&["lot_sim", "explain"], INPUT, 0, EXPLAINED),
+    (&["lot_sim", "explain"], "lottery 9\n", 1, BAD_HEADER),
+];
+
 #[test]
 fn explained(rt: HostRuntime) {
-    let alloc = rt.alloc();
-    check_words_on(&rt, alloc, "explain", INPUT, 0, EXPLAINED);
-    let refused = "refused line 1 50 BadHeader\n";
-    check_words_on(&rt, alloc, "explain", "lottery 9\n", 1, refused);
-    check_words(&rt, alloc, &["lot_sim", "explain", "x", "y"], 2, false);
+    check_rows(&rt, rt.alloc(), &EXPLAINED_ROWS);
+    check_words(&rt, rt.alloc(), &["lot_sim", "explain", "x", "y"], 2, false);
 }
 
 /// Two threads share what a currency is worth as 3 to 1. Its third ticket funds nothing.
@@ -496,16 +588,20 @@ total turns 12 quanta 3 ticks 4 refused 0 left 0
 ";
 
 /// `--funding` has the funding written at each draw, and changes nothing in another format.
+static FUNDING_ROWS: [Row; 2] = [
+    (
+        &["lot_sim", "explain", "--funding"],
+        FUNDED,
+        0,
+        EXPLAINED_FUNDING,
+    ),
+    (&["lot_sim", "explain", "--funding"], INPUT, 0, EXPLAINED),
+];
+
 #[test]
 fn explained_funding(rt: HostRuntime) {
-    let alloc = rt.alloc();
-    let words = ["lot_sim", "explain", "--funding"];
-    for (input, expected) in [(FUNDED, EXPLAINED_FUNDING), (INPUT, EXPLAINED)] {
-        let ended = ended_on(&rt, alloc, &words, input);
-        let is_same = ended.output.as_slice() == expected.as_bytes();
-        check_same_at(&rt, &input, &(ended.code, is_same), &(0, true));
-    }
-    check_words(&rt, alloc, &["lot_sim", "play", "--funding"], 2, false);
+    check_rows(&rt, rt.alloc(), &FUNDING_ROWS);
+    check_words(&rt, rt.alloc(), &["lot_sim", "play", "--funding"], 2, false);
 }
 
 /// An input of three threads and two processors, with this line of seeds, or none if it is empty.
@@ -529,61 +625,100 @@ fundx 1 base c spin
 /// Processor 1 has the seed that was given, and processor 2 the next, 5 * 48271 = 241355, whatever seeds the input has.
 #[test]
 fn given_seeds(rt: HostRuntime) {
-    let alloc = rt.alloc();
-    let wanted = with_seeds(&rt, alloc, "seed 5 241355\n");
-    for seeds in ["", "seed 1 2\n"] {
-        let input = with_seeds(&rt, alloc, seeds);
-        for word in ["play", "report", "explain", "shares", "chart"] {
-            let words = ["lot_sim", word, "--seed", "5"];
-            let given = ended_on(&rt, alloc, &words, input.as_str());
-            let written = ended_on(&rt, alloc, &["lot_sim", word], wanted.as_str());
-            let is_same = given.output.as_slice() == written.output.as_slice();
-            check_same(&rt, &(given.code, is_same), &(0, true));
-        }
-        let own = ended_on(&rt, alloc, &["lot_sim", "play"], input.as_str());
-        let given = ended_on(&rt, alloc, &["lot_sim", "play"], wanted.as_str());
-        let is_same = own.output.as_slice() == given.output.as_slice();
-        check_same(&rt, &(own.code, is_same), &(0, false));
+    let wanted = with_seeds(&rt, rt.alloc(), "seed 5 241355\n");
+    check_given_seed(&rt, rt.alloc(), "", wanted.as_str());
+    check_given_seed(&rt, rt.alloc(), "seed 1 2\n", wanted.as_str());
+}
+
+/// Gives the seed to the input with this line of seeds, and compares it with the input that has that seed itself.
+fn check_given_seed<H: Abort + Threads + Wait + Sync>(
+    rt: &H,
+    alloc: Global,
+    seeds: &str,
+    wanted: &str,
+) {
+    let input = with_seeds(rt, alloc, seeds);
+    check_given_views(rt, alloc, input.as_str(), wanted);
+    let words: &[&str] = &["lot_sim", "play"];
+    check_alike(rt, alloc, (words, input.as_str()), (words, wanted), false);
+}
+
+const VIEWS: &[&str] = &["play", "report", "explain", "shares", "chart"];
+
+/// Compares each view of the input that is given the seed with that of the other input.
+fn check_given_views<H: Abort + Threads + Wait + Sync>(
+    rt: &H,
+    alloc: Global,
+    input: &str,
+    wanted: &str,
+) {
+    for word in VIEWS {
+        let given: &[&str] = &["lot_sim", *word, "--seed", "5"];
+        let written: &[&str] = &["lot_sim", *word];
+        check_alike(rt, alloc, (given, input), (written, wanted), true);
     }
 }
+
+/// Words with a seed beside other options.
+const BESIDE_OPTIONS: &[&[&str]] = &[
+    &["lot_sim", "shares", "--seed", "1", "--quanta"],
+    &["lot_sim", "shares", "--quanta", "--seed", "2147483646"],
+    &["lot_sim", "chart", "--seed=7", "--title", "x"],
+];
 
 /// The least and the greatest seed are taken, beside the other options and before or after them. A faulty line of seeds
 /// is refused, though another seed is given.
 #[test]
 fn given_seeds_beside_options(rt: HostRuntime) {
     let alloc = rt.alloc();
-    for words in [
-        ["lot_sim", "shares", "--seed", "1", "--quanta"],
-        ["lot_sim", "shares", "--quanta", "--seed", "2147483646"],
-        ["lot_sim", "chart", "--seed=7", "--title", "x"],
-    ] {
-        let ended = ended_on(&rt, alloc, &words, INPUT);
-        check_same(&rt, &(ended.code, ended.output.is_empty()), &(0, false));
+    for words in BESIDE_OPTIONS {
+        check_taken(&rt, alloc, words);
     }
-    let faulty = ended_on(
-        &rt,
-        alloc,
-        &["lot_sim", "play", "--seed", "5"],
-        "lottery 1\nseed 0\n",
-    );
-    let is_refused = faulty.output.as_slice() == "refused line 2 52 BadNumber\n".as_bytes();
-    check_same(&rt, &(faulty.code, is_refused), &(1, true));
+    let words = ["lot_sim", "play", "--seed", "5"];
+    let refused = "refused line 2 52 BadNumber\n";
+    check_output_of(&rt, alloc, &words, "lottery 1\nseed 0\n", 1, refused);
 }
+
+/// Checks that the words are taken, and something is written.
+fn check_taken<H: Abort + Threads + Wait + Sync>(rt: &H, alloc: Global, words: &[&str]) {
+    let ended = ended_on(rt, alloc, words, INPUT);
+    check_same_at(
+        rt,
+        &words,
+        &(ended.code, ended.output.is_empty()),
+        &(0, false),
+    );
+}
+
+/// Words that are no seed.
+const NO_SEED: &[&str] = &["", "0", "x", "1.5", "2147483647", "99999999999999999999"];
+
+/// Words with a seed that is refused, and `run`, which takes no seed.
+const REFUSED_SEEDS: &[&[&str]] = &[
+    &["lot_sim", "play", "--seed", "-1"],
+    &["lot_sim", "run", "--seed", "1"],
+];
 
 /// A seed that is none is refused by name, and `run` takes no seed.
 #[test]
 fn refused_seeds(rt: HostRuntime) {
     let alloc = rt.alloc();
-    for seed in ["", "0", "x", "1.5", "2147483647", "99999999999999999999"] {
-        let ended = ended_on(&rt, alloc, &["lot_sim", "play", "--seed", seed], INPUT);
-        let told = str::from_utf8(ended.errors.as_slice()).unwrap_or("");
-        let is_named = told.starts_with("error: ") && told.contains("--seed");
-        check_same(
-            &rt,
-            &(ended.code, ended.output.is_empty(), is_named),
-            &(2, true, true),
-        );
+    for seed in NO_SEED {
+        check_refused_seed(&rt, alloc, seed);
     }
-    check_words(&rt, alloc, &["lot_sim", "play", "--seed", "-1"], 2, false);
-    check_words(&rt, alloc, &["lot_sim", "run", "--seed", "1"], 2, false);
+    check_refused_words(&rt, alloc, REFUSED_SEEDS);
+}
+
+/// Checks that this seed is refused by name.
+fn check_refused_seed<H: Abort + Threads + Wait + Sync>(rt: &H, alloc: Global, seed: &str) {
+    let ended = ended_on(rt, alloc, &["lot_sim", "play", "--seed", seed], INPUT);
+    let is_named = is_error_of_seed(ended.errors.as_slice());
+    let found = (ended.code, ended.output.is_empty(), is_named);
+    check_same_at(rt, &seed, &found, &(2, true, true));
+}
+
+/// Whether the diagnostics name the option.
+fn is_error_of_seed(errors: &[u8]) -> bool {
+    let told = str::from_utf8(errors).unwrap_or("");
+    told.starts_with("error: ") && told.contains("--seed")
 }

@@ -1,6 +1,6 @@
 //! Timed inputs.
 
-use super::check_play;
+use super::check_plays;
 
 /// Nothing to do.
 const IDLE: (&str, &str) = (
@@ -600,59 +600,58 @@ total turns 37 quanta 10 ticks 54 refused 2 left 0 ended 3 mean 15.333 longest 2
 ",
 );
 
+static TURNS_IN_TIME: [(&str, &str); 12] = [
+    IDLE,
+    SPINNERS,
+    LATER,
+    TIES,
+    TWO_PROCESSORS,
+    CALLS,
+    SERVING,
+    MUTEXES,
+    THIRDS,
+    REFUSED,
+    STUCK,
+    COMPENSATED,
+];
+
 #[test]
 fn turns_in_time(rt: HostRuntime) {
-    let rows = [
-        IDLE,
-        SPINNERS,
-        LATER,
-        TIES,
-        TWO_PROCESSORS,
-        CALLS,
-        SERVING,
-        MUTEXES,
-        THIRDS,
-        REFUSED,
-        STUCK,
-        COMPENSATED,
-    ];
-    for (input, output) in rows {
-        check_play(&rt, rt.alloc(), input, 0, output);
-    }
+    check_plays(&rt, rt.alloc(), 0, &TURNS_IN_TIME);
 }
 
-// The outputs are computed by a small model of the rules.
+/// Inputs of threads that sleep. The outputs are computed by a small model of the rules.
+const SLEEPERS_IN_TIME: &[(&str, &str)] = &[SLEEPERS, LAST_TICK, SLEEPING_OWNER, NUMBERS_AGAIN];
+
 #[test]
 fn sleepers_in_time(rt: HostRuntime) {
-    for (input, output) in [SLEEPERS, LAST_TICK, SLEEPING_OWNER, NUMBERS_AGAIN] {
-        check_play(&rt, rt.alloc(), input, 0, output);
-    }
+    check_plays(&rt, rt.alloc(), 0, SLEEPERS_IN_TIME);
 }
+
+const REFUSED_SLEEPS: &[(&str, &str)] = &[
+    (
+        "lottery 1\nscript s\nsleep 5\n",
+        "refused line 3 51 BadLine\n",
+    ),
+    (
+        "lottery 2\nscript s\nsleep 5\n",
+        "refused line 3 51 BadLine\n",
+    ),
+    (
+        "lottery 3\nfor 5\nscript s\nsleep\n",
+        "refused line 4 51 BadLine\n",
+    ),
+    (
+        "lottery 3\nfor 5\nscript s\nsleep 0\n",
+        "refused line 4 52 BadNumber\n",
+    ),
+    (
+        "lottery 3\nfor 5\nscript s\nsleep 4294967296\n",
+        "refused line 4 52 BadNumber\n",
+    ),
+];
 
 #[test]
 fn refused_sleeps(rt: HostRuntime) {
-    for (input, output) in [
-        (
-            "lottery 1\nscript s\nsleep 5\n",
-            "refused line 3 51 BadLine\n",
-        ),
-        (
-            "lottery 2\nscript s\nsleep 5\n",
-            "refused line 3 51 BadLine\n",
-        ),
-        (
-            "lottery 3\nfor 5\nscript s\nsleep\n",
-            "refused line 4 51 BadLine\n",
-        ),
-        (
-            "lottery 3\nfor 5\nscript s\nsleep 0\n",
-            "refused line 4 52 BadNumber\n",
-        ),
-        (
-            "lottery 3\nfor 5\nscript s\nsleep 4294967296\n",
-            "refused line 4 52 BadNumber\n",
-        ),
-    ] {
-        check_play(&rt, rt.alloc(), input, 1, output);
-    }
+    check_plays(&rt, rt.alloc(), 1, REFUSED_SLEEPS);
 }

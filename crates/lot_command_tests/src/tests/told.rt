@@ -15,22 +15,21 @@ use std::thread::Threads;
 pub(crate) fn check_told<H: Abort + Threads + Wait + Sync>(
     rt: &H,
     alloc: Global,
-    words: [&str; 2],
+    word: &str,
     input: &str,
     code: u8,
     expected: &str,
 ) {
-    let ended = ended_on(rt, alloc, &words, input);
-    let told = str::from_utf8(ended.errors.as_slice()).unwrap_or("");
-    check_same_at(rt, &input, &(ended.code, told), &(code, expected));
+    let ended = ended_on(rt, alloc, &["lot_sim", word], input);
+    check_same_at(rt, &input, &(ended.code, ended.told()), &(code, expected));
 }
 
 #[test]
 fn refused_inputs(rt: HostRuntime) {
     let input = "lottery 1\nmktk 5 base\n";
     let expected = "line 2: 'mktk' is no body line; did you mean 'mktkt'?\n";
-    check_told(&rt, rt.alloc(), ["lot_sim", "play"], input, 1, expected);
-    check_told(&rt, rt.alloc(), ["lot_sim", "run"], input, 1, expected);
+    check_told(&rt, rt.alloc(), "play", input, 1, expected);
+    check_told(&rt, rt.alloc(), "run", input, 1, expected);
 }
 
 /// Plays the input with an output for diagnostics that fails, and returns the exit status and whether this was
@@ -52,15 +51,17 @@ fn ended_untold<H: Threads + Wait + Sync>(
     (code, output.as_slice() == expected.as_bytes())
 }
 
+/// Inputs, and the exit status and the output of each.
+const UNTOLD: &[(&str, u8, &str)] = &[
+    ("lottery 1\nmktk 5 base\n", 1, "refused line 2 51 BadLine\n"),
+    ("lottery 1\nmkcur a\n", 0, EMPTY_REPORT),
+];
+
 #[test]
 fn failing_errors(rt: HostRuntime) {
-    let rows = [
-        ("lottery 1\nmktk 5 base\n", 1, "refused line 2 51 BadLine\n"),
-        ("lottery 1\nmkcur a\n", 0, EMPTY_REPORT),
-    ];
-    for (input, code, expected) in rows {
+    for (input, code, expected) in UNTOLD {
         let ended = ended_untold(&rt, rt.alloc(), input, expected);
-        check_same(&rt, &ended, &(code, true));
+        check_same(&rt, &ended, &(*code, true));
     }
 }
 
@@ -73,8 +74,8 @@ endscript
 fundx 10 base a s
 schedule 0 1 1
 ";
-    check_told(&rt, rt.alloc(), ["lot_sim", "play"], input, 0, "");
-    check_told(&rt, rt.alloc(), ["lot_sim", "run"], input, 0, "");
+    check_told(&rt, rt.alloc(), "play", input, 0, "");
+    check_told(&rt, rt.alloc(), "run", input, 0, "");
 }
 
 #[test]
@@ -100,8 +101,8 @@ line 11: the command was refused: no script of an earlier line has the name 'u'
 line 12: this command and those after it, 2 in all, were never made: each 0 in a schedule makes one, and lottery 3 \
 makes those up to its end
 ";
-    check_told(&rt, rt.alloc(), ["lot_sim", "play"], input, 0, expected);
-    check_told(&rt, rt.alloc(), ["lot_sim", "explain"], input, 0, expected);
+    check_told(&rt, rt.alloc(), "play", input, 0, expected);
+    check_told(&rt, rt.alloc(), "explain", input, 0, expected);
 }
 
 #[test]
@@ -124,7 +125,7 @@ rmthr a
 line 10: the command was refused: tickets are in it or fund it, or the thread has a client or owns a mutex
 line 13: the command was refused: no thread has the name 'a'
 ";
-    check_told(&rt, rt.alloc(), ["lot_sim", "play"], input, 0, expected);
+    check_told(&rt, rt.alloc(), "play", input, 0, expected);
 }
 
 #[test]
@@ -144,7 +145,7 @@ kill b
     let expected = "line 10: the command was refused: the thread has ended
 line 11: the command was refused: no thread has the name 'b'
 ";
-    check_told(&rt, rt.alloc(), ["lot_sim", "play"], input, 0, expected);
+    check_told(&rt, rt.alloc(), "play", input, 0, expected);
 }
 
 #[test]
@@ -153,7 +154,7 @@ fn one_command_never_made(rt: HostRuntime) {
     check_told(
         &rt,
         rt.alloc(),
-        ["lot_sim", "play"],
+        "play",
         input,
         0,
         "line 3: this command was never made: each 0 in a schedule makes one, and lottery 3 makes those up to its \
@@ -179,7 +180,7 @@ schedule 0 0 0 0 0 0 0 0 0 0
     check_told(
         &rt,
         rt.alloc(),
-        ["lot_sim", "play"],
+        "play",
         input,
         0,
         "line 2: the command was refused: no ticket has the number 1
@@ -218,7 +219,7 @@ schedule 0 0 1 1 1 1 1 1 1 1 1
     check_told(
         &rt,
         rt.alloc(),
-        ["lot_sim", "play"],
+        "play",
         input,
         0,
         "thread 's' is ready at the end and weighs nothing: it wins no draw before something funds it
@@ -243,7 +244,7 @@ schedule 0 0 1 1 1 1 1 1 1
     check_told(
         &rt,
         rt.alloc(),
-        ["lot_sim", "play"],
+        "play",
         input,
         0,
         "thread 'b' waits for good for mutex 'm', whose owner, thread 'a', has ended\n",
@@ -270,7 +271,7 @@ schedule 0 0 0 1 1 1 1 1 1 1 1 1 1 1
     check_told(
         &rt,
         rt.alloc(),
-        ["lot_sim", "play"],
+        "play",
         input,
         0,
         "thread 'c' waits for good for a reply of thread 's'
@@ -296,14 +297,20 @@ fundx 1 base a own
 at 5
 fundx 1 base b wants
 ";
-    check_told(&rt, rt.alloc(), ["lot_sim", "play"], input, 0, "");
+    check_told(&rt, rt.alloc(), "play", input, 0, "");
 }
 
 /// An output that keeps its last two writes alone.
-#[derive(Drop)]
 struct LastWrites {
     before: Vec<u8>,
     last: Vec<u8>,
+}
+
+impl Drop for LastWrites {
+    // An explicit drop: code that drops a `LastWrites` is then proved without unfolding its fields.
+    fn drop(self) {
+        let Self { before: _, last: _ } = self;
+    }
 }
 
 impl LastWrites {
@@ -408,15 +415,34 @@ endscript
 fundx 5 base a one
 ";
 
+/// The subcommands that show what an input does in another way than `play`.
+pub(crate) const VIEWS: &[&str] = &["report", "explain", "shares", "chart"];
+
 /// Shows the input with each subcommand that does, and checks that it tells what `play` does.
 fn check_told_alike<H: Abort + Threads + Wait + Sync>(rt: &H, alloc: Global, input: &str) {
     let played = ended_on(rt, alloc, &["lot_sim", "play"], input);
     check_same_at(rt, &input, &played.errors.is_empty(), &false);
-    for word in ["report", "explain", "shares", "chart"] {
-        let shown = ended_on(rt, alloc, &["lot_sim", word], input);
-        let is_same = shown.errors.as_slice() == played.errors.as_slice();
-        check_same_at(rt, &word, &(shown.code, is_same), &(0, true));
+    check_views(rt, alloc, input, played.errors.as_slice());
+}
+
+/// Checks that each subcommand that shows the input tells this.
+fn check_views<H: Abort + Threads + Wait + Sync>(rt: &H, alloc: Global, input: &str, told: &[u8]) {
+    for word in VIEWS {
+        let ended = ended_telling(rt, alloc, word, input, told);
+        check_same_at(rt, &word, &ended, &(0, true));
     }
+}
+
+/// Shows the input, and returns the exit status and whether the diagnostics are these.
+fn ended_telling<H: Threads + Wait + Sync>(
+    rt: &H,
+    alloc: Global,
+    word: &str,
+    input: &str,
+    told: &[u8],
+) -> (u8, bool) {
+    let shown = ended_on(rt, alloc, &["lot_sim", word], input);
+    (shown.code, shown.errors.as_slice() == told)
 }
 
 #[test]
@@ -441,15 +467,18 @@ fn ended_with<H: Threads + Wait + Sync>(
     (ended.code, is_shown, is_told)
 }
 
+/// What each subcommand shows at the end of the first input above.
+const SHOWN: &[(&str, &str)] = &[
+    ("shares", "tick,a,b\n0,0,0\n1,1,0\n2,2,0\n"),
+    ("chart", "</svg>\n"),
+];
+
 // A refused command has no part in tables and pictures, and its line is told.
 #[test]
 fn refused_commands_of_tables(rt: HostRuntime) {
     let told = "line 7: the command was refused: ";
-    for (word, shown) in [
-        ("shares", "tick,a,b\n0,0,0\n1,1,0\n2,2,0\n"),
-        ("chart", "</svg>\n"),
-    ] {
-        let input = REFUSED_UNMADE_WEIGHTLESS;
+    let input = REFUSED_UNMADE_WEIGHTLESS;
+    for (word, shown) in SHOWN {
         let ended = ended_with(&rt, rt.alloc(), word, input, (shown, told));
         check_same_at(&rt, &word, &ended, &(0, true, true));
     }

@@ -1,6 +1,7 @@
 //! The currencies above a node, in a graph with an edge of each kind.
-ghost use Rattle.std.specs.Prelude.{IsTrue};
+ghost use Rattle.std.specs.Prelude.{◌≡◌, IsTrue};
 ghost use Rattle.lot_graph.specs.Graphs.{IsNodeOf};
+ghost use Rattle.lot_graph.specs.Places.{layout_of};
 
 use super::graph::{add_thread, fund, give, issue, largest, lend, make_currency, wait};
 use crate::{is_mutex, is_thread};
@@ -25,22 +26,40 @@ fn link(rt: &impl Abort, graph: &mut Graph, currency: u32, target: Target) {
     assert!(rt; fund(rt, graph, ticket, target));
 }
 
+const CURRENCIES: &[u32] = &[ALICE, TASK, BOB];
+
+/// Makes the currencies, and as many threads.
+fn make_nodes(rt: &impl Abort, graph: &mut Graph) {
+    for currency in CURRENCIES {
+        assert!(rt; make_currency(rt, graph) == *currency);
+        add_thread(rt, graph);
+    }
+}
+
+/// Currencies, and what a ticket of each funds.
+const LINKS: &[(u32, Target)] = &[
+    (BASE, Target::Currency(ALICE)),
+    (BASE, Target::Currency(BOB)),
+    (ALICE, Target::Currency(TASK)),
+    (TASK, Target::Thread(1)),
+    (BOB, Target::Thread(3)),
+];
+
+fn make_edges(rt: &impl Abort, graph: &mut Graph) {
+    for (currency, target) in LINKS {
+        link(rt, graph, *currency, *target);
+    }
+    assert!(rt; lend(rt, graph, 1, 2));
+    give(rt, graph, 1, 2);
+    assert!(rt; wait(rt, graph, 3, 1));
+}
+
 /// Base funds alice and bob. Alice funds task, which funds thread 1, and bob funds thread 3. Thread 1 lends to
 /// thread 2, which owns mutex 1, and thread 3 waits for the mutex.
 fn make_graph(rt: &impl Abort, alloc: Global) -> Result<Graph, Fail> {
     let mut graph = largest(rt, alloc)?;
-    for currency in [ALICE, TASK, BOB] {
-        assert!(rt; make_currency(rt, &mut graph) == currency);
-        add_thread(rt, &mut graph);
-    }
-    link(rt, &mut graph, BASE, Target::Currency(ALICE));
-    link(rt, &mut graph, BASE, Target::Currency(BOB));
-    link(rt, &mut graph, ALICE, Target::Currency(TASK));
-    link(rt, &mut graph, TASK, Target::Thread(1));
-    link(rt, &mut graph, BOB, Target::Thread(3));
-    assert!(rt; lend(rt, &mut graph, 1, 2));
-    give(rt, &mut graph, 1, 2);
-    assert!(rt; wait(rt, &mut graph, 3, 1));
+    make_nodes(rt, &mut graph);
+    make_edges(rt, &mut graph);
     Ok(graph)
 }
 
@@ -55,6 +74,23 @@ fn is_node(graph: &Graph, node: Node) -> bool
     }
 }
 
+/// Searches from an existing node.
+fn find(rt: &impl Abort, above: &mut Above, graph: &Graph, node: Node)
+    requires { above.old.layout ≡ layout_of graph.now }
+    ensures { above.new.layout ≡ above.old.layout }
+{
+    assert!(rt; is_node(graph, node));
+    above.find(graph, node);
+}
+
+/// Whether the last search found an existing currency.
+fn has_found(rt: &impl Abort, above: &Above, graph: &Graph, currency: u32) -> bool
+    requires { above.now.layout ≡ layout_of graph.now }
+{
+    assert!(rt; graph.is_currency(currency));
+    above.has(currency)
+}
+
 /// Whether a search finds the currency above the second node, after it searched from the first.
 fn finds(
     rt: &impl Abort,
@@ -63,17 +99,14 @@ fn finds(
     nodes: (Node, Node),
     currency: u32,
 ) -> Result<bool, Fail> {
-    assert!(rt; graph.is_currency(currency));
-    assert!(rt; is_node(graph, nodes.0));
-    assert!(rt; is_node(graph, nodes.1));
     let mut above = Above::new(alloc, graph.layout())?;
-    above.find(graph, nodes.0);
-    above.find(graph, nodes.1);
-    Ok(above.has(currency))
+    find(rt, &mut above, graph, nodes.0);
+    find(rt, &mut above, graph, nodes.1);
+    Ok(has_found(rt, &above, graph, currency))
 }
 
 /// A node, a currency, and whether the currency is above the node.
-const ROWS: [(Node, u32, bool); 21] = [
+const ROWS: &[(Node, u32, bool)] = &[
     (Node::Currency(BASE), BASE, true),
     (Node::Currency(BASE), ALICE, false),
     (Node::Currency(ALICE), BASE, true),
@@ -98,14 +131,19 @@ const ROWS: [(Node, u32, bool); 21] = [
     (Node::Thread(3), ALICE, false),
 ];
 
-#[test]
-fn currencies_above_nodes(rt: HostRuntime) -> Result<(), Fail> {
-    let graph = make_graph(&rt, rt.alloc())?;
+fn check_rows(rt: &impl Abort, alloc: Global, graph: &Graph) -> Result<(), Fail> {
     for (i, (node, currency, is)) in ROWS.iter().enumerate() {
         // Every currency is above thread 2, so the second search must forget the first.
         let nodes = (Node::Thread(2), *node);
-        let found = finds(&rt, rt.alloc(), &graph, nodes, *currency)?;
+        let found = finds(rt, alloc, graph, nodes, *currency)?;
         assert!(rt; found == *is, "row {i}");
     }
     Ok(())
+}
+
+#[test]
+fn currencies_above_nodes(rt: HostRuntime) -> Result<(), Fail> {
+    let alloc = rt.alloc();
+    let graph = make_graph(&rt, alloc)?;
+    check_rows(&rt, alloc, &graph)
 }

@@ -1,11 +1,11 @@
 //! A caller that holds a graph and its activity together, and worked rows.
-ghost use Rattle.std.specs.Prelude.{◌≡◌, ◌<◌, ◌≤◌, IsTrue};
-ghost use Rattle.lot_graph.specs.Graphs.{IsBorrower, LendReaches};
-
+use super::required::{
+    check_issue, check_may_lend, check_may_own, check_mutex, check_room, check_thread,
+};
 use crate::is_target;
 use lot_active::{Active, ends_of_edge};
 use lot_graph::Graph;
-use lot_machine::{Edge, Lend, Limits, Node, Sizes, Target};
+use lot_machine::{Edge, Lend, Limits, Sizes, Target};
 use std::alloc::Global;
 use std::marker::Model;
 use std::process::Abort;
@@ -27,29 +27,6 @@ impl Model for Kept {
     ghost invariant = { λ s. Agree (record { graph = s.graph; activity = s.active }) };
 }
 
-/// Whether a thread may lend this way.
-fn may_lend(graph: &mut Graph, thread: u32, lend: Lend) -> bool
-    requires thread { 0 < thread }
-    requires within { thread ≤ graph.old.thread_limit }
-    ensures borrower { IsTrue result → IsBorrower graph.new.funding lend }
-    ensures apart { IsTrue result → ¬ LendReaches graph.new.funding lend thread }
-    ensures unchanged { graph.new ≡ graph.old }
-{
-    match lend {
-        Lend::Nobody => false,
-        Lend::ToThread(server) => {
-            0 < server
-                && server <= graph.threads()
-                && !graph.reaches(Node::Thread(server), Node::Thread(thread))
-        }
-        Lend::ToMutex(mutex) => {
-            0 < mutex
-                && mutex <= graph.mutexes()
-                && !graph.reaches(Node::Mutex(mutex), Node::Thread(thread))
-        }
-    }
-}
-
 impl Kept {
     fn new(rt: &impl Abort, alloc: Global, limits: Option<Limits>) -> Result<Self, Fail> {
         let limits = limits.expect(rt, "limits are not in bounds");
@@ -59,7 +36,7 @@ impl Kept {
     }
 
     fn add_thread(&mut self, rt: &impl Abort) {
-        assert!(rt; self.graph.threads() < self.graph.layout().threads);
+        check_room(rt, &self.graph);
         self.graph.add_thread();
     }
 
@@ -69,7 +46,7 @@ impl Kept {
     }
 
     fn issue(&mut self, rt: &impl Abort, currency: u32, amount: u32) -> u32 {
-        assert!(rt; 0 < amount && self.graph.is_currency(currency));
+        check_issue(rt, &self.graph, currency, amount);
         let made = self.graph.issue(currency, amount);
         made.expect(rt, "there is no room for a ticket")
     }
@@ -93,9 +70,7 @@ impl Kept {
     }
 
     fn lend(&mut self, rt: &impl Abort, thread: u32, lend: Lend) {
-        assert!(rt; 0 < thread && thread <= self.graph.threads());
-        assert!(rt; matches!(self.graph.lend_of(thread), Some(Lend::Nobody)));
-        assert!(rt; may_lend(&mut self.graph, thread, lend));
+        check_may_lend(rt, &mut self.graph, thread, lend);
         self.graph.lend(thread, lend);
         self.active.attach(&self.graph, Edge::OfLender(thread));
     }
@@ -109,16 +84,13 @@ impl Kept {
     }
 
     fn take_mutex(&mut self, rt: &impl Abort, mutex: u32, owner: u32) {
-        assert!(rt; 0 < mutex && mutex <= self.graph.mutexes());
-        assert!(rt; 0 < owner && owner <= self.graph.threads());
-        assert!(rt; self.graph.owner(mutex).is_none());
-        assert!(rt; !self.graph.reaches(Node::Thread(owner), Node::Mutex(mutex)));
+        check_may_own(rt, &mut self.graph, mutex, owner);
         self.graph.take_mutex(mutex, owner);
         self.active.attach(&self.graph, Edge::OfMutex(mutex));
     }
 
     fn give_up_mutex(&mut self, rt: &impl Abort, mutex: u32) {
-        assert!(rt; 0 < mutex && mutex <= self.graph.mutexes());
+        check_mutex(rt, &self.graph, mutex);
         let Some(ends) = ends_of_edge(&self.graph, Edge::OfMutex(mutex)) else {
             return;
         };
@@ -127,7 +99,7 @@ impl Kept {
     }
 
     fn set_live(&mut self, rt: &impl Abort, thread: u32, live: bool) {
-        assert!(rt; 0 < thread && thread <= self.graph.threads());
+        check_thread(rt, &self.graph, thread);
         self.active.set_live(&self.graph, thread, live);
     }
 
@@ -137,7 +109,7 @@ impl Kept {
     }
 
     fn is_backed(&self, rt: &impl Abort, thread: u32) -> bool {
-        assert!(rt; 0 < thread && thread <= self.graph.threads());
+        check_thread(rt, &self.graph, thread);
         self.active.is_backed(thread)
     }
 
@@ -158,6 +130,23 @@ impl Kept {
     fn funding(&mut self, rt: &impl Abort, currency: u32, amount: u32, target: Target) {
         let ticket = self.issue(rt, currency, amount);
         self.fund(rt, ticket, target);
+    }
+
+    /// This many threads and currencies.
+    fn add_nodes(&mut self, rt: &impl Abort, threads: u32, currencies: u32) {
+        for _ in 0..threads {
+            self.add_thread(rt);
+        }
+        for _ in 0..currencies {
+            self.make_currency(rt);
+        }
+    }
+
+    /// Takes the steps of a row in turn.
+    fn play_all(&mut self, rt: &impl Abort, steps: &[Step]) {
+        for (i, step) in steps.iter().enumerate() {
+            assert!(rt; self.play(rt, *step), "step {i}");
+        }
     }
 
     /// Takes a step, and returns whether it comes out as the row says.
@@ -209,15 +198,8 @@ enum Step {
     HavePassed(u64),
 }
 
-/// Plays a row after this many threads and currencies were made.
-fn play(
-    rt: &impl Abort,
-    alloc: Global,
-    threads: u32,
-    currencies: u32,
-    steps: &[Step],
-) -> Result<(), Fail> {
-    let limits = Limits::new(Sizes {
+fn limits() -> Option<Limits> {
+    Limits::new(Sizes {
         tickets: 64,
         currencies: 16,
         threads: 16,
@@ -231,218 +213,240 @@ fn play(
         plain_names: false,
         without_compensation: false,
         without_lending: false,
-    });
+    })
+}
+
+/// Plays a row within these limits, after this many threads and currencies were made.
+fn play_within(
+    rt: &impl Abort,
+    alloc: Global,
+    limits: Option<Limits>,
+    (threads, currencies): (u32, u32),
+    steps: &[Step],
+) -> Result<(), Fail> {
     let mut kept = Kept::new(rt, alloc, limits)?;
-    for _ in 0..threads {
-        kept.add_thread(rt);
-    }
-    for _ in 0..currencies {
-        kept.make_currency(rt);
-    }
-    for (i, step) in steps.iter().enumerate() {
-        assert!(rt; kept.play(rt, *step), "step {i}");
-    }
+    kept.add_nodes(rt, threads, currencies);
+    kept.play_all(rt, steps);
     Ok(())
 }
 
+/// Plays a row after this many threads and currencies were made.
+fn play(
+    rt: &impl Abort,
+    alloc: Global,
+    threads: u32,
+    currencies: u32,
+    steps: &[Step],
+) -> Result<(), Fail> {
+    play_within(rt, alloc, limits(), (threads, currencies), steps)
+}
+
+const TWO_LEVELS: &[Step] = &[
+    Step::Funding(0, 1000, Target::Currency(1)),
+    Step::Funding(1, 200, Target::Currency(2)),
+    Step::Funding(1, 300, Target::Thread(1)),
+    Step::Funding(2, 7, Target::Thread(2)),
+    Step::IsAmount(0, 0),
+    Step::IsAmount(1, 0),
+    Step::Changed(0, 0),
+    Step::Wake(2),
+    Step::Changed(4, 0),
+    Step::IsAmount(2, 7),
+    Step::IsAmount(1, 200),
+    Step::IsAmount(0, 1000),
+    Step::IsActive(3, false),
+    Step::Wake(1),
+    Step::Changed(1, 1),
+    Step::IsAmount(1, 500),
+    Step::IsAmount(0, 1000),
+    Step::Sleep(2),
+    Step::Changed(2, 1),
+    Step::IsAmount(2, 0),
+    Step::IsAmount(1, 300),
+    Step::Sleep(1),
+    Step::Changed(3, 0),
+    Step::IsAmount(1, 0),
+    Step::IsAmount(0, 0),
+];
+
 #[test]
 fn two_levels_all_blocked_one_wakes(rt: HostRuntime) -> Result<(), Fail> {
-    let steps = [
-        Step::Funding(0, 1000, Target::Currency(1)),
-        Step::Funding(1, 200, Target::Currency(2)),
-        Step::Funding(1, 300, Target::Thread(1)),
-        Step::Funding(2, 7, Target::Thread(2)),
-        Step::IsAmount(0, 0),
-        Step::IsAmount(1, 0),
-        Step::Changed(0, 0),
-        Step::Wake(2),
-        Step::Changed(4, 0),
-        Step::IsAmount(2, 7),
-        Step::IsAmount(1, 200),
-        Step::IsAmount(0, 1000),
-        Step::IsActive(3, false),
-        Step::Wake(1),
-        Step::Changed(1, 1),
-        Step::IsAmount(1, 500),
-        Step::IsAmount(0, 1000),
-        Step::Sleep(2),
-        Step::Changed(2, 1),
-        Step::IsAmount(2, 0),
-        Step::IsAmount(1, 300),
-        Step::Sleep(1),
-        Step::Changed(3, 0),
-        Step::IsAmount(1, 0),
-        Step::IsAmount(0, 0),
-    ];
-    play(&rt, rt.alloc(), 2, 2, &steps)
+    play(&rt, rt.alloc(), 2, 2, TWO_LEVELS)
 }
+
+const DIAMOND: &[Step] = &[
+    Step::Funding(0, 50, Target::Currency(1)),
+    Step::Funding(1, 1, Target::Currency(2)),
+    Step::Funding(1, 2, Target::Currency(3)),
+    Step::Funding(2, 3, Target::Currency(4)),
+    Step::Funding(3, 4, Target::Currency(4)),
+    Step::Funding(4, 5, Target::Thread(1)),
+    Step::Wake(1),
+    Step::Changed(6, 0),
+    Step::IsAmount(4, 5),
+    Step::IsAmount(2, 3),
+    Step::IsAmount(3, 4),
+    Step::IsAmount(1, 3),
+    Step::IsAmount(0, 50),
+    Step::Unfund(5),
+    Step::Changed(1, 1),
+    Step::IsAmount(3, 0),
+    Step::IsAmount(1, 1),
+    Step::IsAmount(0, 50),
+    Step::Sleep(1),
+    Step::IsAmount(1, 0),
+    Step::IsAmount(0, 0),
+];
 
 #[test]
 fn diamond(rt: HostRuntime) -> Result<(), Fail> {
-    let steps = [
-        Step::Funding(0, 50, Target::Currency(1)),
-        Step::Funding(1, 1, Target::Currency(2)),
-        Step::Funding(1, 2, Target::Currency(3)),
-        Step::Funding(2, 3, Target::Currency(4)),
-        Step::Funding(3, 4, Target::Currency(4)),
-        Step::Funding(4, 5, Target::Thread(1)),
-        Step::Wake(1),
-        Step::Changed(6, 0),
-        Step::IsAmount(4, 5),
-        Step::IsAmount(2, 3),
-        Step::IsAmount(3, 4),
-        Step::IsAmount(1, 3),
-        Step::IsAmount(0, 50),
-        Step::Unfund(5),
-        Step::Changed(1, 1),
-        Step::IsAmount(3, 0),
-        Step::IsAmount(1, 1),
-        Step::IsAmount(0, 50),
-        Step::Sleep(1),
-        Step::IsAmount(1, 0),
-        Step::IsAmount(0, 0),
-    ];
-    play(&rt, rt.alloc(), 1, 4, &steps)
+    play(&rt, rt.alloc(), 1, 4, DIAMOND)
 }
+
+const LAST_AND_ANOTHER: &[Step] = &[
+    Step::Wake(1),
+    Step::Funding(0, 60, Target::Currency(1)),
+    Step::Funding(1, 10, Target::Thread(1)),
+    Step::IsAmount(1, 10),
+    Step::IsAmount(0, 60),
+    Step::Unfund(2),
+    Step::Changed(2, 0),
+    Step::IsAmount(1, 0),
+    Step::IsAmount(0, 0),
+    Step::Funding(1, 25, Target::Thread(1)),
+    Step::Changed(2, 0),
+    Step::IsAmount(1, 25),
+    Step::IsAmount(0, 60),
+];
 
 #[test]
 fn the_last_goes_and_another_comes(rt: HostRuntime) -> Result<(), Fail> {
-    let steps = [
-        Step::Wake(1),
-        Step::Funding(0, 60, Target::Currency(1)),
-        Step::Funding(1, 10, Target::Thread(1)),
-        Step::IsAmount(1, 10),
-        Step::IsAmount(0, 60),
-        Step::Unfund(2),
-        Step::Changed(2, 0),
-        Step::IsAmount(1, 0),
-        Step::IsAmount(0, 0),
-        Step::Funding(1, 25, Target::Thread(1)),
-        Step::Changed(2, 0),
-        Step::IsAmount(1, 25),
-        Step::IsAmount(0, 60),
-    ];
-    play(&rt, rt.alloc(), 1, 1, &steps)
+    play(&rt, rt.alloc(), 1, 1, LAST_AND_ANOTHER)
 }
+
+const FUNDED_BEFORE: &[Step] = &[
+    Step::Funding(1, 3, Target::Thread(1)),
+    Step::Wake(2),
+    Step::Funding(0, 8, Target::Currency(1)),
+    Step::Funding(1, 5, Target::Thread(2)),
+    Step::IsAmount(1, 5),
+    Step::IsActive(1, false),
+    Step::Wake(1),
+    Step::Changed(1, 1),
+    Step::IsActive(1, true),
+    Step::IsAmount(1, 8),
+    Step::IsAmount(0, 8),
+];
 
 /// A ticket that is funded while its target is inactive has no part in any amount until the target wakes.
 #[test]
 fn funded_before_it_wakes(rt: HostRuntime) -> Result<(), Fail> {
-    let steps = [
-        Step::Funding(1, 3, Target::Thread(1)),
-        Step::Wake(2),
-        Step::Funding(0, 8, Target::Currency(1)),
-        Step::Funding(1, 5, Target::Thread(2)),
-        Step::IsAmount(1, 5),
-        Step::IsActive(1, false),
-        Step::Wake(1),
-        Step::Changed(1, 1),
-        Step::IsActive(1, true),
-        Step::IsAmount(1, 8),
-        Step::IsAmount(0, 8),
-    ];
-    play(&rt, rt.alloc(), 2, 1, &steps)
+    play(&rt, rt.alloc(), 2, 1, FUNDED_BEFORE)
 }
+
+const ELSEWHERE: &[Step] = &[
+    Step::Funding(0, 9, Target::Currency(1)),
+    Step::Funding(1, 3, Target::Thread(1)),
+    Step::Funding(1, 4, Target::Thread(2)),
+    Step::Funding(1, 5, Target::Thread(3)),
+    Step::HavePassed(0),
+    Step::Wake(1),
+    Step::HavePassed(2),
+    Step::Wake(2),
+    Step::HavePassed(3),
+    Step::Wake(3),
+    Step::HavePassed(4),
+    Step::Unfund(2),
+    Step::HavePassed(5),
+    Step::Sleep(1),
+    Step::HavePassed(5),
+    Step::Sleep(2),
+    Step::HavePassed(6),
+    Step::Sleep(3),
+    Step::HavePassed(8),
+];
 
 /// A change passes on the edges into the nodes that it switches, each once, and no edge elsewhere.
 #[test]
 fn edges_elsewhere_stay(rt: HostRuntime) -> Result<(), Fail> {
-    let steps = [
-        Step::Funding(0, 9, Target::Currency(1)),
-        Step::Funding(1, 3, Target::Thread(1)),
-        Step::Funding(1, 4, Target::Thread(2)),
-        Step::Funding(1, 5, Target::Thread(3)),
-        Step::HavePassed(0),
-        Step::Wake(1),
-        Step::HavePassed(2),
-        Step::Wake(2),
-        Step::HavePassed(3),
-        Step::Wake(3),
-        Step::HavePassed(4),
-        Step::Unfund(2),
-        Step::HavePassed(5),
-        Step::Sleep(1),
-        Step::HavePassed(5),
-        Step::Sleep(2),
-        Step::HavePassed(6),
-        Step::Sleep(3),
-        Step::HavePassed(8),
-    ];
-    play(&rt, rt.alloc(), 3, 1, &steps)
+    play(&rt, rt.alloc(), 3, 1, ELSEWHERE)
 }
+
+const FUNDED_TWICE: &[Step] = &[
+    Step::Funding(0, 9, Target::Currency(1)),
+    Step::Funding(1, 3, Target::Thread(1)),
+    Step::Funding(1, 4, Target::Thread(1)),
+    Step::Wake(1),
+    Step::Changed(3, 0),
+    Step::IsAmount(1, 7),
+    Step::Unfund(2),
+    Step::Changed(0, 1),
+    Step::IsAmount(1, 4),
+    Step::Sleep(1),
+    Step::Changed(3, 0),
+    Step::IsAmount(1, 0),
+];
 
 /// Two tickets of one currency fund the same thread: both count.
 #[test]
 fn funded_twice(rt: HostRuntime) -> Result<(), Fail> {
-    let steps = [
-        Step::Funding(0, 9, Target::Currency(1)),
-        Step::Funding(1, 3, Target::Thread(1)),
-        Step::Funding(1, 4, Target::Thread(1)),
-        Step::Wake(1),
-        Step::Changed(3, 0),
-        Step::IsAmount(1, 7),
-        Step::Unfund(2),
-        Step::Changed(0, 1),
-        Step::IsAmount(1, 4),
-        Step::Sleep(1),
-        Step::Changed(3, 0),
-        Step::IsAmount(1, 0),
-    ];
-    play(&rt, rt.alloc(), 1, 1, &steps)
+    play(&rt, rt.alloc(), 1, 1, FUNDED_TWICE)
 }
+
+const CALL: &[Step] = &[
+    Step::Funding(0, 10, Target::Thread(2)),
+    Step::Wake(2),
+    Step::Sleep(2),
+    Step::Changed(2, 0),
+    Step::Lend(2, Lend::ToThread(1)),
+    Step::Changed(0, 0),
+    Step::IsBacked(2, false),
+    Step::Wake(1),
+    Step::Changed(3, 0),
+    Step::IsBacked(2, true),
+    Step::IsActive(1, true),
+    Step::IsAmount(0, 10),
+    Step::Unlend(2),
+    Step::Changed(2, 0),
+    Step::IsAmount(0, 0),
+    Step::IsBacked(1, true),
+];
 
 /// A client calls a server: what funds the client stays active while the server runs.
 #[test]
 fn a_call(rt: HostRuntime) -> Result<(), Fail> {
-    let steps = [
-        Step::Funding(0, 10, Target::Thread(2)),
-        Step::Wake(2),
-        Step::Sleep(2),
-        Step::Changed(2, 0),
-        Step::Lend(2, Lend::ToThread(1)),
-        Step::Changed(0, 0),
-        Step::IsBacked(2, false),
-        Step::Wake(1),
-        Step::Changed(3, 0),
-        Step::IsBacked(2, true),
-        Step::IsActive(1, true),
-        Step::IsAmount(0, 10),
-        Step::Unlend(2),
-        Step::Changed(2, 0),
-        Step::IsAmount(0, 0),
-        Step::IsBacked(1, true),
-    ];
-    play(&rt, rt.alloc(), 2, 0, &steps)
+    play(&rt, rt.alloc(), 2, 0, CALL)
 }
+
+const OWNER_CALLS: &[Step] = &[
+    Step::Funding(0, 10, Target::Thread(2)),
+    Step::Take(1, 1),
+    Step::Wake(1),
+    Step::Lend(2, Lend::ToMutex(1)),
+    Step::Changed(2, 0),
+    Step::IsBacked(2, true),
+    Step::Wake(3),
+    Step::Lend(1, Lend::ToThread(3)),
+    Step::Changed(0, 1),
+    Step::Sleep(1),
+    Step::Changed(0, 0),
+    Step::IsBacked(1, true),
+    Step::IsBacked(2, true),
+    Step::IsAmount(0, 10),
+    Step::Sleep(3),
+    Step::Changed(5, 0),
+    Step::IsBacked(2, false),
+    Step::IsAmount(0, 0),
+    Step::GiveUp(1),
+    Step::Wake(3),
+    Step::IsBacked(1, true),
+    Step::IsBacked(2, false),
+];
 
 /// The owner of a mutex blocks on a call: a thread that waits for the mutex stays backed, by the server.
 #[test]
 fn an_owner_calls(rt: HostRuntime) -> Result<(), Fail> {
-    let steps = [
-        Step::Funding(0, 10, Target::Thread(2)),
-        Step::Take(1, 1),
-        Step::Wake(1),
-        Step::Lend(2, Lend::ToMutex(1)),
-        Step::Changed(2, 0),
-        Step::IsBacked(2, true),
-        Step::Wake(3),
-        Step::Lend(1, Lend::ToThread(3)),
-        Step::Changed(0, 1),
-        Step::Sleep(1),
-        Step::Changed(0, 0),
-        Step::IsBacked(1, true),
-        Step::IsBacked(2, true),
-        Step::IsAmount(0, 10),
-        Step::Sleep(3),
-        Step::Changed(5, 0),
-        Step::IsBacked(2, false),
-        Step::IsAmount(0, 0),
-        Step::GiveUp(1),
-        Step::Wake(3),
-        Step::IsBacked(1, true),
-        Step::IsBacked(2, false),
-    ];
-    play(&rt, rt.alloc(), 3, 0, &steps)
+    play(&rt, rt.alloc(), 3, 0, OWNER_CALLS)
 }
 
 /// Each currency funds the next, and the last one a thread.
@@ -455,67 +459,74 @@ fn chain(rt: &impl Abort, kept: &mut Kept) {
     kept.funding(rt, 4096, 3, Target::Thread(1));
 }
 
+const CHAIN: &[Step] = &[
+    Step::Wake(1),
+    Step::Changed(4098, 0),
+    Step::IsAmount(0, 2),
+    Step::IsAmount(2048, 2),
+    Step::IsAmount(4096, 3),
+    Step::Sleep(1),
+    Step::Changed(4098, 0),
+    Step::IsAmount(0, 0),
+    Step::IsAmount(4096, 0),
+];
+
+fn play_chain(rt: &impl Abort, alloc: Global) -> Result<(), Fail> {
+    let mut kept = Kept::new(rt, alloc, Limits::new(Sizes::LARGEST))?;
+    chain(rt, &mut kept);
+    kept.play_all(rt, CHAIN);
+    Ok(())
+}
+
 #[test]
 fn chain_of_4096_on_and_off(rt: HostRuntime) -> Result<(), Fail> {
-    let limits = Limits::new(Sizes::LARGEST);
-    let mut kept = Kept::new(&rt, rt.alloc(), limits)?;
-    chain(&rt, &mut kept);
-    for step in [
-        Step::Wake(1),
-        Step::Changed(4098, 0),
-        Step::IsAmount(0, 2),
-        Step::IsAmount(2048, 2),
-        Step::IsAmount(4096, 3),
-        Step::Sleep(1),
-        Step::Changed(4098, 0),
-        Step::IsAmount(0, 0),
-        Step::IsAmount(4096, 0),
-    ] {
-        kept.play(&rt, step);
+    play_chain(&rt, rt.alloc())
+}
+
+const LARGEST: &[Step] = &[
+    Step::Wake(1),
+    Step::Changed(2, 0),
+    Step::IsAmount(0, 281470681677825),
+    Step::Unfund(65535),
+    Step::Changed(0, 1),
+    Step::IsAmount(0, 281466386710530),
+    Step::Sleep(1),
+    Step::IsAmount(0, 0),
+];
+
+/// Tickets of base that fund a thread, as many as the limit allows.
+fn fill(rt: &impl Abort, kept: &mut Kept) {
+    for _ in 0..65535 {
+        kept.funding(rt, 0, u32::MAX, Target::Thread(1));
     }
+}
+
+fn play_filled(rt: &impl Abort, alloc: Global) -> Result<(), Fail> {
+    let mut kept = Kept::new(rt, alloc, Limits::new(Sizes::LARGEST))?;
+    kept.add_thread(rt);
+    fill(rt, &mut kept);
+    kept.play_all(rt, LARGEST);
     Ok(())
 }
 
 /// As many tickets as the limit allows, each of the largest amount, fund one thread.
 #[test]
 fn largest_sizes(rt: HostRuntime) -> Result<(), Fail> {
-    let limits = Limits::new(Sizes::LARGEST);
-    let mut kept = Kept::new(&rt, rt.alloc(), limits)?;
-    kept.add_thread(&rt);
-    for _ in 0..65535 {
-        kept.funding(&rt, 0, u32::MAX, Target::Thread(1));
-    }
-    for step in [
-        Step::Wake(1),
-        Step::Changed(2, 0),
-        Step::IsAmount(0, 281470681677825),
-        Step::Unfund(65535),
-        Step::Changed(0, 1),
-        Step::IsAmount(0, 281466386710530),
-        Step::Sleep(1),
-        Step::IsAmount(0, 0),
-    ] {
-        kept.play(&rt, step);
-    }
-    Ok(())
+    play_filled(&rt, rt.alloc())
 }
+
+const LEAST: &[Step] = &[
+    Step::Funding(0, 1, Target::Thread(1)),
+    Step::Wake(1),
+    Step::Changed(2, 0),
+    Step::IsAmount(0, 1),
+    Step::IsAmount(1, 0),
+    Step::Sleep(1),
+    Step::Changed(2, 0),
+    Step::IsAmount(0, 0),
+];
 
 #[test]
 fn least_sizes(rt: HostRuntime) -> Result<(), Fail> {
-    let mut kept = Kept::new(&rt, rt.alloc(), Limits::new(Sizes::SMALLEST))?;
-    kept.add_thread(&rt);
-    kept.make_currency(&rt);
-    for step in [
-        Step::Funding(0, 1, Target::Thread(1)),
-        Step::Wake(1),
-        Step::Changed(2, 0),
-        Step::IsAmount(0, 1),
-        Step::IsAmount(1, 0),
-        Step::Sleep(1),
-        Step::Changed(2, 0),
-        Step::IsAmount(0, 0),
-    ] {
-        kept.play(&rt, step);
-    }
-    Ok(())
+    play_within(&rt, rt.alloc(), Limits::new(Sizes::SMALLEST), (1, 1), LEAST)
 }

@@ -1,5 +1,9 @@
 //! Draws among the threads of small graphs, and of large ones.
-use crate::{is_thread, may_fund};
+ghost use Rattle.std.specs.Prelude.{◌<◌, IfSome};
+
+use super::required::{check_issue, check_room, check_thread};
+use super::same::check_same_at;
+use crate::may_fund;
 use lot_draw::{Competitor, RunQueue, Winner};
 use lot_machine::{Limits, Sizes, Target, Ticket};
 use lot_value::{Change, ValuedGraph};
@@ -29,6 +33,15 @@ impl Model for Room {
     } };
 }
 
+/// Ends the test unless a compensation is for at least one tick.
+fn check_ticks(rt: &impl Abort, compensation: Option<u32>)
+    ensures { IfSome compensation (λ used. 0 < used) }
+{
+    if let Some(used) = compensation {
+        assert!(rt; 0 < used);
+    }
+}
+
 impl Room {
     fn new(alloc: Global, limits: &Limits) -> Result<Self, AllocError> {
         Ok(Room {
@@ -49,11 +62,10 @@ impl Room {
 
     /// A thread that is live and competes.
     fn add_thread(&mut self, rt: &impl Abort) -> u32 {
-        let graph = self.graph.graph();
-        assert!(rt; graph.threads() < graph.layout().threads);
+        check_room(rt, self.graph.graph());
         self.graph.add_thread();
         let thread = self.graph.graph().threads();
-        assert!(rt; is_thread(self.graph.graph(), thread));
+        check_thread(rt, self.graph.graph(), thread);
         self.graph.set_live(thread, true);
         self.compete(rt, thread, None);
         thread
@@ -61,24 +73,22 @@ impl Room {
 
     /// Makes a thread compete, with a compensation or without.
     fn compete(&mut self, rt: &impl Abort, thread: u32, compensation: Option<u32>) {
-        assert!(rt; is_thread(self.graph.graph(), thread));
-        if let Some(used) = compensation {
-            assert!(rt; 0 < used);
-        }
-        self.queue
-            .set_competitor(thread, Some(Competitor { compensation }));
+        check_thread(rt, self.graph.graph(), thread);
+        check_ticks(rt, compensation);
+        let competitor = Competitor { compensation };
+        self.queue.set_competitor(thread, Some(competitor));
     }
 
     /// A thread runs, and doesn't compete.
     fn run(&mut self, rt: &impl Abort, thread: u32) {
-        assert!(rt; is_thread(self.graph.graph(), thread));
+        check_thread(rt, self.graph.graph(), thread);
         self.queue.set_competitor(thread, None);
     }
 
     /// Funds a currency or a thread with a new ticket.
     fn fund(&mut self, rt: &impl Abort, amount: u32, currency: u32, target: Target) {
         let graph = self.graph.graph();
-        assert!(rt; 0 < amount && graph.is_currency(currency));
+        check_issue(rt, graph, currency, amount);
         let made = graph.ticket_count();
         assert!(rt; made < graph.layout().tickets, "no ticket is left");
         self.graph.apply(Change::NewTicket(Ticket {
@@ -161,25 +171,36 @@ fn is_won(winner: Option<Winner>, (thread, number, total): Won) -> bool {
     }
 }
 
+/// Checks the winner of this drawn number.
+fn check_won(rt: &impl Abort, winner: Option<Winner>, d: u128, won: Won) {
+    assert!(rt; is_won(winner, won), "at {d}");
+}
+
+/// Checks that a draw visits at least one place, and this many at most.
+fn check_visits(rt: &impl Abort, visits: u64, d: u128, most: u64) {
+    assert!(rt; visits >= 1 && visits <= most, "{visits} at {d}");
+}
+
 /// Draws, and checks the winner.
 fn check_winner(rt: &impl Abort, room: &mut Room, d: u128, won: Won) {
     let (winner, _, _) = room.draw(d);
-    assert!(rt; is_won(winner, won), "at {d}");
+    check_won(rt, winner, d, won);
 }
 
 /// Draws, and checks the winner and the counts.
 fn check_counts(rt: &impl Abort, room: &mut Room, d: u128, won: Won, reads: u64, most: u64) {
     let (winner, read, visits) = room.draw(d);
-    assert!(rt; is_won(winner, won), "at {d}");
-    assert!(rt; read == reads, "{read} at {d}");
-    assert!(rt; visits >= 1 && visits <= most, "{visits} at {d}");
+    check_won(rt, winner, d, won);
+    check_same_at(rt, &d, &read, &reads);
+    check_visits(rt, visits, d, most);
 }
 
 /// Draws, and checks that nobody wins.
 fn check_idle(rt: &impl Abort, room: &mut Room, d: u128) {
     let (winner, read, visits) = room.draw(d);
     assert!(rt; winner.is_none(), "at {d}");
-    assert!(rt; read == 0 && visits == 0, "at {d}");
+    check_same_at(rt, &d, &read, &0);
+    check_same_at(rt, &d, &visits, &0);
 }
 
 /// A thread that a ticket of base funds.
@@ -214,6 +235,12 @@ fn take_all(rt: &impl Abort, room: &mut Room, steps: &[Step]) {
     }
 }
 
+/// A new room of these limits.
+fn room_of(alloc: Global, limits: Option<Limits>) -> Result<Room, Fail> {
+    let limits = limits.ok_or("limits")?;
+    Ok(Room::new(alloc, &limits)?)
+}
+
 /// Takes the steps in a new room of these limits.
 fn play(
     rt: &impl Abort,
@@ -221,14 +248,13 @@ fn play(
     limits: Option<Limits>,
     steps: &[Step],
 ) -> Result<(), Fail> {
-    let limits = limits.ok_or("limits")?;
-    let mut room = Room::new(alloc, &limits)?;
+    let mut room = room_of(alloc, limits)?;
     take_all(rt, &mut room, steps);
     Ok(())
 }
 
 /// 100 of base fund a currency, and 33 of it fund each of three threads.
-const THIRDS: [Step; 8] = [
+const THIRDS: &[Step] = &[
     Step::MakeCurrency,
     Step::Fund(100, 0, Target::Currency(1)),
     Step::AddThread,
@@ -241,14 +267,13 @@ const THIRDS: [Step; 8] = [
 
 /// Takes the steps after these.
 fn play_thirds(rt: &impl Abort, alloc: Global, steps: &[Step]) -> Result<(), Fail> {
-    let limits = small_limits().ok_or("limits")?;
-    let mut room = Room::new(alloc, &limits)?;
-    take_all(rt, &mut room, &THIRDS);
+    let mut room = room_of(alloc, small_limits())?;
+    take_all(rt, &mut room, THIRDS);
     take_all(rt, &mut room, steps);
     Ok(())
 }
 
-const STALE: [Step; 4] = [
+const STALE: &[Step] = &[
     Step::Reads(0, (1, 0, 99), 4, 4),
     Step::Reads(98, (3, 98, 99), 0, 4),
     Step::Reads(100, (1, 1, 99), 0, 4),
@@ -258,10 +283,10 @@ const STALE: [Step; 4] = [
 // Each edge into a stale node is read once: one into the currency, and one into each thread.
 #[test]
 fn reads_what_is_stale(rt: HostRuntime) -> Result<(), Fail> {
-    play_thirds(&rt, rt.alloc(), &STALE)
+    play_thirds(&rt, rt.alloc(), STALE)
 }
 
-const FUNDED_BETWEEN: [Step; 3] = [
+const FUNDED_BETWEEN: &[Step] = &[
     Step::Reads(0, (1, 0, 99), 4, 4),
     Step::Fund(50, 0, Target::Currency(1)),
     Step::Reads(149, (3, 149, 150), 5, 4),
@@ -271,10 +296,10 @@ const FUNDED_BETWEEN: [Step; 3] = [
 // stale.
 #[test]
 fn funded_between_draws(rt: HostRuntime) -> Result<(), Fail> {
-    play_thirds(&rt, rt.alloc(), &FUNDED_BETWEEN)
+    play_thirds(&rt, rt.alloc(), FUNDED_BETWEEN)
 }
 
-const UPSTREAM: [Step; 10] = [
+const UPSTREAM: &[Step] = &[
     Step::AddThread,
     Step::MakeCurrency,
     Step::MakeCurrency,
@@ -290,10 +315,10 @@ const UPSTREAM: [Step; 10] = [
 // A ticket two currencies upstream of the thread goes: only the thread's other funding still counts.
 #[test]
 fn unfunded_upstream(rt: HostRuntime) -> Result<(), Fail> {
-    play(&rt, rt.alloc(), small_limits(), &UPSTREAM)
+    play(&rt, rt.alloc(), small_limits(), UPSTREAM)
 }
 
-const RUNNING: [Step; 8] = [
+const RUNNING: &[Step] = &[
     Step::Run(1),
     Step::Wins(0, (2, 0, 66)),
     Step::Run(2),
@@ -307,10 +332,10 @@ const RUNNING: [Step; 8] = [
 // A thread that runs is worth what it was, and only the others are drawn.
 #[test]
 fn leaves_out_who_runs(rt: HostRuntime) -> Result<(), Fail> {
-    play_thirds(&rt, rt.alloc(), &RUNNING)
+    play_thirds(&rt, rt.alloc(), RUNNING)
 }
 
-const COMPENSATED: [Step; 12] = [
+const COMPENSATED: &[Step] = &[
     Step::AddThread,
     Step::Fund(400, 0, Target::Thread(1)),
     Step::AddThread,
@@ -328,7 +353,7 @@ const COMPENSATED: [Step; 12] = [
 // Quantum 100: a thread that used 20 ticks of it weighs five times what it is worth.
 #[test]
 fn compensates(rt: HostRuntime) -> Result<(), Fail> {
-    play(&rt, rt.alloc(), small_limits(), &COMPENSATED)
+    play(&rt, rt.alloc(), small_limits(), COMPENSATED)
 }
 
 /// A room of 1000 threads, each of which a ticket of 1 funds.
@@ -338,28 +363,38 @@ fn thousand(rt: &impl Abort, alloc: Global) -> Result<Room, Fail> {
         threads: 1000,
         quantum: 100,
         ..Sizes::SMALLEST
-    })
-    .ok_or("limits")?;
-    let mut room = Room::new(alloc, &limits)?;
+    });
+    let mut room = room_of(alloc, limits)?;
     for _ in 0..1000 {
         add_funded(rt, &mut room, 1);
     }
     Ok(room)
 }
 
-#[test]
-fn visits_a_place_a_digit(rt: HostRuntime) -> Result<(), Fail> {
-    let mut room = thousand(&rt, rt.alloc())?;
+/// Draws a number below 1000, of which the first draw alone reads edges.
+fn check_thousandth(rt: &impl Abort, room: &mut Room, d: u32)
+    requires { d < 1000 }
+{
+    let reads = if d == 0 { 1000 } else { 0 };
+    let number = u128::from(d);
+    let won = (d + 1, number, 1000);
+    check_counts(rt, room, number, won, reads, 10);
+}
+
+fn check_thousand(rt: &impl Abort, alloc: Global) -> Result<(), Fail> {
+    let mut room = thousand(rt, alloc)?;
     for d in 0..1000 {
-        let reads = if d == 0 { 1000 } else { 0 };
-        let number = u128::from(d);
-        let won = (d + 1, number, 1000);
-        check_counts(&rt, &mut room, number, won, reads, 10);
+        check_thousandth(rt, &mut room, d);
     }
     Ok(())
 }
 
-const LEAST: [Step; 4] = [
+#[test]
+fn visits_a_place_a_digit(rt: HostRuntime) -> Result<(), Fail> {
+    check_thousand(&rt, rt.alloc())
+}
+
+const LEAST: &[Step] = &[
     Step::Idles(7),
     Step::AddThread,
     Step::Fund(u32::MAX, 0, Target::Thread(1)),
@@ -369,10 +404,10 @@ const LEAST: [Step; 4] = [
 #[test]
 fn queue_of_the_least_size(rt: HostRuntime) -> Result<(), Fail> {
     let limits = Limits::new(Sizes::SMALLEST);
-    play(&rt, rt.alloc(), limits, &LEAST)
+    play(&rt, rt.alloc(), limits, LEAST)
 }
 
-const LARGEST: [Step; 4] = [
+const LARGEST: &[Step] = &[
     Step::Idles(7),
     Step::AddThread,
     Step::Fund(u32::MAX, 0, Target::Thread(1)),
@@ -385,5 +420,5 @@ fn queue_of_the_largest_size(rt: HostRuntime) -> Result<(), Fail> {
         unit: 1,
         ..Sizes::LARGEST
     });
-    play(&rt, rt.alloc(), limits, &LARGEST)
+    play(&rt, rt.alloc(), limits, LARGEST)
 }

@@ -3,15 +3,18 @@ use super::same::{check_same, check_same_at};
 use lot_draw::{ParkMiller, mixed_seed};
 use std::test::Fail;
 
+/// Numbers, and whether each is a seed.
+const SEEDS: &[(u32, bool)] = &[
+    (0, false),
+    (1, true),
+    (2147483646, true),
+    (2147483647, false),
+];
+
 #[test]
 fn seeds(rt: HostRuntime) {
-    for (seed, is_one) in [
-        (0, false),
-        (1, true),
-        (2147483646, true),
-        (2147483647, false),
-    ] {
-        check_same_at(&rt, &seed, &ParkMiller::new(seed).is_some(), &is_one);
+    for (seed, is_one) in SEEDS {
+        check_same_at(&rt, seed, &ParkMiller::new(*seed).is_some(), is_one);
     }
 }
 
@@ -35,17 +38,20 @@ fn wide_numbers(rt: HostRuntime) -> Result<(), Fail> {
     Ok(())
 }
 
+/// Processors, and their seeds.
+const MIXED: &[(u32, u32)] = &[
+    (0, 1),
+    (1, 48271),
+    (2, 182605794),
+    (3, 1291394886),
+    (10000, 399268537),
+];
+
 // The first values of that generator, and its published 10000th.
 #[test]
 fn mixed_seeds(rt: HostRuntime) {
-    for (processor, seed) in [
-        (0, 1),
-        (1, 48271),
-        (2, 182605794),
-        (3, 1291394886),
-        (10000, 399268537),
-    ] {
-        check_same_at(&rt, &processor, &mixed_seed(processor), &seed);
+    for (processor, seed) in MIXED {
+        check_same_at(&rt, processor, &mixed_seed(*processor), seed);
     }
 }
 

@@ -4,6 +4,10 @@ ghost use Rattle.lot_machine.specs.declared.funding.Node.TheVariants.{Currency a
 ghost use Rattle.lot_machine.specs.Funding.{backing_currency};
 ghost use Rattle.lot_graph.specs.Graphs.{IsNodeOf, edge_amount};
 
+use super::required::{
+    check_issue, check_lends_nothing, check_may_own, check_mutex, check_room, check_thread,
+    may_lend,
+};
 use crate::is_target;
 use lot_graph::Graph;
 use lot_machine::{Edge, Lend, Limits, Node, Sizes, Target, Ticket};
@@ -19,7 +23,7 @@ pub(super) fn largest(rt: &impl Abort, alloc: Global) -> Result<Graph, Fail> {
 }
 
 pub(super) fn add_thread(rt: &impl Abort, graph: &mut Graph) {
-    assert!(rt; graph.threads() < graph.layout().threads);
+    check_room(rt, graph);
     graph.add_thread();
 }
 
@@ -44,7 +48,7 @@ fn remove_currency(rt: &impl Abort, graph: &mut Graph, currency: u32) {
 
 /// A ticket in a currency, or `None` if as many were made as the limit allows.
 fn try_issue(rt: &impl Abort, graph: &mut Graph, currency: u32, amount: u32) -> Option<u32> {
-    assert!(rt; 0 < amount && graph.is_currency(currency));
+    check_issue(rt, graph, currency, amount);
     graph.issue(currency, amount)
 }
 
@@ -77,28 +81,26 @@ fn unfund(rt: &impl Abort, graph: &mut Graph, ticket: u32) {
     graph.unfund(ticket);
 }
 
-/// Makes a thread lend to another, or returns false if it would make a cycle.
-pub(super) fn lend(rt: &impl Abort, graph: &mut Graph, thread: u32, server: u32) -> bool {
-    assert!(rt; 0 < server && server <= graph.threads());
-    assert!(rt; 0 < thread && thread <= graph.threads());
-    assert!(rt; matches!(graph.lend_of(thread), Some(Lend::Nobody)));
-    if graph.reaches(Node::Thread(server), Node::Thread(thread)) {
+/// Makes a thread lend, or returns false if it would make a cycle.
+fn try_lend(rt: &impl Abort, graph: &mut Graph, thread: u32, lend: Lend) -> bool {
+    check_lends_nothing(rt, graph, thread);
+    if !may_lend(graph, thread, lend) {
         return false;
     }
-    graph.lend(thread, Lend::ToThread(server));
+    graph.lend(thread, lend);
     true
+}
+
+/// Makes a thread lend to another, or returns false if it would make a cycle.
+pub(super) fn lend(rt: &impl Abort, graph: &mut Graph, thread: u32, server: u32) -> bool {
+    check_thread(rt, graph, server);
+    try_lend(rt, graph, thread, Lend::ToThread(server))
 }
 
 /// Makes a thread wait for a mutex, or returns false if it would make a cycle.
 pub(super) fn wait(rt: &impl Abort, graph: &mut Graph, thread: u32, mutex: u32) -> bool {
-    assert!(rt; 0 < mutex && mutex <= graph.mutexes());
-    assert!(rt; 0 < thread && thread <= graph.threads());
-    assert!(rt; matches!(graph.lend_of(thread), Some(Lend::Nobody)));
-    if graph.reaches(Node::Mutex(mutex), Node::Thread(thread)) {
-        return false;
-    }
-    graph.lend(thread, Lend::ToMutex(mutex));
-    true
+    check_mutex(rt, graph, mutex);
+    try_lend(rt, graph, thread, Lend::ToMutex(mutex))
 }
 
 fn unlend(rt: &impl Abort, graph: &mut Graph, thread: u32) {
@@ -108,10 +110,9 @@ fn unlend(rt: &impl Abort, graph: &mut Graph, thread: u32) {
 
 /// Gives a mutex to a thread.
 pub(super) fn give(rt: &impl Abort, graph: &mut Graph, mutex: u32, thread: u32) {
-    assert!(rt; 0 < mutex && mutex <= graph.mutexes());
-    assert!(rt; 0 < thread && thread <= graph.threads());
+    check_mutex(rt, graph, mutex);
     graph.give_up_mutex(mutex);
-    assert!(rt; !graph.reaches(Node::Thread(thread), Node::Mutex(mutex)));
+    check_may_own(rt, graph, mutex, thread);
     graph.take_mutex(mutex, thread);
 }
 
@@ -221,20 +222,17 @@ fn is_unused(rt: &impl Abort, graph: &Graph, currency: u32) -> bool {
 
 /// The amounts of the tickets that fund a thread.
 fn funded_with(rt: &impl Abort, graph: &Graph, thread: u32) -> u64 {
-    assert!(rt; 0 < thread && thread <= graph.threads());
+    check_thread(rt, graph, thread);
     let mut sum: u64 = 0;
     for edge in graph.edges_into(Node::Thread(thread)) {
-        if let Edge::OfTicket(number) = edge {
-            let amount = graph.ticket(number).map_or(0, |t| t.amount);
-            sum = sum.saturating_add(u64::from(amount));
-        }
+        sum = sum.saturating_add(u64::from(amount_of(graph, edge)));
     }
     sum
 }
 
 /// The number of edges into a thread.
 fn edges_into(rt: &impl Abort, graph: &Graph, thread: u32) -> usize {
-    assert!(rt; 0 < thread && thread <= graph.threads());
+    check_thread(rt, graph, thread);
     graph.edges_into(Node::Thread(thread)).count()
 }
 
@@ -407,16 +405,21 @@ fn change(rt: &impl Abort, graph: &mut Graph, step: Step) {
     }
 }
 
+/// Takes the steps in turn.
+fn take_all(rt: &impl Abort, graph: &mut Graph, steps: &[Step]) {
+    for (i, step) in steps.iter().enumerate() {
+        assert!(rt; take(rt, graph, *step), "step {i}");
+    }
+}
+
 /// Takes the steps in a new graph of the largest tables.
 fn play(rt: &impl Abort, alloc: Global, steps: &[Step]) -> Result<(), Fail> {
     let mut graph = largest(rt, alloc)?;
-    for (i, step) in steps.iter().enumerate() {
-        assert!(rt; take(rt, &mut graph, *step), "step {i}");
-    }
+    take_all(rt, &mut graph, steps);
     Ok(())
 }
 
-const CYCLES: [Step; 16] = [
+const CYCLES: &[Step] = &[
     Step::MakeCurrency(1),
     Step::MakeCurrency(2),
     Step::MakeCurrency(3),
@@ -437,10 +440,10 @@ const CYCLES: [Step; 16] = [
 
 #[test]
 fn cycles_are_refused(rt: HostRuntime) -> Result<(), Fail> {
-    play(&rt, rt.alloc(), &CYCLES)
+    play(&rt, rt.alloc(), CYCLES)
 }
 
-const REMOVED: [Step; 18] = [
+const REMOVED: &[Step] = &[
     Step::AddThread,
     Step::MakeCurrency(1),
     Step::Issue(1, 5, 1),
@@ -463,10 +466,10 @@ const REMOVED: [Step; 18] = [
 
 #[test]
 fn removed_numbers_are_gone(rt: HostRuntime) -> Result<(), Fail> {
-    play(&rt, rt.alloc(), &REMOVED)
+    play(&rt, rt.alloc(), REMOVED)
 }
 
-const REISSUED: [Step; 17] = [
+const REISSUED: &[Step] = &[
     Step::AddThread,
     Step::MakeCurrency(1),
     Step::Issue(0, 3, 1),
@@ -488,10 +491,10 @@ const REISSUED: [Step; 17] = [
 
 #[test]
 fn amounts_change_in_place(rt: HostRuntime) -> Result<(), Fail> {
-    play(&rt, rt.alloc(), &REISSUED)
+    play(&rt, rt.alloc(), REISSUED)
 }
 
-const LARGEST: [Step; 7] = [
+const LARGEST: &[Step] = &[
     Step::AddThread,
     Step::Fill(1, 65535),
     Step::Shows(Fact::FundedWith(1, 281470681677825)),
@@ -503,10 +506,10 @@ const LARGEST: [Step; 7] = [
 
 #[test]
 fn largest_sizes(rt: HostRuntime) -> Result<(), Fail> {
-    play(&rt, rt.alloc(), &LARGEST)
+    play(&rt, rt.alloc(), LARGEST)
 }
 
-const BACKED: [Step; 8] = [
+const BACKED: &[Step] = &[
     Step::MakeCurrency(1),
     Step::Issue(0, 5, 1),
     Step::Fund(1, Target::Currency(1)),
@@ -519,10 +522,10 @@ const BACKED: [Step; 8] = [
 
 #[test]
 fn backing_of_a_currency(rt: HostRuntime) -> Result<(), Fail> {
-    play(&rt, rt.alloc(), &BACKED)
+    play(&rt, rt.alloc(), BACKED)
 }
 
-const CHAIN: [Step; 4] = [
+const CHAIN: &[Step] = &[
     Step::Chain(4096, 4096),
     Step::Issue(4096, 1, 4096),
     Step::FundCycle(4096, Target::Currency(1)),
@@ -531,10 +534,10 @@ const CHAIN: [Step; 4] = [
 
 #[test]
 fn chain_of_currencies(rt: HostRuntime) -> Result<(), Fail> {
-    play(&rt, rt.alloc(), &CHAIN)
+    play(&rt, rt.alloc(), CHAIN)
 }
 
-const LADDER: [Step; 3] = [
+const LADDER: &[Step] = &[
     Step::Ladder(64, 193),
     Step::Issue(193, 1, 257),
     Step::FundCycle(257, Target::Currency(1)),
@@ -542,10 +545,10 @@ const LADDER: [Step; 3] = [
 
 #[test]
 fn ladder_of_diamonds(rt: HostRuntime) -> Result<(), Fail> {
-    play(&rt, rt.alloc(), &LADDER)
+    play(&rt, rt.alloc(), LADDER)
 }
 
-const LENT: [Step; 18] = [
+const LENT: &[Step] = &[
     Step::AddThread,
     Step::AddThread,
     Step::AddThread,
@@ -568,10 +571,10 @@ const LENT: [Step; 18] = [
 
 #[test]
 fn lends_and_owners(rt: HostRuntime) -> Result<(), Fail> {
-    play(&rt, rt.alloc(), &LENT)
+    play(&rt, rt.alloc(), LENT)
 }
 
-const EACH_KIND: [Step; 14] = [
+const EACH_KIND: &[Step] = &[
     Step::AddThread,
     Step::AddThread,
     Step::Issue(0, 5, 1),
@@ -590,5 +593,5 @@ const EACH_KIND: [Step; 14] = [
 
 #[test]
 fn edges_out_of_each_kind(rt: HostRuntime) -> Result<(), Fail> {
-    play(&rt, rt.alloc(), &EACH_KIND)
+    play(&rt, rt.alloc(), EACH_KIND)
 }

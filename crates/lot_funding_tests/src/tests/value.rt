@@ -1,8 +1,10 @@
 //! Worked rows over a graph with what everything is worth.
 ghost use Rattle.std.specs.Prelude.{◌≡◌, ◌<◌, ◌≤◌, IfOk, IsTrue};
 ghost use Rattle.lot_graph.specs.Graphs.{IsThread};
+ghost use Rattle.lot_graph.specs.Places.{layout_of};
 ghost use Rattle.lot_value.specs.Changing.{CanLend};
 
+use super::required::{check_issue, check_lends_nothing, check_mutex, check_room, check_thread};
 use super::same::check_same;
 use crate::{is_mutex, is_thread, may_fund};
 use lot_graph::Graph;
@@ -35,16 +37,28 @@ fn small_graph(rt: &impl Abort, alloc: Global) -> Result<Graph, Fail>
     Ok(Graph::new(alloc, &limits)?)
 }
 
+/// Touches one of two threads, and checks that it alone is stale then.
+fn check_touch(rt: &impl Abort, graph: &Graph, values: &mut Values)
+    requires layout { values.old.layout ≡ layout_of graph.now }
+    requires threads { graph.now.thread_limit ≡ 2 }
+{
+    check_same(rt, &values.value_of(Node::Thread(2)), &0);
+    check_same(rt, &values.is_stale(Node::Thread(2)), &false);
+    values.touch(graph, Node::Thread(2));
+    check_same(rt, &values.is_stale(Node::Thread(2)), &true);
+    check_same(rt, &values.is_stale(Node::Thread(1)), &false);
+}
+
+fn touch_in_a_small_graph(rt: &impl Abort, alloc: Global) -> Result<(), Fail> {
+    let graph = small_graph(rt, alloc)?;
+    let mut values = Values::new(alloc, &graph, 1)?;
+    check_touch(rt, &graph, &mut values);
+    Ok(())
+}
+
 #[test]
 fn touched_nodes_are_stale(rt: HostRuntime) -> Result<(), Fail> {
-    let graph = small_graph(&rt, rt.alloc())?;
-    let mut values = Values::new(rt.alloc(), &graph, 1)?;
-    check_same(&rt, &values.value_of(Node::Thread(2)), &0);
-    assert!(rt; !values.is_stale(Node::Thread(2)));
-    values.touch(&graph, Node::Thread(2));
-    assert!(rt; values.is_stale(Node::Thread(2)));
-    assert!(rt; !values.is_stale(Node::Thread(1)));
-    Ok(())
+    touch_in_a_small_graph(&rt, rt.alloc())
 }
 
 /// A change of a valued graph that a row makes.
@@ -64,7 +78,7 @@ enum Step {
 }
 
 fn fund(rt: &impl Abort, graph: &mut ValuedGraph, currency: u32, amount: u32, target: Target) {
-    assert!(rt; 0 < amount && graph.graph().is_currency(currency));
+    check_issue(rt, graph.graph(), currency, amount);
     let made = graph.graph().ticket_count();
     assert!(rt;
         made < graph.graph().layout().tickets,
@@ -105,8 +119,7 @@ fn set_amount(rt: &impl Abort, graph: &mut ValuedGraph, ticket: u32, amount: u32
 }
 
 fn lend(rt: &impl Abort, graph: &mut ValuedGraph, thread: u32, lend: Lend) {
-    assert!(rt; is_thread(graph.graph(), thread));
-    assert!(rt; matches!(graph.graph().lend_of(thread), Some(Lend::Nobody)));
+    check_lends_nothing(rt, graph.graph(), thread);
     assert!(rt; may_lend(graph, thread, lend));
     put_lend(graph, thread, lend);
 }
@@ -143,14 +156,15 @@ fn may_lend(graph: &mut ValuedGraph, thread: u32, lend: Lend) -> bool
 }
 
 fn take(rt: &impl Abort, graph: &mut ValuedGraph, mutex: u32, owner: u32) {
-    assert!(rt; is_mutex(graph.graph(), mutex) && is_thread(graph.graph(), owner));
+    check_mutex(rt, graph.graph(), mutex);
+    check_thread(rt, graph.graph(), owner);
     assert!(rt; graph.graph().owner(mutex).is_none());
     assert!(rt; !graph.reaches(Node::Thread(owner), Node::Mutex(mutex)));
     graph.apply(Change::PutOwner(mutex, Some(owner)));
 }
 
 fn set_live(rt: &impl Abort, graph: &mut ValuedGraph, thread: u32, live: bool) {
-    assert!(rt; is_thread(graph.graph(), thread));
+    check_thread(rt, graph.graph(), thread);
     graph.set_live(thread, live);
 }
 
@@ -160,35 +174,46 @@ fn remove_currency(rt: &impl Abort, graph: &mut ValuedGraph, currency: u32) {
     graph.apply(Change::DropCurrency(currency));
 }
 
+/// Takes a ticket that funds something from it.
+fn take_back(rt: &impl Abort, graph: &mut ValuedGraph, ticket: u32) {
+    assert!(rt; graph.graph().is_funding(ticket));
+    unfund(rt, graph, ticket);
+}
+
+fn destroy(rt: &impl Abort, graph: &mut ValuedGraph, ticket: u32) {
+    assert!(rt; graph.graph().is_unfunded(ticket));
+    graph.apply(Change::DropTicket(ticket));
+}
+
+fn is_lending(graph: &Graph, thread: u32) -> bool {
+    matches!(
+        graph.lend_of(thread),
+        Some(Lend::ToThread(_) | Lend::ToMutex(_))
+    )
+}
+
+fn unlend(rt: &impl Abort, graph: &mut ValuedGraph, thread: u32) {
+    assert!(rt; is_lending(graph.graph(), thread));
+    check_thread(rt, graph.graph(), thread);
+    put_lend(graph, thread, Lend::Nobody);
+}
+
+fn give_up(rt: &impl Abort, graph: &mut ValuedGraph, mutex: u32) {
+    check_mutex(rt, graph.graph(), mutex);
+    graph.apply(Change::PutOwner(mutex, None));
+}
+
 fn make(rt: &impl Abort, graph: &mut ValuedGraph, change: Step) {
     match change {
         Step::Funding(currency, amount, target) => fund(rt, graph, currency, amount, target),
-        Step::Unfund(ticket) => {
-            assert!(rt; graph.graph().is_funding(ticket));
-            unfund(rt, graph, ticket);
-        }
+        Step::Unfund(ticket) => take_back(rt, graph, ticket),
         Step::Amount(ticket, amount) => set_amount(rt, graph, ticket, amount),
-        Step::Destroy(ticket) => {
-            assert!(rt; graph.graph().is_unfunded(ticket));
-            graph.apply(Change::DropTicket(ticket));
-        }
+        Step::Destroy(ticket) => destroy(rt, graph, ticket),
         Step::RemoveCurrency(currency) => remove_currency(rt, graph, currency),
         Step::Lend(thread, to) => lend(rt, graph, thread, to),
-        Step::Unlend(thread) => {
-            assert!(rt;
-                matches!(
-                    graph.graph().lend_of(thread),
-                    Some(Lend::ToThread(_) | Lend::ToMutex(_))
-                )
-            );
-            assert!(rt; is_thread(graph.graph(), thread));
-            put_lend(graph, thread, Lend::Nobody);
-        }
+        Step::Unlend(thread) => unlend(rt, graph, thread),
         Step::Take(mutex, owner) => take(rt, graph, mutex, owner),
-        Step::GiveUp(mutex) => {
-            assert!(rt; is_mutex(graph.graph(), mutex));
-            graph.apply(Change::PutOwner(mutex, None));
-        }
+        Step::GiveUp(mutex) => give_up(rt, graph, mutex),
         Step::Wake(thread) => set_live(rt, graph, thread, true),
         Step::Sleep(thread) => set_live(rt, graph, thread, false),
     }
@@ -224,13 +249,17 @@ fn opening(
     });
     let limits = limits.expect(rt, "limits are not in bounds");
     let mut graph = ValuedGraph::new(alloc, &limits)?;
+    add_nodes(rt, &mut graph, threads, currencies);
+    Ok(graph)
+}
+
+fn add_nodes(rt: &impl Abort, graph: &mut ValuedGraph, threads: u32, currencies: u32) {
     for _ in 0..threads {
-        add_thread(rt, &mut graph);
+        add_thread(rt, graph);
     }
     for _ in 0..currencies {
-        make_currency(rt, &mut graph);
+        make_currency(rt, graph);
     }
-    Ok(graph)
 }
 
 fn make_currency(rt: &impl Abort, graph: &mut ValuedGraph) {
@@ -239,7 +268,7 @@ fn make_currency(rt: &impl Abort, graph: &mut ValuedGraph) {
 }
 
 fn add_thread(rt: &impl Abort, graph: &mut ValuedGraph) {
-    assert!(rt; graph.graph().threads() < graph.graph().layout().threads);
+    check_room(rt, graph.graph());
     graph.add_thread();
 }
 
@@ -281,7 +310,7 @@ fn play(rt: &impl Abort, graph: &mut ValuedGraph, row: &Row) {
     for step in row.changes {
         make(rt, graph, *step);
     }
-    assert!(rt; settle(graph) == row.reads, "reads");
+    check_settle(rt, graph, row.reads);
     check(rt, graph, row.worth);
 }
 
@@ -291,252 +320,298 @@ fn check(rt: &impl Abort, graph: &ValuedGraph, worth: &[(Node, u64)]) {
     }
 }
 
+/// Settles, and checks the number of edges that this reads.
+fn check_settle(rt: &impl Abort, graph: &mut ValuedGraph, reads: u64) {
+    assert!(rt; settle(graph) == reads, "reads");
+}
+
+fn check_ticket_worth(rt: &impl Abort, graph: &mut ValuedGraph, number: u32, value: u64) {
+    assert!(rt; is_ticket_worth(graph, number, value));
+}
+
 fn play_all(rt: &impl Abort, graph: &mut ValuedGraph, rows: &[Row]) {
     for row in rows {
         play(rt, graph, row);
     }
 }
 
+/// Plays the rows after this many threads and currencies were made.
+fn play_new(
+    rt: &impl Abort,
+    alloc: Global,
+    threads: u32,
+    currencies: u32,
+    rows: &[Row],
+) -> Result<(), Fail> {
+    let mut graph = opening(rt, alloc, threads, currencies)?;
+    play_all(rt, &mut graph, rows);
+    Ok(())
+}
+
+const SHARED: &[Row<'static>] = &[
+    Row {
+        changes: &[
+            Step::Funding(0, 100, Target::Currency(1)),
+            Step::Funding(1, 33, Target::Thread(1)),
+            Step::Funding(1, 33, Target::Thread(2)),
+            Step::Funding(1, 33, Target::Thread(3)),
+            Step::Wake(1),
+            Step::Wake(2),
+            Step::Wake(3),
+        ],
+        reads: 4,
+        worth: &[
+            (Node::Currency(1), 100),
+            (Node::Thread(1), 33),
+            (Node::Thread(2), 33),
+            (Node::Thread(3), 33),
+        ],
+    },
+    Row {
+        changes: &[],
+        reads: 0,
+        worth: &[(Node::Currency(1), 100), (Node::Thread(3), 33)],
+    },
+    Row {
+        changes: &[Step::Funding(0, 50, Target::Currency(1))],
+        reads: 5,
+        worth: &[(Node::Currency(1), 150), (Node::Thread(2), 50)],
+    },
+];
+
 /// Base funds a currency, and it three threads. What isn't stale is not read again.
 #[test]
 fn shared_currency(rt: HostRuntime) -> Result<(), Fail> {
-    let rows = [
-        Row {
-            changes: &[
-                Step::Funding(0, 100, Target::Currency(1)),
-                Step::Funding(1, 33, Target::Thread(1)),
-                Step::Funding(1, 33, Target::Thread(2)),
-                Step::Funding(1, 33, Target::Thread(3)),
-                Step::Wake(1),
-                Step::Wake(2),
-                Step::Wake(3),
-            ],
-            reads: 4,
-            worth: &[
-                (Node::Currency(1), 100),
-                (Node::Thread(1), 33),
-                (Node::Thread(2), 33),
-                (Node::Thread(3), 33),
-            ],
-        },
-        Row {
-            changes: &[],
-            reads: 0,
-            worth: &[(Node::Currency(1), 100), (Node::Thread(3), 33)],
-        },
-        Row {
-            changes: &[Step::Funding(0, 50, Target::Currency(1))],
-            reads: 5,
-            worth: &[(Node::Currency(1), 150), (Node::Thread(2), 50)],
-        },
-    ];
     let mut graph = opening(&rt, rt.alloc(), 3, 1)?;
-    play_all(&rt, &mut graph, &rows);
-    assert!(rt; is_ticket_worth(&mut graph, 1, 100));
-    assert!(rt; is_ticket_worth(&mut graph, 4, 50));
+    play_all(&rt, &mut graph, SHARED);
+    check_ticket_worth(&rt, &mut graph, 1, 100);
+    check_ticket_worth(&rt, &mut graph, 4, 50);
     Ok(())
 }
+
+const INFLATION: &[Row<'static>] = &[
+    Row {
+        changes: &[
+            Step::Funding(0, 100, Target::Currency(1)),
+            Step::Funding(1, 1, Target::Thread(1)),
+            Step::Funding(1, 1, Target::Thread(2)),
+            Step::Wake(1),
+            Step::Wake(2),
+        ],
+        reads: 3,
+        worth: &[(Node::Thread(1), 50), (Node::Thread(2), 50)],
+    },
+    Row {
+        changes: &[Step::Amount(3, 3)],
+        reads: 2,
+        worth: &[(Node::Thread(1), 25), (Node::Thread(2), 75)],
+    },
+    Row {
+        changes: &[Step::Amount(1, 20)],
+        reads: 3,
+        worth: &[(Node::Thread(1), 5), (Node::Thread(2), 15)],
+    },
+    Row {
+        changes: &[Step::Amount(3, 3), Step::Amount(1, 20)],
+        reads: 0,
+        worth: &[(Node::Currency(1), 20), (Node::Thread(2), 15)],
+    },
+];
 
 /// Two threads of a currency are worth half of it each. One ticket's amount triples, and they share as 1 to 3; base's
 /// ticket falls to a fifth, and so do they. The same amounts again make nothing stale.
 #[test]
 fn inflation_and_deflation(rt: HostRuntime) -> Result<(), Fail> {
-    let rows = [
-        Row {
-            changes: &[
-                Step::Funding(0, 100, Target::Currency(1)),
-                Step::Funding(1, 1, Target::Thread(1)),
-                Step::Funding(1, 1, Target::Thread(2)),
-                Step::Wake(1),
-                Step::Wake(2),
-            ],
-            reads: 3,
-            worth: &[(Node::Thread(1), 50), (Node::Thread(2), 50)],
-        },
-        Row {
-            changes: &[Step::Amount(3, 3)],
-            reads: 2,
-            worth: &[(Node::Thread(1), 25), (Node::Thread(2), 75)],
-        },
-        Row {
-            changes: &[Step::Amount(1, 20)],
-            reads: 3,
-            worth: &[(Node::Thread(1), 5), (Node::Thread(2), 15)],
-        },
-        Row {
-            changes: &[Step::Amount(3, 3), Step::Amount(1, 20)],
-            reads: 0,
-            worth: &[(Node::Currency(1), 20), (Node::Thread(2), 15)],
-        },
-    ];
-    let mut graph = opening(&rt, rt.alloc(), 2, 1)?;
-    play_all(&rt, &mut graph, &rows);
-    Ok(())
+    play_new(&rt, rt.alloc(), 2, 1, INFLATION)
+}
+
+const UNFUNDED: &[Row<'static>] = &[
+    Row {
+        changes: &[
+            Step::Funding(0, 20, Target::Currency(1)),
+            Step::Funding(1, 1, Target::Thread(1)),
+            Step::Funding(1, 1, Target::Thread(2)),
+            Step::Wake(1),
+            Step::Wake(2),
+            Step::Unfund(2),
+        ],
+        reads: 2,
+        worth: &[(Node::Thread(1), 0), (Node::Thread(2), 20)],
+    },
+    Row {
+        changes: &[Step::Amount(2, 7)],
+        reads: 0,
+        worth: &[(Node::Thread(1), 0), (Node::Thread(2), 20)],
+    },
+];
+
+const ONE_FUNDED: &[(Node, u64)] = &[(Node::Thread(2), 20)];
+
+/// Sets the amount of the only ticket that the currency's value goes to.
+fn set_the_only_amount(rt: &impl Abort, graph: &mut ValuedGraph) {
+    set_amount(rt, graph, 3, 9);
+    assert!(rt; !is_worth(graph, Node::Thread(2), 20), "it isn't stale");
+    check_settle(rt, graph, 2);
+    check(rt, graph, ONE_FUNDED);
+}
+
+const BOTH_FUNDED: &[(Node, u64)] = &[(Node::Thread(1), 8), (Node::Thread(2), 11)];
+
+/// The currency's other ticket funds a thread again.
+fn fund_again(rt: &impl Abort, graph: &mut ValuedGraph) {
+    put_target(rt, graph, 2, Target::Thread(1));
+    check_settle(rt, graph, 2);
+    check(rt, graph, BOTH_FUNDED);
 }
 
 /// A ticket that funds nothing gets another amount, and nothing is stale; then the only one that its currency's value
 /// goes to, whose thread is worth as much as before. Both amounts count when the first ticket funds a thread again.
 #[test]
 fn amount_of_an_unfunded_ticket(rt: HostRuntime) -> Result<(), Fail> {
-    let rows = [
-        Row {
-            changes: &[
-                Step::Funding(0, 20, Target::Currency(1)),
-                Step::Funding(1, 1, Target::Thread(1)),
-                Step::Funding(1, 1, Target::Thread(2)),
-                Step::Wake(1),
-                Step::Wake(2),
-                Step::Unfund(2),
-            ],
-            reads: 2,
-            worth: &[(Node::Thread(1), 0), (Node::Thread(2), 20)],
-        },
-        Row {
-            changes: &[Step::Amount(2, 7)],
-            reads: 0,
-            worth: &[(Node::Thread(1), 0), (Node::Thread(2), 20)],
-        },
-    ];
     let mut graph = opening(&rt, rt.alloc(), 2, 1)?;
-    play_all(&rt, &mut graph, &rows);
-    set_amount(&rt, &mut graph, 3, 9);
-    assert!(rt; !is_worth(&graph, Node::Thread(2), 20), "it isn't stale");
-    assert!(rt; settle(&mut graph) == 2);
-    assert!(rt; is_worth(&graph, Node::Thread(2), 20));
-    put_target(&rt, &mut graph, 2, Target::Thread(1));
-    assert!(rt; settle(&mut graph) == 2);
-    check(&rt, &graph, &[(Node::Thread(1), 8), (Node::Thread(2), 11)]);
+    play_all(&rt, &mut graph, UNFUNDED);
+    set_the_only_amount(&rt, &mut graph);
+    fund_again(&rt, &mut graph);
     Ok(())
 }
+
+const UPSTREAM: &[Row<'static>] = &[
+    Row {
+        changes: &[
+            Step::Funding(0, 100, Target::Currency(1)),
+            Step::Funding(1, 10, Target::Currency(2)),
+            Step::Funding(2, 7, Target::Thread(1)),
+            Step::Funding(0, 60, Target::Thread(1)),
+            Step::Wake(1),
+        ],
+        reads: 4,
+        worth: &[(Node::Currency(2), 100), (Node::Thread(1), 160)],
+    },
+    Row {
+        changes: &[Step::Unfund(1)],
+        reads: 3,
+        worth: &[(Node::Currency(1), 0), (Node::Thread(1), 60)],
+    },
+];
 
 /// A ticket two currencies upstream of a thread goes: the thread is worth what it is funded with elsewhere.
 #[test]
 fn unfunded_upstream(rt: HostRuntime) -> Result<(), Fail> {
-    let rows = [
-        Row {
-            changes: &[
-                Step::Funding(0, 100, Target::Currency(1)),
-                Step::Funding(1, 10, Target::Currency(2)),
-                Step::Funding(2, 7, Target::Thread(1)),
-                Step::Funding(0, 60, Target::Thread(1)),
-                Step::Wake(1),
-            ],
-            reads: 4,
-            worth: &[(Node::Currency(2), 100), (Node::Thread(1), 160)],
-        },
-        Row {
-            changes: &[Step::Unfund(1)],
-            reads: 3,
-            worth: &[(Node::Currency(1), 0), (Node::Thread(1), 60)],
-        },
-    ];
-    let mut graph = opening(&rt, rt.alloc(), 1, 2)?;
-    play_all(&rt, &mut graph, &rows);
-    Ok(())
+    play_new(&rt, rt.alloc(), 1, 2, UPSTREAM)
 }
+
+const LAST_AND_ANOTHER: &[Row<'static>] = &[
+    Row {
+        changes: &[
+            Step::Wake(1),
+            Step::Wake(2),
+            Step::Funding(0, 60, Target::Currency(1)),
+            Step::Funding(1, 10, Target::Thread(1)),
+        ],
+        reads: 2,
+        worth: &[(Node::Thread(1), 60), (Node::Thread(2), 0)],
+    },
+    Row {
+        changes: &[Step::Unfund(2), Step::Funding(1, 25, Target::Thread(2))],
+        reads: 2,
+        worth: &[(Node::Thread(1), 0), (Node::Thread(2), 60)],
+    },
+    Row {
+        changes: &[Step::Destroy(2), Step::Unfund(3), Step::Destroy(3)],
+        reads: 1,
+        worth: &[(Node::Currency(1), 0), (Node::Thread(2), 0)],
+    },
+    Row {
+        changes: &[Step::Unfund(1), Step::RemoveCurrency(1), Step::Sleep(2)],
+        reads: 0,
+        worth: &[(Node::Thread(1), 0), (Node::Thread(2), 0)],
+    },
+];
 
 /// The last active edge out of a currency goes and another one comes, and nothing is settled between.
 #[test]
 fn the_last_goes_and_another_comes(rt: HostRuntime) -> Result<(), Fail> {
-    let rows = [
-        Row {
-            changes: &[
-                Step::Wake(1),
-                Step::Wake(2),
-                Step::Funding(0, 60, Target::Currency(1)),
-                Step::Funding(1, 10, Target::Thread(1)),
-            ],
-            reads: 2,
-            worth: &[(Node::Thread(1), 60), (Node::Thread(2), 0)],
-        },
-        Row {
-            changes: &[Step::Unfund(2), Step::Funding(1, 25, Target::Thread(2))],
-            reads: 2,
-            worth: &[(Node::Thread(1), 0), (Node::Thread(2), 60)],
-        },
-        Row {
-            changes: &[Step::Destroy(2), Step::Unfund(3), Step::Destroy(3)],
-            reads: 1,
-            worth: &[(Node::Currency(1), 0), (Node::Thread(2), 0)],
-        },
-        Row {
-            changes: &[Step::Unfund(1), Step::RemoveCurrency(1), Step::Sleep(2)],
-            reads: 0,
-            worth: &[(Node::Thread(1), 0), (Node::Thread(2), 0)],
-        },
-    ];
-    let mut graph = opening(&rt, rt.alloc(), 2, 1)?;
-    play_all(&rt, &mut graph, &rows);
-    Ok(())
+    play_new(&rt, rt.alloc(), 2, 1, LAST_AND_ANOTHER)
 }
+
+const LENT: &[Row<'static>] = &[
+    Row {
+        changes: &[
+            Step::Funding(0, 10, Target::Thread(1)),
+            Step::Funding(0, 20, Target::Thread(2)),
+            Step::Funding(0, 30, Target::Thread(3)),
+            Step::Wake(4),
+            Step::Lend(1, Lend::ToThread(4)),
+        ],
+        reads: 4,
+        worth: &[(Node::Thread(1), 10), (Node::Thread(4), 10)],
+    },
+    Row {
+        changes: &[
+            Step::Take(1, 4),
+            Step::Lend(2, Lend::ToMutex(1)),
+            Step::Lend(3, Lend::ToMutex(1)),
+        ],
+        reads: 6,
+        worth: &[(Node::Mutex(1), 50), (Node::Thread(4), 60)],
+    },
+    Row {
+        changes: &[Step::Unlend(1), Step::GiveUp(1), Step::GiveUp(2)],
+        reads: 5,
+        worth: &[
+            (Node::Thread(1), 0),
+            (Node::Mutex(1), 0),
+            (Node::Thread(4), 0),
+        ],
+    },
+];
 
 /// A client lends to a server, and two threads wait for a mutex that the server owns.
 #[test]
 fn lent_and_inherited(rt: HostRuntime) -> Result<(), Fail> {
-    let rows = [
-        Row {
-            changes: &[
-                Step::Funding(0, 10, Target::Thread(1)),
-                Step::Funding(0, 20, Target::Thread(2)),
-                Step::Funding(0, 30, Target::Thread(3)),
-                Step::Wake(4),
-                Step::Lend(1, Lend::ToThread(4)),
-            ],
-            reads: 4,
-            worth: &[(Node::Thread(1), 10), (Node::Thread(4), 10)],
-        },
-        Row {
-            changes: &[
-                Step::Take(1, 4),
-                Step::Lend(2, Lend::ToMutex(1)),
-                Step::Lend(3, Lend::ToMutex(1)),
-            ],
-            reads: 6,
-            worth: &[(Node::Mutex(1), 50), (Node::Thread(4), 60)],
-        },
-        Row {
-            changes: &[Step::Unlend(1), Step::GiveUp(1), Step::GiveUp(2)],
-            reads: 5,
-            worth: &[
-                (Node::Thread(1), 0),
-                (Node::Mutex(1), 0),
-                (Node::Thread(4), 0),
-            ],
-        },
-    ];
-    let mut graph = opening(&rt, rt.alloc(), 4, 0)?;
-    play_all(&rt, &mut graph, &rows);
-    Ok(())
+    play_new(&rt, rt.alloc(), 4, 0, LENT)
 }
+
+const STALE_BEFORE: &[Row<'static>] = &[
+    Row {
+        changes: &[
+            Step::Funding(0, 1, Target::Thread(1)),
+            Step::Funding(1, 1, Target::Thread(1)),
+            Step::Funding(0, 1, Target::Currency(1)),
+            Step::Wake(1),
+        ],
+        reads: 3,
+        worth: &[(Node::Currency(1), 1), (Node::Thread(1), 2)],
+    },
+    Row {
+        changes: &[
+            Step::Funding(0, 1, Target::Thread(1)),
+            Step::Funding(0, 1, Target::Currency(1)),
+        ],
+        reads: 5,
+        worth: &[(Node::Currency(1), 2), (Node::Thread(1), 4)],
+    },
+];
 
 /// A thread becomes stale before a currency that funds it, and a ticket of base precedes that currency's. Each of the
 /// three edges into the thread is read once, and so are the two into the currency.
 #[test]
 fn stale_before_its_source(rt: HostRuntime) -> Result<(), Fail> {
-    let rows = [
-        Row {
-            changes: &[
-                Step::Funding(0, 1, Target::Thread(1)),
-                Step::Funding(1, 1, Target::Thread(1)),
-                Step::Funding(0, 1, Target::Currency(1)),
-                Step::Wake(1),
-            ],
-            reads: 3,
-            worth: &[(Node::Currency(1), 1), (Node::Thread(1), 2)],
-        },
-        Row {
-            changes: &[
-                Step::Funding(0, 1, Target::Thread(1)),
-                Step::Funding(0, 1, Target::Currency(1)),
-            ],
-            reads: 5,
-            worth: &[(Node::Currency(1), 2), (Node::Thread(1), 4)],
-        },
-    ];
-    let mut graph = opening(&rt, rt.alloc(), 1, 1)?;
-    play_all(&rt, &mut graph, &rows);
-    Ok(())
+    play_new(&rt, rt.alloc(), 1, 1, STALE_BEFORE)
 }
+
+/// A hundred tickets of base fund a thread, and so does one of each of twenty currencies, which base funds.
+fn fund_from_many(rt: &impl Abort, graph: &mut ValuedGraph) {
+    for _ in 0..100 {
+        fund(rt, graph, 0, 1, Target::Thread(1));
+    }
+    for currency in 1..=20 {
+        fund(rt, graph, currency, 1, Target::Thread(1));
+        fund(rt, graph, 0, 1, Target::Currency(currency));
+    }
+}
+
+const MANY_WORTH: &[(Node, u64)] = &[(Node::Thread(1), 120)];
 
 /// A thread with a hundred tickets of base gets stale before each of twenty currencies that fund it too. The edges into
 /// it are read once, and not again for each of the currencies.
@@ -544,15 +619,9 @@ fn stale_before_its_source(rt: HostRuntime) -> Result<(), Fail> {
 fn stale_before_many_sources(rt: HostRuntime) -> Result<(), Fail> {
     let mut graph = opening(&rt, rt.alloc(), 1, 20)?;
     set_live(&rt, &mut graph, 1, true);
-    for _ in 0..100 {
-        fund(&rt, &mut graph, 0, 1, Target::Thread(1));
-    }
-    for currency in 1..=20 {
-        fund(&rt, &mut graph, currency, 1, Target::Thread(1));
-        fund(&rt, &mut graph, 0, 1, Target::Currency(currency));
-    }
-    assert!(rt; settle(&mut graph) == 140);
-    assert!(rt; is_worth(&graph, Node::Thread(1), 120));
+    fund_from_many(&rt, &mut graph);
+    check_settle(&rt, &mut graph, 140);
+    check(&rt, &graph, MANY_WORTH);
     Ok(())
 }
 
@@ -566,16 +635,23 @@ fn diamond(rt: &impl Abort, graph: &mut ValuedGraph, from: u32)
     fund(rt, graph, from + 2, 1, Target::Currency(from + 3));
 }
 
+/// A ladder of 64 diamonds, whose last currency funds a thread.
+fn make_ladder(rt: &impl Abort, graph: &mut ValuedGraph) {
+    for step in 0..64 {
+        diamond(rt, graph, 3 * step);
+    }
+    fund(rt, graph, 192, 1, Target::Thread(1));
+}
+
+const LADDER_WORTH: &[(Node, u64)] = &[(Node::Thread(1), 2)];
+
 /// A ladder of 64 diamonds: as many ways lead through it as two to the 64. Each of its edges is read once.
 #[test]
 fn ladder_of_diamonds(rt: HostRuntime) -> Result<(), Fail> {
     let mut graph = opening(&rt, rt.alloc(), 1, 192)?;
-    for step in 0..64 {
-        diamond(&rt, &mut graph, 3 * step);
-    }
-    fund(&rt, &mut graph, 192, 1, Target::Thread(1));
+    make_ladder(&rt, &mut graph);
     set_live(&rt, &mut graph, 1, true);
-    assert!(rt; settle(&mut graph) == 257);
-    assert!(rt; is_worth(&graph, Node::Thread(1), 2));
+    check_settle(&rt, &mut graph, 257);
+    check(&rt, &graph, LADDER_WORTH);
     Ok(())
 }

@@ -1,9 +1,9 @@
 //! The commands of the console (4.7).
 ghost use Rattle.std.specs.Prelude.{◌≡◌, ◌↔◌, ◌<◌, ◌+◌, ◌^◌, true, Some, IfNone, IfSome, IsTrue};
 ghost use Rattle.std.specs.Prelude.{◌≤◌, ◌++◌, ◌∷◌, [], false, OnSome, is_some, length};
-ghost use Rattle.std.specs.Prelude.{map, option_map, slice_get, if◌then◌else◌};
+ghost use Rattle.std.specs.Prelude.{map, not, option_map, slice_get, if◌then◌else◌};
 ghost use Rattle.std.specs.Option.{SomeIff};
-ghost use Rattle.lot_machine.specs.declared.refusal.Refusal.TheVariants.{Cycle};
+ghost use Rattle.lot_machine.specs.declared.refusal.Refusal.TheVariants.{BadName, Cycle, NameTaken, NoScript};
 ghost use Rattle.lot_machine.specs.declared.reply.Reply.TheVariants.{Done, Refused};
 ghost use Rattle.lot_machine.specs.declared.ticket.Target.TheVariants.{Unfunded};
 ghost use Rattle.lot_machine.specs.declared.command.Command.TheVariants.{MakeTicket, RemoveTicket, MakeCurrency};
@@ -11,7 +11,7 @@ ghost use Rattle.lot_machine.specs.declared.command.Command.TheVariants.{RemoveC
 ghost use Rattle.lot_machine.specs.declared.command.Command.TheVariants.{MakeThread, MakeFunded, RemoveThread, Kill};
 ghost use Rattle.lot_machine.specs.Commands as names;
 ghost use Rattle.lot_machine.specs.Commands.{command_step};
-ghost use Rattle.lot_machine.specs.Funding.{target_of, ticket_at, ticket_in, with_target};
+ghost use Rattle.lot_machine.specs.Funding.{is_currency, target_of, ticket_at, ticket_in, with_target};
 ghost use Rattle.lot_graph.specs.Graphs.{IsCycle, IsTarget};
 ghost use Rattle.lot_value.specs.Changing.{CanTarget};
 ghost use Rattle.lot_machine.specs.Order.{IsInOrder};
@@ -154,7 +154,7 @@ impl Tables {
         let Some(found) = self.ticket_at(ticket) else {
             return Reply::Refused(Refusal::NoTicket);
         };
-        if found.target != Target::Unfunded {
+        if is_funding(found) {
             return Reply::Refused(Refusal::Funding);
         }
         self.threads.apply(Change::DropTicket(ticket as u32));
@@ -265,14 +265,8 @@ impl Tables {
         ensures kept { KeepsStale self.old self.new }
         ensures meter { self.new.meter ≡ self.old.meter }
     {
-        if !self.limits.allow_thread_name(name.as_bytes()) {
-            return Reply::Refused(Refusal::BadName);
-        }
-        if self.target_named(name).is_some() {
-            return Reply::Refused(Refusal::NameTaken);
-        }
-        if script == 0 || script > self.limits.scripts {
-            return Reply::Refused(Refusal::NoScript);
+        if let Some(refusal) = self.thread_refusal(name, script) {
+            return Reply::Refused(refusal);
         }
         if self.are_threads_full() {
             return Reply::Refused(Refusal::Full);
@@ -321,6 +315,27 @@ impl Tables {
         }
         self.end(ThreadNumber { number });
         Reply::Done
+    }
+
+    /// The reason why no thread can have this name or run this script, if there is one.
+    fn thread_refusal(&self, name: &Hashed<'_>, script: u32) -> Option<Refusal>
+        ensures refusal { result
+            ≡ names.first_failing ((not (names.is_thread_name self.now.state.limits name.now), BadName)
+            ∷ (names.is_taken self.now.state name.now, NameTaken)
+            ∷ (names.is_no_script self.now.state script, NoScript) ∷ []) }
+        ensures records { length self.now.state.threads ≡ length self.now.state.records }
+        ensures clients { length self.now.state.clients ≡ length self.now.state.threads }
+    {
+        if !self.limits.allow_thread_name(name.as_bytes()) {
+            return Some(Refusal::BadName);
+        }
+        if self.target_named(name).is_some() {
+            return Some(Refusal::NameTaken);
+        }
+        if script == 0 || script > self.limits.scripts {
+            return Some(Refusal::NoScript);
+        }
+        None
     }
 
     /// Whether there is no room for one more thread.
@@ -414,14 +429,8 @@ impl Tables {
         let Some(issuer) = self.currency_meant(currency) else {
             return Reply::Refused(Refusal::NoCurrency);
         };
-        if !self.limits.allow_thread_name(name.as_bytes()) {
-            return Reply::Refused(Refusal::BadName);
-        }
-        if self.target_named(name).is_some() {
-            return Reply::Refused(Refusal::NameTaken);
-        }
-        if script == 0 || script > self.limits.scripts {
-            return Reply::Refused(Refusal::NoScript);
+        if let Some(refusal) = self.thread_refusal(name, script) {
+            return Reply::Refused(refusal);
         }
         if self.are_threads_full() {
             return Reply::Refused(Refusal::Full);
@@ -468,13 +477,13 @@ impl Tables {
         let Some(to) = self.target_meant(target) else {
             return Reply::Refused(Refusal::NoTarget);
         };
-        if to == Target::Currency(0) {
+        if is_base(to) {
             return Reply::Refused(Refusal::BaseFixed);
         }
         if self.is_dead_thread(to) {
             return Reply::Refused(Refusal::DeadThread);
         }
-        if found.target != Target::Unfunded {
+        if is_funding(found) {
             return Reply::Refused(Refusal::Funding);
         }
         self.fund_target(ticket as u32, found, to)
@@ -525,7 +534,7 @@ impl Tables {
         let Some(found) = self.ticket_at(ticket) else {
             return Reply::Refused(Refusal::NoTicket);
         };
-        if found.target == Target::Unfunded {
+        if !is_funding(found) {
             return Reply::Refused(Refusal::NotFunding);
         }
         self.put_target(ticket as u32, found, Target::Unfunded);
@@ -595,4 +604,17 @@ fn is_bad_amount(amount: u64) -> bool
     ensures { result ≡ names.is_bad_amount amount }
 {
     amount == 0 || amount > 4294967295
+}
+
+/// Whether the ticket funds something.
+fn is_funding(ticket: Ticket) -> bool
+    ensures { result ≡ names.is_funding ticket }
+{
+    !matches!(ticket.target, Target::Unfunded)
+}
+
+fn is_base(target: Target) -> bool
+    ensures { result ≡ is_currency 0 target }
+{
+    matches!(target, Target::Currency(0))
 }

@@ -1,13 +1,15 @@
 //! The effects of traps: yields, calls, receives, replies, serves, locks, unlocks, sleeps and exits (3.4, 4.5, 4.6,
 //! 6.1).
-ghost use Rattle.std.specs.Prelude.{◌≡◌, ◌≢◌};
+ghost use Rattle.std.specs.Prelude.{◌≡◌, ◌≢◌, is_none, not, true};
 ghost use Rattle.lot_machine.specs.declared.action.Action.TheVariants as action;
 ghost use Rattle.lot_machine.specs.declared.after.After.TheVariants.{GoesOn};
 ghost use Rattle.lot_machine.specs.declared.reply.Outcome.TheVariants.{Refused};
 ghost use Rattle.lot_machine.specs.Lends as lends;
+ghost use Rattle.lot_machine.specs.Numbered.{at_number};
 ghost use Rattle.lot_machine.specs.Order.{IsInOrder};
 ghost use Rattle.lot_machine.specs.State.{funding_of};
 ghost use Rattle.lot_machine.specs.Step.{trap_refusal};
+ghost use Rattle.lot_queues.specs.QueueLists.{IsThere};
 ghost use Rattle.lot_kernel.specs.Counted.{CountsTrap, KeepsStale};
 ghost use Rattle.lot_kernel.specs.Snapshots.{MakesStale};
 ghost use Rattle.lot_kernel.specs.Trapped.{IsRunning, effect_of};
@@ -63,7 +65,7 @@ impl Tables {
         ensures kept { KeepsStale self.old self.new }
         ensures meter { self.new.meter ≡ self.old.meter }
     {
-        if port.number == 0 || port.number > self.queues.ports() {
+        if !self.has_port(port) {
             return refused(TrapRefusal::NoPort);
         }
         lot_ports::call(&mut self.threads, &mut self.queues, thread, port, number)
@@ -80,7 +82,7 @@ impl Tables {
         ensures kept { KeepsStale self.old self.new }
         ensures meter { self.new.meter ≡ self.old.meter }
     {
-        if port.number == 0 || port.number > self.queues.ports() {
+        if !self.has_port(port) {
             return refused(TrapRefusal::NoPort);
         }
         lot_ports::receive(&mut self.threads, &mut self.queues, thread, port)
@@ -115,7 +117,7 @@ impl Tables {
         ensures kept { KeepsStale self.old self.new }
         ensures meter { self.new.meter ≡ self.old.meter }
     {
-        if port.number == 0 || port.number > self.queues.ports() {
+        if !self.has_port(port) {
             return refused(TrapRefusal::NoPort);
         }
         let Some(client) = self.queues.first_client(thread.number) else {
@@ -154,7 +156,7 @@ impl Tables {
         ensures refusal { result ≡ trap_refusal self.old.state thread.number (action.Lock mutex.number) }
         ensures unchanged { self.new ≡ self.old }
     {
-        if mutex.number == 0 || mutex.number > self.queues.mutexes() {
+        if !self.has_mutex(mutex) {
             return Some(TrapRefusal::NoMutex);
         }
         let owner = self.queues.owner(mutex.number)?;
@@ -192,7 +194,7 @@ impl Tables {
         ensures stale { MakesStale self.old self.new }
         ensures counts { CountsTrap (action.Unlock mutex.number d) result.outcome self.old self.new }
     {
-        if mutex.number == 0 || mutex.number > self.queues.mutexes() {
+        if !self.has_mutex(mutex) {
             return refused(TrapRefusal::NoMutex);
         }
         if self.queues.owner(mutex.number) != Some(thread.number) {
@@ -206,6 +208,20 @@ impl Tables {
             mutex,
             d,
         )
+    }
+
+    fn has_port(&self, port: PortNumber) -> bool
+        ensures missing { is_none (at_number self.now.state.ports port.number) ≡ not result }
+        ensures there { result ≡ true → IsThere self.now.state.ports port.number }
+    {
+        0 < port.number && port.number <= self.queues.ports()
+    }
+
+    fn has_mutex(&self, mutex: MutexNumber) -> bool
+        ensures missing { is_none (at_number self.now.state.mutexes mutex.number) ≡ not result }
+        ensures there { result ≡ true → IsThere self.now.state.mutexes mutex.number }
+    {
+        0 < mutex.number && mutex.number <= self.queues.mutexes()
     }
 }
 

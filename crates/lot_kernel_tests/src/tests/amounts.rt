@@ -2,7 +2,7 @@
 use super::*;
 
 /// The amount is checked before the number, of which no part is left out, and a refused command changes nothing.
-const REFUSED_AMOUNTS: [Step<'_>; 19] = [
+const REFUSED_AMOUNTS: &[Step<'static>] = &[
     Step::Gives(Line::Settkt(1, 0), Reply::Refused(Refusal::BadAmount)),
     Step::Gives(
         Line::Settkt(1, 4294967296),
@@ -38,15 +38,15 @@ const REFUSED_AMOUNTS: [Step<'_>; 19] = [
 
 #[test]
 fn refused_amounts(rt: HostRuntime) {
-    play(&rt, rt.alloc(), &REFUSED_AMOUNTS)
+    play(&rt, rt.alloc(), REFUSED_AMOUNTS)
 }
 
 /// Two threads with 100 of base each.
-const EVEN: [(u64, &str); 2] = [(100, "a"), (100, "b")];
+const EVEN: &[(u64, &str)] = &[(100, "a"), (100, "b")];
 
 const EVEN_DRAWS: [Event; 2] = [Event::Draw(1, 199), Event::Expire(1)];
 
-const EVEN_REPLIES: [Reply; 2] = [
+static EVEN_REPLIES: [Reply; 2] = [
     Reply::Winner {
         thread: 2,
         number: 199,
@@ -60,7 +60,7 @@ const EVEN_REPLIES: [Reply; 2] = [
 ];
 
 /// Thread `a` gets 300, and `b` gets 4 while it runs. Both count at once, and each ticket still funds what it did.
-const INFLATION: [Step<'_>; 9] = [
+const INFLATION: &[Step<'static>] = &[
     Step::Gives(Line::Settkt(1, 300), Reply::Done),
     Step::Wins(1, 300, (2, 300, 400), None),
     Step::Gives(Line::Settkt(2, 4), Reply::Done),
@@ -75,14 +75,14 @@ const INFLATION: [Step<'_>; 9] = [
 #[test]
 fn inflation(rt: HostRuntime) {
     let mut kernel = largest(&rt, rt.alloc(), 1);
-    fund(&rt, &mut kernel, &EVEN);
+    fund(&rt, &mut kernel, EVEN);
     check_run(&rt, &mut kernel, &EVEN_DRAWS, &EVEN_REPLIES);
-    take_all(&rt, &mut kernel, &INFLATION)
+    take_all(&rt, &mut kernel, INFLATION)
 }
 
 /// Thread `b` yields after one tick of 100, so that it weighs 100 times what it is worth until it next wins: also with
 /// another amount.
-const COMPENSATED: [Step<'_>; 7] = [
+const COMPENSATED: &[Step<'static>] = &[
     Step::Wins(1, 199, (2, 199, 200), None),
     Step::Traps(1, Action::Yield, 2, Outcome::Yielded),
     Step::Thread((2, "b", Status::Ready, 100, 10000, 1, 1)),
@@ -94,15 +94,13 @@ const COMPENSATED: [Step<'_>; 7] = [
 
 #[test]
 fn compensation_stays(rt: HostRuntime) {
-    let mut kernel = largest(&rt, rt.alloc(), 1);
-    fund(&rt, &mut kernel, &EVEN);
-    take_all(&rt, &mut kernel, &COMPENSATED)
+    play_funded(&rt, rt.alloc(), EVEN, COMPENSATED)
 }
 
 /// Currency `g` is worth 100: thread `b` has half of it, and thread `a` the other half, through `h`. A larger amount
 /// for `b` leaves less of `g` to `a`, and where `g` is worth less, both are. A ticket that funds nothing changes no
 /// value.
-const DILUTION: [Step<'_>; 16] = [
+const DILUTION: &[Step<'static>] = &[
     Step::Gives(Line::Settkt(4, 3), Reply::Done),
     Step::Value(1, 25),
     Step::Value(2, 75),
@@ -123,7 +121,5 @@ const DILUTION: [Step<'_>; 16] = [
 
 #[test]
 fn dilution(rt: HostRuntime) {
-    let mut kernel = largest(&rt, rt.alloc(), 1);
-    take_all(&rt, &mut kernel, &TWO_LEVELS);
-    take_all(&rt, &mut kernel, &DILUTION)
+    play_both(&rt, rt.alloc(), &[], TWO_LEVELS, DILUTION)
 }

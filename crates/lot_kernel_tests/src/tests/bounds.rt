@@ -36,7 +36,7 @@ const MOST: Sizes = Sizes {
 };
 
 /// Sizes with one of them one past its bound. A unit is 1 or 256.
-const PAST_A_BOUND: [Sizes; 17] = [
+static PAST_A_BOUND: [Sizes; 17] = [
     Sizes {
         tickets: 0,
         ..LEAST
@@ -101,13 +101,13 @@ fn check_sizes(rt: &impl Abort, sizes: Sizes, may_be: bool) {
 fn sizes_past_a_bound(rt: HostRuntime) {
     check_sizes(&rt, LEAST, true);
     check_sizes(&rt, MOST, true);
-    for sizes in PAST_A_BOUND {
-        check_sizes(&rt, sizes, false);
+    for sizes in &PAST_A_BOUND {
+        check_sizes(&rt, *sizes, false);
     }
 }
 
 /// Names of 16 bytes, the longest, which differ in their last byte.
-const LONG_NAMES: [Step<'_>; 7] = [
+const LONG_NAMES: &[Step<'static>] = &[
     Step::Gives(Line::Mkcur("abcdefghijklmnop"), Reply::Currency(1)),
     Step::Gives(Line::Mkcur("abcdefghijklmnoq"), Reply::Currency(2)),
     Step::Gives(
@@ -123,11 +123,11 @@ const LONG_NAMES: [Step<'_>; 7] = [
 #[test]
 fn names_of_sixteen_bytes(rt: HostRuntime) {
     assert!(rt; Name::new("abcdefghijklmnopq").is_none());
-    play(&rt, rt.alloc(), &LONG_NAMES)
+    play(&rt, rt.alloc(), LONG_NAMES)
 }
 
 /// When the limit on threads is reached, `fundx` makes neither a thread nor a ticket.
-const NO_MORE_THREADS: [Step<'_>; 5] = [
+const NO_MORE_THREADS: &[Step<'static>] = &[
     Step::Gives(Line::Mkthr("u", 1), Reply::Refused(Refusal::Full)),
     Step::Gives(
         Line::Fundx(1, "base", "u", 1),
@@ -140,7 +140,8 @@ const NO_MORE_THREADS: [Step<'_>; 5] = [
 
 #[test]
 fn all_threads(rt: HostRuntime) {
-    let mut kernel = largest(&rt, rt.alloc(), 1);
-    make_threads(&rt, &mut kernel, rt.alloc(), 4096);
-    take_all(&rt, &mut kernel, &NO_MORE_THREADS)
+    let alloc = rt.alloc();
+    let mut kernel = largest(&rt, alloc, 1);
+    make_threads(&rt, &mut kernel, alloc, 4096);
+    take_all(&rt, &mut kernel, NO_MORE_THREADS)
 }

@@ -1,16 +1,9 @@
 //! Threads that are killed, in each status.
 use super::*;
 
-/// Takes the steps in a new kernel, after it got threads of these names with this much base each.
-fn play_funded(rt: &impl Abort, alloc: Global, threads: &[(u64, &str)], steps: &[Step<'_>]) {
-    let mut kernel = largest(rt, alloc, 1);
-    fund(rt, &mut kernel, threads);
-    take_all(rt, &mut kernel, steps)
-}
-
 /// Thread `a` runs and owns a mutex when it is killed: its processor is idle then, its ticket is inactive, and the
 /// mutex is free. What it ran before its last trap counts. It can be removed like any other dead thread.
-const RUNNING: [Step<'_>; 17] = [
+const RUNNING: &[Step<'static>] = &[
     Step::Wins(1, 0, (1, 0, 500), None),
     Step::Works(1, 29, Action::Lock(1), 1, Outcome::Locked),
     Step::Gives(Line::Kill("a"), Reply::Done),
@@ -31,7 +24,7 @@ const RUNNING: [Step<'_>; 17] = [
 ];
 
 /// Of two threads that run one is killed: the other runs on, and wins the next draw.
-const ELSEWHERE: [Step<'_>; 7] = [
+const ELSEWHERE: &[Step<'static>] = &[
     Step::Wins(1, 0, (1, 0, 500), None),
     Step::Wins(2, 0, (2, 0, 100), None),
     Step::Gives(Line::Kill("a"), Reply::Done),
@@ -48,7 +41,7 @@ const ELSEWHERE: [Step<'_>; 7] = [
 ];
 
 /// A Ready thread that is killed competes no more.
-const READY: [Step<'_>; 4] = [
+const READY: &[Step<'static>] = &[
     Step::Gives(Line::Kill("a"), Reply::Done),
     Step::Wins(1, 400, (2, 0, 100), None),
     Step::Gives(Line::Kill("b"), Reply::Done),
@@ -57,14 +50,15 @@ const READY: [Step<'_>; 4] = [
 
 #[test]
 fn kills_of_runners(rt: HostRuntime) {
-    let threads = [(400, "a"), (100, "b")];
-    play_funded(&rt, rt.alloc(), &threads, &RUNNING);
-    play_funded(&rt, rt.alloc(), &threads, &ELSEWHERE);
-    play_funded(&rt, rt.alloc(), &threads, &READY)
+    let alloc = rt.alloc();
+    let threads: &[(u64, &str)] = &[(400, "a"), (100, "b")];
+    play_funded(&rt, alloc, threads, RUNNING);
+    play_funded(&rt, alloc, threads, ELSEWHERE);
+    play_funded(&rt, alloc, threads, READY)
 }
 
 /// A killed thread's ticket is inactive, so the other thread of its currency is worth all of it.
-const SHARED: [Step<'_>; 10] = [
+const SHARED: &[Step<'static>] = &[
     Step::Gives(Line::Mkcur("g"), Reply::Currency(1)),
     Step::Gives(Line::Mktkt(100, "base"), Reply::Ticket(1)),
     Step::Gives(Line::Fund(1, "g"), Reply::Done),
@@ -91,12 +85,12 @@ const SHARED: [Step<'_>; 10] = [
 
 #[test]
 fn kill_of_a_thread_of_a_currency(rt: HostRuntime) {
-    play(&rt, rt.alloc(), &SHARED)
+    play(&rt, rt.alloc(), SHARED)
 }
 
 /// Thread `s` is killed while it serves `c`, and `d` waits for it to receive: `c` is Ready, with nothing delivered, and
 /// receives the call of `d`.
-const SERVER: [Step<'_>; 12] = [
+const SERVER: &[Step<'static>] = &[
     Step::Wins(1, 0, (1, 0, 60), None),
     Step::Traps(1, Action::Receive(1), 1, Outcome::Waits),
     Step::Wins(1, 0, (2, 0, 50), None),
@@ -120,7 +114,7 @@ const SERVER: [Step<'_>; 12] = [
 ];
 
 /// Thread `c` is killed while `s` serves it: `s` is worth its own ticket alone, and has nobody to reply to.
-const CLIENT: [Step<'_>; 8] = [
+const CLIENT: &[Step<'static>] = &[
     Step::Wins(1, 0, (1, 0, 60), None),
     Step::Traps(1, Action::Receive(1), 1, Outcome::Waits),
     Step::Wins(1, 0, (2, 0, 50), None),
@@ -138,13 +132,14 @@ const CLIENT: [Step<'_>; 8] = [
 
 #[test]
 fn kills_of_servers_and_clients(rt: HostRuntime) {
-    let threads = [(10, "s"), (20, "c"), (30, "d")];
-    play_funded(&rt, rt.alloc(), &threads, &SERVER);
-    play_funded(&rt, rt.alloc(), &threads, &CLIENT)
+    let alloc = rt.alloc();
+    let threads: &[(u64, &str)] = &[(10, "s"), (20, "c"), (30, "d")];
+    play_funded(&rt, alloc, threads, SERVER);
+    play_funded(&rt, alloc, threads, CLIENT)
 }
 
 /// Thread `a` is killed after its call was queued before that of `b`: `c` receives that of `b`.
-const CALLER: [Step<'_>; 8] = [
+const CALLER: &[Step<'static>] = &[
     Step::Wins(1, 0, (1, 0, 60), None),
     Step::Traps(1, Action::Call(1, 7), 1, Outcome::Queued),
     Step::Wins(1, 0, (2, 0, 50), None),
@@ -164,7 +159,7 @@ const CALLER: [Step<'_>; 8] = [
 ];
 
 /// Threads `a` and `b` wait to receive, and `a` is killed: `b` serves the call.
-const RECEIVER: [Step<'_>; 8] = [
+const RECEIVER: &[Step<'static>] = &[
     Step::Wins(1, 0, (1, 0, 60), None),
     Step::Traps(1, Action::Receive(1), 1, Outcome::Waits),
     Step::Wins(1, 0, (2, 0, 50), None),
@@ -177,13 +172,14 @@ const RECEIVER: [Step<'_>; 8] = [
 
 #[test]
 fn kills_at_ports(rt: HostRuntime) {
-    let threads = [(10, "a"), (20, "b"), (30, "c")];
-    play_funded(&rt, rt.alloc(), &threads, &CALLER);
-    play_funded(&rt, rt.alloc(), &threads, &RECEIVER)
+    let alloc = rt.alloc();
+    let threads: &[(u64, &str)] = &[(10, "a"), (20, "b"), (30, "c")];
+    play_funded(&rt, alloc, threads, CALLER);
+    play_funded(&rt, alloc, threads, RECEIVER)
 }
 
 /// Thread `o` owns a mutex, for which `w` waits, and then `x`.
-const ONE_MUTEX: [Step<'_>; 7] = [
+const ONE_MUTEX: &[Step<'static>] = &[
     Step::Wins(1, 0, (1, 0, 60), None),
     Step::Traps(1, Action::Lock(1), 1, Outcome::Locked),
     Step::Wins(2, 0, (2, 0, 50), None),
@@ -194,7 +190,7 @@ const ONE_MUTEX: [Step<'_>; 7] = [
 ];
 
 /// The owner is killed: `w` has waited longest, so it owns the mutex, and `x` lends to it.
-const OWNER: [Step<'_>; 6] = [
+const OWNER: &[Step<'static>] = &[
     Step::Gives(Line::Kill("o"), Reply::Done),
     Step::Thread((1, "o", Status::Dead, 0, 0, 1, 1)),
     Step::Thread((2, "w", Status::Ready, 50, 5000, 1, 1)),
@@ -212,7 +208,7 @@ const OWNER: [Step<'_>; 6] = [
 ];
 
 /// A waiter is killed: it lends nothing any more, and isn't in the lottery of the unlock.
-const WAITER: [Step<'_>; 4] = [
+const WAITER: &[Step<'static>] = &[
     Step::Gives(Line::Kill("w"), Reply::Done),
     Step::Value(1, 40),
     Step::Traps(
@@ -227,16 +223,8 @@ const WAITER: [Step<'_>; 4] = [
     Step::Value(1, 10),
 ];
 
-/// Takes the steps in a new kernel, in which `o` owns a mutex for which `w` and `x` wait.
-fn play_owned(rt: &impl Abort, alloc: Global, steps: &[Step<'_>]) {
-    let mut kernel = largest(rt, alloc, 1);
-    fund(rt, &mut kernel, &[(10, "o"), (20, "w"), (30, "x")]);
-    take_all(rt, &mut kernel, &ONE_MUTEX);
-    take_all(rt, &mut kernel, steps)
-}
-
 /// Thread `o` owns two mutexes, and `w` and `x` wait for one each: both are Ready when it is killed, as owners.
-const TWO_MUTEXES: [Step<'_>; 14] = [
+const TWO_MUTEXES: &[Step<'static>] = &[
     Step::Wins(1, 0, (1, 0, 60), None),
     Step::Traps(1, Action::Lock(1), 1, Outcome::Locked),
     Step::Traps(1, Action::Lock(2), 1, Outcome::Locked),
@@ -255,14 +243,16 @@ const TWO_MUTEXES: [Step<'_>; 14] = [
 
 #[test]
 fn kills_of_owners_and_waiters(rt: HostRuntime) {
-    play_owned(&rt, rt.alloc(), &OWNER);
-    play_owned(&rt, rt.alloc(), &WAITER);
-    let threads = [(10, "o"), (20, "w"), (30, "x")];
-    play_funded(&rt, rt.alloc(), &threads, &TWO_MUTEXES)
+    let alloc = rt.alloc();
+    let threads: &[(u64, &str)] = &[(10, "o"), (20, "w"), (30, "x")];
+    let first = ONE_MUTEX;
+    play_both(&rt, alloc, threads, first, OWNER);
+    play_both(&rt, alloc, threads, first, WAITER);
+    play_funded(&rt, alloc, threads, TWO_MUTEXES)
 }
 
 /// A sleeper is killed, and isn't woken then.
-const SLEEPER: [Step<'_>; 6] = [
+const SLEEPER: &[Step<'static>] = &[
     Step::Wins(1, 0, (1, 0, 30), None),
     Step::Works(1, 19, Action::Sleep, 1, Outcome::Slept),
     Step::Gives(Line::Kill("a"), Reply::Done),
@@ -273,11 +263,11 @@ const SLEEPER: [Step<'_>; 6] = [
 
 #[test]
 fn kill_of_a_sleeper(rt: HostRuntime) {
-    play_funded(&rt, rt.alloc(), &[(10, "a"), (20, "b")], &SLEEPER)
+    play_funded(&rt, rt.alloc(), &[(10, "a"), (20, "b")], SLEEPER)
 }
 
 /// A thread has to be there, and alive. Neither base nor another currency is a thread.
-const REFUSED: [Step<'_>; 8] = [
+const REFUSED: &[Step<'static>] = &[
     Step::Gives(Line::Kill("a"), Reply::Refused(Refusal::NoThread)),
     Step::Gives(Line::Kill("base"), Reply::Refused(Refusal::NoThread)),
     Step::Gives(Line::Mkcur("g"), Reply::Currency(1)),
@@ -288,28 +278,22 @@ const REFUSED: [Step<'_>; 8] = [
     Step::Gives(Line::Kill("a"), Reply::Refused(Refusal::DeadThread)),
 ];
 
-/// Numbers of threads to kill, with the replies, where there are two.
-const NUMBERED: [(u32, Reply); 5] = [
-    (0, Reply::Refused(Refusal::NoThread)),
-    (3, Reply::Refused(Refusal::NoThread)),
-    (2, Reply::Done),
-    (2, Reply::Refused(Refusal::DeadThread)),
-    (u32::MAX, Reply::Refused(Refusal::NoThread)),
+/// Numbers of threads to kill, where there are two.
+const NUMBERED: &[Step<'static>] = &[
+    Step::Gives(Line::KillThread(0), Reply::Refused(Refusal::NoThread)),
+    Step::Gives(Line::KillThread(3), Reply::Refused(Refusal::NoThread)),
+    Step::Gives(Line::KillThread(2), Reply::Done),
+    Step::Gives(Line::KillThread(2), Reply::Refused(Refusal::DeadThread)),
+    Step::Gives(
+        Line::KillThread(u32::MAX),
+        Reply::Refused(Refusal::NoThread),
+    ),
+    Step::Wins(1, 29, (1, 9, 10), None),
 ];
-
-/// Kills the thread with this number, and compares the reply.
-fn check_kill(rt: &impl Abort, kernel: &mut Kernel, number: u32, reply: Reply) {
-    let thread = ThreadRef::Numbered(number);
-    check_event(rt, kernel, Event::Command(Command::Kill { thread }), reply)
-}
 
 #[test]
 fn refused_kills(rt: HostRuntime) {
-    play(&rt, rt.alloc(), &REFUSED);
-    let mut kernel = largest(&rt, rt.alloc(), 1);
-    fund(&rt, &mut kernel, &[(10, "a"), (20, "b")]);
-    for (number, reply) in NUMBERED {
-        check_kill(&rt, &mut kernel, number, reply);
-    }
-    check_event(&rt, &mut kernel, Event::Draw(1, 29), won(1, 9, 10, None))
+    let alloc = rt.alloc();
+    play(&rt, alloc, REFUSED);
+    play_funded(&rt, alloc, &[(10, "a"), (20, "b")], NUMBERED)
 }

@@ -13,7 +13,7 @@ const EIGHT: Sizes = Sizes {
 
 /// Any number of threads may have no name, and no currency. No command means a thread by a name that it doesn't have:
 /// each means it by its number.
-const NAMELESS: [Step<'_>; 18] = [
+const NAMELESS: &[Step<'static>] = &[
     Step::Gives(Line::Mkthr("", 1), Reply::Thread(1)),
     Step::Gives(Line::Mkthr("", 1), Reply::Thread(2)),
     Step::Gives(
@@ -42,11 +42,11 @@ const NAMELESS: [Step<'_>; 18] = [
 
 #[test]
 fn threads_without_a_name(rt: HostRuntime) {
-    play(&rt, rt.alloc(), &NAMELESS)
+    play(&rt, rt.alloc(), NAMELESS)
 }
 
 /// Threads without a name are removed from among those whose names have one bucket of eight. These are still found.
-const REMOVED: [Step<'_>; 20] = [
+const REMOVED: &[Step<'static>] = &[
     Step::Gives(Line::Fundx(1, "base", "a", 1), FIRST_FUNDED),
     Step::Gives(Line::Mkthr("", 1), Reply::Thread(2)),
     Step::Gives(Line::Mkthr("d", 1), Reply::Thread(3)),
@@ -70,7 +70,7 @@ const REMOVED: [Step<'_>; 20] = [
 ];
 
 /// The number of a thread without a name is given to one with a name, and back.
-const GIVEN_AGAIN: [Step<'_>; 20] = [
+const GIVEN_AGAIN: &[Step<'static>] = &[
     Step::Gives(Line::Fundx(1, "base", "a", 1), FIRST_FUNDED),
     Step::Gives(Line::Mkthr("", 1), Reply::Thread(2)),
     Step::Gives(Line::Unfund(1), Reply::Done),
@@ -95,12 +95,11 @@ const GIVEN_AGAIN: [Step<'_>; 20] = [
 
 #[test]
 fn removal_of_threads_without_a_name(rt: HostRuntime) {
-    let mut kernel = kernel_of(&rt, rt.alloc(), EIGHT);
-    take_all(&rt, &mut kernel, &REMOVED);
+    let alloc = rt.alloc();
+    play_sized(&rt, alloc, EIGHT, REMOVED);
     let again = Sizes {
         reuse: true,
         ..EIGHT
     };
-    let mut kernel = kernel_of(&rt, rt.alloc(), again);
-    take_all(&rt, &mut kernel, &GIVEN_AGAIN)
+    play_sized(&rt, alloc, again, GIVEN_AGAIN)
 }

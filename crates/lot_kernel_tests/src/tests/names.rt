@@ -3,7 +3,7 @@ use super::*;
 
 /// Currencies and threads share one set of names: each may have the name of one that was removed, and none that of one
 /// that is there.
-const GIVEN_AGAIN: [Step<'_>; 18] = [
+const GIVEN_AGAIN: &[Step<'static>] = &[
     Step::Gives(Line::Mkcur("x"), Reply::Currency(1)),
     Step::Gives(Line::Rmcur("x"), Reply::Done),
     Step::Gives(Line::Rmcur("x"), Reply::Refused(Refusal::NoCurrency)),
@@ -26,11 +26,11 @@ const GIVEN_AGAIN: [Step<'_>; 18] = [
 
 #[test]
 fn names_given_again(rt: HostRuntime) {
-    play(&rt, rt.alloc(), &GIVEN_AGAIN)
+    play(&rt, rt.alloc(), GIVEN_AGAIN)
 }
 
 /// Names of currencies that have one bucket of eight, of which the second, the first and the last are removed.
-const CURRENCIES_OF_ONE_BUCKET: [Step<'_>; 17] = [
+const CURRENCIES_OF_ONE_BUCKET: &[Step<'static>] = &[
     Step::Gives(Line::Mkcur("a"), Reply::Currency(1)),
     Step::Gives(Line::Mkcur("d"), Reply::Currency(2)),
     Step::Gives(Line::Mkcur("g"), Reply::Currency(3)),
@@ -51,7 +51,7 @@ const CURRENCIES_OF_ONE_BUCKET: [Step<'_>; 17] = [
 ];
 
 /// Names of threads that have one bucket of eight, of which the second is removed and given to a new thread.
-const THREADS_OF_ONE_BUCKET: [Step<'_>; 15] = [
+const THREADS_OF_ONE_BUCKET: &[Step<'static>] = &[
     Step::Gives(Line::Fundx(1, "base", "a", 1), FIRST_FUNDED),
     Step::Gives(Line::Mkthr("d", 1), Reply::Thread(2)),
     Step::Gives(Line::Mkthr("g", 1), Reply::Thread(3)),
@@ -77,8 +77,9 @@ fn play_eight(rt: &impl Abort, alloc: Global, steps: &[Step<'_>]) {
 
 #[test]
 fn names_of_one_bucket(rt: HostRuntime) {
-    play_eight(&rt, rt.alloc(), &CURRENCIES_OF_ONE_BUCKET);
-    play_eight(&rt, rt.alloc(), &THREADS_OF_ONE_BUCKET)
+    let alloc = rt.alloc();
+    play_eight(&rt, alloc, CURRENCIES_OF_ONE_BUCKET);
+    play_eight(&rt, alloc, THREADS_OF_ONE_BUCKET)
 }
 
 #[test]
@@ -93,7 +94,7 @@ fn one_name_for_each_currency(rt: HostRuntime) {
 }
 
 /// Names that aren't a letter a to z, followed by letters, digits, `_` or `-`.
-const REFUSED: [Step<'_>; 6] = [
+const REFUSED: &[Step<'static>] = &[
     Step::Gives(Line::Mkthr("Job#1", 1), Reply::Refused(Refusal::BadName)),
     Step::Gives(Line::Mkcur("~!"), Reply::Refused(Refusal::BadName)),
     Step::Gives(Line::Mkcur("9"), Reply::Refused(Refusal::BadName)),
@@ -107,7 +108,7 @@ const REFUSED: [Step<'_>; 6] = [
 
 /// Plain names have any printable ASCII but the space, from `!` to `~`. No two are the same that differ in one letter
 /// alone, which is small in the one and a capital in the other.
-const PLAIN: [Step<'_>; 22] = [
+const PLAIN: &[Step<'static>] = &[
     Step::Gives(Line::Mkthr("Job#1", 1), Reply::Thread(1)),
     Step::Gives(Line::Mkcur("~!"), Reply::Currency(1)),
     Step::Gives(Line::Mkcur("9"), Reply::Currency(2)),
@@ -134,7 +135,8 @@ const PLAIN: [Step<'_>; 22] = [
 
 #[test]
 fn plain_names(rt: HostRuntime) {
-    play(&rt, rt.alloc(), &REFUSED);
+    let alloc = rt.alloc();
+    play(&rt, alloc, REFUSED);
     let sizes = Sizes {
         tickets: 8,
         currencies: 8,
@@ -143,6 +145,5 @@ fn plain_names(rt: HostRuntime) {
         plain_names: true,
         ..Sizes::SMALLEST
     };
-    let mut kernel = kernel_of(&rt, rt.alloc(), sizes);
-    take_all(&rt, &mut kernel, &PLAIN)
+    play_sized(&rt, alloc, sizes, PLAIN)
 }

@@ -3,7 +3,7 @@ use super::*;
 
 /// Thread `a` sleeps, with a fifth of its quantum used: its ticket is inactive until it is woken, and then it weighs
 /// five times its value.
-const SLEEPER: [Step<'_>; 13] = [
+const SLEEPER: &[Step<'static>] = &[
     Step::Gives(Line::Fundx(400, "base", "a", 1), FIRST_FUNDED),
     Step::Pauses(Pause::Wake(1), Reply::Refused(Refusal::NotAsleep)),
     Step::Pauses(Pause::Wake(2), Reply::Refused(Refusal::NoThread)),
@@ -21,12 +21,12 @@ const SLEEPER: [Step<'_>; 13] = [
 
 #[test]
 fn sleep_and_wake(rt: HostRuntime) {
-    play(&rt, rt.alloc(), &SLEEPER)
+    play(&rt, rt.alloc(), SLEEPER)
 }
 
 /// Thread `a` sleeps as the owner of a mutex for which `b` waits: neither competes, though `b` lends to `a`. A thread
 /// that waits isn't woken so, nor is a dead one.
-const SLEEPING_OWNER: [Step<'_>; 12] = [
+const SLEEPING_OWNER: &[Step<'static>] = &[
     Step::Wins(1, 0, (1, 0, 30), None),
     Step::Traps(1, Action::Lock(1), 1, Outcome::Locked),
     Step::Works(1, 0, Action::Sleep, 1, Outcome::Slept),
@@ -43,13 +43,11 @@ const SLEEPING_OWNER: [Step<'_>; 12] = [
 
 #[test]
 fn sleep_of_an_owner(rt: HostRuntime) {
-    let mut kernel = largest(&rt, rt.alloc(), 1);
-    fund(&rt, &mut kernel, &[(10, "a"), (20, "b")]);
-    take_all(&rt, &mut kernel, &SLEEPING_OWNER)
+    play_funded(&rt, rt.alloc(), &[(10, "a"), (20, "b")], SLEEPING_OWNER)
 }
 
 /// A processor is taken from its thread within its quantum: what it has run counts, and it isn't compensated.
-const PREEMPTED: [Step<'_>; 11] = [
+const PREEMPTED: &[Step<'static>] = &[
     Step::Gives(Line::Fundx(400, "base", "a", 1), FIRST_FUNDED),
     Step::Pauses(Pause::Preempt(1, 0), Reply::Refused(Refusal::NotRunning)),
     Step::Wins(1, 0, (1, 0, 400), None),
@@ -76,7 +74,7 @@ const PREEMPTED: [Step<'_>; 11] = [
 ];
 
 /// A quantum that ended late: the thread weighs as much less as it has used more, until it next wins.
-const LATE: [Step<'_>; 15] = [
+const LATE: &[Step<'static>] = &[
     Step::Gives(Line::Fundx(400, "base", "a", 1), FIRST_FUNDED),
     Step::Pauses(Pause::Overrun(1, 0), Reply::Refused(Refusal::NotRunning)),
     Step::Wins(1, 0, (1, 0, 400), None),
@@ -117,13 +115,14 @@ const LATE: [Step<'_>; 15] = [
 
 #[test]
 fn quanta_that_end_early_or_late(rt: HostRuntime) {
-    play(&rt, rt.alloc(), &PREEMPTED);
-    play(&rt, rt.alloc(), &LATE)
+    let alloc = rt.alloc();
+    play(&rt, alloc, PREEMPTED);
+    play(&rt, alloc, LATE)
 }
 
 /// In a kernel without compensation thread `a` yields after a fifth of its quantum, sleeps and is woken, and is stopped
 /// late: it always weighs its value.
-const UNCOMPENSATED: [Step<'_>; 10] = [
+const UNCOMPENSATED: &[Step<'static>] = &[
     Step::Gives(Line::Fundx(400, "base", "a", 1), FIRST_FUNDED),
     Step::Wins(1, 0, (1, 0, 400), None),
     Step::Works(1, 19, Action::Yield, 1, Outcome::Yielded),
@@ -152,6 +151,5 @@ fn without_compensation(rt: HostRuntime) {
         without_compensation: true,
         ..Sizes::SMALLEST
     };
-    let mut kernel = kernel_of(&rt, rt.alloc(), sizes);
-    take_all(&rt, &mut kernel, &UNCOMPENSATED)
+    play_sized(&rt, rt.alloc(), sizes, UNCOMPENSATED)
 }

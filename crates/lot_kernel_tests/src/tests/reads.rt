@@ -41,7 +41,7 @@ fn reads_of(step: Count<'_>) -> u64 {
 /// Takes a step, and returns whether it comes out as the row says.
 fn take_step(rt: &impl Abort, kernel: &mut Kernel, step: Count<'_>) -> bool {
     match step {
-        Count::Does(line) => !matches!(answer(rt, kernel, line), Reply::Refused(_)),
+        Count::Does(line) => is_done(&answer(rt, kernel, line)),
         Count::Refuses(line, refusal) => {
             check_answer(rt, kernel, line, Reply::Refused(refusal));
             true
@@ -50,25 +50,47 @@ fn take_step(rt: &impl Abort, kernel: &mut Kernel, step: Count<'_>) -> bool {
             check_event(rt, kernel, Event::Draw(1, d), winning(winner, None));
             true
         }
-        Count::Expires => matches!(kernel.event(&Event::Expire(1)), Reply::Expired { .. }),
+        Count::Expires => expires(kernel),
         Count::Traps(action, outcome, _) => {
             take_trap(rt, kernel, action, outcome);
             true
         }
-        Count::ThreadRow(thread, _) => {
-            kernel.thread_row(ThreadNumber { number: thread }).is_some()
-        }
-        Count::TicketRow(ticket, _) => {
-            kernel.ticket_row(TicketNumber { number: ticket }).is_some()
-        }
+        Count::ThreadRow(thread, _) => has_thread(kernel, thread),
+        Count::TicketRow(ticket, _) => has_ticket(kernel, ticket),
     }
+}
+
+/// Whether a command was not refused.
+fn is_done(reply: &Reply) -> bool {
+    !matches!(reply, Reply::Refused(_))
+}
+
+/// Ends the quantum on processor 1, and returns whether a thread ran there.
+fn expires(kernel: &mut Kernel) -> bool {
+    matches!(kernel.event(&Event::Expire(1)), Reply::Expired { .. })
+}
+
+/// Reads a thread's row, and returns whether there is one.
+fn has_thread(kernel: &mut Kernel, number: u32) -> bool {
+    kernel.thread_row(ThreadNumber { number }).is_some()
+}
+
+/// Reads a ticket's row, and returns whether there is one.
+fn has_ticket(kernel: &mut Kernel, number: u32) -> bool {
+    kernel.ticket_row(TicketNumber { number }).is_some()
 }
 
 /// Makes a trap on processor 1 without work before it, and compares its outcome.
 fn take_trap(rt: &impl Abort, kernel: &mut Kernel, action: Action, wanted: Outcome) {
-    match kernel.event(&Event::Trap(1, 0, action)) {
-        Reply::Trapped { outcome, .. } => check_same(rt, &outcome, &wanted),
-        _ => panic!(rt; "a trap"),
+    let found = outcome_of(kernel.event(&Event::Trap(1, 0, action)));
+    check_same(rt, &found, &Some(wanted));
+}
+
+/// The outcome of a trap, if the reply has one.
+fn outcome_of(reply: Reply) -> Option<Outcome> {
+    match reply {
+        Reply::Trapped { outcome, .. } => Some(outcome),
+        _ => None,
     }
 }
 
@@ -196,80 +218,88 @@ const KILLED: &[Count<'static>] = &[
     Count::Draws(4, (2, 4, 5), 0),
 ];
 
+const COUNTED: &[&[Count<'static>]] = &[SHARED, UPSTREAM, RESET, LISTED, TRAPPED, REMOVED, KILLED];
+
 #[test]
 fn what_is_read(rt: HostRuntime) {
-    count_all(&rt, rt.alloc(), SHARED);
-    count_all(&rt, rt.alloc(), UPSTREAM);
-    count_all(&rt, rt.alloc(), RESET);
-    count_all(&rt, rt.alloc(), LISTED);
-    count_all(&rt, rt.alloc(), TRAPPED);
-    count_all(&rt, rt.alloc(), REMOVED);
-    count_all(&rt, rt.alloc(), KILLED)
+    for steps in COUNTED {
+        count_all(&rt, rt.alloc(), steps);
+    }
+}
+
+const TWO_FUNDED: &[Step<'static>] = &[
+    Step::Gives(Line::Fundx(10, "base", "a", 1), FIRST_FUNDED),
+    Step::Gives(
+        Line::Fundx(5, "base", "b", 1),
+        Reply::Funded {
+            ticket: 2,
+            thread: 2,
+        },
+    ),
+];
+
+fn check_ticket_row(rt: &impl Abort, found: &Option<TicketRow>, shown: TicketShown<'_>) {
+    check_same(rt, found, &Some(ticket_row(rt, shown)))
+}
+
+fn check_currency_row(rt: &impl Abort, found: &Option<CurrencyRow>, shown: CurrencyShown<'_>) {
+    check_same(rt, found, &Some(currency_row(rt, shown)))
+}
+
+fn check_thread_row(rt: &impl Abort, found: &Option<ThreadRow>, shown: ThreadShown<'_>) {
+    check_same(rt, found, &Some(thread_row(rt, shown)))
+}
+
+/// Settles the kernel, which reads two edges.
+fn settle_two(rt: &impl Abort, kernel: &mut Kernel) {
+    assert!(rt; !kernel.is_settled());
+    let before = kernel.meter();
+    kernel.settle();
+    check_same(rt, &read_since(kernel, before), &2);
+}
+
+/// Compares rows of the settled kernel, which read nothing.
+fn check_settled(rt: &impl Abort, kernel: &Kernel) {
+    assert!(rt; kernel.is_settled());
+    let before = kernel.meter();
+    let ticket = kernel.settled_ticket_row(TicketNumber { number: 2 });
+    let target = Target::Thread(2);
+    check_ticket_row(rt, &ticket, (2, 5, "base", "b", target, true, 5));
+    let base = kernel.settled_currency_row(CurrencyNumber { number: 0 });
+    check_currency_row(rt, &base, (0, "base", 0, 2, 15, 15));
+    let thread = kernel.settled_thread_row(ThreadNumber { number: 1 });
+    check_thread_row(rt, &thread, (1, "a", Status::Ready, 10, 10, 0, 0));
+    check_same(rt, &read_since(kernel, before), &0);
 }
 
 // Two threads, a ticket each: settling reads both, and the rows of the settled kernel read nothing.
 #[test]
 fn settled_rows(rt: HostRuntime) {
     let mut kernel = largest(&rt, rt.alloc(), 1);
-    check_answer(
-        &rt,
-        &mut kernel,
-        Line::Fundx(10, "base", "a", 1),
-        Reply::Funded {
-            ticket: 1,
-            thread: 1,
-        },
-    );
-    check_answer(
-        &rt,
-        &mut kernel,
-        Line::Fundx(5, "base", "b", 1),
-        Reply::Funded {
-            ticket: 2,
-            thread: 2,
-        },
-    );
-    assert!(&rt; !kernel.is_settled());
-    let before = kernel.meter();
-    kernel.settle();
-    assert!(&rt; kernel.is_settled());
-    check_same(&rt, &read_since(&kernel, before), &2);
-    let settled = kernel.meter();
-    let ticket = kernel.settled_ticket_row(TicketNumber { number: 2 });
-    check_same(
-        &rt,
-        &ticket,
-        &Some(ticket_row(&rt, (2, 5, "base", "b", Target::Thread(2), true, 5))),
-    );
-    let base = kernel.settled_currency_row(CurrencyNumber { number: 0 });
-    check_same(
-        &rt,
-        &base,
-        &Some(currency_row(&rt, (0, "base", 0, 2, 15, 15))),
-    );
-    let thread = kernel.settled_thread_row(ThreadNumber { number: 1 });
-    check_same(
-        &rt,
-        &thread,
-        &Some(thread_row(&rt, (1, "a", Status::Ready, 10, 10, 0, 0))),
-    );
-    check_same(&rt, &read_since(&kernel, settled), &0);
+    take_all(&rt, &mut kernel, TWO_FUNDED);
+    settle_two(&rt, &mut kernel);
+    check_settled(&rt, &kernel)
+}
+
+/// Whether a thread won the draw.
+fn is_won(reply: &Reply) -> bool {
+    matches!(reply, Reply::Winner { .. })
 }
 
 /// A draw visits places of the tree of weights, 1 to 10.
 fn check_visits(rt: &impl Abort, kernel: &mut Kernel, d: u128) {
     let before = kernel.meter().tree_visits;
-    let reply = kernel.event(&Event::Draw(1, d));
-    assert!(rt; matches!(reply, Reply::Winner { .. }));
+    check_same_at(rt, &d, &is_won(&kernel.event(&Event::Draw(1, d))), &true);
     let visits = kernel.meter().tree_visits.saturating_sub(before);
-    assert!(rt; 1 <= visits && visits <= 10, "{visits} visits");
+    check_same_at(rt, &visits, &(1 <= visits && visits <= 10), &true);
     let _ = kernel.event(&Event::Expire(1));
 }
 
 #[test]
 fn a_draw_among_a_thousand(rt: HostRuntime) {
-    let mut kernel = small(&rt, rt.alloc(), 1000, 1, 1000);
-    make_threads(&rt, &mut kernel, rt.alloc(), 1000);
+    let alloc = rt.alloc();
+    let mut kernel = small(&rt, alloc, 1000, 1, 1000);
+    make_threads(&rt, &mut kernel, alloc, 1000);
     for d in [0, 1, 499, 500, 511, 512, 998, 999] {
         check_visits(&rt, &mut kernel, d);
     }

@@ -1,10 +1,9 @@
 //! Dead threads that are removed.
-use super::same::check_same;
 use super::*;
 
 /// A thread has to be there, then dead, and then nothing may refer to it. With it goes its row; its name is free again,
 /// and a new thread of that name has a new number.
-const FUNDED_REMOVAL: [Step<'_>; 25] = [
+const FUNDED_REMOVAL: &[Step<'static>] = &[
     Step::Gives(Line::Rmthr("a"), Reply::Refused(Refusal::NoThread)),
     Step::Gives(Line::Rmthr("base"), Reply::Refused(Refusal::NoThread)),
     Step::Gives(Line::Mkcur("g"), Reply::Currency(1)),
@@ -32,29 +31,23 @@ const FUNDED_REMOVAL: [Step<'_>; 25] = [
     Step::Wins(1, 7, (2, 7, 10), None),
 ];
 
-/// Compares the script of a thread.
-fn check_script(rt: &impl Abort, kernel: &Kernel, number: u32, script: Option<u32>) {
-    check_same(rt, &kernel.script_of(ThreadNumber { number }), &script);
+/// Compares the scripts of threads.
+fn check_scripts(rt: &impl Abort, kernel: &Kernel, scripts: &[(u32, Option<u32>)]) {
+    for (thread, script) in scripts {
+        let found = kernel.script_of(ThreadNumber { number: *thread });
+        check_same_at(rt, thread, &found, script);
+    }
 }
 
 #[test]
 fn removal_of_a_funded_thread(rt: HostRuntime) {
     let mut kernel = largest(&rt, rt.alloc(), 1);
-    take_all(&rt, &mut kernel, &FUNDED_REMOVAL);
-    check_script(&rt, &kernel, 1, None);
-    check_script(&rt, &kernel, 2, Some(1));
-    check_script(&rt, &kernel, 3, None)
-}
-
-/// Takes the steps in a new kernel, after it got threads of these names with this much base each.
-fn play_funded(rt: &impl Abort, alloc: Global, threads: &[(u64, &str)], steps: &[Step<'_>]) {
-    let mut kernel = largest(rt, alloc, 1);
-    fund(rt, &mut kernel, threads);
-    take_all(rt, &mut kernel, steps)
+    take_all(&rt, &mut kernel, FUNDED_REMOVAL);
+    check_scripts(&rt, &kernel, &[(1, None), (2, Some(1)), (3, None)])
 }
 
 /// Thread `o` ends as the owner of a mutex, for which `w` waits.
-const OWNER: [Step<'_>; 11] = [
+const OWNER: &[Step<'static>] = &[
     Step::Wins(1, 9, (1, 9, 30), None),
     Step::Traps(1, Action::Lock(1), 1, Outcome::Locked),
     Step::Traps(1, Action::Exit, 1, Outcome::Exited),
@@ -69,7 +62,7 @@ const OWNER: [Step<'_>; 11] = [
 ];
 
 /// Thread `s` ends while it serves `c`.
-const SERVER: [Step<'_>; 12] = [
+const SERVER: &[Step<'static>] = &[
     Step::Wins(1, 0, (1, 0, 30), None),
     Step::Traps(1, Action::Receive(1), 1, Outcome::Waits),
     Step::Gives(Line::Rmthr("s"), Reply::Refused(Refusal::Alive)),
@@ -86,12 +79,13 @@ const SERVER: [Step<'_>; 12] = [
 
 #[test]
 fn removal_of_who_is_lent_to(rt: HostRuntime) {
-    play_funded(&rt, rt.alloc(), &[(10, "o"), (20, "w")], &OWNER);
-    play_funded(&rt, rt.alloc(), &[(10, "s"), (20, "c")], &SERVER)
+    let alloc = rt.alloc();
+    play_funded(&rt, alloc, &[(10, "o"), (20, "w")], OWNER);
+    play_funded(&rt, alloc, &[(10, "s"), (20, "c")], SERVER)
 }
 
 /// Of three threads the one in the middle is removed: the others keep their names, numbers and tickets.
-const MIDDLE: [Step<'_>; 11] = [
+const MIDDLE: &[Step<'static>] = &[
     Step::Wins(1, 2, (2, 2, 7), None),
     Step::Traps(1, Action::Exit, 2, Outcome::Exited),
     Step::Gives(Line::Rmtkt(2), Reply::Refused(Refusal::Funding)),
@@ -107,11 +101,11 @@ const MIDDLE: [Step<'_>; 11] = [
 
 #[test]
 fn removal_from_the_middle(rt: HostRuntime) {
-    play_funded(&rt, rt.alloc(), &[(1, "a"), (2, "b"), (4, "c")], &MIDDLE)
+    play_funded(&rt, rt.alloc(), &[(1, "a"), (2, "b"), (4, "c")], MIDDLE)
 }
 
 /// A removed thread still counts among those made, so that no other comes in its place, though its name is free.
-const STILL_FULL: [Step<'_>; 9] = [
+const STILL_FULL: &[Step<'static>] = &[
     Step::Gives(Line::Fundx(1, "base", "a", 1), FIRST_FUNDED),
     Step::Wins(1, 0, (1, 0, 1), None),
     Step::Traps(1, Action::Exit, 1, Outcome::Exited),
@@ -128,5 +122,5 @@ const STILL_FULL: [Step<'_>; 9] = [
 
 #[test]
 fn removal_leaves_no_room(rt: HostRuntime) {
-    play_small(&rt, rt.alloc(), (2, 1, 1), &STILL_FULL)
+    play_small(&rt, rt.alloc(), (2, 1, 1), STILL_FULL)
 }

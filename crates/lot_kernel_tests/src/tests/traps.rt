@@ -1,22 +1,6 @@
 //! Yields, ports, mutexes and exits.
-use super::same::check_same;
-use super::{
-    Line, Pause, Step, check_run, check_thread, fund, kernel_of, largest, play, take, take_all,
-    thread_row, won,
-};
-use lot_kernel::{
-    Action, Event, Kernel, MutexNumber, Name, Outcome, Refusal, Reply, Sizes, Status, ThreadNumber,
-    ThreadRef, TrapRefusal,
-};
-use std::alloc::Global;
-use std::process::Abort;
-
-/// Takes the steps in a kernel of the largest tables with threads of these names, funded with this much base, in order.
-fn play_funded(rt: &impl Abort, alloc: Global, threads: &[(u64, &str)], steps: &[Step<'_>]) {
-    let mut kernel = largest(rt, alloc, 1);
-    fund(rt, &mut kernel, threads);
-    take_all(rt, &mut kernel, steps)
-}
+use super::*;
+use lot_kernel::MutexNumber;
 
 /// Makes the events in a kernel with thread `a`, which has this much base, and compares the replies.
 fn run_funded(
@@ -84,7 +68,7 @@ const EXPIRED: Reply = Reply::Expired {
     ticks: 100,
 };
 
-const EXPIRY_REPLIES: [Reply; 3] = [
+static EXPIRY_REPLIES: [Reply; 3] = [
     Reply::Winner {
         thread: 1,
         number: 0,
@@ -112,7 +96,7 @@ const TWO_PROCESSORS: [Event; 4] = [
     Event::Draw(2, 3),
 ];
 
-const TWO_PROCESSORS_REPLIES: [Reply; 4] = [
+static TWO_PROCESSORS_REPLIES: [Reply; 4] = [
     Reply::Winner {
         thread: 1,
         number: 4,
@@ -140,7 +124,7 @@ fn two_processors(rt: HostRuntime) {
     );
 }
 
-const WAITING_SERVER: [Step<'_>; 15] = [
+const WAITING_SERVER: &[Step<'static>] = &[
     Step::Gives(Line::Mkthr("v", 1), Reply::Thread(1)),
     Step::Gives(
         Line::Fundx(400, "base", "c", 1),
@@ -166,10 +150,10 @@ const WAITING_SERVER: [Step<'_>; 15] = [
 
 #[test]
 fn a_call_to_a_server_that_waits(rt: HostRuntime) {
-    play(&rt, rt.alloc(), &WAITING_SERVER)
+    play(&rt, rt.alloc(), WAITING_SERVER)
 }
 
-const QUEUED_CALL: [Step<'_>; 17] = [
+const QUEUED_CALL: &[Step<'static>] = &[
     Step::Gives(Line::Mkcur("g"), Reply::Currency(1)),
     Step::Gives(Line::Mktkt(300, "base"), Reply::Ticket(1)),
     Step::Gives(Line::Fund(1, "g"), Reply::Done),
@@ -217,11 +201,11 @@ const QUEUED_CALL: [Step<'_>; 17] = [
 
 #[test]
 fn a_queued_call(rt: HostRuntime) {
-    play(&rt, rt.alloc(), &QUEUED_CALL)
+    play(&rt, rt.alloc(), QUEUED_CALL)
 }
 
 // The client's number is delivered when the server wins next.
-const LENDS: [Step<'_>; 10] = [
+const LENDS: &[Step<'static>] = &[
     Step::Wins(1, 400, (3, 400, 450), None),
     Step::Traps(1, Action::Receive(1), 3, Outcome::Waits),
     Step::Wins(1, 300, (2, 300, 400), None),
@@ -236,16 +220,11 @@ const LENDS: [Step<'_>; 10] = [
 
 #[test]
 fn a_chain_of_lends(rt: HostRuntime) {
-    play_funded(
-        &rt,
-        rt.alloc(),
-        &[(300, "w"), (100, "o"), (50, "v")],
-        &LENDS,
-    )
+    play_funded(&rt, rt.alloc(), &[(300, "w"), (100, "o"), (50, "v")], LENDS)
 }
 
 /// Of three threads with 50, 100 and 300 the first owns mutex 1 and runs, and the others wait for it.
-const CONTENDED: [Step<'_>; 8] = [
+const CONTENDED: &[Step<'static>] = &[
     Step::Wins(1, 0, (1, 0, 450), None),
     Step::Traps(1, Action::Lock(1), 1, Outcome::Locked),
     Step::Traps(1, Action::Yield, 1, Outcome::Yielded),
@@ -256,7 +235,7 @@ const CONTENDED: [Step<'_>; 8] = [
     Step::Wins(1, 0, (1, 0, 22500), None),
 ];
 
-const PASSED_TO_SECOND: [Step<'_>; 4] = [
+const PASSED_TO_SECOND: &[Step<'static>] = &[
     Step::Traps(
         1,
         Action::Unlock(1, 99),
@@ -271,7 +250,7 @@ const PASSED_TO_SECOND: [Step<'_>; 4] = [
     Step::Thread((3, "c", Status::Waiting(1), 300, 30000, 1, 1)),
 ];
 
-const PASSED_TO_THIRD: [Step<'_>; 3] = [
+const PASSED_TO_THIRD: &[Step<'static>] = &[
     Step::Traps(
         1,
         Action::Unlock(1, 100),
@@ -285,21 +264,16 @@ const PASSED_TO_THIRD: [Step<'_>; 3] = [
     Step::Thread((3, "c", Status::Ready, 400, 40000, 1, 1)),
 ];
 
-/// Takes the steps once the mutex is contended.
-fn play_contended(rt: &impl Abort, alloc: Global, steps: &[Step<'_>]) {
-    let mut kernel = largest(rt, alloc, 1);
-    fund(rt, &mut kernel, &[(50, "a"), (100, "b"), (300, "c")]);
-    take_all(rt, &mut kernel, &CONTENDED);
-    take_all(rt, &mut kernel, steps)
-}
-
 #[test]
 fn an_unlock_passes_by_lottery(rt: HostRuntime) {
-    play_contended(&rt, rt.alloc(), &PASSED_TO_SECOND);
-    play_contended(&rt, rt.alloc(), &PASSED_TO_THIRD)
+    let alloc = rt.alloc();
+    let threads: &[(u64, &str)] = &[(50, "a"), (100, "b"), (300, "c")];
+    let first = CONTENDED;
+    play_both(&rt, alloc, threads, first, PASSED_TO_SECOND);
+    play_both(&rt, alloc, threads, first, PASSED_TO_THIRD)
 }
 
-const WORTHLESS_WAITERS: [Step<'_>; 12] = [
+const WORTHLESS_WAITERS: &[Step<'static>] = &[
     Step::Wins(1, 0, (1, 0, 60), None),
     Step::Traps(1, Action::Lock(1), 1, Outcome::Locked),
     Step::Traps(1, Action::Yield, 1, Outcome::Yielded),
@@ -325,11 +299,11 @@ fn waiters_worth_nothing(rt: HostRuntime) {
         &rt,
         rt.alloc(),
         &[(10, "a"), (20, "b"), (30, "c")],
-        &WORTHLESS_WAITERS,
+        WORTHLESS_WAITERS,
     )
 }
 
-const LOCK_CYCLE: [Step<'_>; 10] = [
+const LOCK_CYCLE: &[Step<'static>] = &[
     Step::Wins(1, 0, (1, 0, 20), None),
     Step::Wins(2, 0, (2, 0, 10), None),
     Step::Traps(1, Action::Lock(1), 1, Outcome::Locked),
@@ -375,7 +349,7 @@ const LOCK_CYCLE: [Step<'_>; 10] = [
 
 #[test]
 fn a_lock_that_would_make_a_cycle(rt: HostRuntime) {
-    play_funded(&rt, rt.alloc(), &[(10, "a"), (10, "b")], &LOCK_CYCLE)
+    play_funded(&rt, rt.alloc(), &[(10, "a"), (10, "b")], LOCK_CYCLE)
 }
 
 const QUANTUM: [Event; 6] = [
@@ -387,7 +361,7 @@ const QUANTUM: [Event; 6] = [
     Event::Expire(1),
 ];
 
-const QUANTUM_REPLIES: [Reply; 6] = [
+static QUANTUM_REPLIES: [Reply; 6] = [
     Reply::Winner {
         thread: 1,
         number: 0,
@@ -424,7 +398,7 @@ fn the_end_of_a_quantum(rt: HostRuntime) {
     run_funded(&rt, rt.alloc(), 10, &QUANTUM, &QUANTUM_REPLIES);
 }
 
-const SERVINGS: [Step<'_>; 19] = [
+const SERVINGS: &[Step<'static>] = &[
     Step::Wins(1, 0, (1, 0, 60), None),
     Step::Traps(1, Action::Receive(1), 1, Outcome::Waits),
     Step::Wins(1, 0, (2, 0, 50), None),
@@ -472,11 +446,11 @@ fn a_server_that_serves(rt: HostRuntime) {
         &rt,
         rt.alloc(),
         &[(10, "v"), (20, "c"), (30, "d")],
-        &SERVINGS,
+        SERVINGS,
     )
 }
 
-const REFUSED_TRAPS: [Step<'_>; 4] = [
+const REFUSED_TRAPS: &[Step<'static>] = &[
     Step::Wins(1, 0, (1, 0, 10), None),
     Step::Traps(
         1,
@@ -504,40 +478,75 @@ const REFUSED_TRAPS: [Step<'_>; 4] = [
     )),
 ];
 
-/// Traps at unknown ports and mutexes: there are two of each kind, numbered from 1.
-const UNKNOWN_OBJECTS: [(Action, TrapRefusal); 7] = [
-    (Action::Receive(0), TrapRefusal::NoPort),
-    (Action::Receive(3), TrapRefusal::NoPort),
-    (Action::Call(0, 7), TrapRefusal::NoPort),
-    (Action::Serve(0, 7), TrapRefusal::NoPort),
-    (Action::Lock(0), TrapRefusal::NoMutex),
-    (Action::Unlock(0, 0), TrapRefusal::NoMutex),
-    (Action::Unlock(3, 0), TrapRefusal::NoMutex),
+/// Traps at unknown ports and mutexes: there are two of each kind, numbered from 1. A thread makes each of them within
+/// a quantum, and runs on.
+const UNKNOWN_OBJECTS: &[Step<'static>] = &[
+    Step::Wins(1, 0, (1, 0, 10), None),
+    Step::Traps(
+        1,
+        Action::Receive(0),
+        1,
+        Outcome::Refused(TrapRefusal::NoPort),
+    ),
+    Step::Traps(
+        1,
+        Action::Receive(3),
+        1,
+        Outcome::Refused(TrapRefusal::NoPort),
+    ),
+    Step::Traps(
+        1,
+        Action::Call(0, 7),
+        1,
+        Outcome::Refused(TrapRefusal::NoPort),
+    ),
+    Step::Traps(
+        1,
+        Action::Serve(0, 7),
+        1,
+        Outcome::Refused(TrapRefusal::NoPort),
+    ),
+    Step::Traps(
+        1,
+        Action::Lock(0),
+        1,
+        Outcome::Refused(TrapRefusal::NoMutex),
+    ),
+    Step::Traps(
+        1,
+        Action::Unlock(0, 0),
+        1,
+        Outcome::Refused(TrapRefusal::NoMutex),
+    ),
+    Step::Traps(
+        1,
+        Action::Unlock(3, 0),
+        1,
+        Outcome::Refused(TrapRefusal::NoMutex),
+    ),
+    Step::Thread((
+        1,
+        "a",
+        Status::Running {
+            processor: 1,
+            used: 7,
+        },
+        10,
+        10,
+        1,
+        7,
+    )),
 ];
-
-/// A thread makes each of these traps within a quantum, and runs on.
-fn check_unknown_objects(rt: &impl Abort, alloc: Global) {
-    let mut kernel = largest(rt, alloc, 1);
-    fund(rt, &mut kernel, &[(10, "a")]);
-    take(rt, &mut kernel, Step::Wins(1, 0, (1, 0, 10), None));
-    for (action, refusal) in UNKNOWN_OBJECTS {
-        let refused = Outcome::Refused(refusal);
-        take(rt, &mut kernel, Step::Traps(1, action, 1, refused));
-    }
-    let runs = Status::Running {
-        processor: 1,
-        used: 7,
-    };
-    take(rt, &mut kernel, Step::Thread((1, "a", runs, 10, 10, 1, 7)))
-}
 
 #[test]
 fn refused_traps_cost_their_ticks(rt: HostRuntime) {
-    play_funded(&rt, rt.alloc(), &[(10, "a")], &REFUSED_TRAPS);
-    check_unknown_objects(&rt, rt.alloc())
+    let alloc = rt.alloc();
+    let threads: &[(u64, &str)] = &[(10, "a")];
+    play_funded(&rt, alloc, threads, REFUSED_TRAPS);
+    play_funded(&rt, alloc, threads, UNKNOWN_OBJECTS)
 }
 
-const TWO_CLIENTS: [Step<'_>; 16] = [
+const TWO_CLIENTS: &[Step<'static>] = &[
     Step::Wins(1, 0, (1, 0, 60), None),
     Step::Traps(1, Action::Receive(1), 1, Outcome::Waits),
     Step::Wins(1, 0, (2, 0, 50), None),
@@ -567,7 +576,7 @@ fn a_server_of_two_clients(rt: HostRuntime) {
         &rt,
         rt.alloc(),
         &[(10, "v"), (20, "c"), (30, "d")],
-        &TWO_CLIENTS,
+        TWO_CLIENTS,
     )
 }
 
@@ -592,10 +601,11 @@ fn check_waiters(rt: &impl Abort, alloc: Global, kernel: &Kernel, mutex: u32, wa
 
 #[test]
 fn waiters_stand_in_order_of_waiting(rt: HostRuntime) {
-    let kernel = kernel_with_waiters(&rt, rt.alloc());
-    check_waiters(&rt, rt.alloc(), &kernel, 1, &[3, 2]);
-    check_waiters(&rt, rt.alloc(), &kernel, 2, &[]);
-    check_waiters(&rt, rt.alloc(), &kernel, 300, &[]);
+    let alloc = rt.alloc();
+    let kernel = kernel_with_waiters(&rt, alloc);
+    check_waiters(&rt, alloc, &kernel, 1, &[3, 2]);
+    check_waiters(&rt, alloc, &kernel, 2, &[]);
+    check_waiters(&rt, alloc, &kernel, 300, &[]);
 }
 
 /// The kernel after these events, and three funded threads.
@@ -608,11 +618,26 @@ fn kernel_with_waiters(rt: &impl Abort, alloc: Global) -> Kernel {
     kernel
 }
 
+/// Compares the owners of mutexes.
+fn check_owners(rt: &impl Abort, kernel: &Kernel, owners: &[(u32, Option<u32>)]) {
+    for (mutex, owner) in owners {
+        let found = kernel.owner(MutexNumber { number: *mutex });
+        check_same_at(rt, mutex, &found, owner);
+    }
+}
+
 #[test]
 fn owners_of_mutexes(rt: HostRuntime) {
     let kernel = kernel_with_waiters(&rt, rt.alloc());
-    for (mutex, owner) in [(0, None), (1, Some(1)), (2, None), (300, None)] {
-        check_same(&rt, &kernel.owner(MutexNumber { number: mutex }), &owner);
+    let owners = &[(0, None), (1, Some(1)), (2, None), (300, None)];
+    check_owners(&rt, &kernel, owners)
+}
+
+/// Compares the ticks of the quanta for which threads are compensated.
+fn check_compensations(rt: &impl Abort, kernel: &Kernel, threads: &[(u32, Option<u32>)]) {
+    for (thread, used) in threads {
+        let found = kernel.compensation(ThreadNumber { number: *thread });
+        check_same_at(rt, thread, &found, used);
     }
 }
 
@@ -620,30 +645,32 @@ fn owners_of_mutexes(rt: HostRuntime) {
 #[test]
 fn compensations_of_threads(rt: HostRuntime) {
     let kernel = kernel_with_waiters(&rt, rt.alloc());
-    for (number, used) in [(0, None), (1, Some(2)), (2, Some(1)), (4, None)] {
-        check_same(&rt, &kernel.compensation(ThreadNumber { number }), &used);
-    }
+    let threads = &[(0, None), (1, Some(2)), (2, Some(1)), (4, None)];
+    check_compensations(&rt, &kernel, threads)
+}
+
+/// Compares the number of the thread that is meant.
+fn check_meant(rt: &impl Abort, kernel: &Kernel, meant: &ThreadRef, number: Option<u32>) {
+    check_same_at(rt, meant, &kernel.thread_meant(meant), &number);
+}
+
+/// Compares the number of the thread that a name means.
+fn check_named(rt: &impl Abort, kernel: &Kernel, text: &str, number: Option<u32>) {
+    check_meant(rt, kernel, &ThreadRef::Named(name(rt, text)), number)
 }
 
 #[test]
 fn threads_meant(rt: HostRuntime) {
     let kernel = kernel_with_waiters(&rt, rt.alloc());
-    for (name, number) in [("b", Some(2)), ("base", None)] {
-        let name = Name::new(name).expect(&rt, "a name");
-        check_same(&rt, &kernel.thread_meant(&ThreadRef::Named(name)), &number);
-    }
-    for (meant, number) in [(3, Some(3)), (4, None)] {
-        check_same(
-            &rt,
-            &kernel.thread_meant(&ThreadRef::Numbered(meant)),
-            &number,
-        );
-    }
+    check_named(&rt, &kernel, "b", Some(2));
+    check_named(&rt, &kernel, "base", None);
+    check_meant(&rt, &kernel, &ThreadRef::Numbered(3), Some(3));
+    check_meant(&rt, &kernel, &ThreadRef::Numbered(4), None)
 }
 
 /// In a kernel without lending `l` owns a mutex for which `h` waits, and is drawn on its own funding alone: thread `m`
 /// wins before it. The mutex then passes to `h` without a lottery.
-const INVERTED: [Step<'_>; 11] = [
+const INVERTED: &[Step<'static>] = &[
     Step::Wins(1, 0, (1, 0, 200), None),
     Step::Traps(1, Action::Lock(1), 1, Outcome::Locked),
     Step::Pauses(
@@ -670,7 +697,7 @@ const INVERTED: [Step<'_>; 11] = [
 
 /// Without lending two threads that lock each other's mutexes both wait, and a server with clients stays in use when it
 /// has ended and lost its ticket.
-const UNLENT: [Step<'_>; 14] = [
+const UNLENT: &[Step<'static>] = &[
     Step::Wins(1, 0, (1, 0, 40), None),
     Step::Wins(2, 0, (2, 0, 30), None),
     Step::Traps(1, Action::Lock(1), 1, Outcome::Locked),
@@ -687,8 +714,8 @@ const UNLENT: [Step<'_>; 14] = [
     Step::Gives(Line::Rmthr("c"), Reply::Refused(Refusal::InUse)),
 ];
 
-/// A kernel without lending, and threads of these names, funded with this much base.
-fn unlent(rt: &impl Abort, alloc: Global, threads: &[(u64, &str)]) -> Kernel {
+/// Takes the steps in a new kernel without lending, after it got threads of these names with this much base each.
+fn play_unlent(rt: &impl Abort, alloc: Global, threads: &[(u64, &str)], steps: &[Step<'_>]) {
     let sizes = Sizes {
         tickets: 4,
         threads: 4,
@@ -702,17 +729,17 @@ fn unlent(rt: &impl Abort, alloc: Global, threads: &[(u64, &str)]) -> Kernel {
     };
     let mut kernel = kernel_of(rt, alloc, sizes);
     fund(rt, &mut kernel, threads);
-    kernel
+    take_all(rt, &mut kernel, steps)
 }
 
 #[test]
 fn without_lending(rt: HostRuntime) {
-    let mut kernel = unlent(&rt, rt.alloc(), &[(1, "l"), (99, "h"), (100, "m")]);
-    take_all(&rt, &mut kernel, &INVERTED);
-    let mut kernel = unlent(
+    let alloc = rt.alloc();
+    play_unlent(&rt, alloc, &[(1, "l"), (99, "h"), (100, "m")], INVERTED);
+    play_unlent(
         &rt,
-        rt.alloc(),
+        alloc,
         &[(10, "a"), (10, "b"), (10, "c"), (10, "d")],
-    );
-    take_all(&rt, &mut kernel, &UNLENT)
+        UNLENT,
+    )
 }

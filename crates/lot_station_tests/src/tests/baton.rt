@@ -5,7 +5,7 @@ ghost use Rattle.lot_station.specs.BatonSeats.{IsSameSeat, IsSeatOf};
 use crate::tests::same::check_same;
 use crate::tests::seats::{baton_shares_of, make_turn};
 use crate::tests::{
-    END, ENDED, EXPIRED, FIRST_DRAW, FUNDED, IDLE, SECOND_DRAW, TWO_PROCESSORS, end_of, opened,
+    ENDED, EXPIRED, FIRST_DRAW, FUNDED, IDLE, SECOND_DRAW, TWO_PROCESSORS, check_end, opened,
     parsed,
 };
 use lot_engine::{System, TurnFault};
@@ -154,16 +154,21 @@ fn closed<R: Wait + Abort>(
     }
 }
 
+/// Makes turns after meetings, and checks their replies and the history.
+fn check_meetings<R: Wait + Abort>(rt: &R, alloc: Global, program: &Program) {
+    let (station, mut zero, mut one, mut two) = dealt(rt, alloc, program);
+    let replies = met(rt, &station, program, &mut zero, &mut one, &mut two);
+    check_same(rt, &replies, &[FUNDED, OTHER_DRAW, IDLE]);
+    let system = closed(rt, alloc, station, zero, one, two);
+    check_same(rt, &system.history(), &[0, 2, 1].as_slice());
+}
+
 // The turns after meetings get these replies: of a command, of a draw of 5 of 10, and of a draw without a winner.
 #[test]
 fn turns_after_meetings(rt: HostRuntime) {
     let alloc = rt.alloc();
     let program = parsed(&rt, alloc, TWO_PROCESSORS);
-    let (station, mut zero, mut one, mut two) = dealt(&rt, alloc, &program);
-    let replies = met(&rt, &station, &program, &mut zero, &mut one, &mut two);
-    check_same(&rt, &replies, &[FUNDED, OTHER_DRAW, IDLE]);
-    let system = closed(&rt, alloc, station, zero, one, two);
-    check_same(&rt, &system.history(), &[0, 2, 1].as_slice());
+    check_meetings(&rt, alloc, &program)
 }
 
 /// The turns of the actors 0, 1, 2, 1 and 2.
@@ -205,24 +210,31 @@ fn is_ended<R: Wait>(
     matches!(seat.take_fault(), Some(TurnFault::Ended)) && seat.take_fault().is_none()
 }
 
+/// Compares the seats' shares.
+fn check_shares(rt: &impl Abort, zero: &BatonSeat, one: &BatonSeat, two: &BatonSeat) {
+    check_same(rt, &baton_shares_of(zero), &ENDED[0]);
+    check_same(rt, &baton_shares_of(one), &ENDED[1]);
+    check_same(rt, &baton_shares_of(two), &ENDED[2]);
+}
+
+/// The replies to these turns.
+const REPLIES: [Option<Reply>; 5] = [FUNDED, FIRST_DRAW, IDLE, EXPIRED, SECOND_DRAW];
+
+/// Makes all turns, and checks their replies, the seats and the end.
+fn check_scheduled<R: Wait + Abort>(rt: &R, alloc: Global, program: &Program) {
+    let (station, mut zero, mut one, mut two) = dealt(rt, alloc, program);
+    let replies = scheduled(rt, &station, program, &mut zero, &mut one, &mut two);
+    check_same(rt, &replies, &REPLIES);
+    check_same(rt, &is_ended(rt, &station, program, &mut zero), &true);
+    check_shares(rt, &zero, &one, &two);
+    check_end(rt, alloc, closed(rt, alloc, station, zero, one, two))
+}
+
 // The row of the station under a lock: the same replies, a refusal of the console's next turn, the same numbers of the
 // seats, and the same end.
 #[test]
 fn write_then_read(rt: HostRuntime) {
     let alloc = rt.alloc();
     let program = parsed(&rt, alloc, TWO_PROCESSORS);
-    let (station, mut zero, mut one, mut two) = dealt(&rt, alloc, &program);
-    let replies = scheduled(&rt, &station, &program, &mut zero, &mut one, &mut two);
-    check_same(
-        &rt,
-        &replies,
-        &[FUNDED, FIRST_DRAW, IDLE, EXPIRED, SECOND_DRAW],
-    );
-    assert!(rt; is_ended(&rt, &station, &program, &mut zero));
-    check_same(&rt, &baton_shares_of(&zero), &ENDED[0]);
-    check_same(&rt, &baton_shares_of(&one), &ENDED[1]);
-    check_same(&rt, &baton_shares_of(&two), &ENDED[2]);
-    let system = closed(&rt, alloc, station, zero, one, two);
-    let end = end_of(&rt, alloc, system);
-    check_same(&rt, &end.as_slice(), &END.as_bytes());
+    check_scheduled(&rt, alloc, &program)
 }

@@ -89,17 +89,32 @@ fn worked<G: Gate + Sync, R: Threads + Wait + Abort + Sync>(
     )
 }
 
+/// Checks a run in a history with room for three turns.
+fn check_full<R: Threads + Wait + Abort + Sync>(rt: &R, alloc: Global, program: &Program) {
+    let (is_full, turns, closed) = worked(rt, alloc, program, &OpenGate, 3);
+    let found = (is_full, turns, closed.history().len());
+    check_same(rt, &found, &(true, 3, 3));
+}
+
 // A run in a history with room for three turns says why it stopped, and the seats have the turns of the history.
 #[test]
 fn stops_where_the_history_is_full(rt: HostRuntime) {
     let alloc = rt.alloc();
     let program = parsed(&rt, alloc, TWO_PROCESSORS);
-    let (is_full, turns, closed) = worked(&rt, alloc, &program, &OpenGate, 3);
-    check_same(
-        &rt,
-        &(is_full, turns, closed.history().len()),
-        &(true, 3, 3),
-    );
+    check_full(&rt, alloc, &program)
+}
+
+/// Checks that the workers stop, while this processor's is held until the others have come by twice.
+fn check_held<R: Threads + Wait + Abort + Sync>(
+    rt: &R,
+    alloc: Global,
+    program: &Program,
+    held: u32,
+) {
+    let gate = Turnstile::new(held, 2);
+    let (is_full, turns, _) = worked(rt, alloc, program, &gate, 2);
+    let found = (gate.gave_up(), is_full, turns);
+    check_same_at(rt, &held, &found, &(false, true, 2));
 }
 
 // A worker that stops lets the others stop too, one that waits at its gate among them: this processor's worker is held
@@ -108,14 +123,7 @@ fn stops_where_the_history_is_full(rt: HostRuntime) {
 fn stops_after_gates(rt: HostRuntime) {
     let alloc = rt.alloc();
     let program = parsed(&rt, alloc, TWO_PROCESSORS);
-    for held in [1, 2] {
-        let gate = Turnstile::new(held, 2);
-        let (is_full, turns, _) = worked(&rt, alloc, &program, &gate, 2);
-        check_same_at(
-            &rt,
-            &held,
-            &(gate.gave_up(), is_full, turns),
-            &(false, true, 2),
-        );
+    for held in 1..3u32 {
+        check_held(&rt, alloc, &program, held);
     }
 }

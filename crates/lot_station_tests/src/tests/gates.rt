@@ -43,6 +43,17 @@ fn seen_of(gate: &Turnstile, history: &[u8]) -> Seen {
     (gate.gave_up(), is_held_first, history.len())
 }
 
+/// The system after a free run of the program with this gate.
+pub(super) fn freed<G: Gate + Sync, R: Threads + Wait + Abort + Sync>(
+    rt: &R,
+    alloc: Global,
+    text: &str,
+    gate: &G,
+) -> System {
+    let program = parsed(rt, alloc, text);
+    free_run(rt, alloc, &program, gate).expect(rt, "a free run")
+}
+
 /// A free run of the program, in which this processor's worker is held until the others have come by this often.
 fn held_in_free_run<R: Threads + Wait + Abort + Sync>(
     rt: &R,
@@ -51,9 +62,8 @@ fn held_in_free_run<R: Threads + Wait + Abort + Sync>(
     held: u32,
     wanted: u64,
 ) -> Seen {
-    let program = parsed(rt, alloc, text);
     let gate = Turnstile::new(held, wanted);
-    let system = free_run(rt, alloc, &program, &gate).expect(rt, "a free run");
+    let system = freed(rt, alloc, text, &gate);
     seen_of(&gate, system.history())
 }
 
@@ -61,7 +71,7 @@ fn held_in_free_run<R: Threads + Wait + Abort + Sync>(
 // nothing is locked meanwhile, and each passes with its own number, since the held one doesn't come first.
 #[test]
 fn workers_run_at_once(rt: HostRuntime) {
-    for held in [1, 2] {
+    for held in 1..3u32 {
         let seen = held_in_free_run(&rt, rt.alloc(), TWO_PROCESSORS, held, 2);
         check_same_at(&rt, &held, &seen, &(false, false, 5));
     }
@@ -70,7 +80,7 @@ fn workers_run_at_once(rt: HostRuntime) {
 // Three workers run at once too.
 #[test]
 fn three_workers_run_at_once(rt: HostRuntime) {
-    for held in [1, 2, 3] {
+    for held in 1..4u32 {
         let seen = held_in_free_run(&rt, rt.alloc(), THREE_PROCESSORS, held, 4);
         check_same_at(&rt, &held, &seen, &(false, false, 7));
     }
@@ -92,7 +102,7 @@ fn run_seats<G: Gate + Sync, R: Threads + Wait + Sync>(
 
 /// Makes the turns of the program through the seats of a baton station with this much room, and returns the system,
 /// and whether a full history stopped the workers.
-pub(super) fn baton_run<G: Gate + Sync, R: Threads + Wait + Abort + Sync>(
+fn baton_run<G: Gate + Sync, R: Threads + Wait + Abort + Sync>(
     rt: &R,
     alloc: Global,
     program: &Program,
@@ -108,6 +118,18 @@ pub(super) fn baton_run<G: Gate + Sync, R: Threads + Wait + Abort + Sync>(
     }
 }
 
+/// `baton_run` with the program of this text.
+pub(super) fn baton_freed<G: Gate + Sync, R: Threads + Wait + Abort + Sync>(
+    rt: &R,
+    alloc: Global,
+    text: &str,
+    gate: &G,
+    room: u32,
+) -> (bool, System) {
+    let program = parsed(rt, alloc, text);
+    baton_run(rt, alloc, &program, gate, room)
+}
+
 /// A run of the program over a baton station, in which this processor's worker is held until the others have come by
 /// this often; and whether a full history stopped it.
 fn held_in_baton_run<R: Threads + Wait + Abort + Sync>(
@@ -118,16 +140,15 @@ fn held_in_baton_run<R: Threads + Wait + Abort + Sync>(
     wanted: u64,
     room: u32,
 ) -> (bool, Seen) {
-    let program = parsed(rt, alloc, text);
     let gate = Turnstile::new(held, wanted);
-    let (is_full, system) = baton_run(rt, alloc, &program, &gate, room);
+    let (is_full, system) = baton_freed(rt, alloc, text, &gate, room);
     (is_full, seen_of(&gate, system.history()))
 }
 
 // Workers over a baton station run at once too.
 #[test]
 fn baton_workers_run_at_once(rt: HostRuntime) {
-    for held in [1, 2] {
+    for held in 1..3u32 {
         let seen = held_in_baton_run(&rt, rt.alloc(), TWO_PROCESSORS, held, 2, 5);
         check_same_at(&rt, &held, &seen, &(false, (false, false, 5)));
     }
@@ -135,19 +156,22 @@ fn baton_workers_run_at_once(rt: HostRuntime) {
 
 #[test]
 fn three_baton_workers_run_at_once(rt: HostRuntime) {
-    for held in [1, 2, 3] {
+    for held in 1..4u32 {
         let seen = held_in_baton_run(&rt, rt.alloc(), THREE_PROCESSORS, held, 4, 7);
         check_same_at(&rt, &held, &seen, &(false, (false, false, 7)));
     }
 }
 
+/// The processors whose worker is held, and the room for turns.
+const HELD_AND_ROOM: &[(u32, u32)] = &[(1, 2), (2, 2), (0, 3)];
+
 // Also if there is no room for all turns, and if no worker is held.
 #[test]
 fn baton_workers_stop_where_the_history_is_full(rt: HostRuntime) {
-    for (held, room) in [(1, 2), (2, 2), (0, 3)] {
-        let (is_full, seen) = held_in_baton_run(&rt, rt.alloc(), TWO_PROCESSORS, held, 2, room);
+    for (held, room) in HELD_AND_ROOM {
+        let (is_full, seen) = held_in_baton_run(&rt, rt.alloc(), TWO_PROCESSORS, *held, 2, *room);
         let found = (is_full, seen.0, seen.2);
-        check_same_at(&rt, &held, &found, &(true, false, room as usize));
+        check_same_at(&rt, held, &found, &(true, false, *room as usize));
     }
 }
 
@@ -195,11 +219,10 @@ impl Gate for Counting {
 #[test]
 fn gates_are_passed_in_order(rt: HostRuntime) {
     let alloc = rt.alloc();
-    let program = parsed(&rt, alloc, TWO_PROCESSORS);
     let free = Counting::new();
-    let _ = free_run(&rt, alloc, &program, &free).expect(&rt, "a free run");
+    let _ = freed(&rt, alloc, TWO_PROCESSORS, &free);
     check_same(&rt, &free.passes(), &(2, 2, false));
     let baton = Counting::new();
-    let _ = baton_run(&rt, alloc, &program, &baton, 5);
+    let _ = baton_freed(&rt, alloc, TWO_PROCESSORS, &baton, 5);
     check_same(&rt, &baton.passes(), &(2, 2, false));
 }

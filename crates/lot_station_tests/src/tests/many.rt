@@ -1,9 +1,9 @@
 //! As many seats as there may be, each on a thread of its own.
 
-use crate::tests::gates::baton_run;
-use crate::tests::parsed;
+use crate::tests::gates::{baton_freed, freed};
 use crate::tests::turnstile::TRIES;
-use lot_processors::{Gate, free_run};
+use lot_processors::Gate;
+use std::process::Abort;
 use std::sync::atomic::{AtomicBool, AtomicU64, Ordering};
 use std::test::*;
 use std::thread;
@@ -52,24 +52,24 @@ fn has_all(history: &[u8]) -> bool {
     history.len() == 65 && (0..65u8).all(|actor| history.contains(&actor))
 }
 
+/// Checks that no worker gave up, and that the history has all turns.
+fn check_met(rt: &impl Abort, gate: &Meeting, history: &[u8]) {
+    assert!(rt; !gate.gave_up.load(Ordering::SeqCst));
+    assert!(rt; has_all(history));
+}
+
 // 64 workers wait for each other before their turns, so each has a thread of its own: none gives up, and the history
 // has all turns.
 #[test]
 fn many_workers_meet(rt: HostRuntime) {
-    let alloc = rt.alloc();
-    let program = parsed(&rt, alloc, MANY_PROCESSORS);
     let gate = Meeting::new();
-    let system = free_run(&rt, alloc, &program, &gate).expect(&rt, "a free run");
-    assert!(rt; !gate.gave_up.load(Ordering::SeqCst));
-    assert!(rt; has_all(system.history()));
+    let system = freed(&rt, rt.alloc(), MANY_PROCESSORS, &gate);
+    check_met(&rt, &gate, system.history())
 }
 
 #[test]
 fn many_baton_workers_meet(rt: HostRuntime) {
-    let alloc = rt.alloc();
-    let program = parsed(&rt, alloc, MANY_PROCESSORS);
     let gate = Meeting::new();
-    let (_, system) = baton_run(&rt, alloc, &program, &gate, 65);
-    assert!(rt; !gate.gave_up.load(Ordering::SeqCst));
-    assert!(rt; has_all(system.history()));
+    let (_, system) = baton_freed(&rt, rt.alloc(), MANY_PROCESSORS, &gate, 65);
+    check_met(&rt, &gate, system.history())
 }

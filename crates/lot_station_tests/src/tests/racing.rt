@@ -17,7 +17,7 @@ use std::thread;
 use std::thread::Threads;
 
 /// The turns that each seat makes.
-const TURNS: [u32; 3] = [1, 2, 2];
+static TURNS: [u32; 3] = [1, 2, 2];
 
 /// Makes the seat's turns, each with the slice of its work, until one fails or memory runs out.
 fn play_turns<T: TurnLedger, Q: Ledger, K: Ledger>(
@@ -117,13 +117,18 @@ fn raced<R: Threads + Wait + Abort + Sync>(
     )
 }
 
+/// Checks that each result of a race is the one of the closed history.
+fn check_race<R: Threads + Wait + Abort + Sync>(rt: &R, alloc: Global, program: &Program) {
+    let (answers, closed) = raced(rt, alloc, program);
+    check_replay(rt, alloc, program, 5, closed, &answers)
+}
+
 // Whatever the order in which three threads got the lock, each result is the one of the closed history.
 #[test]
 fn answers_replay(rt: HostRuntime) {
     let alloc = rt.alloc();
     let program = parsed(&rt, alloc, TWO_PROCESSORS);
     for _round in 0..100 {
-        let (answers, closed) = raced(&rt, alloc, &program);
-        check_replay(&rt, alloc, &program, 5, closed, &answers);
+        check_race(&rt, alloc, &program);
     }
 }

@@ -55,6 +55,34 @@ fn replay(
     }
 }
 
+/// No results yet, for as many actors as there are of these.
+fn none_of(rt: &impl Abort, alloc: Global, answers: &Vec<Vec<Answer>>) -> Vec<Vec<Answer>> {
+    let none = unanswered(rt, alloc, answers.len());
+    unlocked(rt, alloc, none)
+}
+
+/// Makes the turns of the history again in another system, and checks that each actor gets the same results. Returns
+/// the system after them.
+fn replayed(
+    rt: &impl Abort,
+    alloc: Global,
+    program: &Program,
+    history: &[u8],
+    answers: &Vec<Vec<Answer>>,
+    mut again: System,
+) -> System {
+    let mut expected = none_of(rt, alloc, answers);
+    replay(rt, program, &mut again, history, &mut expected);
+    check_same(rt, answers, &expected);
+    again
+}
+
+/// Checks that the two systems end alike.
+fn check_ends(rt: &impl Abort, alloc: Global, system: System, again: System) {
+    let end = end_of(rt, alloc, system);
+    check_same(rt, &end, &end_of(rt, alloc, again));
+}
+
 /// Checks that a system of the program, with room for this many turns, has had them all, and that another, in which
 /// one thread makes the turns of its history again, gets the same results for each actor and ends alike.
 pub(super) fn check_replay(
@@ -66,11 +94,7 @@ pub(super) fn check_replay(
     answers: &Vec<Vec<Answer>>,
 ) {
     check_same(rt, &system.history().len(), &(room as usize));
-    let mut again = opened(rt, alloc, program, room);
-    let none = unanswered(rt, alloc, answers.len());
-    let mut expected = unlocked(rt, alloc, none);
-    replay(rt, program, &mut again, system.history(), &mut expected);
-    check_same(rt, answers, &expected);
-    let end = end_of(rt, alloc, system);
-    check_same(rt, &end, &end_of(rt, alloc, again));
+    let again = opened(rt, alloc, program, room);
+    let again = replayed(rt, alloc, program, system.history(), answers, again);
+    check_ends(rt, alloc, system, again)
 }

@@ -1,10 +1,10 @@
 //! Turns by seats, one after another.
+ghost use Rattle.std.specs.Prelude.{◌≡◌, false};
 
-use crate::tests::same::check_same;
 use crate::tests::scene::{Scene, played_in};
 use crate::tests::seats::{Shares, answer_of, shares_of};
 use crate::tests::{
-    END, ENDED, EXPIRED, FIRST_DRAW, FUNDED, IDLE, SECOND_DRAW, TWO_PROCESSORS, end_of, opened,
+    ENDED, EXPIRED, FIRST_DRAW, FUNDED, IDLE, SECOND_DRAW, TWO_PROCESSORS, check_end, opened,
     parsed,
 };
 use lot_engine::System;
@@ -96,48 +96,92 @@ fn was(
     }
 }
 
+/// Checks that the session began with these shares, got these replies, and ended with all turns.
+fn check_session(
+    rt: &impl Abort,
+    session: &Result<Session, AllocError>,
+    begun: &[Shares],
+    replies: &[Option<Reply>],
+) {
+    assert!(rt; was(session, begun, replies, &ENDED));
+}
+
 /// The replies to turns of the actors 0, 1, 2, 1, 2 and 0.
-const REPLIES: [Option<Reply>; 6] = [FUNDED, FIRST_DRAW, IDLE, EXPIRED, SECOND_DRAW, None];
+const REPLIES: &[Option<Reply>] = &[FUNDED, FIRST_DRAW, IDLE, EXPIRED, SECOND_DRAW, None];
+
+/// The last two of these.
+const LAST_REPLIES: &[Option<Reply>] = &[SECOND_DRAW, None];
+
+/// The shares before all turns.
+static NONE: [Shares; 3] = [(0, 0, 0); 3];
+
+/// Plays all turns of the program, and checks the session and the end.
+fn check_played<R: Wait + Abort>(rt: &R, alloc: Global, program: &Program) {
+    let system = opened(rt, alloc, program, 6);
+    let actors = Actors(&[0, 1, 2, 1, 2, 0]);
+    let (session, closed) = played_in(rt, alloc, program, system, &actors).expect(rt, "memory");
+    check_session(rt, &session, &NONE, REPLIES);
+    check_end(rt, alloc, closed)
+}
 
 // A draw that a seat makes is of what another seat's command made.
 #[test]
 fn write_then_read(rt: HostRuntime) {
     let alloc = rt.alloc();
     let program = parsed(&rt, alloc, TWO_PROCESSORS);
-    let system = opened(&rt, alloc, &program, 6);
-    let actors = Actors(&[0, 1, 2, 1, 2, 0]);
-    let (session, closed) = played_in(&rt, alloc, &program, system, &actors).expect(&rt, "memory");
-    assert!(rt; was(&session, &[(0, 0, 0); 3], &REPLIES, &ENDED));
-    let end = end_of(&rt, alloc, closed);
-    check_same(&rt, &end.as_slice(), &END.as_bytes());
+    check_played(&rt, alloc, &program)
 }
 
 /// The shares after turns of the actors 0, 1, 2 and 1.
-const BETWEEN: [Shares; 3] = [(1, 0, 0), (2, 1, 100), (1, 0, 0)];
+static BETWEEN: [Shares; 3] = [(1, 0, 0), (2, 1, 100), (1, 0, 0)];
+
+/// A system of the program, closed after turns of the actors 0, 1, 2 and 1.
+fn closed<R: Wait + Abort>(rt: &R, alloc: Global, program: &Program) -> System
+    ensures { result.setting.timer ≡ false }
+{
+    let system = opened(rt, alloc, program, 6);
+    let actors = Actors(&[0, 1, 2, 1]);
+    let (_, closed) = played_in(rt, alloc, program, system, &actors).expect(rt, "memory");
+    closed
+}
+
+/// The session of turns of the actors 2 and 0 in the system.
+fn last_session<R: Wait + Abort>(
+    rt: &R,
+    alloc: Global,
+    program: &Program,
+    system: System,
+) -> Result<Session, AllocError>
+    requires { system.setting.timer ≡ false }
+{
+    let actors = Actors(&[2, 0]);
+    let (session, _) = played_in(rt, alloc, program, system, &actors).expect(rt, "memory");
+    session
+}
 
 // A closed system that is opened again goes on, and its seats begin with what its history has.
 #[test]
 fn opens_again(rt: HostRuntime) {
     let alloc = rt.alloc();
     let program = parsed(&rt, alloc, TWO_PROCESSORS);
-    let system = opened(&rt, alloc, &program, 6);
-    let first = Actors(&[0, 1, 2, 1]);
-    let (_, closed) = played_in(&rt, alloc, &program, system, &first).expect(&rt, "memory");
-    let second = Actors(&[2, 0]);
-    let (session, _) = played_in(&rt, alloc, &program, closed, &second).expect(&rt, "memory");
-    assert!(rt; was(&session, &BETWEEN, &[SECOND_DRAW, None], &ENDED));
+    let system = closed(&rt, alloc, &program);
+    let session = last_session(&rt, alloc, &program, system);
+    check_session(&rt, &session, &BETWEEN, LAST_REPLIES)
+}
+
+/// Opens a station of the program and closes it, or lacks memory for it.
+fn open_or_lack_memory<R: Wait + Abort>(rt: &R, alloc: Global, program: &Program) {
+    if let Ok(system) = System::open(alloc, program, 6) {
+        let played = played_in(rt, alloc, program, system, &Actors(&[]));
+        assert!(rt; matches!(&played, Ok(_) | Err(AllocError)));
+    }
 }
 
 // For runs in which one allocation is refused: a station is opened and closed, or memory for it is refused.
 #[test]
 fn opens_or_lacks_memory(rt: HostRuntime) {
     let alloc = rt.alloc();
-    let Ok(program) = parse(alloc, TWO_PROCESSORS.as_bytes()) else {
-        return;
-    };
-    let Ok(system) = System::open(alloc, &program, 6) else {
-        return;
-    };
-    let played = played_in(&rt, alloc, &program, system, &Actors(&[]));
-    assert!(rt; matches!(&played, Ok(_) | Err(AllocError)));
+    if let Ok(program) = parse(alloc, TWO_PROCESSORS.as_bytes()) {
+        open_or_lack_memory(&rt, alloc, &program)
+    }
 }

@@ -131,13 +131,18 @@ impl Scene for OneSliceTwice {
     }
 }
 
+/// Plays the scene, and checks the history.
+fn check_twice<R: Wait + Abort>(rt: &R, alloc: Global, program: &Program) {
+    let system = opened(rt, alloc, program, 3);
+    let (_, closed) = played_in(rt, alloc, program, system, &OneSliceTwice).expect(rt, "memory");
+    check_same(rt, &closed.history(), &[0, 1, 1].as_slice());
+}
+
 // A slice that was used is stale: the work is then after its trap, and neither history nor shares change. The system
 // has room for three turns, and its history is the three turns made.
 #[test]
 fn a_slice_twice(rt: HostRuntime) {
     let alloc = rt.alloc();
     let program = parsed(&rt, alloc, LOCKER);
-    let system = opened(&rt, alloc, &program, 3);
-    let (_, closed) = played_in(&rt, alloc, &program, system, &OneSliceTwice).expect(&rt, "memory");
-    check_same(&rt, &closed.history(), &[0, 1, 1].as_slice());
+    check_twice(&rt, alloc, &program)
 }

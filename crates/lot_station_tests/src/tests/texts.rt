@@ -23,17 +23,11 @@ fn of_a_run(rt: HostRuntime) {
 
 #[test]
 fn of_free_runs(rt: HostRuntime) {
-    for (fault, text) in [
-        (FreeRunFault::Memory, "out of memory"),
-        (
-            FreeRunFault::Run(RunFault::Turn(TurnFault::Ended)),
-            "a worker's turn wasn't made: no command is left",
-        ),
-        (
-            FreeRunFault::CountsDiffer,
-            "what the seats count isn't what the history has",
-        ),
-    ] {
-        check_text(&rt, rt.alloc(), &fault, text);
-    }
+    let alloc = rt.alloc();
+    let ended = FreeRunFault::Run(RunFault::Turn(TurnFault::Ended));
+    let differ = "what the seats count isn't what the history has";
+    check_text(&rt, alloc, &FreeRunFault::Memory, "out of memory");
+    check_text(&rt, alloc, &FreeRunFault::CountsDiffer, differ);
+    let text = "a worker's turn wasn't made: no command is left";
+    check_text(&rt, alloc, &ended, text)
 }

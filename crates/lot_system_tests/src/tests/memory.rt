@@ -1,9 +1,10 @@
 //! For runs in which one allocation is refused, each in turn.
 
 use super::same::check_same;
-use super::{CALL_AND_REPLY, make_turns, program_of};
+use super::{CALL_AND_REPLY, check_history, make_turns};
 use lot_system::{PlayFault, Played, System, play};
-use lot_text::Watched;
+use lot_text::{Program, Watched, parse};
+use std::alloc::Global;
 use std::io;
 use std::io::Write;
 use std::test::Fail;
@@ -39,22 +40,27 @@ fn plays_or_lacks_memory(rt: HostRuntime) {
     }
 }
 
+/// A program, and a system of it.
+fn opened(alloc: Global) -> Result<(Program, System), Fail> {
+    let Ok(program) = parse(alloc, CALL_AND_REPLY.as_bytes()) else {
+        return Err("a program".into());
+    };
+    let system = System::open(alloc, &program, 12)?;
+    Ok((program, system))
+}
+
 // This fails in the runs that refuse an allocation of it, and the next fails in no others: no turn takes memory.
 #[test]
 fn opens(rt: HostRuntime) -> Result<(), Fail> {
-    let program = program_of(rt.alloc(), CALL_AND_REPLY)?;
-    let system = System::open(rt.alloc(), &program, 12)?;
-    assert!(rt; system.history().is_empty());
+    let (_, system) = opened(rt.alloc())?;
+    check_history(&rt, &system, &[]);
     Ok(())
 }
 
 #[test]
 fn opens_and_has_turns(rt: HostRuntime) -> Result<(), Fail> {
-    let program = program_of(rt.alloc(), CALL_AND_REPLY)?;
-    let mut system = System::open(rt.alloc(), &program, 12)?;
-    make_turns(&mut system, &program, program.schedule())?;
-    let actors = system.history().iter().map(|actor| u32::from(*actor));
-    let wanted = program.schedule().iter().map(|actor| u32::from(*actor));
-    assert!(rt; actors.eq(wanted));
+    let (program, mut system) = opened(rt.alloc())?;
+    make_turns(&rt, &mut system, &program, program.schedule());
+    check_history(&rt, &system, program.schedule());
     Ok(())
 }

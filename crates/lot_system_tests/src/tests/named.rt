@@ -1,10 +1,11 @@
 //! Tickets with names: for which ticket each command is, and the reply.
 
-use super::program_of;
 use super::same::{check_same, check_same_at};
+use super::{opened, parsed};
 use lot_machine::{Command, Event, Refusal, Reply};
 use lot_system::System;
-use std::test::Fail;
+use std::process::Abort;
+use std::test::*;
 
 /// Two tickets get names. The first can't be removed while it funds something. Once it is, another one gets its number.
 const NAMED: &str = "lottery 3
@@ -31,7 +32,7 @@ unfund wage
 type Row = (Option<u64>, Reply);
 
 /// The turns of the commands above, in order.
-const ROWS: [Row; 12] = [
+const ROWS: &[Row] = &[
     (None, Reply::Currency(1)),
     (None, Reply::Ticket(1)),
     (
@@ -66,22 +67,27 @@ fn ticket_of(event: &Event) -> Option<u64> {
 }
 
 /// The console's next turn.
-fn next_row(system: &mut System) -> Result<Row, Fail> {
+fn next_row(rt: &impl Abort, system: &mut System) -> Row {
     match system.turn(0, None) {
-        Ok(answer) => Ok((ticket_of(&answer.event), answer.reply)),
-        Err(_) => Err("a turn".into()),
+        Ok(answer) => (ticket_of(&answer.event), answer.reply),
+        Err(_) => rt.panic("a turn"),
     }
+}
+
+/// Compares the turns of the commands, and then the amount of the second ticket.
+fn check_rows(rt: &impl Abort, system: &mut System) {
+    for (made, wanted) in ROWS.iter().enumerate() {
+        check_same_at(rt, &made, &next_row(rt, system), wanted);
+    }
+    let wage = system.ticket_row(2).expect(rt, "a ticket");
+    check_same(rt, &wage.amount, &4);
 }
 
 // A name means the ticket that got it, until that is removed: 0 then, which no ticket has.
 #[test]
-fn names_of_tickets(rt: HostRuntime) -> Result<(), Fail> {
-    let program = program_of(rt.alloc(), NAMED)?;
-    let mut system = System::open(rt.alloc(), &program, 12)?;
-    for (made, wanted) in ROWS.iter().enumerate() {
-        check_same_at(&rt, &made, &next_row(&mut system)?, wanted);
-    }
-    let wage = system.ticket_row(2).ok_or("a ticket")?;
-    check_same(&rt, &wage.amount, &4);
-    Ok(())
+fn names_of_tickets(rt: HostRuntime) {
+    let alloc = rt.alloc();
+    let program = parsed(&rt, alloc, NAMED);
+    let mut system = opened(&rt, alloc, &program, 12);
+    check_rows(&rt, &mut system);
 }

@@ -11,6 +11,7 @@ mod skipped;
 mod warnings;
 mod words;
 
+use crate::tests::same::{check_same, check_same_at};
 use endings::has_written_or_lacked_memory;
 use lot_chart::{chart_bytes, shares_bytes};
 use lot_curves::Measure;
@@ -45,6 +46,8 @@ fundx 1 base a spin
 mkthr b spin
 ";
 
+const INPUTS: &[&str] = &[SCHEDULED, TIMED];
+
 /// A writer that counts what it takes, and allocates no memory.
 #[derive(Drop)]
 struct Counting {
@@ -63,11 +66,28 @@ impl Write for Counting {
 }
 
 /// The form in which an input is shown.
-#[derive(Clone, Copy, Debug)]
+#[derive(Clone, Copy)]
 enum Shown {
     Explained,
     Table(Measure),
     Picture(&'static str),
+}
+
+/// Shows the input, and keeps its warnings.
+fn show_with<W: Write>(
+    alloc: Global,
+    shown: Shown,
+    input: &[u8],
+    warnings: &mut Warnings,
+    writer: &mut Watched<W>,
+) -> Result<Played, IoFault>
+    requires { writer.old.failed ≡ false }
+{
+    match shown {
+        Shown::Explained => explain_bytes(alloc, Detail::Lots, input, warnings, writer),
+        Shown::Table(measure) => shares_bytes(alloc, measure, input, warnings, writer),
+        Shown::Picture(title) => chart_bytes(alloc, title, input, warnings, writer),
+    }
 }
 
 /// Shows the input.
@@ -79,14 +99,9 @@ fn show<W: Write>(
 ) -> Result<Played, IoFault>
     requires { writer.old.failed ≡ false }
 {
-    let Ok(mut warnings) = Warnings::none(alloc) else {
-        return Err(IoFault::Memory);
-    };
-    let bytes = input.as_bytes();
-    match shown {
-        Shown::Explained => explain_bytes(alloc, Detail::Lots, bytes, &mut warnings, writer),
-        Shown::Table(measure) => shares_bytes(alloc, measure, bytes, &mut warnings, writer),
-        Shown::Picture(title) => chart_bytes(alloc, title, bytes, &mut warnings, writer),
+    match Warnings::none(alloc) {
+        Ok(mut warnings) => show_with(alloc, shown, input.as_bytes(), &mut warnings, writer),
+        Err(_) => Err(IoFault::Memory),
     }
 }
 
@@ -113,11 +128,11 @@ fn outcome(
 
 /// If an allocation fails, nothing was written.
 fn check(rt: &impl Abort, alloc: Global, shown: Shown) {
-    for input in [SCHEDULED, TIMED] {
+    for input in INPUTS {
         let (ended, written) = counted(alloc, shown, input);
         assert!(rt;
             has_written_or_lacked_memory(ended, written),
-            "{shown:?}: {ended:?}, {written} bytes"
+            "{input}: {ended:?}, {written} bytes"
         );
     }
 }
@@ -132,26 +147,49 @@ fn tables_or_lacks_memory(rt: HostRuntime) {
     check(&rt, rt.alloc(), Shown::Table(Measure::Ticks));
 }
 
+/// The warnings of the input, if it is played.
+fn warned(alloc: Global, input: &str) -> Option<Warnings> {
+    let mut writer = Watched::new(Counting { taken: 0 });
+    let mut warnings = Warnings::none(alloc).ok()?;
+    let played = play_bytes(alloc, input.as_bytes(), &mut warnings, &mut writer);
+    played.is_ok().then_some(warnings)
+}
+
+/// The words of the warnings.
+fn words_of(alloc: Global, warnings: &Warnings, input: &str) -> Option<Vec<u8>> {
+    let mut words = Vec::new(alloc);
+    let written = write_warnings(&mut words, warnings, input.as_bytes());
+    written.is_ok().then_some(words)
+}
+
+/// The words of the input's warnings, if it is played.
+fn words_after(alloc: Global, input: &str) -> Option<Vec<u8>> {
+    let warnings = warned(alloc, input)?;
+    words_of(alloc, &warnings, input)
+}
+
+/// Checks that the words tell the refusal, with or without a suggestion.
+fn check_refusal(rt: &impl Abort, words: &[u8]) {
+    let said = str::from_utf8(words).unwrap_or("");
+    let refused = "line 3: the command was refused: no currency has the name 'alcie'";
+    let others = said.strip_prefix(refused);
+    let is_said = others == Some("; did you mean 'alice'?\n") || others == Some("\n");
+    check_same_at(rt, &said, &is_said, &true);
+}
+
 // If an allocation fails, the suggestion or all words are left out.
 #[test]
 fn warns_or_lacks_memory(rt: HostRuntime) {
     let input = "lottery 1\nmkcur alice\nrmcur alcie\nschedule 0 0\n";
-    let mut writer = Watched::new(Counting { taken: 0 });
-    let Ok(mut warnings) = Warnings::none(rt.alloc()) else {
-        return;
-    };
-    if play_bytes(rt.alloc(), input.as_bytes(), &mut warnings, &mut writer).is_err() {
-        return;
+    if let Some(words) = words_after(rt.alloc(), input) {
+        check_refusal(&rt, words.as_slice());
     }
-    let mut words = Vec::new(rt.alloc());
-    if write_warnings(&mut words, &warnings, input.as_bytes()).is_err() {
-        return;
-    }
-    let said = str::from_utf8(words.as_slice()).unwrap_or("");
-    let refused = "line 3: the command was refused: no currency has the name 'alcie'";
-    let others = said.strip_prefix(refused);
-    let is_said = others == Some("; did you mean 'alice'?\n") || others == Some("\n");
-    assert!(rt; is_said, "{said}");
+}
+
+/// Compares the words.
+fn check_said(rt: &impl Abort, words: &[u8], expected: &str) {
+    let said = str::from_utf8(words).unwrap_or("");
+    check_same(rt, &said, &expected);
 }
 
 #[test]

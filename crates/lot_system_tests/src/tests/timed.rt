@@ -1,13 +1,15 @@
 //! Timed turns, one after another.
 ghost use Rattle.std.specs.Prelude.{◌≡◌};
 
-use super::program_of;
 use super::same::check_same;
+use super::{check_history, parsed};
 use lot_machine::Reply;
 use lot_playback::Playback;
+use lot_system::System;
 use lot_text::Program;
+use std::alloc::Global;
 use std::process::Abort;
-use std::test::Fail;
+use std::test::*;
 
 /// A thread comes at tick 2. It runs for 4 ticks to the end of its quantum, and for 2 and the one of its end.
 pub(super) const COMES_LATER: &str = "lottery 3
@@ -62,64 +64,92 @@ fn check_turns(rt: &impl Abort, program: &Program, playback: &mut Playback, rows
     }
 }
 
+/// A playback of the program.
+fn opened(rt: &impl Abort, alloc: Global, program: &Program) -> Playback
+    ensures { result.seen.setting.program ≡ program.now }
+{
+    Playback::open(alloc, program).expect(rt, "memory")
+}
+
+/// Compares the history and the threads that the timer woke.
+fn check_entries(rt: &impl Abort, system: &System, history: &[u8], woken: &[u16]) {
+    check_history(rt, system, history);
+    check_same(rt, &system.woken(), &woken)
+}
+
+/// Makes the turns of the program, and compares what each was, and then the history and the threads that the timer
+/// woke.
+fn check_played(
+    rt: &impl Abort,
+    alloc: Global,
+    program: &Program,
+    rows: &[Option<Row>],
+    (history, woken): (&[u8], &[u16]),
+) {
+    let mut playback = opened(rt, alloc, program);
+    check_turns(rt, program, &mut playback, rows);
+    check_entries(rt, playback.system(), history, woken)
+}
+
+const TURNS: &[Option<Row>] = &[
+    Some((0, 1, 0, 0)),
+    Some((2, 0, 1, 0)),
+    Some((2, 1, 1, 0)),
+    Some((6, 1, 1, 4)),
+    Some((6, 1, 1, 0)),
+    Some((9, 1, 1, 3)),
+    Some((9, 1, 0, 0)),
+    None,
+    None,
+];
+
+const HISTORY: &[u8] = &[1, 0, 1, 1, 1, 1, 1];
+
 // An idle draw waits for the thread, and another for nothing that comes.
 #[test]
-fn turns_in_time(rt: HostRuntime) -> Result<(), Fail> {
-    let program = program_of(rt.alloc(), COMES_LATER)?;
-    let mut playback = Playback::open(rt.alloc(), &program)?;
-    let rows = [
-        Some((0, 1, 0, 0)),
-        Some((2, 0, 1, 0)),
-        Some((2, 1, 1, 0)),
-        Some((6, 1, 1, 4)),
-        Some((6, 1, 1, 0)),
-        Some((9, 1, 1, 3)),
-        Some((9, 1, 0, 0)),
-        None,
-        None,
-    ];
-    check_turns(&rt, &program, &mut playback, &rows);
-    let (system, _) = playback.into_parts();
-    check_same(&rt, &system.history(), &[1, 0, 1, 1, 1, 1, 1].as_slice());
-    Ok(())
+fn turns_in_time(rt: HostRuntime) {
+    let alloc = rt.alloc();
+    let program = parsed(&rt, alloc, COMES_LATER);
+    check_played(&rt, alloc, &program, TURNS, (HISTORY, &[]))
 }
+
+const TURNS_OF_SLEEPERS: &[Option<Row>] = &[
+    Some((0, 0, 1, 0)),
+    Some((0, 0, 2, 0)),
+    Some((0, 1, 2, 0)),
+    Some((0, 2, 1, 0)),
+    Some((2, 1, 2, 2)),
+    Some((2, 1, 0, 0)),
+    Some((5, 2, 1, 5)),
+    Some((5, 1, 0, 0)),
+    Some((5, 2, 0, 0)),
+    Some((15, 3, 0, 0)),
+    Some((15, 4, 0, 0)),
+    Some((15, 1, 2, 0)),
+    Some((15, 2, 1, 0)),
+    Some((18, 1, 2, 3)),
+    Some((18, 1, 0, 0)),
+    Some((18, 2, 1, 3)),
+    Some((18, 1, 0, 0)),
+    Some((18, 2, 0, 0)),
+    Some((30, 3, 0, 0)),
+    Some((30, 1, 1, 0)),
+    Some((30, 2, 0, 0)),
+    None,
+];
+
+const HISTORY_OF_SLEEPERS: &[u8] = &[
+    0, 0, 1, 2, 1, 1, 2, 1, 2, 3, 3, 1, 2, 1, 1, 2, 1, 2, 3, 1, 2,
+];
+
+const WOKEN: &[u16] = &[1, 2, 1];
 
 // With two processors, 3 is the timer as it wakes thread 1, and 4 as it wakes thread 2. The history has 3 for both, and
 // the threads beside it.
 #[test]
-fn sleepers_in_time(rt: HostRuntime) -> Result<(), Fail> {
-    let program = program_of(rt.alloc(), SLEEPERS)?;
-    let mut playback = Playback::open(rt.alloc(), &program)?;
-    let rows = [
-        Some((0, 0, 1, 0)),
-        Some((0, 0, 2, 0)),
-        Some((0, 1, 2, 0)),
-        Some((0, 2, 1, 0)),
-        Some((2, 1, 2, 2)),
-        Some((2, 1, 0, 0)),
-        Some((5, 2, 1, 5)),
-        Some((5, 1, 0, 0)),
-        Some((5, 2, 0, 0)),
-        Some((15, 3, 0, 0)),
-        Some((15, 4, 0, 0)),
-        Some((15, 1, 2, 0)),
-        Some((15, 2, 1, 0)),
-        Some((18, 1, 2, 3)),
-        Some((18, 1, 0, 0)),
-        Some((18, 2, 1, 3)),
-        Some((18, 1, 0, 0)),
-        Some((18, 2, 0, 0)),
-        Some((30, 3, 0, 0)),
-        Some((30, 1, 1, 0)),
-        Some((30, 2, 0, 0)),
-        None,
-    ];
-    check_turns(&rt, &program, &mut playback, &rows);
-    let (system, _) = playback.into_parts();
-    let made = [
-        0, 0, 1, 2, 1, 1, 2, 1, 2, 3, 3, 1, 2, 1, 1, 2, 1, 2, 3, 1, 2,
-    ];
-    check_same(&rt, &system.history(), &made.as_slice());
-    check_same(&rt, &system.woken(), &[1, 2, 1].as_slice());
-    Ok(())
+fn sleepers_in_time(rt: HostRuntime) {
+    let alloc = rt.alloc();
+    let program = parsed(&rt, alloc, SLEEPERS);
+    let entries = (HISTORY_OF_SLEEPERS, WOKEN);
+    check_played(&rt, alloc, &program, TURNS_OF_SLEEPERS, entries)
 }

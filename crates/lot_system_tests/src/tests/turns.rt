@@ -1,17 +1,18 @@
 //! Turns of small systems, in order: the result of each, and the faults.
+ghost use Rattle.std.specs.Prelude.{◌≡◌};
 
 use super::same::{check_same, check_same_at};
-use super::{SPINNER, make_turns, program_of};
+use super::{SPINNER, make_turns, opened, parsed};
 use lot_machine::{Outcome, Reply, ThreadRef};
 use lot_script::Slice;
-use lot_system::{Answer, System, TurnFault};
+use lot_system::{Answer, System, TurnFault, Work, slice_for};
 use lot_text::Program;
 use std::alloc::Global;
 use std::process::Abort;
-use std::test::Fail;
+use std::test::*;
 
 /// The slice passed for a turn.
-#[derive(Clone, Copy, Debug)]
+#[derive(Clone, Copy)]
 enum Given {
     Nothing,
     /// The slice of the processor's work with this budget.
@@ -20,129 +21,184 @@ enum Given {
     Beginning(u32),
 }
 
-/// The result of a turn.
-#[derive(Clone, Copy, Debug, PartialEq, Eq)]
+/// The result that a turn is to have.
+#[derive(Clone, Copy)]
 enum Came {
-    Made(Reply),
+    /// The number of the thread and of the ticket that funds it.
+    Funded(u32),
+    /// The thread, the drawn number and the total.
+    Won(u32, u128, u128),
+    /// The thread and its ticks.
+    Expired(u32, u32),
+    /// The thread, its ticks and the outcome of its trap.
+    Trapped(u32, u32, Outcome),
     /// The thread and the budget of the work.
     Stale(Option<(u32, u32)>),
     Ended,
     Full,
 }
 
+/// A turn: its actor, the slice passed for it, and its result.
+type Row = (u32, Given, Came);
+
+/// The reply of a turn, or its fault, with the thread and the budget of the work if that made the slice stale.
+type Answered = Result<Reply, (&'static str, Option<(u32, u32)>)>;
+
+/// The slice of the work, with this budget.
+fn slice_with<'a>(
+    rt: &impl Abort,
+    program: &'a Program,
+    mut work: Work,
+    budget: u32,
+) -> Option<Slice<'a>> {
+    work.budget = budget;
+    slice_for(program, Some(work)).expect(rt, "a slice")
+}
+
+/// A work from the beginning of the first script.
+fn first_work(rt: &impl Abort, program: &Program) -> Work {
+    let first = program.scripts().first().expect(rt, "a script");
+    Work {
+        thread: 1,
+        script: 1,
+        place: first.start(),
+        budget: 1,
+    }
+}
+
 /// The slice that is given, if one is.
 fn slice_of<'a>(
+    rt: &impl Abort,
     system: &System,
     program: &'a Program,
     given: Given,
-) -> Result<Option<Slice<'a>>, Fail> {
-    let first = program.scripts().first();
-    let (script, start, budget) = match given {
-        Given::Nothing => return Ok(None),
+) -> Option<Slice<'a>> {
+    match given {
+        Given::Nothing => None,
         Given::WorkOf(processor, budget) => {
-            let work = system.work(processor).ok_or("work")?;
-            let number = work.script.saturating_sub(1) as usize;
-            (program.scripts().get(number), work.place, budget)
+            slice_with(
+                rt,
+                program,
+                system.work(processor).expect(rt, "work"),
+                budget,
+            )
         }
-        Given::Beginning(budget) => (first, first.ok_or("a script")?.start(), budget),
-    };
-    let script = script.ok_or("a script")?;
-    if !script.fits(&start) || budget == 0 || budget > 1000 {
-        return Err("a slice".into());
+        Given::Beginning(budget) => slice_with(rt, program, first_work(rt, program), budget),
     }
-    Ok(Some(script.slice(start, budget)))
 }
 
-/// The result of a turn. A stale one carries the actor's work.
-fn came_of(system: &System, actor: u32, answered: Result<Answer, TurnFault>) -> Option<Came> {
+/// What a turn came to. A stale one carries the actor's work.
+fn found_of(system: &System, actor: u32, answered: Result<Answer, TurnFault>) -> Option<Answered> {
     match answered {
-        Ok(answer) => Some(Came::Made(answer.reply)),
+        Ok(answer) => Some(Ok(answer.reply)),
         Err(TurnFault::Stale(work)) if work != system.work(actor) => None,
-        Err(TurnFault::Stale(Some(work))) => Some(Came::Stale(Some((work.thread, work.budget)))),
-        Err(TurnFault::Stale(None)) => Some(Came::Stale(None)),
-        Err(TurnFault::Ended) => Some(Came::Ended),
-        Err(TurnFault::HistoryFull) => Some(Came::Full),
+        Err(TurnFault::Stale(Some(work))) => Some(Err((STALE, Some((work.thread, work.budget))))),
+        Err(TurnFault::Stale(None)) => Some(Err((STALE, None))),
+        Err(TurnFault::Ended) => Some(Err((ENDED, None))),
+        Err(TurnFault::HistoryFull) => Some(Err((FULL, None))),
     }
 }
 
-/// Makes the turns in a system of the input's program, and compares their results. Those that aren't made aren't in
-/// the history, and aren't counted.
-fn check_turns(
+const STALE: &str = "stale";
+
+const ENDED: &str = "ended";
+
+const FULL: &str = "full";
+
+/// What a turn with this result comes to.
+fn wanted_of(came: Came) -> Answered {
+    match came {
+        Came::Funded(number) => Ok(Reply::Funded {
+            ticket: number,
+            thread: number,
+        }),
+        Came::Won(thread, number, total) => Ok(Reply::Winner {
+            thread,
+            number,
+            total,
+            delivered: None,
+        }),
+        Came::Expired(thread, ticks) => Ok(Reply::Expired { thread, ticks }),
+        Came::Trapped(thread, ticks, outcome) => Ok(Reply::Trapped {
+            thread,
+            ticks,
+            outcome,
+            ends: false,
+        }),
+        Came::Stale(work) => Err((STALE, work)),
+        Came::Ended => Err((ENDED, None)),
+        Came::Full => Err((FULL, None)),
+    }
+}
+
+/// Makes a turn, and returns what it came to.
+fn turned(rt: &impl Abort, program: &Program, system: &mut System, row: Row) -> Option<Answered> {
+    let (actor, given, _) = row;
+    if actor > system.processors() {
+        rt.panic("an actor")
+    }
+    let slice = slice_of(rt, system, program, given);
+    let answered = system.turn(actor, slice);
+    found_of(system, actor, answered)
+}
+
+/// Makes a turn, compares its result, and returns whether it is to be made. The number of turns made so far shows
+/// which turn differs.
+fn check_turn(
     rt: &impl Abort,
-    alloc: Global,
-    (input, room): (&str, u32),
-    turns: &[(u32, Given, Came)],
-) -> Result<(), Fail> {
-    let program = program_of(alloc, input)?;
-    let mut system = System::open(alloc, &program, room)?;
+    program: &Program,
+    system: &mut System,
+    row: Row,
+    made: u32,
+) -> bool {
+    let found = turned(rt, program, system, row);
+    let wanted = wanted_of(row.2);
+    check_same_at(rt, &(row.0, made), &found, &Some(wanted));
+    wanted.is_ok()
+}
+
+/// Compares the length of the history and the count of turns.
+fn check_made(rt: &impl Abort, system: &System, made: u32) {
+    check_same(rt, &system.history().len(), &(made as usize));
+    check_same(rt, &system.total().turns, &u64::from(made));
+}
+
+/// Makes the turns, and compares their results. Those that aren't made aren't in the history, and aren't counted.
+fn check_rows(rt: &impl Abort, program: &Program, system: &mut System, turns: &[Row]) {
     let mut made = 0u32;
-    for (actor, given, came) in turns {
-        if *actor > system.processors() {
-            return Err("an actor".into());
-        }
-        let slice = slice_of(&system, &program, *given)?;
-        let answered = system.turn(*actor, slice);
-        let turn = (*actor, *given);
-        check_same_at(rt, &turn, &came_of(&system, *actor, answered), &Some(*came));
-        if matches!(came, Came::Made(_)) {
+    for turn in turns {
+        if check_turn(rt, program, system, *turn, made) {
             made = made.saturating_add(1);
         }
-        check_same_at(rt, &turn, &system.history().len(), &(made as usize));
-        check_same_at(rt, &turn, &system.total().turns, &u64::from(made));
+        check_made(rt, system, made);
     }
-    Ok(())
 }
 
-const fn funded(number: u32) -> Came {
-    Came::Made(Reply::Funded {
-        ticket: number,
-        thread: number,
-    })
+/// Makes the turns in a system of the input's program, and compares their results.
+fn check_turns(rt: &impl Abort, alloc: Global, (input, room): (&str, u32), turns: &[Row]) {
+    let program = parsed(rt, alloc, input);
+    let mut system = opened(rt, alloc, &program, room);
+    check_rows(rt, &program, &mut system, turns)
 }
 
-const fn won(thread: u32, number: u128, total: u128) -> Came {
-    Came::Made(Reply::Winner {
-        thread,
-        number,
-        total,
-        delivered: None,
-    })
-}
-
-const fn expired(thread: u32, ticks: u32) -> Came {
-    Came::Made(Reply::Expired { thread, ticks })
-}
-
-const fn trapped(thread: u32, ticks: u32, outcome: Outcome) -> Came {
-    Came::Made(Reply::Trapped {
-        thread,
-        ticks,
-        outcome,
-        ends: false,
-    })
-}
+const FAULTS: &[Row] = &[
+    (0, Given::Beginning(100), Came::Stale(None)),
+    (0, Given::Nothing, Came::Funded(1)),
+    (0, Given::Nothing, Came::Ended),
+    (0, Given::Beginning(100), Came::Stale(None)),
+    (1, Given::Nothing, Came::Won(1, 0, 1)),
+    (1, Given::Nothing, Came::Stale(Some((1, 100)))),
+    (1, Given::WorkOf(1, 100), Came::Expired(1, 100)),
+    (1, Given::Nothing, Came::Won(1, 0, 1)),
+    (1, Given::Nothing, Came::Stale(Some((1, 100)))),
+    (1, Given::WorkOf(1, 100), Came::Full),
+    (0, Given::Nothing, Came::Ended),
+];
 
 // Stale comes before Ended and HistoryFull, and Ended before HistoryFull.
 #[test]
-fn faults_in_order(rt: HostRuntime) -> Result<(), Fail> {
-    check_turns(
-        &rt,
-        rt.alloc(),
-        (SPINNER, 4),
-        &[
-            (0, Given::Beginning(100), Came::Stale(None)),
-            (0, Given::Nothing, funded(1)),
-            (0, Given::Nothing, Came::Ended),
-            (0, Given::Beginning(100), Came::Stale(None)),
-            (1, Given::Nothing, won(1, 0, 1)),
-            (1, Given::Nothing, Came::Stale(Some((1, 100)))),
-            (1, Given::WorkOf(1, 100), expired(1, 100)),
-            (1, Given::Nothing, won(1, 0, 1)),
-            (1, Given::Nothing, Came::Stale(Some((1, 100)))),
-            (1, Given::WorkOf(1, 100), Came::Full),
-            (0, Given::Nothing, Came::Ended),
-        ],
-    )
+fn faults_in_order(rt: HostRuntime) {
+    check_turns(&rt, rt.alloc(), (SPINNER, 4), FAULTS)
 }
 
 /// Two scripts, and three threads that each have a processor to themselves.
@@ -160,32 +216,29 @@ fundx 1 base b u
 fundx 1 base c s
 ";
 
+const SLICES_OF_OTHERS: &[Row] = &[
+    (0, Given::Nothing, Came::Funded(1)),
+    (1, Given::Nothing, Came::Won(1, 0, 1)),
+    (0, Given::Nothing, Came::Funded(2)),
+    (2, Given::Nothing, Came::Won(2, 0, 1)),
+    (0, Given::Nothing, Came::Funded(3)),
+    (3, Given::Nothing, Came::Won(3, 0, 1)),
+    (1, Given::Nothing, Came::Stale(Some((1, 100)))),
+    (1, Given::WorkOf(2, 100), Came::Stale(Some((1, 100)))),
+    (1, Given::WorkOf(1, 99), Came::Stale(Some((1, 100)))),
+    (1, Given::WorkOf(1, 101), Came::Stale(Some((1, 100)))),
+    (1, Given::WorkOf(3, 100), Came::Expired(1, 100)),
+    (1, Given::WorkOf(2, 100), Came::Stale(None)),
+    (2, Given::WorkOf(2, 100), Came::Expired(2, 100)),
+    (3, Given::WorkOf(3, 100), Came::Expired(3, 100)),
+    (3, Given::Beginning(100), Came::Stale(None)),
+];
+
 // A slice of another script, of more or of less than is left, or of nothing is stale. One of another thread's that
 // has the same script, start and budget is the same slice.
 #[test]
-fn slices_of_others(rt: HostRuntime) -> Result<(), Fail> {
-    check_turns(
-        &rt,
-        rt.alloc(),
-        (THREE_PROCESSORS, 9),
-        &[
-            (0, Given::Nothing, funded(1)),
-            (1, Given::Nothing, won(1, 0, 1)),
-            (0, Given::Nothing, funded(2)),
-            (2, Given::Nothing, won(2, 0, 1)),
-            (0, Given::Nothing, funded(3)),
-            (3, Given::Nothing, won(3, 0, 1)),
-            (1, Given::Nothing, Came::Stale(Some((1, 100)))),
-            (1, Given::WorkOf(2, 100), Came::Stale(Some((1, 100)))),
-            (1, Given::WorkOf(1, 99), Came::Stale(Some((1, 100)))),
-            (1, Given::WorkOf(1, 101), Came::Stale(Some((1, 100)))),
-            (1, Given::WorkOf(3, 100), expired(1, 100)),
-            (1, Given::WorkOf(2, 100), Came::Stale(None)),
-            (2, Given::WorkOf(2, 100), expired(2, 100)),
-            (3, Given::WorkOf(3, 100), expired(3, 100)),
-            (3, Given::Beginning(100), Came::Stale(None)),
-        ],
-    )
+fn slices_of_others(rt: HostRuntime) {
+    check_turns(&rt, rt.alloc(), (THREE_PROCESSORS, 9), SLICES_OF_OTHERS)
 }
 
 /// Locks, computes and ends.
@@ -198,21 +251,41 @@ endscript
 fundx 1 base a s
 ";
 
+/// The last turn has no room.
+const TWICE_IN_THREE: &[Row] = &[
+    (0, Given::Nothing, Came::Funded(1)),
+    (1, Given::Nothing, Came::Won(1, 0, 1)),
+    (
+        1,
+        Given::WorkOf(1, 100),
+        Came::Trapped(1, 1, Outcome::Locked),
+    ),
+    (1, Given::Beginning(100), Came::Stale(Some((1, 99)))),
+    (1, Given::WorkOf(1, 99), Came::Full),
+];
+
+/// The same turns with room for the last.
+const TWICE_IN_FOUR: &[Row] = &[
+    (0, Given::Nothing, Came::Funded(1)),
+    (1, Given::Nothing, Came::Won(1, 0, 1)),
+    (
+        1,
+        Given::WorkOf(1, 100),
+        Came::Trapped(1, 1, Outcome::Locked),
+    ),
+    (1, Given::Beginning(100), Came::Stale(Some((1, 99)))),
+    (
+        1,
+        Given::WorkOf(1, 99),
+        Came::Trapped(1, 6, Outcome::Exited),
+    ),
+];
+
 // A slice that was made isn't fresh any more: the work is after the lock then, and has one tick less.
 #[test]
-fn slice_twice(rt: HostRuntime) -> Result<(), Fail> {
-    let turns = [
-        (0, Given::Nothing, funded(1)),
-        (1, Given::Nothing, won(1, 0, 1)),
-        (1, Given::WorkOf(1, 100), trapped(1, 1, Outcome::Locked)),
-        (1, Given::Beginning(100), Came::Stale(Some((1, 99)))),
-    ];
-    let mut full = Vec::from_slice(rt.alloc(), &turns)?;
-    full.push((1, Given::WorkOf(1, 99), Came::Full))?;
-    check_turns(&rt, rt.alloc(), (LOCKER, 3), &full)?;
-    let mut ended = Vec::from_slice(rt.alloc(), &turns)?;
-    ended.push((1, Given::WorkOf(1, 99), trapped(1, 6, Outcome::Exited)))?;
-    check_turns(&rt, rt.alloc(), (LOCKER, 4), &ended)
+fn slice_twice(rt: HostRuntime) {
+    check_turns(&rt, rt.alloc(), (LOCKER, 3), TWICE_IN_THREE);
+    check_turns(&rt, rt.alloc(), (LOCKER, 4), TWICE_IN_FOUR)
 }
 
 /// Two processors and one thread.
@@ -224,42 +297,33 @@ endscript
 fundx 10 base a spin
 ";
 
+const NO_ROOM: &[Row] = &[
+    (0, Given::Nothing, Came::Full),
+    (1, Given::Nothing, Came::Full),
+    (2, Given::Nothing, Came::Full),
+];
+
+const NOTHING: &[Row] = &[
+    (0, Given::Nothing, Came::Ended),
+    (1, Given::Nothing, Came::Full),
+];
+
 #[test]
-fn no_room(rt: HostRuntime) -> Result<(), Fail> {
-    check_turns(
-        &rt,
-        rt.alloc(),
-        (TWO_PROCESSORS, 0),
-        &[
-            (0, Given::Nothing, Came::Full),
-            (1, Given::Nothing, Came::Full),
-            (2, Given::Nothing, Came::Full),
-        ],
-    )?;
-    check_turns(
-        &rt,
-        rt.alloc(),
-        ("lottery 1\n", 0),
-        &[
-            (0, Given::Nothing, Came::Ended),
-            (1, Given::Nothing, Came::Full),
-        ],
-    )
+fn no_room(rt: HostRuntime) {
+    check_turns(&rt, rt.alloc(), (TWO_PROCESSORS, 0), NO_ROOM);
+    check_turns(&rt, rt.alloc(), ("lottery 1\n", 0), NOTHING)
 }
+
+const GENERATOR_STAYS: &[Row] = &[
+    (0, Given::Nothing, Came::Funded(1)),
+    (1, Given::Beginning(100), Came::Stale(None)),
+    (1, Given::Nothing, Came::Won(1, 4, 10)),
+];
 
 // A stale turn takes no number: the draw after it has the processor's first.
 #[test]
-fn generator_stays(rt: HostRuntime) -> Result<(), Fail> {
-    check_turns(
-        &rt,
-        rt.alloc(),
-        (TWO_PROCESSORS, 3),
-        &[
-            (0, Given::Nothing, funded(1)),
-            (1, Given::Beginning(100), Came::Stale(None)),
-            (1, Given::Nothing, won(1, 4, 10)),
-        ],
-    )
+fn generator_stays(rt: HostRuntime) {
+    check_turns(&rt, rt.alloc(), (TWO_PROCESSORS, 3), GENERATOR_STAYS)
 }
 
 /// The number of draws without a winner, of this many by the first processor.
@@ -278,14 +342,19 @@ fn idle_draws(system: &mut System, draws: u32) -> u32 {
     idle
 }
 
+/// Makes a million draws, and then one that has no room.
+fn check_draws(rt: &impl Abort, system: &mut System) {
+    check_same(rt, &idle_draws(system, 1_000_000), &1_000_000);
+    check_same(rt, &idle_draws(system, 1), &0);
+    check_same(rt, &system.history().len(), &1_000_000);
+}
+
 #[test]
-fn last_entry(rt: HostRuntime) -> Result<(), Fail> {
-    let program = program_of(rt.alloc(), "lottery 1\nlimits 1 1 1\n")?;
-    let mut system = System::open(rt.alloc(), &program, 1_000_000)?;
-    check_same(&rt, &idle_draws(&mut system, 1_000_000), &1_000_000);
-    check_same(&rt, &idle_draws(&mut system, 1), &0);
-    check_same(&rt, &system.history().len(), &1_000_000);
-    Ok(())
+fn last_entry(rt: HostRuntime) {
+    let alloc = rt.alloc();
+    let program = parsed(&rt, alloc, "lottery 1\nlimits 1 1 1\n");
+    let mut system = opened(&rt, alloc, &program, 1_000_000);
+    check_draws(&rt, &mut system)
 }
 
 /// One thread locks a mutex and yields, and the next one waits for it. By the seed each draw has the winner that is
@@ -306,29 +375,42 @@ fundx 1 base c one
 schedule 0 0 0 1 1 1 1 1 1 1
 ";
 
-#[test]
-fn waiters_stand_in_order_of_waiting(rt: HostRuntime) -> Result<(), Fail> {
-    let program = program_of(rt.alloc(), WAITING)?;
+/// Compares the threads that wait for the first mutex, in order. None waits for another.
+fn check_waiters(rt: &impl Abort, alloc: Global, program: &Program, system: &System)
+    requires { system.now.setting.program ≡ program.now }
+{
     let threads = program.limits().threads as usize;
-    let mut waiters = Vec::with_capacity(rt.alloc(), threads)?;
-    let mut system = System::open(rt.alloc(), &program, 10)?;
-    make_turns(&mut system, &program, program.schedule())?;
+    let mut waiters = Vec::with_capacity(alloc, threads).expect(rt, "memory");
     system.list_waiters(1, &mut waiters);
-    check_same(&rt, &waiters.as_slice(), &[2, 3].as_slice());
+    check_same(rt, &waiters.as_slice(), &[2, 3].as_slice());
     system.list_waiters(2, &mut waiters);
-    assert!(rt; waiters.is_empty());
-    Ok(())
+    check_same(rt, &waiters.len(), &0);
+}
+
+/// Compares owners, the ticks of a compensation, and a thread.
+fn check_owners(rt: &impl Abort, system: &System) {
+    let owners = (system.owner(1), system.owner(2));
+    check_same(rt, &owners, &(Some(1), None));
+    check_same(rt, &system.compensation(1), &Some(4));
+    let meant = system.thread_meant(&ThreadRef::Numbered(3));
+    check_same(rt, &meant, &Some(3))
+}
+
+#[test]
+fn waiters_stand_in_order_of_waiting(rt: HostRuntime) {
+    let alloc = rt.alloc();
+    let program = parsed(&rt, alloc, WAITING);
+    let mut system = opened(&rt, alloc, &program, 10);
+    make_turns(&rt, &mut system, &program, program.schedule());
+    check_waiters(&rt, alloc, &program, &system)
 }
 
 // Thread 1 owns the mutex. It locked, computed for two ticks and yielded, which took four.
 #[test]
-fn owners_and_compensations(rt: HostRuntime) -> Result<(), Fail> {
-    let program = program_of(rt.alloc(), WAITING)?;
-    let mut system = System::open(rt.alloc(), &program, 10)?;
-    make_turns(&mut system, &program, program.schedule())?;
-    check_same(&rt, &system.owner(1), &Some(1));
-    check_same(&rt, &system.owner(2), &None);
-    check_same(&rt, &system.compensation(1), &Some(4));
-    check_same(&rt, &system.thread_meant(&ThreadRef::Numbered(3)), &Some(3));
-    Ok(())
+fn owners_and_compensations(rt: HostRuntime) {
+    let alloc = rt.alloc();
+    let program = parsed(&rt, alloc, WAITING);
+    let mut system = opened(&rt, alloc, &program, 10);
+    make_turns(&rt, &mut system, &program, program.schedule());
+    check_owners(&rt, &system)
 }

@@ -23,9 +23,13 @@ use lot_simulation::{
 use std::alloc::Global;
 use std::process::Abort;
 
+fn check_ended(rt: &impl Abort, ended: Result<(), IoFault>, wanted: &str) {
+    assert!(rt; ended.is_ok(), "{wanted}");
+}
+
 /// Checks the text written by a call that returned this.
 fn check(rt: &impl Abort, writer: Watched<Vec<u8>>, ended: Result<(), IoFault>, wanted: &str) {
-    assert!(rt; ended.is_ok(), "{wanted}");
+    check_ended(rt, ended, wanted);
     let written = writer.into_inner();
     check_same_at(rt, &wanted, &written.as_slice(), &wanted.as_bytes());
 }
@@ -80,7 +84,7 @@ struct PrintedReply<'a> {
     line: &'a str,
 }
 
-const REPLIES: [PrintedReply<'_>; 10] = [
+const REPLIES: &[PrintedReply<'static>] = &[
     PrintedReply {
         reply: Reply::Ticket(1),
         line: "1 ticket 1\n",
@@ -141,7 +145,7 @@ const REPLIES: [PrintedReply<'_>; 10] = [
 
 #[test]
 fn prints_replies(rt: HostRuntime) {
-    for printed in &REPLIES {
+    for printed in REPLIES {
         check_reply(&rt, rt.alloc(), 1, printed.reply, printed.line);
     }
 }
@@ -166,7 +170,7 @@ fn check_trap(rt: &impl Abort, alloc: Global, printed: &PrintedTrap<'_>) {
     check_event(rt, alloc, 1, &event, reply, printed.line);
 }
 
-const TRAPS: [PrintedTrap<'_>; 16] = [
+const TRAPS: &[PrintedTrap<'static>] = &[
     PrintedTrap {
         action: Action::Yield,
         outcome: Outcome::Yielded,
@@ -277,12 +281,12 @@ const TRAPS: [PrintedTrap<'_>; 16] = [
 
 #[test]
 fn prints_traps(rt: HostRuntime) {
-    for printed in &TRAPS {
+    for printed in TRAPS {
         check_trap(&rt, rt.alloc(), printed);
     }
 }
 
-const REFUSALS: [(Refusal, &str); 21] = [
+const REFUSALS: &[(Refusal, &str)] = &[
     (Refusal::BadName, "2 refused 1 BadName\n"),
     (Refusal::NameTaken, "2 refused 2 NameTaken\n"),
     (Refusal::NoCurrency, "2 refused 3 NoCurrency\n"),
@@ -308,12 +312,12 @@ const REFUSALS: [(Refusal, &str); 21] = [
 
 #[test]
 fn prints_refusals(rt: HostRuntime) {
-    for (refusal, line) in &REFUSALS {
+    for (refusal, line) in REFUSALS {
         check_reply(&rt, rt.alloc(), 2, Reply::Refused(*refusal), line);
     }
 }
 
-const TRAP_REFUSALS: [(TrapRefusal, &str); 6] = [
+const TRAP_REFUSALS: &[(TrapRefusal, &str)] = &[
     (
         TrapRefusal::NoPort,
         "1 thread 1 ticks 2 refused 30 NoPort\n",
@@ -352,7 +356,7 @@ fn check_trap_refusal(rt: &impl Abort, alloc: Global, refusal: TrapRefusal, line
 
 #[test]
 fn prints_trap_refusals(rt: HostRuntime) {
-    for (refusal, line) in &TRAP_REFUSALS {
+    for (refusal, line) in TRAP_REFUSALS {
         check_trap_refusal(&rt, rt.alloc(), *refusal, line);
     }
 }
@@ -374,7 +378,7 @@ fn check_fault(rt: &impl Abort, alloc: Global, printed: &PrintedFault<'_>) {
     check(rt, writer, ended, printed.text);
 }
 
-const FAULTS: [PrintedFault<'_>; 8] = [
+const FAULTS: &[PrintedFault<'static>] = &[
     PrintedFault {
         line: 1,
         refusal: InputRefusal::BadHeader,
@@ -419,7 +423,7 @@ const FAULTS: [PrintedFault<'_>; 8] = [
 
 #[test]
 fn prints_faults(rt: HostRuntime) {
-    for printed in &FAULTS {
+    for printed in FAULTS {
         check_fault(&rt, rt.alloc(), printed);
     }
 }
@@ -526,7 +530,7 @@ fn check_ticket(rt: &impl Abort, alloc: Global, limits: Limits, row: &TicketRow,
     check(rt, writer, ended, wanted);
 }
 
-const TICKETS: [PrintedTicket<'_>; 3] = [
+const TICKETS: &[PrintedTicket<'static>] = &[
     PrintedTicket {
         target: Some("alice"),
         is_active: true,
@@ -549,7 +553,7 @@ const TICKETS: [PrintedTicket<'_>; 3] = [
 
 #[test]
 fn prints_tickets(rt: HostRuntime) {
-    for printed in &TICKETS {
+    for printed in TICKETS {
         let row = ticket_row(&rt, printed);
         let limits = limits(&rt, printed.unit);
         check_ticket(&rt, rt.alloc(), limits, &row, printed.line);
@@ -585,7 +589,7 @@ fn check_currency(
     check(rt, writer, ended, printed.line);
 }
 
-const CURRENCIES: [PrintedCurrency<'_>; 3] = [
+const CURRENCIES: &[PrintedCurrency<'static>] = &[
     PrintedCurrency {
         number: 0,
         unit: 1,
@@ -606,12 +610,12 @@ const CURRENCIES: [PrintedCurrency<'_>; 3] = [
 #[test]
 fn prints_currencies(rt: HostRuntime) {
     let row = currency_row(&rt);
-    for printed in &CURRENCIES {
+    for printed in CURRENCIES {
         check_currency(&rt, rt.alloc(), &row, printed);
     }
 }
 
-const STATUSES: [(Status, &str); 8] = [
+const STATUSES: &[(Status, &str)] = &[
     (Status::Ready, "ready"),
     (
         Status::Running {
@@ -657,7 +661,7 @@ fn check_status(rt: &impl Abort, alloc: Global, status: Status, shown: &str) {
 
 #[test]
 fn prints_threads(rt: HostRuntime) {
-    for (status, shown) in &STATUSES {
+    for (status, shown) in STATUSES {
         check_status(&rt, rt.alloc(), *status, shown);
     }
 }
@@ -670,13 +674,9 @@ fn check_listing_line(rt: &impl Abort, alloc: Global, kind: Kind, wanted: &str) 
 
 #[test]
 fn prints_listing_lines(rt: HostRuntime) {
-    for (kind, wanted) in [
-        (Kind::Tickets, "0 lstkt 8\n"),
-        (Kind::Currencies, "0 lscur 8\n"),
-        (Kind::Threads, "0 lsthr 8\n"),
-    ] {
-        check_listing_line(&rt, rt.alloc(), kind, wanted);
-    }
+    check_listing_line(&rt, rt.alloc(), Kind::Tickets, "0 lstkt 8\n");
+    check_listing_line(&rt, rt.alloc(), Kind::Currencies, "0 lscur 8\n");
+    check_listing_line(&rt, rt.alloc(), Kind::Threads, "0 lsthr 8\n");
 }
 
 fn check_history(rt: &impl Abort, alloc: Global, format: Format, history: &[u8], wanted: &str) {
@@ -773,61 +773,42 @@ fn prints_runs_after_a_line(rt: HostRuntime) {
     );
 }
 
-/// An event, the reply to it, and its line.
-#[derive(Drop)]
-struct TimedReply<'a> {
-    event: Event,
-    reply: Reply,
-    line: &'a str,
-}
-
 /// Checks the line of a reply, with its time.
-fn check_timed(rt: &impl Abort, alloc: Global, printed: &TimedReply<'_>) {
+fn check_timed(rt: &impl Abort, alloc: Global, event: &Event, reply: Reply, wanted: &str) {
     let mut writer = Watched::new(Vec::new(alloc));
     let mut page = Page::new();
-    let event = &printed.event;
-    let mut ended = write_reply(&mut writer, &mut page, TIMED, event, &printed.reply);
+    let mut ended = write_reply(&mut writer, &mut page, TIMED, event, &reply);
     if ended.is_ok() {
         ended = page.write_out(&mut writer);
     }
-    check(rt, writer, ended, printed.line);
+    check(rt, writer, ended, wanted);
 }
 
 /// A draw of this number of this total, which thread 2 won.
-fn drawn(number: u128, total: u128, line: &str) -> TimedReply<'_> {
-    TimedReply {
-        event: Event::Draw(1, 0),
-        reply: Reply::Winner {
-            thread: 2,
-            number,
-            total,
-            delivered: None,
-        },
-        line,
-    }
+fn check_drawn(rt: &impl Abort, alloc: Global, number: u128, total: u128, wanted: &str) {
+    let reply = Reply::Winner {
+        thread: 2,
+        number,
+        total,
+        delivered: None,
+    };
+    check_timed(rt, alloc, &Event::Draw(1, 0), reply, wanted);
 }
 
 /// A trap of thread 3 after 7 ticks.
-fn trapped(action: Action, outcome: Outcome, line: &str) -> TimedReply<'_> {
-    TimedReply {
-        event: Event::Trap(1, 6, action),
-        reply: Reply::Trapped {
-            thread: 3,
-            ticks: 7,
-            outcome,
-            ends: false,
-        },
-        line,
-    }
+fn check_trapped(rt: &impl Abort, alloc: Global, action: Action, outcome: Outcome, wanted: &str) {
+    let reply = Reply::Trapped {
+        thread: 3,
+        ticks: 7,
+        outcome,
+        ends: false,
+    };
+    check_timed(rt, alloc, &Event::Trap(1, 6, action), reply, wanted);
 }
 
 /// The reply to the wake of thread 12.
-fn woken(reply: Reply, line: &str) -> TimedReply<'_> {
-    TimedReply {
-        event: Event::Wake { thread: 12 },
-        reply,
-        line,
-    }
+fn check_woken(rt: &impl Abort, alloc: Global, reply: Reply, wanted: &str) {
+    check_timed(rt, alloc, &Event::Wake { thread: 12 }, reply, wanted);
 }
 
 /// The unlock of mutex 4, which passes it to thread 5.
@@ -846,45 +827,41 @@ const RECEIVED: Outcome = Outcome::RepliedThenReceived {
 /// A server's reply to thread 5, after which it waits.
 const WAITS: Outcome = Outcome::RepliedThenWaits(5);
 
+/// Traps, their outcomes, and their lines.
+const TIMED_TRAPS: &[(Action, Outcome, &str)] = &[
+    (
+        Action::Unlock(4, 99),
+        PASSED,
+        "120 1 thread 3 ticks 7 unlock 4 to 5 draw 0.003 of 0.101\n",
+    ),
+    (
+        Action::Serve(2, 9),
+        RECEIVED,
+        "120 1 thread 3 ticks 7 reply client 5 receive 2 client 6 got 41\n",
+    ),
+    (
+        Action::Serve(2, 9),
+        WAITS,
+        "120 1 thread 3 ticks 7 reply client 5 receive 2 waits\n",
+    ),
+];
+
 // 2561 / 256 is 10.00390625, 384 / 256 is 1.5, and 64 / 256 is 0.25.
 #[test]
 fn prints_what_is_behind_the_point(rt: HostRuntime) {
-    let rows = [
-        drawn(384, 2561, "120 1 draw 1.5 of 10.003 thread 2\n"),
-        drawn(64, 2560, "120 1 draw 0.25 of 10 thread 2\n"),
-        trapped(
-            Action::Unlock(4, 99),
-            PASSED,
-            "120 1 thread 3 ticks 7 unlock 4 to 5 draw 0.003 of 0.101\n",
-        ),
-        trapped(
-            Action::Serve(2, 9),
-            RECEIVED,
-            "120 1 thread 3 ticks 7 reply client 5 receive 2 client 6 got 41\n",
-        ),
-        trapped(
-            Action::Serve(2, 9),
-            WAITS,
-            "120 1 thread 3 ticks 7 reply client 5 receive 2 waits\n",
-        ),
-    ];
-    for printed in &rows {
-        check_timed(&rt, rt.alloc(), printed);
+    let alloc = rt.alloc();
+    check_drawn(&rt, alloc, 384, 2561, "120 1 draw 1.5 of 10.003 thread 2\n");
+    check_drawn(&rt, alloc, 64, 2560, "120 1 draw 0.25 of 10 thread 2\n");
+    for (action, outcome, line) in TIMED_TRAPS {
+        check_trapped(&rt, alloc, *action, *outcome, line);
     }
 }
 
 #[test]
 fn prints_wakes(rt: HostRuntime) {
-    let rows = [
-        woken(Reply::Done, "120 1 wake thread 12\n"),
-        woken(
-            Reply::Refused(Refusal::NotAsleep),
-            "120 1 refused 24 NotAsleep\n",
-        ),
-    ];
-    for printed in &rows {
-        check_timed(&rt, rt.alloc(), printed);
-    }
+    let refused = Reply::Refused(Refusal::NotAsleep);
+    check_woken(&rt, rt.alloc(), Reply::Done, "120 1 wake thread 12\n");
+    check_woken(&rt, rt.alloc(), refused, "120 1 refused 24 NotAsleep\n");
 }
 
 /// The largest possible waits.
@@ -1033,49 +1010,55 @@ fn prints_lives(rt: HostRuntime) {
     );
 }
 
+const HEADERS: &[(Columns, &str)] = &[
+    (Columns::Totals, "thread,name,quanta,ticks\n"),
+    (
+        Columns::TimedTotals,
+        "thread,name,quanta,ticks,share_percent,due_percent,value_percent,ready_waits,ready_mean,ready_longest,\
+         mutex_waits,mutex_mean,mutex_longest,reply_waits,reply_mean,reply_longest,refused,made,ended\n",
+    ),
+    (
+        Columns::Currencies,
+        "currency,name,ticks,share_percent,due_percent\n",
+    ),
+    (
+        Columns::Figures(FiguresTable::Schedule),
+        "thread,name,plays,quanta_mean,quanta_least,quanta_most,ticks_mean,ticks_least,ticks_most,\
+         share_percent_mean,share_percent_least,share_percent_most\n",
+    ),
+    (
+        Columns::Figures(FiguresTable::Timed),
+        "thread,name,plays,quanta_mean,quanta_least,quanta_most,ticks_mean,ticks_least,ticks_most,\
+         share_percent_mean,share_percent_least,share_percent_most,\
+         due_percent_mean,due_percent_least,due_percent_most,\
+         value_percent_mean,value_percent_least,value_percent_most,\
+         ready_waits_mean,ready_waits_least,ready_waits_most,ready_mean_mean,ready_mean_least,ready_mean_most,\
+         ready_longest_mean,ready_longest_least,ready_longest_most,\
+         mutex_waits_mean,mutex_waits_least,mutex_waits_most,mutex_mean_mean,mutex_mean_least,mutex_mean_most,\
+         mutex_longest_mean,mutex_longest_least,mutex_longest_most,\
+         reply_waits_mean,reply_waits_least,reply_waits_most,reply_mean_mean,reply_mean_least,reply_mean_most,\
+         reply_longest_mean,reply_longest_least,reply_longest_most,\
+         refused_mean,refused_least,refused_most,made_mean,made_least,made_most,\
+         ended_mean,ended_least,ended_most\n",
+    ),
+    (
+        Columns::Figures(FiguresTable::OfCurrencies),
+        "currency,name,plays,ticks_mean,ticks_least,ticks_most,\
+         share_percent_mean,share_percent_least,share_percent_most,\
+         due_percent_mean,due_percent_least,due_percent_most\n",
+    ),
+];
+
+fn check_header(rt: &impl Abort, alloc: Global, columns: Columns, wanted: &str) {
+    let mut writer = Watched::new(Vec::new(alloc));
+    let ended = write_header(&mut writer, columns);
+    check(rt, writer, ended, wanted);
+}
+
 #[test]
 fn prints_headers(rt: HostRuntime) {
-    for (columns, wanted) in [
-        (Columns::Totals, "thread,name,quanta,ticks\n"),
-        (
-            Columns::TimedTotals,
-            "thread,name,quanta,ticks,share_percent,due_percent,value_percent,ready_waits,ready_mean,ready_longest,\
-             mutex_waits,mutex_mean,mutex_longest,reply_waits,reply_mean,reply_longest,refused,made,ended\n",
-        ),
-        (
-            Columns::Currencies,
-            "currency,name,ticks,share_percent,due_percent\n",
-        ),
-        (
-            Columns::Figures(FiguresTable::Schedule),
-            "thread,name,plays,quanta_mean,quanta_least,quanta_most,ticks_mean,ticks_least,ticks_most,\
-             share_percent_mean,share_percent_least,share_percent_most\n",
-        ),
-        (
-            Columns::Figures(FiguresTable::Timed),
-            "thread,name,plays,quanta_mean,quanta_least,quanta_most,ticks_mean,ticks_least,ticks_most,\
-             share_percent_mean,share_percent_least,share_percent_most,\
-             due_percent_mean,due_percent_least,due_percent_most,\
-             value_percent_mean,value_percent_least,value_percent_most,\
-             ready_waits_mean,ready_waits_least,ready_waits_most,ready_mean_mean,ready_mean_least,ready_mean_most,\
-             ready_longest_mean,ready_longest_least,ready_longest_most,\
-             mutex_waits_mean,mutex_waits_least,mutex_waits_most,mutex_mean_mean,mutex_mean_least,mutex_mean_most,\
-             mutex_longest_mean,mutex_longest_least,mutex_longest_most,\
-             reply_waits_mean,reply_waits_least,reply_waits_most,reply_mean_mean,reply_mean_least,reply_mean_most,\
-             reply_longest_mean,reply_longest_least,reply_longest_most,\
-             refused_mean,refused_least,refused_most,made_mean,made_least,made_most,\
-             ended_mean,ended_least,ended_most\n",
-        ),
-        (
-            Columns::Figures(FiguresTable::OfCurrencies),
-            "currency,name,plays,ticks_mean,ticks_least,ticks_most,\
-             share_percent_mean,share_percent_least,share_percent_most,\
-             due_percent_mean,due_percent_least,due_percent_most\n",
-        ),
-    ] {
-        let mut writer = Watched::new(Vec::new(rt.alloc()));
-        let ended = write_header(&mut writer, columns);
-        check(&rt, writer, ended, wanted);
+    for (columns, wanted) in HEADERS {
+        check_header(&rt, rt.alloc(), *columns, wanted);
     }
 }
 
@@ -1321,6 +1304,31 @@ fn prints_figures_of_processors(rt: HostRuntime) {
     check(&rt, writer, ended, wanted);
 }
 
+const WHOLE_FIGURES: &str =
+    "total plays 3 turns mean 9.666 least 9 most 10 quanta mean 3.333 least 3 most 4 \
+    ticks mean 30 least 0 most 90 refused mean 0.666 least 0 most 1 left mean 0 least 0 most 0\n";
+
+const WHOLE_FIGURES_WITH_LIVES: &str =
+    "total plays 3 turns mean 9.666 least 9 most 10 quanta mean 3.333 least 3 most 4 \
+    ticks mean 30 least 0 most 90 refused mean 0.666 least 0 most 1 left mean 0 least 0 most 0\n\
+    total ended mean 1.666 least 0 most 3 average mean 2.416 least 2.333 most 2.5 \
+    longest mean 4.5 least 4 most 5\n";
+
+fn check_whole_figures(rt: &impl Abort, alloc: Global, lives: SpanFigures, wanted: &str) {
+    let figures = WholeFigures {
+        plays: 3,
+        turns: spread(3, 29, 9, 10),
+        quanta: spread(3, 10, 3, 4),
+        ticks: spread(3, 90, 0, 90),
+        refused: spread(3, 2, 0, 1),
+        left: spread(3, 0, 0, 0),
+        lives,
+    };
+    let mut writer = Watched::new(Vec::new(alloc));
+    let ended = write_whole_figures(&mut writer, &figures);
+    check(rt, writer, ended, wanted);
+}
+
 // In one play no thread has ended; in the others two had lived for 5 ticks, and three for 7: 2.5 and 2.333 on average.
 #[test]
 fn prints_whole_figures(rt: HostRuntime) {
@@ -1329,33 +1337,8 @@ fn prints_whole_figures(rt: HostRuntime) {
         mean: spread(2, 4833, 2333, 2500),
         longest: spread(2, 9, 4, 5),
     };
-    for (lives, wanted) in [
-        (
-            no_spans(),
-            "total plays 3 turns mean 9.666 least 9 most 10 quanta mean 3.333 least 3 most 4 \
-             ticks mean 30 least 0 most 90 refused mean 0.666 least 0 most 1 left mean 0 least 0 most 0\n",
-        ),
-        (
-            lives,
-            "total plays 3 turns mean 9.666 least 9 most 10 quanta mean 3.333 least 3 most 4 \
-             ticks mean 30 least 0 most 90 refused mean 0.666 least 0 most 1 left mean 0 least 0 most 0\n\
-             total ended mean 1.666 least 0 most 3 average mean 2.416 least 2.333 most 2.5 \
-             longest mean 4.5 least 4 most 5\n",
-        ),
-    ] {
-        let figures = WholeFigures {
-            plays: 3,
-            turns: spread(3, 29, 9, 10),
-            quanta: spread(3, 10, 3, 4),
-            ticks: spread(3, 90, 0, 90),
-            refused: spread(3, 2, 0, 1),
-            left: spread(3, 0, 0, 0),
-            lives,
-        };
-        let mut writer = Watched::new(Vec::new(rt.alloc()));
-        let ended = write_whole_figures(&mut writer, &figures);
-        check(&rt, writer, ended, wanted);
-    }
+    check_whole_figures(&rt, rt.alloc(), no_spans(), WHOLE_FIGURES);
+    check_whole_figures(&rt, rt.alloc(), lives, WHOLE_FIGURES_WITH_LIVES);
 }
 
 #[test]
@@ -1380,34 +1363,48 @@ fn prints_timed_processors(rt: HostRuntime) {
     check(&rt, writer, ended, wanted);
 }
 
-// Two threads that lived 5 ticks in all.
+fn check_timed_end(rt: &impl Abort, alloc: Global, lives: PastLives, wanted: &str) {
+    let total = TimedWholeTotal {
+        turns: 1,
+        quanta: 2,
+        ticks: 3,
+        refused: 4,
+        left: 5,
+        lives,
+    };
+    let mut writer = Watched::new(Vec::new(alloc));
+    let ended = write_timed_whole_total(&mut writer, total);
+    check(rt, writer, ended, wanted);
+}
+
+/// No thread has ended.
+const NO_LIVES: PastLives = PastLives {
+    count: 0,
+    total: 0,
+    longest: 0,
+};
+
+/// Two threads that lived 5 ticks in all.
+const TWO_LIVES: PastLives = PastLives {
+    count: 2,
+    total: 5,
+    longest: 4,
+};
+
 #[test]
 fn prints_timed_ends(rt: HostRuntime) {
-    for (count, total, longest, wanted) in [
-        (0, 0, 0, "total turns 1 quanta 2 ticks 3 refused 4 left 5\n"),
-        (
-            2,
-            5,
-            4,
-            "total turns 1 quanta 2 ticks 3 refused 4 left 5 ended 2 mean 2.5 longest 4\n",
-        ),
-    ] {
-        let total = TimedWholeTotal {
-            turns: 1,
-            quanta: 2,
-            ticks: 3,
-            refused: 4,
-            left: 5,
-            lives: PastLives {
-                count,
-                total,
-                longest,
-            },
-        };
-        let mut writer = Watched::new(Vec::new(rt.alloc()));
-        let ended = write_timed_whole_total(&mut writer, total);
-        check(&rt, writer, ended, wanted);
-    }
+    check_timed_end(
+        &rt,
+        rt.alloc(),
+        NO_LIVES,
+        "total turns 1 quanta 2 ticks 3 refused 4 left 5\n",
+    );
+    check_timed_end(
+        &rt,
+        rt.alloc(),
+        TWO_LIVES,
+        "total turns 1 quanta 2 ticks 3 refused 4 left 5 ended 2 mean 2.5 longest 4\n",
+    );
 }
 
 #[test]

@@ -20,6 +20,8 @@ const RECEIVE_2: ScriptTrap = ScriptTrap::AtPort(PortTrap::Receive, 2);
 
 const SERVE_2: ScriptTrap = ScriptTrap::AtPort(PortTrap::Serve, 2);
 
+const EXIT: Option<ScriptTrap> = Some(ScriptTrap::Exit);
+
 const CALL_3: ScriptTrap = ScriptTrap::AtPort(PortTrap::Call, 3);
 
 /// Adds a line that can come next.
@@ -51,168 +53,172 @@ fn script_of(rt: &impl Abort, alloc: Global, lines: &[Line]) -> Script {
     finished(rt, builder)
 }
 
-/// Slices of the script in turn, from its beginning: of each the budget, the ticks, the trap and the accumulator at
-/// its end. A failed comparison shows the budget.
-fn slices_in_turn(
-    rt: &impl Abort,
-    script: &Script,
-    slices: &[(u32, u32, Option<ScriptTrap>, u32)],
-) {
+/// Of a slice the budget, the ticks, the trap and the accumulator at its end.
+type Sliced = (u32, u32, Option<ScriptTrap>, u32);
+
+/// Checks the slice of the script from this place, and returns its end. A failed comparison shows the budget.
+fn check_slice(rt: &impl Abort, script: &Script, place: Place, sliced: Sliced) -> Place {
+    let (budget, ticks, trap, accumulator) = sliced;
+    assert!(rt; script.fits(&place));
+    assert!(rt; 1 <= budget && budget <= 1000);
+    let slice = script.slice(place, budget);
+    let end = slice.end().copied();
+    let found = (slice.ticks(), slice.trap(), end.accumulator());
+    check_same_at(rt, &budget, &found, &(ticks, trap, accumulator));
+    end
+}
+
+/// Slices of the script in turn, from its beginning.
+fn slices_in_turn(rt: &impl Abort, script: &Script, slices: &[Sliced]) {
     let mut place = script.start();
-    for (budget, ticks, trap, accumulator) in slices {
-        assert!(rt; script.fits(&place) && 1 <= *budget && *budget <= 1000);
-        let slice = script.slice(place, *budget);
-        place = slice.end().copied();
-        let found = (slice.ticks(), slice.trap(), place.accumulator());
-        check_same_at(rt, budget, &found, &(*ticks, *trap, *accumulator));
+    for sliced in slices {
+        place = check_slice(rt, script, place, *sliced);
     }
 }
 
+/// Checks slices of a script of these lines: those of each row in turn, from its beginning.
+fn check_slices(rt: &impl Abort, alloc: Global, lines: &[Line], rows: &[&[Sliced]]) {
+    let script = script_of(rt, alloc, lines);
+    for slices in rows {
+        slices_in_turn(rt, &script, slices);
+    }
+}
+
+const LOOP: &[Line] = &[Line::Loop(2), Line::Compute(3), Line::End];
+
+const LOOP_SLICES: &[&[Sliced]] = &[
+    &[(1000, 9, EXIT, 0), (1000, 0, EXIT, 0)],
+    &[(9, 9, None, 0), (1, 0, EXIT, 0)],
+    &[(2, 2, None, 0), (4, 4, None, 0), (4, 3, EXIT, 0)],
+];
+
+const EMPTY_LOOP: &[Line] = &[Line::Loop(3), Line::End];
+
+const EMPTY_LOOP_SLICES: &[&[Sliced]] = &[&[(5, 4, EXIT, 0)]];
+
 #[test]
 fn loops(rt: HostRuntime) {
-    let lines = [Line::Loop(2), Line::Compute(3), Line::End];
-    let script = script_of(&rt, rt.alloc(), &lines);
-    let exit = Some(ScriptTrap::Exit);
-    slices_in_turn(&rt, &script, &[(1000, 9, exit, 0), (1000, 0, exit, 0)]);
-    slices_in_turn(&rt, &script, &[(9, 9, None, 0), (1, 0, exit, 0)]);
-    slices_in_turn(
-        &rt,
-        &script,
-        &[(2, 2, None, 0), (4, 4, None, 0), (4, 3, exit, 0)],
-    );
-    let lines = [Line::Loop(3), Line::End];
-    let script = script_of(&rt, rt.alloc(), &lines);
-    slices_in_turn(&rt, &script, &[(5, 4, exit, 0)]);
+    check_slices(&rt, rt.alloc(), LOOP, LOOP_SLICES);
+    check_slices(&rt, rt.alloc(), EMPTY_LOOP, EMPTY_LOOP_SLICES);
 }
+
+const NO_LINE_SLICES: &[&[Sliced]] = &[&[(1, 0, EXIT, 0), (1000, 0, EXIT, 0)]];
 
 #[test]
 fn nothing_to_do(rt: HostRuntime) {
-    let script = script_of(&rt, rt.alloc(), &[]);
-    let exit = Some(ScriptTrap::Exit);
-    slices_in_turn(&rt, &script, &[(1, 0, exit, 0), (1000, 0, exit, 0)]);
+    check_slices(&rt, rt.alloc(), &[], NO_LINE_SLICES);
 }
+
+const YIELDS: &[Line] = &[
+    Line::Loop(1),
+    Line::Trap(YIELD),
+    Line::End,
+    Line::Trap(RECEIVE_2),
+];
+
+const YIELDS_SLICES: &[&[Sliced]] = &[&[
+    (1000, 1, Some(YIELD), 0),
+    (1000, 1, Some(RECEIVE_2), 0),
+    (1000, 0, EXIT, 0),
+    (1, 0, EXIT, 0),
+]];
+
+const EACH_TRAP: &[Line] = &[
+    Line::Trap(CALL_3),
+    Line::Trap(REPLY),
+    Line::Trap(SERVE_2),
+    Line::Trap(LOCK_1),
+    Line::Trap(UNLOCK_1),
+    Line::Trap(YIELD),
+];
+
+const EACH_TRAP_SLICES: &[&[Sliced]] = &[&[
+    (1, 0, Some(CALL_3), 0),
+    (1, 0, Some(REPLY), 0),
+    (1, 0, Some(SERVE_2), 0),
+    (1, 0, Some(LOCK_1), 0),
+    (1, 0, Some(UNLOCK_1), 0),
+    (1, 0, Some(YIELD), 0),
+    (1, 0, EXIT, 0),
+]];
 
 #[test]
 fn traps(rt: HostRuntime) {
-    let lines = [
-        Line::Loop(1),
-        Line::Trap(YIELD),
-        Line::End,
-        Line::Trap(RECEIVE_2),
-    ];
-    let script = script_of(&rt, rt.alloc(), &lines);
-    let exit = Some(ScriptTrap::Exit);
-    slices_in_turn(
-        &rt,
-        &script,
-        &[
-            (1000, 1, Some(YIELD), 0),
-            (1000, 1, Some(RECEIVE_2), 0),
-            (1000, 0, exit, 0),
-            (1, 0, exit, 0),
-        ],
-    );
-    let lines = [
-        Line::Trap(CALL_3),
-        Line::Trap(REPLY),
-        Line::Trap(SERVE_2),
-        Line::Trap(LOCK_1),
-        Line::Trap(UNLOCK_1),
-        Line::Trap(YIELD),
-    ];
-    let script = script_of(&rt, rt.alloc(), &lines);
-    slices_in_turn(
-        &rt,
-        &script,
-        &[
-            (1, 0, Some(CALL_3), 0),
-            (1, 0, Some(REPLY), 0),
-            (1, 0, Some(SERVE_2), 0),
-            (1, 0, Some(LOCK_1), 0),
-            (1, 0, Some(UNLOCK_1), 0),
-            (1, 0, Some(YIELD), 0),
-            (1, 0, exit, 0),
-        ],
-    );
+    check_slices(&rt, rt.alloc(), YIELDS, YIELDS_SLICES);
+    check_slices(&rt, rt.alloc(), EACH_TRAP, EACH_TRAP_SLICES);
 }
+
+const ROUND_A_CALL: &[Line] = &[Line::Compute(5), Line::Trap(CALL_3), Line::Compute(1)];
+
+const ROUND_A_CALL_SLICES: &[&[Sliced]] = &[
+    &[(4, 4, None, 0), (2, 1, Some(CALL_3), 0), (1, 1, None, 0)],
+    &[(5, 5, None, 0), (1, 0, Some(CALL_3), 0), (2, 1, EXIT, 0)],
+    &[(6, 5, Some(CALL_3), 0), (1000, 1, EXIT, 0)],
+];
 
 #[test]
 fn budgets_round_a_trap(rt: HostRuntime) {
-    let lines = [Line::Compute(5), Line::Trap(CALL_3), Line::Compute(1)];
-    let script = script_of(&rt, rt.alloc(), &lines);
-    let call = Some(CALL_3);
-    let exit = Some(ScriptTrap::Exit);
-    slices_in_turn(
-        &rt,
-        &script,
-        &[(4, 4, None, 0), (2, 1, call, 0), (1, 1, None, 0)],
-    );
-    slices_in_turn(
-        &rt,
-        &script,
-        &[(5, 5, None, 0), (1, 0, call, 0), (2, 1, exit, 0)],
-    );
-    slices_in_turn(&rt, &script, &[(6, 5, call, 0), (1000, 1, exit, 0)]);
+    check_slices(&rt, rt.alloc(), ROUND_A_CALL, ROUND_A_CALL_SLICES);
 }
+
+const SUMS: &[Line] = &[
+    Line::Set(4294967295),
+    Line::Add(3),
+    Line::Trap(CALL_1),
+    Line::Loop(2),
+    Line::Add(7),
+    Line::End,
+    Line::Set(5),
+];
+
+const SUMS_SLICES: &[&[Sliced]] = &[&[
+    (1, 1, None, 4294967295),
+    (1000, 1, Some(CALL_1), 2),
+    (2, 2, None, 9),
+    (2, 2, None, 16),
+    (1, 1, None, 16),
+    (1000, 1, EXIT, 5),
+]];
 
 #[test]
 fn accumulators(rt: HostRuntime) {
-    let lines = [
-        Line::Set(4294967295),
-        Line::Add(3),
-        Line::Trap(CALL_1),
-        Line::Loop(2),
-        Line::Add(7),
-        Line::End,
-        Line::Set(5),
-    ];
-    let script = script_of(&rt, rt.alloc(), &lines);
-    slices_in_turn(
-        &rt,
-        &script,
-        &[
-            (1, 1, None, 4294967295),
-            (1000, 1, Some(CALL_1), 2),
-            (2, 2, None, 9),
-            (2, 2, None, 16),
-            (1, 1, None, 16),
-            (1000, 1, Some(ScriptTrap::Exit), 5),
-        ],
-    );
+    check_slices(&rt, rt.alloc(), SUMS, SUMS_SLICES);
+}
+
+const EIGHT_LOOPS_SLICES: &[Sliced] = &[
+    (8, 8, None, 0),
+    (1000, 1000, None, 0),
+    (1000, 1000, None, 0),
+];
+
+/// A script of eight loops with these rounds round this line, if there is one.
+fn eight_loops_of(rt: &impl Abort, alloc: Global, rounds: u32, line: Option<Line>) -> Script {
+    let mut builder = ScriptBuilder::new(alloc);
+    add_lines(rt, &mut builder, Line::Loop(rounds), 8);
+    if let Some(line) = line {
+        add_line(rt, &mut builder, line);
+    }
+    add_lines(rt, &mut builder, Line::End, 8);
+    finished(rt, builder)
 }
 
 #[test]
 fn eight_loops(rt: HostRuntime) {
-    let mut builder = ScriptBuilder::new(rt.alloc());
-    add_lines(&rt, &mut builder, Line::Loop(65535), 8);
-    add_line(&rt, &mut builder, Line::Compute(4294967295));
-    add_lines(&rt, &mut builder, Line::End, 8);
-    let script = finished(&rt, builder);
-    slices_in_turn(
-        &rt,
-        &script,
-        &[
-            (8, 8, None, 0),
-            (1000, 1000, None, 0),
-            (1000, 1000, None, 0),
-        ],
-    );
+    let line = Some(Line::Compute(4294967295));
+    let script = eight_loops_of(&rt, rt.alloc(), 65535, line);
+    slices_in_turn(&rt, &script, EIGHT_LOOPS_SLICES);
 }
+
+// The innermost has 3 marks, and each loop round k marks has 1 + 2 * (k + 1).
+const WHOLE_LOOPS: &[Sliced] = &[(1000, 765, EXIT, 0)];
+
+const ENDS_OF_LOOPS: &[Sliced] = &[(764, 764, None, 0), (1, 1, None, 0), (1, 0, EXIT, 0)];
 
 #[test]
 fn ends_of_eight_loops(rt: HostRuntime) {
-    let mut builder = ScriptBuilder::new(rt.alloc());
-    add_lines(&rt, &mut builder, Line::Loop(2), 8);
-    add_lines(&rt, &mut builder, Line::End, 8);
-    let script = finished(&rt, builder);
-    let exit = Some(ScriptTrap::Exit);
-    // The innermost has 3 marks, and each loop round k marks has 1 + 2 * (k + 1).
-    slices_in_turn(&rt, &script, &[(1000, 765, exit, 0)]);
-    slices_in_turn(
-        &rt,
-        &script,
-        &[(764, 764, None, 0), (1, 1, None, 0), (1, 0, exit, 0)],
-    );
+    let script = eight_loops_of(&rt, rt.alloc(), 2, None);
+    slices_in_turn(&rt, &script, WHOLE_LOOPS);
+    slices_in_turn(&rt, &script, ENDS_OF_LOOPS);
 }
 
 /// Checks that the line can't come next, and why.
@@ -220,23 +226,35 @@ fn check_refused(rt: &impl Abort, builder: &ScriptBuilder, line: Line, refusal: 
     check_same_at(rt, &line, &builder.check(line), &Err(refusal));
 }
 
+/// Lines that can't come first, and why.
+const REFUSED: &[(Line, InputRefusal)] = &[
+    (Line::Compute(0), InputRefusal::BadNumber),
+    (Line::Loop(0), InputRefusal::BadNumber),
+    (Line::Loop(65536), InputRefusal::BadNumber),
+    (Line::End, InputRefusal::BadLine),
+    (Line::Trap(ScriptTrap::Exit), InputRefusal::BadLine),
+];
+
+fn check_first_lines(rt: &impl Abort, builder: &ScriptBuilder) {
+    for (line, refusal) in REFUSED {
+        check_refused(rt, builder, *line, *refusal);
+    }
+}
+
+/// Adds as many loops as may be open, and then as many lines as a script may have.
+fn check_full(rt: &impl Abort, builder: &mut ScriptBuilder) {
+    add_lines(rt, builder, Line::Loop(1), 8);
+    check_refused(rt, builder, Line::Loop(1), InputRefusal::TooDeep);
+    add_lines(rt, builder, Line::Trap(YIELD), 1016);
+    check_refused(rt, builder, Line::Loop(1), InputRefusal::TooDeep);
+    check_refused(rt, builder, Line::Trap(YIELD), InputRefusal::TooLong);
+}
+
 #[test]
 fn refused_lines(rt: HostRuntime) {
     let mut builder = ScriptBuilder::new(rt.alloc());
-    for (line, refusal) in [
-        (Line::Compute(0), InputRefusal::BadNumber),
-        (Line::Loop(0), InputRefusal::BadNumber),
-        (Line::Loop(65536), InputRefusal::BadNumber),
-        (Line::End, InputRefusal::BadLine),
-        (Line::Trap(ScriptTrap::Exit), InputRefusal::BadLine),
-    ] {
-        check_refused(&rt, &builder, line, refusal);
-    }
-    add_lines(&rt, &mut builder, Line::Loop(1), 8);
-    check_refused(&rt, &builder, Line::Loop(1), InputRefusal::TooDeep);
-    add_lines(&rt, &mut builder, Line::Trap(YIELD), 1016);
-    check_refused(&rt, &builder, Line::Loop(1), InputRefusal::TooDeep);
-    check_refused(&rt, &builder, Line::Trap(YIELD), InputRefusal::TooLong);
+    check_first_lines(&rt, &builder);
+    check_full(&rt, &mut builder);
 }
 
 /// Whether the place fits in each of three scripts.
@@ -244,20 +262,32 @@ fn fits(place: &Place, first: &Script, second: &Script, third: &Script) -> [bool
     [first.fits(place), second.fits(place), third.fits(place)]
 }
 
+const THREE_ROUNDS: &[Line] = &[Line::Loop(3), Line::Compute(4), Line::End];
+
+const TWO_ROUNDS: &[Line] = &[Line::Loop(2), Line::Compute(4), Line::End];
+
+const NO_ROUND: &[Line] = &[Line::Trap(YIELD), Line::Compute(4)];
+
+/// Budgets of a slice of the script of three rounds, and whether its end is a place of each of the others.
+const BUDGETS: &[(u32, bool, bool)] = &[(2, false, false), (7, true, false), (16, true, false)];
+
+/// Compares whether the start of the first script and ends of its slices are places of each of three.
+fn check_places(rt: &impl Abort, script: &Script, fewer: &Script, other: &Script) {
+    let found = fits(&script.start(), script, fewer, other);
+    check_same(rt, &found, &[true; 3]);
+    for (budget, in_fewer, in_other) in BUDGETS {
+        let slice = script.slice(script.start(), *budget);
+        let found = fits(slice.end(), script, fewer, other);
+        check_same_at(rt, budget, &found, &[true, *in_fewer, *in_other]);
+    }
+}
+
 #[test]
 fn places_in_other_scripts(rt: HostRuntime) {
-    let lines = [Line::Loop(3), Line::Compute(4), Line::End];
-    let script = script_of(&rt, rt.alloc(), &lines);
-    let lines = [Line::Loop(2), Line::Compute(4), Line::End];
-    let fewer = script_of(&rt, rt.alloc(), &lines);
-    let other = script_of(&rt, rt.alloc(), &[Line::Trap(YIELD), Line::Compute(4)]);
-    let found = fits(&script.start(), &script, &fewer, &other);
-    check_same(&rt, &found, &[true; 3]);
-    for (budget, in_fewer, in_other) in [(2, false, false), (7, true, false), (16, true, false)] {
-        let slice = script.slice(script.start(), budget);
-        let found = fits(slice.end(), &script, &fewer, &other);
-        check_same_at(&rt, &budget, &found, &[true, in_fewer, in_other]);
-    }
+    let script = script_of(&rt, rt.alloc(), THREE_ROUNDS);
+    let fewer = script_of(&rt, rt.alloc(), TWO_ROUNDS);
+    let other = script_of(&rt, rt.alloc(), NO_ROUND);
+    check_places(&rt, &script, &fewer, &other);
 }
 
 /// Of a slice with budget 1: whether it is of this copy of its script, its budget, whether it starts at the beginning,
@@ -296,16 +326,29 @@ fn handed_accumulator(script: &Script) -> u32 {
     handed.accumulator()
 }
 
+const YIELD_AFTER_3: &[Line] = &[Line::Set(3), Line::Trap(YIELD)];
+
+const REPLY_AFTER_3: &[Line] = &[Line::Set(3), Line::Trap(REPLY)];
+
+/// Checks what is the same of a script and its copy, and not of the other script.
+fn check_copy(rt: &impl Abort, script: &Script, other: &Script, copy: &Script) {
+    let found = (copy.is_same(script), copy.is_same(other));
+    check_same(rt, &found, &(true, false));
+    let found = parts_of_a_slice(script, copy);
+    check_same(rt, &found, &(true, 1, true, false));
+    check_same(rt, &are_same_slices(script, copy), &(true, false));
+    check_same(rt, &are_same_places(script, copy), &(true, false));
+    check_same(rt, &handed_accumulator(script), &9);
+}
+
+fn copy_of(rt: &impl Abort, alloc: Global, script: &Script) -> Script {
+    script.copied(alloc).expect(rt, "memory")
+}
+
 #[test]
 fn the_same_again(rt: HostRuntime) {
-    let script = script_of(&rt, rt.alloc(), &[Line::Set(3), Line::Trap(YIELD)]);
-    let other = script_of(&rt, rt.alloc(), &[Line::Set(3), Line::Trap(REPLY)]);
-    let copy = script.copied(rt.alloc()).expect(&rt, "memory");
-    let found = (copy.is_same(&script), copy.is_same(&other));
-    check_same(&rt, &found, &(true, false));
-    let found = parts_of_a_slice(&script, &copy);
-    check_same(&rt, &found, &(true, 1, true, false));
-    check_same(&rt, &are_same_slices(&script, &copy), &(true, false));
-    check_same(&rt, &are_same_places(&script, &copy), &(true, false));
-    check_same(&rt, &handed_accumulator(&script), &9);
+    let script = script_of(&rt, rt.alloc(), YIELD_AFTER_3);
+    let other = script_of(&rt, rt.alloc(), REPLY_AFTER_3);
+    let copy = copy_of(&rt, rt.alloc(), &script);
+    check_copy(&rt, &script, &other, &copy);
 }

@@ -5,16 +5,17 @@ ghost use Rattle.lot_machine.specs.Funding.{target_of};
 ghost use Rattle.lot_graph.specs.Graphs.{IsTarget};
 ghost use Rattle.lot_queues.specs.QueueLists.{IsThere, IsNowhere};
 ghost use Rattle.lot_value.specs.Changing.{CanTarget};
-ghost use Rattle.lot_threads.specs.Threaded.{funding_in};
+ghost use Rattle.lot_threads.specs.Threaded.{IsLiveIn, funding_in};
 
 use lot_draw::Winner;
 use lot_graph::Graph;
 use lot_machine::{
-    After, Name, Record, Status, Target, Thread, ThreadNumber, Ticket, TicketNumber,
+    After, Limits, Name, Record, Status, Target, Thread, ThreadNumber, Ticket, TicketNumber,
 };
 use lot_queues::Queues;
 use lot_threads::Threads;
 use lot_value::Change;
+use std::alloc::Global;
 use std::process::Abort;
 
 /// A thread that wins a draw, its number, and the total.
@@ -37,7 +38,7 @@ pub(crate) fn stands(threads: &Threads, number: u32, status: Status) -> bool {
 }
 
 /// Whether the thread exists, and the queues and the threads are equally many.
-pub(crate) fn is_known(threads: &Threads, queues: &Queues, thread: ThreadNumber) -> bool
+fn is_known(threads: &Threads, queues: &Queues, thread: ThreadNumber) -> bool
     ensures there { IsTrue result → IsThere queues.now.clients thread.number }
     ensures same { IsTrue result → length threads.now.records ≡ length queues.now.clients }
 {
@@ -48,7 +49,7 @@ pub(crate) fn is_known(threads: &Threads, queues: &Queues, thread: ThreadNumber)
 }
 
 /// Whether the thread may wait at a port or for a mutex: it is known, and waits nowhere yet.
-pub(crate) fn may_wait(threads: &Threads, queues: &Queues, thread: ThreadNumber) -> bool
+fn may_wait(threads: &Threads, queues: &Queues, thread: ThreadNumber) -> bool
     ensures there { IsTrue result → IsThere queues.now.clients thread.number }
     ensures nowhere { IsTrue result → IsNowhere queues.now thread.number }
     ensures same { IsTrue result → length threads.now.records ≡ length queues.now.clients }
@@ -57,6 +58,61 @@ pub(crate) fn may_wait(threads: &Threads, queues: &Queues, thread: ThreadNumber)
         return false;
     }
     queues.is_nowhere(thread.number)
+}
+
+/// Ends the test unless a port has this number.
+pub(crate) fn check_port(rt: &impl Abort, queues: &Queues, port: u32)
+    ensures { IsThere queues.now.ports port }
+{
+    assert!(rt; 0 < port && port <= queues.ports());
+}
+
+/// Ends the test unless a mutex has this number.
+pub(crate) fn check_mutex(rt: &impl Abort, queues: &Queues, mutex: u32)
+    ensures { IsThere queues.now.mutexes mutex }
+{
+    assert!(rt; 0 < mutex && mutex <= queues.mutexes());
+}
+
+/// Ends the test unless the thread is known.
+pub(crate) fn check_known(rt: &impl Abort, threads: &Threads, queues: &Queues, thread: ThreadNumber)
+    ensures there { IsThere queues.now.clients thread.number }
+    ensures same { length threads.now.records ≡ length queues.now.clients }
+{
+    assert!(rt; is_known(threads, queues, thread));
+}
+
+/// Ends the test unless the thread may wait at a port or for a mutex.
+pub(crate) fn check_may_wait(
+    rt: &impl Abort,
+    threads: &Threads,
+    queues: &Queues,
+    thread: ThreadNumber,
+)
+    ensures there { IsThere queues.now.clients thread.number }
+    ensures nowhere { IsNowhere queues.now thread.number }
+    ensures same { length threads.now.records ≡ length queues.now.clients }
+{
+    assert!(rt; may_wait(threads, queues, thread));
+}
+
+/// Ends the test unless the thread is live.
+pub(crate) fn check_live(rt: &impl Abort, threads: &Threads, thread: ThreadNumber)
+    ensures { IsLiveIn threads.now thread.number }
+{
+    assert!(rt; threads.is_live(thread));
+}
+
+/// Threads of these limits, of which none is there yet.
+pub(crate) fn threads_of(rt: &impl Abort, alloc: Global, limits: Option<Limits>) -> Threads {
+    let limits = limits.expect(rt, "limits");
+    Threads::new(alloc, &limits).expect(rt, "memory")
+}
+
+/// The queues for such threads.
+pub(crate) fn queues_of(rt: &impl Abort, alloc: Global, limits: &Limits) -> Queues {
+    let made = Queues::new(alloc, limits.ports, limits.mutexes, limits.threads);
+    made.expect(rt, "memory")
 }
 
 /// Shows which step of a row doesn't come out as the row says.

@@ -1,11 +1,15 @@
 //! Locks and unlocks among a few threads, with their lends.
-ghost use Rattle.std.specs.Prelude.{IsTrue};
+ghost use Rattle.std.specs.Prelude.{◌≡◌, Some, IsTrue};
 ghost use Rattle.lot_machine.specs.declared.record.Status.TheVariants as status;
 ghost use Rattle.lot_machine.specs.Mutexes.{mutex_at};
 ghost use Rattle.lot_machine.specs.Order.{IsQueue};
+ghost use Rattle.lot_mutex.specs.Listed.{owners_of};
 ghost use Rattle.lot_queues.specs.QueueLists.{IsThere};
 
-use super::helpers::{Won, add_thread, check_step, finish, is_known, is_won, may_wait, stands};
+use super::helpers::{
+    Won, add_thread, check_known, check_live, check_may_wait, check_mutex, check_step, finish,
+    is_won, queues_of, stands, threads_of,
+};
 use lot_machine::{Limits, MutexNumber, Outcome, Sizes, Status, ThreadNumber};
 use lot_mutex::{Lottery, are_waiting, have_same_owners, lock, pass_all_on, unlock};
 use lot_queues::Queues;
@@ -38,6 +42,21 @@ struct Scene {
     waiters: Vec<u32>,
 }
 
+/// Ends the test unless the threads and the queues agree about the owner of each mutex.
+fn check_same_owners(rt: &impl Abort, threads: &Threads, queues: &Queues)
+    ensures { owners_of queues.now.mutexes ≡ threads.now.owners }
+{
+    assert!(rt; have_same_owners(threads, queues));
+}
+
+/// Ends the test unless the thread owns the mutex.
+fn check_owner(rt: &impl Abort, queues: &Queues, mutex: u32, owner: u32)
+    requires there { IsThere queues.now.mutexes mutex }
+    ensures { (mutex_at queues.now.mutexes mutex).owner ≡ Some owner }
+{
+    assert!(rt; queues.owner(mutex) == Some(owner));
+}
+
 fn make_lock(
     rt: &impl Abort,
     threads: &mut Threads,
@@ -45,9 +64,10 @@ fn make_lock(
     thread: ThreadNumber,
     mutex: u32,
 ) -> Effect {
-    assert!(rt; 0 < mutex && mutex <= queues.mutexes());
-    assert!(rt; may_wait(threads, queues, thread) && threads.is_live(thread));
-    assert!(rt; have_same_owners(threads, queues));
+    check_mutex(rt, queues, mutex);
+    check_may_wait(rt, threads, queues, thread);
+    check_live(rt, threads, thread);
+    check_same_owners(rt, threads, queues);
     lock(threads, queues, thread, MutexNumber { number: mutex })
 }
 
@@ -69,6 +89,21 @@ fn are_queued(
     are_waiting(threads, waiters, mutex)
 }
 
+/// Ends the test unless the threads in the mutex's queue wait for it.
+fn check_queued(
+    rt: &impl Abort,
+    threads: &Threads,
+    queues: &Queues,
+    waiters: &mut Vec<u32>,
+    mutex: MutexNumber,
+)
+    requires there { IsThere queues.now.mutexes mutex.number }
+    ensures { IsQueue threads.now.records (status.Waiting mutex.number)
+        (mutex_at queues.now.mutexes mutex.number).waiters }
+{
+    assert!(rt; are_queued(threads, queues, waiters, mutex));
+}
+
 /// An unlock, and the edges that it reads.
 fn make_unlock(
     rt: &impl Abort,
@@ -83,10 +118,12 @@ fn make_unlock(
         lottery,
         waiters,
     } = scene;
-    assert!(rt; 0 < mutex.number && mutex.number <= queues.mutexes());
-    assert!(rt; queues.owner(mutex.number) == Some(owner.number) && threads.is_live(owner));
-    assert!(rt; are_queued(threads, queues, waiters, mutex));
-    assert!(rt; is_known(threads, queues, owner) && have_same_owners(threads, queues));
+    check_mutex(rt, queues, mutex.number);
+    check_owner(rt, queues, mutex.number, owner.number);
+    check_live(rt, threads, owner);
+    check_queued(rt, threads, queues, waiters, mutex);
+    check_known(rt, threads, queues, owner);
+    check_same_owners(rt, threads, queues);
     assert!(rt; lottery.room() == queues.room());
     let before = threads.meter().ticket_reads;
     let effect = unlock(threads, queues, lottery, owner, mutex, d);
@@ -124,7 +161,8 @@ fn pass_on_from(rt: &impl Abort, scene: &mut Scene, owner: u32) {
         ..
     } = scene;
     let owner = ThreadNumber { number: owner };
-    assert!(rt; may_wait(threads, queues, owner) && have_same_owners(threads, queues));
+    check_may_wait(rt, threads, queues, owner);
+    check_same_owners(rt, threads, queues);
     pass_all_on(threads, queues, owner)
 }
 
@@ -149,20 +187,34 @@ fn take(rt: &impl Abort, scene: &mut Scene, step: Step) -> bool {
     }
 }
 
+/// Takes the steps in turn.
+fn take_all(rt: &impl Abort, scene: &mut Scene, steps: &[Step]) {
+    for (i, step) in steps.iter().enumerate() {
+        check_step(rt, i, take(rt, scene, *step));
+    }
+}
+
+/// Room for a lottery among this many threads.
+fn lottery_of(rt: &impl Abort, alloc: Global, threads: u32) -> Lottery {
+    Lottery::new(alloc, threads).expect(rt, "memory")
+}
+
+/// Room to list this many waiters.
+fn room_for(rt: &impl Abort, alloc: Global, threads: u32) -> Vec<u32> {
+    Vec::with_capacity(alloc, threads as usize).expect(rt, "memory")
+}
+
 /// Takes the steps among threads of these limits, of which none is there yet.
 fn play(rt: &impl Abort, alloc: Global, limits: Option<Limits>, steps: &[Step]) {
+    let threads = threads_of(rt, alloc, limits);
     let limits = limits.expect(rt, "limits");
     let mut scene = Scene {
-        threads: Threads::new(alloc, &limits).expect(rt, "memory"),
-        queues: Queues::new(alloc, limits.ports, limits.mutexes, limits.threads).expect(
-            rt, "memory",
-        ),
-        lottery: Lottery::new(alloc, limits.threads).expect(rt, "memory"),
-        waiters: Vec::with_capacity(alloc, limits.threads as usize).expect(rt, "memory"),
+        threads,
+        queues: queues_of(rt, alloc, &limits),
+        lottery: lottery_of(rt, alloc, limits.threads),
+        waiters: room_for(rt, alloc, limits.threads),
     };
-    for (i, step) in steps.iter().enumerate() {
-        check_step(rt, i, take(rt, &mut scene, *step));
-    }
+    take_all(rt, &mut scene, steps)
 }
 
 fn small_limits() -> Option<Limits> {
@@ -174,7 +226,7 @@ fn small_limits() -> Option<Limits> {
     })
 }
 
-const PASSED: [Step; 19] = [
+const PASSED: &[Step] = &[
     Step::AddThread(1),
     Step::AddThread(10),
     Step::AddThread(100),
@@ -218,10 +270,10 @@ const PASSED: [Step; 19] = [
 // next owner, and the last owner frees the mutex.
 #[test]
 fn a_mutex_is_passed(rt: HostRuntime) {
-    play(&rt, rt.alloc(), small_limits(), &PASSED)
+    play(&rt, rt.alloc(), small_limits(), PASSED)
 }
 
-const LEFT: [Step; 14] = [
+const LEFT: &[Step] = &[
     Step::AddThread(1),
     Step::AddThread(10),
     Step::AddThread(100),
@@ -242,10 +294,10 @@ const LEFT: [Step; 14] = [
 // for which nobody waits is free.
 #[test]
 fn mutexes_are_left(rt: HostRuntime) {
-    play(&rt, rt.alloc(), small_limits(), &LEFT)
+    play(&rt, rt.alloc(), small_limits(), LEFT)
 }
 
-const UNSETTLED: [Step; 5] = [
+const UNSETTLED: &[Step] = &[
     Step::AddThread(1),
     Step::AddThread(10),
     Step::Lock(1, 2, Outcome::Locked),
@@ -265,17 +317,17 @@ const UNSETTLED: [Step; 5] = [
 // An unlock reads the edges into stale nodes before its lottery: two tickets, the lend and the owner.
 #[test]
 fn an_unlock_settles(rt: HostRuntime) {
-    play(&rt, rt.alloc(), small_limits(), &UNSETTLED)
+    play(&rt, rt.alloc(), small_limits(), UNSETTLED)
 }
 
-const NO_MUTEX: [Step; 2] = [Step::AddThread(3), Step::Wins(2, (1, 2, 3))];
+const NO_MUTEX: &[Step] = &[Step::AddThread(3), Step::Wins(2, (1, 2, 3))];
 
 #[test]
 fn the_least_size(rt: HostRuntime) {
-    play(&rt, rt.alloc(), Limits::new(Sizes::SMALLEST), &NO_MUTEX)
+    play(&rt, rt.alloc(), Limits::new(Sizes::SMALLEST), NO_MUTEX)
 }
 
-const LAST_MUTEX: [Step; 6] = [
+const LAST_MUTEX: &[Step] = &[
     Step::AddThread(3),
     Step::AddThread(4),
     Step::Lock(2, 256, Outcome::Locked),
@@ -286,5 +338,5 @@ const LAST_MUTEX: [Step; 6] = [
 
 #[test]
 fn the_largest_size(rt: HostRuntime) {
-    play(&rt, rt.alloc(), Limits::new(Sizes::LARGEST), &LAST_MUTEX)
+    play(&rt, rt.alloc(), Limits::new(Sizes::LARGEST), LAST_MUTEX)
 }

@@ -1,5 +1,8 @@
 //! Calls, receives and replies among a few threads, with their lends.
-use super::helpers::{Won, add_thread, check_step, finish, is_known, is_won, may_wait, stands};
+use super::helpers::{
+    Won, add_thread, check_known, check_live, check_may_wait, check_port, check_step, finish,
+    is_won, queues_of, stands, threads_of,
+};
 use lot_machine::{Limits, Outcome, PortNumber, Sizes, Status, ThreadNumber};
 use lot_ports::{call, receive, release_clients, reply, serve};
 use lot_queues::Queues;
@@ -28,70 +31,80 @@ enum Step {
     Gets(u32, Option<u32>),
 }
 
+/// The outcome of what a thread did at a port, after which it goes on or leaves.
+fn done(rt: &impl Abort, threads: &mut Threads, thread: ThreadNumber, effect: Effect) -> Outcome {
+    finish(rt, threads, thread, effect.after);
+    effect.outcome
+}
+
 fn make_call(
     rt: &impl Abort,
     threads: &mut Threads,
     queues: &mut Queues,
-    caller: ThreadNumber,
-    port: PortNumber,
+    caller: u32,
+    port: u32,
     number: u32,
-) -> Effect {
-    assert!(rt; 0 < port.number && port.number <= queues.ports());
-    assert!(rt; may_wait(threads, queues, caller));
-    call(threads, queues, caller, port, number)
+) -> Outcome {
+    let caller = ThreadNumber { number: caller };
+    check_port(rt, queues, port);
+    check_may_wait(rt, threads, queues, caller);
+    let effect = call(threads, queues, caller, PortNumber { number: port }, number);
+    done(rt, threads, caller, effect)
 }
 
 fn make_receipt(
     rt: &impl Abort,
     threads: &mut Threads,
     queues: &mut Queues,
-    server: ThreadNumber,
-    port: PortNumber,
-) -> Effect {
-    assert!(rt; 0 < port.number && port.number <= queues.ports());
-    assert!(rt; may_wait(threads, queues, server) && threads.is_live(server));
-    receive(threads, queues, server, port)
+    server: u32,
+    port: u32,
+) -> Outcome {
+    let server = ThreadNumber { number: server };
+    check_port(rt, queues, port);
+    check_may_wait(rt, threads, queues, server);
+    check_live(rt, threads, server);
+    let effect = receive(threads, queues, server, PortNumber { number: port });
+    done(rt, threads, server, effect)
 }
 
 fn make_reply(
     rt: &impl Abort,
     threads: &mut Threads,
     queues: &mut Queues,
-    server: ThreadNumber,
+    server: u32,
     number: u32,
-) -> Option<Effect> {
-    assert!(rt; is_known(threads, queues, server));
+) -> Option<Outcome> {
+    let server = ThreadNumber { number: server };
+    check_known(rt, threads, queues, server);
     let client = ThreadNumber {
         number: queues.first_client(server.number)?,
     };
-    Some(reply(threads, queues, server, client, number))
+    Some(reply(threads, queues, server, client, number).outcome)
 }
 
 fn make_serving(
     rt: &impl Abort,
     threads: &mut Threads,
     queues: &mut Queues,
-    server: ThreadNumber,
-    port: PortNumber,
+    server: u32,
+    port: u32,
     number: u32,
-) -> Option<Effect> {
-    assert!(rt; 0 < port.number && port.number <= queues.ports());
-    assert!(rt; may_wait(threads, queues, server) && threads.is_live(server));
+) -> Option<Outcome> {
+    let server = ThreadNumber { number: server };
+    let port = PortNumber { number: port };
+    check_port(rt, queues, port.number);
+    check_may_wait(rt, threads, queues, server);
+    check_live(rt, threads, server);
     let client = ThreadNumber {
         number: queues.first_client(server.number)?,
     };
-    Some(serve(threads, queues, server, client, port, number))
+    let effect = serve(threads, queues, server, client, port, number);
+    Some(done(rt, threads, server, effect))
 }
 
 fn release(rt: &impl Abort, threads: &mut Threads, queues: &mut Queues, server: ThreadNumber) {
-    assert!(rt; is_known(threads, queues, server));
+    check_known(rt, threads, queues, server);
     release_clients(threads, queues, server)
-}
-
-/// The outcome of what a thread did at a port, after which it goes on or leaves.
-fn done(rt: &impl Abort, threads: &mut Threads, thread: ThreadNumber, effect: Effect) -> Outcome {
-    finish(rt, threads, thread, effect.after);
-    effect.outcome
 }
 
 /// Makes a trap, and returns its outcome, or `None` if it was a reply to no client.
@@ -103,25 +116,12 @@ fn make_trap(
 ) -> Option<Outcome> {
     match step {
         Step::Call(caller, port, number, _) => {
-            let caller = ThreadNumber { number: caller };
-            let port = PortNumber { number: port };
-            let effect = make_call(rt, threads, queues, caller, port, number);
-            Some(done(rt, threads, caller, effect))
+            Some(make_call(rt, threads, queues, caller, port, number))
         }
-        Step::Receive(server, port, _) => {
-            let server = ThreadNumber { number: server };
-            let effect = make_receipt(rt, threads, queues, server, PortNumber { number: port });
-            Some(done(rt, threads, server, effect))
-        }
-        Step::Reply(server, number, _) => {
-            let server = ThreadNumber { number: server };
-            Some(make_reply(rt, threads, queues, server, number)?.outcome)
-        }
+        Step::Receive(server, port, _) => Some(make_receipt(rt, threads, queues, server, port)),
+        Step::Reply(server, number, _) => make_reply(rt, threads, queues, server, number),
         Step::Serve(server, port, number, _) => {
-            let server = ThreadNumber { number: server };
-            let port = PortNumber { number: port };
-            let effect = make_serving(rt, threads, queues, server, port, number)?;
-            Some(done(rt, threads, server, effect))
+            make_serving(rt, threads, queues, server, port, number)
         }
         _ => None,
     }
@@ -158,16 +158,19 @@ fn take(rt: &impl Abort, threads: &mut Threads, queues: &mut Queues, step: Step)
     }
 }
 
+/// Takes the steps in turn.
+fn take_all(rt: &impl Abort, threads: &mut Threads, queues: &mut Queues, steps: &[Step]) {
+    for (i, step) in steps.iter().enumerate() {
+        check_step(rt, i, take(rt, threads, queues, *step));
+    }
+}
+
 /// Takes the steps among threads of these limits, of which none is there yet.
 fn play(rt: &impl Abort, alloc: Global, limits: Option<Limits>, steps: &[Step]) {
+    let mut threads = threads_of(rt, alloc, limits);
     let limits = limits.expect(rt, "limits");
-    let mut threads = Threads::new(alloc, &limits).expect(rt, "memory");
-    let mut queues = Queues::new(alloc, limits.ports, limits.mutexes, limits.threads).expect(
-        rt, "memory",
-    );
-    for (i, step) in steps.iter().enumerate() {
-        check_step(rt, i, take(rt, &mut threads, &mut queues, *step));
-    }
+    let mut queues = queues_of(rt, alloc, &limits);
+    take_all(rt, &mut threads, &mut queues, steps)
 }
 
 fn small_limits() -> Option<Limits> {
@@ -180,7 +183,7 @@ fn small_limits() -> Option<Limits> {
     })
 }
 
-const RECEIVED_FIRST: [Step; 13] = [
+const RECEIVED_FIRST: &[Step] = &[
     Step::AddThread(100),
     Step::AddThread(20),
     Step::Receive(2, 1, Outcome::Waits),
@@ -199,10 +202,10 @@ const RECEIVED_FIRST: [Step; 13] = [
 // A server that waits is Ready at the call, and is worth what its client has too until it replies.
 #[test]
 fn a_server_waits(rt: HostRuntime) {
-    play(&rt, rt.alloc(), small_limits(), &RECEIVED_FIRST)
+    play(&rt, rt.alloc(), small_limits(), RECEIVED_FIRST)
 }
 
-const QUEUED_FIRST: [Step; 18] = [
+const QUEUED_FIRST: &[Step] = &[
     Step::AddThread(1),
     Step::AddThread(10),
     Step::AddThread(100),
@@ -237,7 +240,7 @@ const QUEUED_FIRST: [Step; 18] = [
     Step::Wins(109, (3, 109, 110)),
 ];
 
-const SERVED: [Step; 13] = [
+const SERVED: &[Step] = &[
     Step::AddThread(1),
     Step::AddThread(10),
     Step::AddThread(100),
@@ -265,16 +268,16 @@ const SERVED: [Step; 13] = [
 // A server replies and takes the next call, or waits, in one trap; with no client it does neither.
 #[test]
 fn a_server_serves(rt: HostRuntime) {
-    play(&rt, rt.alloc(), small_limits(), &SERVED)
+    play(&rt, rt.alloc(), small_limits(), SERVED)
 }
 
 // A server takes calls in the order in which clients made them, and replies in the order in which it took them.
 #[test]
 fn calls_wait(rt: HostRuntime) {
-    play(&rt, rt.alloc(), small_limits(), &QUEUED_FIRST)
+    play(&rt, rt.alloc(), small_limits(), QUEUED_FIRST)
 }
 
-const RELEASED: [Step; 16] = [
+const RELEASED: &[Step] = &[
     Step::AddThread(1),
     Step::AddThread(10),
     Step::AddThread(100),
@@ -303,10 +306,10 @@ const RELEASED: [Step; 16] = [
 // The calls of released clients return, with nothing delivered, and lend no more.
 #[test]
 fn clients_are_released(rt: HostRuntime) {
-    play(&rt, rt.alloc(), small_limits(), &RELEASED)
+    play(&rt, rt.alloc(), small_limits(), RELEASED)
 }
 
-const NO_PORT: [Step; 3] = [
+const NO_PORT: &[Step] = &[
     Step::AddThread(3),
     Step::Reply(1, 0, None),
     Step::Wins(2, (1, 2, 3)),
@@ -314,10 +317,10 @@ const NO_PORT: [Step; 3] = [
 
 #[test]
 fn the_least_size(rt: HostRuntime) {
-    play(&rt, rt.alloc(), Limits::new(Sizes::SMALLEST), &NO_PORT)
+    play(&rt, rt.alloc(), Limits::new(Sizes::SMALLEST), NO_PORT)
 }
 
-const LAST_PORT: [Step; 4] = [
+const LAST_PORT: &[Step] = &[
     Step::AddThread(3),
     Step::AddThread(4),
     Step::Receive(1, 256, Outcome::Waits),
@@ -326,5 +329,5 @@ const LAST_PORT: [Step; 4] = [
 
 #[test]
 fn the_largest_size(rt: HostRuntime) {
-    play(&rt, rt.alloc(), Limits::new(Sizes::LARGEST), &LAST_PORT)
+    play(&rt, rt.alloc(), Limits::new(Sizes::LARGEST), LAST_PORT)
 }

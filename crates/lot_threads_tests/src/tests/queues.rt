@@ -1,7 +1,8 @@
 //! Queues by hand, with the results of their calls.
 ghost use Rattle.std.specs.Prelude.{◌≡◌, ◌↔◌, IsTrue, ◌≤◌, vec_capacity};
-ghost use Rattle.lot_queues.specs.QueueLists.{IsThere};
+ghost use Rattle.lot_queues.specs.QueueLists.{IsNowhere, IsThere};
 
+use super::helpers::{check_mutex, check_port};
 use super::same::{check_same, check_same_at};
 use lot_queues::{Queues, TakenCall};
 use std::alloc::Global;
@@ -13,22 +14,26 @@ const MUTEXES: u32 = 3;
 
 const THREADS: u32 = 5;
 
-fn has_port(queues: &Queues, port: u32) -> bool
-    ensures { IsTrue result ↔ IsThere queues.now.ports port }
-{
-    0 < port && port <= queues.ports()
-}
-
-fn has_mutex(queues: &Queues, mutex: u32) -> bool
-    ensures { IsTrue result ↔ IsThere queues.now.mutexes mutex }
-{
-    0 < mutex && mutex <= queues.mutexes()
-}
-
 fn has_thread(queues: &Queues, thread: u32) -> bool
     ensures { IsTrue result ↔ IsThere queues.now.clients thread }
 {
     0 < thread && thread <= queues.threads()
+}
+
+/// Ends the test unless a thread has this number.
+fn check_thread(rt: &impl Abort, queues: &Queues, thread: u32)
+    ensures { IsThere queues.now.clients thread }
+{
+    assert!(rt; has_thread(queues, thread));
+}
+
+/// Ends the test unless the thread is there, and in no queue.
+fn check_free(rt: &impl Abort, queues: &Queues, thread: u32)
+    ensures there { IsThere queues.now.clients thread }
+    ensures nowhere { IsNowhere queues.now thread }
+{
+    check_thread(rt, queues, thread);
+    assert!(rt; queues.is_nowhere(thread));
 }
 
 /// Queues with as many threads as they have room for.
@@ -42,7 +47,7 @@ fn full(rt: &impl Abort, alloc: Global) -> Queues {
 }
 
 /// A queue, as `Call` at a port, with its number.
-#[derive(Clone, Copy, Debug, PartialEq, Eq)]
+#[derive(Clone, Copy)]
 enum Queue {
     Calls(u32),
     Receivers(u32),
@@ -52,23 +57,22 @@ enum Queue {
 
 /// Puts a thread into a queue. A call's number is 100 times the thread's.
 fn push(rt: &impl Abort, queues: &mut Queues, queue: Queue, thread: u32) {
-    assert!(rt; has_thread(queues, thread));
-    assert!(rt; queues.is_nowhere(thread));
+    check_free(rt, queues, thread);
     match queue {
         Queue::Calls(port) => {
-            assert!(rt; has_port(queues, port));
+            check_port(rt, queues, port);
             queues.push_call(port, thread, thread.wrapping_mul(100));
         }
         Queue::Receivers(port) => {
-            assert!(rt; has_port(queues, port));
+            check_port(rt, queues, port);
             queues.push_receiver(port, thread);
         }
         Queue::Clients(server) => {
-            assert!(rt; has_thread(queues, server));
+            check_thread(rt, queues, server);
             queues.push_client(server, thread);
         }
         Queue::Waiters(mutex) => {
-            assert!(rt; has_mutex(queues, mutex));
+            check_mutex(rt, queues, mutex);
             queues.push_waiter(mutex, thread);
         }
     }
@@ -78,17 +82,17 @@ fn push(rt: &impl Abort, queues: &mut Queues, queue: Queue, thread: u32) {
 fn take(rt: &impl Abort, queues: &mut Queues, queue: Queue) -> Option<u32> {
     match queue {
         Queue::Calls(port) => {
-            assert!(rt; has_port(queues, port));
+            check_port(rt, queues, port);
             let call = queues.take_call(port)?;
             check_same(rt, &call.number, &call.caller.wrapping_mul(100));
             Some(call.caller)
         }
         Queue::Receivers(port) => {
-            assert!(rt; has_port(queues, port));
+            check_port(rt, queues, port);
             queues.take_receiver(port)
         }
         Queue::Clients(server) => {
-            assert!(rt; has_thread(queues, server));
+            check_thread(rt, queues, server);
             let first = queues.first_client(server);
             let taken = queues.take_client(server);
             check_same(rt, &taken, &first);
@@ -102,7 +106,7 @@ fn take(rt: &impl Abort, queues: &mut Queues, queue: Queue) -> Option<u32> {
 fn check_waiters(rt: &impl Abort, alloc: Global, queues: &Queues, mutex: u32, expected: &[u32]) {
     let mut out = Vec::with_capacity(alloc, THREADS as usize).expect(rt, "memory");
     assert!(rt; queues.room() as usize <= out.capacity());
-    assert!(rt; has_mutex(queues, mutex));
+    check_mutex(rt, queues, mutex);
     queues.list_waiters(mutex, &mut out);
     check_same(rt, &out.as_slice(), &expected);
 }
@@ -117,7 +121,7 @@ fn take_waiter_at(
 ) -> u32 {
     let mut out = Vec::with_capacity(alloc, THREADS as usize).expect(rt, "memory");
     assert!(rt; queues.room() as usize <= out.capacity());
-    assert!(rt; has_mutex(queues, mutex));
+    check_mutex(rt, queues, mutex);
     queues.list_waiters(mutex, &mut out);
     assert!(rt; place < out.len());
     let thread = out[place];
@@ -125,22 +129,45 @@ fn take_waiter_at(
     thread
 }
 
+/// The number of the port, server or mutex that a queue is at.
+fn number_of(queue: Queue) -> u32 {
+    match queue {
+        Queue::Calls(number)
+        | Queue::Receivers(number)
+        | Queue::Clients(number)
+        | Queue::Waiters(number) => number,
+    }
+}
+
 /// Takes the first thread out of a queue, and compares it.
 fn check_taken(rt: &impl Abort, queues: &mut Queues, queue: Queue, expected: Option<u32>) {
-    check_same_at(rt, &queue, &take(rt, queues, queue), &expected);
+    check_same_at(rt, &number_of(queue), &take(rt, queues, queue), &expected);
 }
+
+fn push_all(rt: &impl Abort, queues: &mut Queues, queue: Queue, threads: &[u32]) {
+    for thread in threads {
+        push(rt, queues, queue, *thread);
+    }
+}
+
+/// Takes the first thread out of a queue as often, and compares it each time.
+fn check_all_taken(rt: &impl Abort, queues: &mut Queues, queue: Queue, expected: &[Option<u32>]) {
+    for first in expected {
+        check_taken(rt, queues, queue, *first);
+    }
+}
+
+const THREE: &[u32] = &[3, 1, 2];
+
+const THREE_TAKEN: &[Option<u32>] = &[Some(3), Some(1), Some(2), None];
 
 /// Puts three threads into a queue, which is empty, and takes them out in the same order.
 fn check_order(rt: &impl Abort, queues: &mut Queues, queue: Queue) {
-    for thread in [3, 1, 2] {
-        push(rt, queues, queue, thread);
-    }
-    for expected in [Some(3), Some(1), Some(2), None] {
-        check_taken(rt, queues, queue, expected);
-    }
+    push_all(rt, queues, queue, THREE);
+    check_all_taken(rt, queues, queue, THREE_TAKEN)
 }
 
-const IN_ORDER: [Queue; 6] = [
+const IN_ORDER: &[Queue] = &[
     Queue::Calls(1),
     Queue::Calls(2),
     Queue::Receivers(1),
@@ -153,12 +180,12 @@ const IN_ORDER: [Queue; 6] = [
 fn the_longest_waiting_is_taken_first(rt: HostRuntime) {
     let mut queues = full(&rt, rt.alloc());
     for queue in IN_ORDER {
-        check_order(&rt, &mut queues, queue);
+        check_order(&rt, &mut queues, *queue);
     }
 }
 
 /// One thread for each of some queues.
-const PUSHED: [(Queue, u32); 4] = [
+const PUSHED: &[(Queue, u32)] = &[
     (Queue::Calls(1), 4),
     (Queue::Receivers(2), 2),
     (Queue::Clients(2), 5),
@@ -166,10 +193,10 @@ const PUSHED: [(Queue, u32); 4] = [
 ];
 
 /// Whether each thread is nowhere then.
-const NOWHERE: [(u32, bool); 5] = [(1, false), (2, false), (3, true), (4, false), (5, false)];
+const NOWHERE: &[(u32, bool)] = &[(1, false), (2, false), (3, true), (4, false), (5, false)];
 
 /// The first thread of each queue then.
-const FIRSTS: [(Queue, Option<u32>); 7] = [
+const FIRSTS: &[(Queue, Option<u32>)] = &[
     (Queue::Calls(2), None),
     (Queue::Receivers(1), None),
     (Queue::Clients(1), None),
@@ -181,119 +208,148 @@ const FIRSTS: [(Queue, Option<u32>); 7] = [
 
 /// Compares whether a thread is nowhere.
 fn check_nowhere(rt: &impl Abort, queues: &Queues, thread: u32, expected: bool) {
-    assert!(rt; has_thread(queues, thread));
+    check_thread(rt, queues, thread);
     check_same_at(rt, &thread, &queues.is_nowhere(thread), &expected);
+}
+
+fn push_each(rt: &impl Abort, queues: &mut Queues) {
+    for (queue, thread) in PUSHED {
+        push(rt, queues, *queue, *thread);
+    }
+}
+
+/// Compares whether each thread is nowhere, and the first thread of each queue.
+fn check_each(rt: &impl Abort, queues: &mut Queues) {
+    for (thread, expected) in NOWHERE {
+        check_nowhere(rt, queues, *thread, *expected);
+    }
+    for (queue, expected) in FIRSTS {
+        check_taken(rt, queues, *queue, *expected);
+    }
 }
 
 #[test]
 fn each_queue_has_its_own_threads(rt: HostRuntime) {
-    let mut queues = full(&rt, rt.alloc());
-    for (queue, thread) in PUSHED {
-        push(&rt, &mut queues, queue, thread);
-    }
-    for (thread, expected) in NOWHERE {
-        check_nowhere(&rt, &queues, thread, expected);
-    }
-    for (queue, expected) in FIRSTS {
-        check_taken(&rt, &mut queues, queue, expected);
-    }
-    check_waiters(&rt, rt.alloc(), &queues, 2, &[]);
-    check_waiters(&rt, rt.alloc(), &queues, 3, &[1]);
+    let alloc = rt.alloc();
+    let mut queues = full(&rt, alloc);
+    push_each(&rt, &mut queues);
+    check_each(&rt, &mut queues);
+    check_waiters(&rt, alloc, &queues, 2, &[]);
+    check_waiters(&rt, alloc, &queues, 3, &[1]);
 }
+
+/// A call at the first port, which is then taken with its number.
+fn check_call(rt: &impl Abort, queues: &mut Queues, caller: u32, number: u32) {
+    check_port(rt, queues, 1);
+    check_free(rt, queues, caller);
+    queues.push_call(1, caller, number);
+    let call = TakenCall { caller, number };
+    check_same(rt, &queues.take_call(1), &Some(call));
+}
+
+/// Callers, and the numbers of their calls.
+const CALLS: &[(u32, u32)] = &[(2, 7), (1, 9), (2, 8)];
 
 #[test]
 fn a_call_has_the_number_sent_with_it(rt: HostRuntime) {
     let mut queues = full(&rt, rt.alloc());
-    for (caller, number) in [(2, 7), (1, 9), (2, 8)] {
-        assert!(rt; has_port(&queues, 1));
-        assert!(rt; has_thread(&queues, caller));
-        assert!(rt; queues.is_nowhere(caller));
-        queues.push_call(1, caller, number);
-        check_same(
-            &rt,
-            &queues.take_call(1),
-            &Some(TakenCall { caller, number }),
-        );
+    for (caller, number) in CALLS {
+        check_call(&rt, &mut queues, *caller, *number);
+    }
+}
+
+const WAITERS: &[u32] = &[2, 5, 1, 4];
+
+/// Places of waiters in turn, and the threads that are taken from there.
+const PLACES: &[(usize, u32)] = &[(1, 5), (2, 4), (0, 2), (0, 1)];
+
+/// Takes the waiters from their places, and compares them.
+fn check_places(rt: &impl Abort, alloc: Global, queues: &mut Queues) {
+    for (place, expected) in PLACES {
+        let taken = take_waiter_at(rt, alloc, queues, 2, *place);
+        check_same(rt, &taken, expected);
     }
 }
 
 #[test]
 fn a_waiter_is_taken_from_its_place(rt: HostRuntime) {
-    let mut queues = full(&rt, rt.alloc());
-    for thread in [2, 5, 1, 4] {
-        push(&rt, &mut queues, Queue::Waiters(2), thread);
-    }
-    check_waiters(&rt, rt.alloc(), &queues, 2, &[2, 5, 1, 4]);
-    for (place, expected) in [(1, 5), (2, 4), (0, 2), (0, 1)] {
-        let taken = take_waiter_at(&rt, rt.alloc(), &mut queues, 2, place);
-        check_same(&rt, &taken, &expected);
-    }
-    check_waiters(&rt, rt.alloc(), &queues, 2, &[]);
+    let alloc = rt.alloc();
+    let mut queues = full(&rt, alloc);
+    push_all(&rt, &mut queues, Queue::Waiters(2), WAITERS);
+    check_waiters(&rt, alloc, &queues, 2, WAITERS);
+    check_places(&rt, alloc, &mut queues);
+    check_waiters(&rt, alloc, &queues, 2, &[]);
 }
 
 /// Takes a thread out of its queue, if it is in one.
 fn take_out(rt: &impl Abort, queues: &mut Queues, thread: u32) {
-    assert!(rt; has_thread(queues, thread));
+    check_thread(rt, queues, thread);
     queues.take_out(thread);
     check_nowhere(rt, queues, thread, true)
 }
 
+const TWO_TAKEN: &[Option<u32>] = &[Some(3), Some(2), None];
+
 /// Puts three threads into a queue, which is empty, and takes out the second of them and one that is in no queue: the
 /// others stay in order.
 fn check_taken_out(rt: &impl Abort, queues: &mut Queues, queue: Queue) {
-    for thread in [3, 1, 2] {
-        push(rt, queues, queue, thread);
-    }
-    for thread in [1, 4] {
-        take_out(rt, queues, thread);
-    }
-    for expected in [Some(3), Some(2), None] {
-        check_taken(rt, queues, queue, expected);
-    }
+    push_all(rt, queues, queue, THREE);
+    take_out(rt, queues, 1);
+    take_out(rt, queues, 4);
+    check_all_taken(rt, queues, queue, TWO_TAKEN)
 }
 
 #[test]
 fn a_thread_is_taken_out_of_its_queue(rt: HostRuntime) {
     let mut queues = full(&rt, rt.alloc());
     for queue in IN_ORDER {
-        check_taken_out(&rt, &mut queues, queue);
+        check_taken_out(&rt, &mut queues, *queue);
     }
 }
 
 /// Compares the thread that has waited longest for a mutex.
 fn check_first_waiter(rt: &impl Abort, queues: &Queues, mutex: u32, expected: Option<u32>) {
-    assert!(rt; has_mutex(queues, mutex));
+    check_mutex(rt, queues, mutex);
     check_same(rt, &queues.first_waiter(mutex), &expected);
 }
 
+const THREE_WAITERS: &[u32] = &[2, 5, 1];
+
 #[test]
 fn a_waiter_is_taken_out_of_its_queue(rt: HostRuntime) {
-    let mut queues = full(&rt, rt.alloc());
+    let alloc = rt.alloc();
+    let mut queues = full(&rt, alloc);
     check_first_waiter(&rt, &queues, 2, None);
-    for thread in [2, 5, 1] {
-        push(&rt, &mut queues, Queue::Waiters(2), thread);
-    }
+    push_all(&rt, &mut queues, Queue::Waiters(2), THREE_WAITERS);
     check_first_waiter(&rt, &queues, 2, Some(2));
     take_out(&rt, &mut queues, 5);
-    check_waiters(&rt, rt.alloc(), &queues, 2, &[2, 1]);
+    check_waiters(&rt, alloc, &queues, 2, &[2, 1]);
     take_out(&rt, &mut queues, 2);
     check_first_waiter(&rt, &queues, 2, Some(1));
     check_first_waiter(&rt, &queues, 3, None)
 }
 
+/// Gives a mutex this owner, and compares the owners of all of them then.
+fn check_owner(rt: &impl Abort, queues: &mut Queues, owner: Option<u32>, owners: &[Option<u32>]) {
+    check_mutex(rt, queues, 2);
+    queues.set_owner(2, owner);
+    check_same(rt, &queues.owners(), &owners);
+    check_mutex(rt, queues, 2);
+    check_same(rt, &queues.owner(2), &owner);
+}
+
+/// Owners of the second mutex in turn, and the owners of all of them then.
+const OWNERS: &[(Option<u32>, &[Option<u32>])] = &[
+    (Some(4), &[None, Some(4), None]),
+    (Some(1), &[None, Some(1), None]),
+    (None, &[None, None, None]),
+];
+
 #[test]
 fn a_mutex_has_an_owner_or_is_free(rt: HostRuntime) {
     let mut queues = full(&rt, rt.alloc());
-    for (owner, expected) in [
-        (Some(4), [None, Some(4), None]),
-        (Some(1), [None, Some(1), None]),
-        (None, [None, None, None]),
-    ] {
-        assert!(rt; has_mutex(&queues, 2));
-        queues.set_owner(2, owner);
-        check_same(&rt, &queues.owners(), &&expected[..]);
-        assert!(rt; has_mutex(&queues, 2));
-        check_same(&rt, &queues.owner(2), &owner);
+    for (owner, owners) in OWNERS {
+        check_owner(&rt, &mut queues, *owner, owners);
     }
 }
 

@@ -1,9 +1,8 @@
 //! Threads of small graphs and of large ones, whose records change between draws.
 ghost use Rattle.std.specs.Prelude.{IsTrue};
-ghost use Rattle.lot_graph.specs.Graphs.{IsNodeOf};
-ghost use Rattle.lot_threads.specs.Threaded.{IsLiveIn};
+ghost use Rattle.lot_graph.specs.Graphs.{IsNode, IsNodeOf};
 
-use super::helpers::{Won, check_step, fund, is_won};
+use super::helpers::{Won, check_live, check_step, fund, is_won, threads_of};
 use super::same::check_same;
 use lot_draw::Winner;
 use lot_graph::Graph;
@@ -49,13 +48,22 @@ enum Step {
 }
 
 fn is_node(graph: &Graph, node: Node) -> bool
-    ensures { IsTrue result → IsNodeOf graph.now node }
+    ensures within { IsTrue result → IsNodeOf graph.now node }
+    ensures there { IsTrue result → IsNode graph.now.funding node }
 {
     match node {
         Node::Currency(currency) => graph.is_currency(currency),
         Node::Thread(thread) => 0 < thread && thread <= graph.threads(),
         Node::Mutex(mutex) => 0 < mutex && mutex <= graph.mutexes(),
     }
+}
+
+/// Ends the test unless the graph has this node.
+fn check_node(rt: &impl Abort, graph: &Graph, node: Node)
+    ensures within { IsNodeOf graph.now node }
+    ensures there { IsNode graph.now.funding node }
+{
+    assert!(rt; is_node(graph, node));
 }
 
 fn add_thread(rt: &impl Abort, threads: &mut Threads) {
@@ -125,28 +133,26 @@ fn end(rt: &impl Abort, threads: &mut Threads, number: u32) {
 
 fn take(rt: &impl Abort, threads: &mut Threads, mutex: u32, owner: u32) {
     let graph = threads.graph();
-    assert!(rt; 0 < mutex && mutex <= graph.mutexes() && graph.owner(mutex).is_none());
-    assert!(rt; 0 < owner && owner <= graph.threads());
+    check_node(rt, graph, Node::Mutex(mutex));
+    assert!(rt; graph.owner(mutex).is_none());
+    check_node(rt, graph, Node::Thread(owner));
     assert!(rt; !threads.reaches(Node::Thread(owner), Node::Mutex(mutex)));
     threads.apply(Change::PutOwner(mutex, Some(owner)));
 }
 
 fn give_up(rt: &impl Abort, threads: &mut Threads, mutex: u32) {
-    assert!(rt; 0 < mutex && mutex <= threads.graph().mutexes());
+    check_node(rt, threads.graph(), Node::Mutex(mutex));
     threads.apply(Change::PutOwner(mutex, None));
-}
-
-fn is_live(threads: &Threads, number: u32) -> bool
-    ensures { IsTrue result → IsLiveIn threads.now number }
-{
-    threads.is_live(ThreadNumber { number })
 }
 
 fn move_mutex(rt: &impl Abort, threads: &mut Threads, mutex: u32, owner: u32, next: u32) {
     let graph = threads.graph();
-    assert!(rt; is_node(graph, Node::Mutex(mutex)) && is_node(graph, Node::Thread(next)));
-    assert!(rt; graph.owner(mutex) == Some(owner) && owner != next);
-    assert!(rt; is_live(threads, owner) && is_live(threads, next));
+    check_node(rt, graph, Node::Mutex(mutex));
+    check_node(rt, graph, Node::Thread(next));
+    assert!(rt; graph.owner(mutex) == Some(owner));
+    assert!(rt; owner != next);
+    check_live(rt, threads, ThreadNumber { number: owner });
+    check_live(rt, threads, ThreadNumber { number: next });
     assert!(rt; !threads.reaches(Node::Thread(next), Node::Mutex(mutex)));
     threads.apply(Change::MoveOwner { mutex, owner, next });
 }
@@ -161,7 +167,7 @@ fn draw(threads: &mut Threads, d: u128) -> (Option<Winner>, u64) {
 /// The value of the thread or mutex after settling.
 fn worth(rt: &impl Abort, threads: &mut Threads, node: Node) -> u64 {
     threads.settle();
-    assert!(rt; is_node(threads.graph(), node));
+    check_node(rt, threads.graph(), node);
     assert!(rt; !threads.is_stale(node));
     threads.value_of(node)
 }
@@ -224,8 +230,7 @@ fn holds(rt: &impl Abort, threads: &mut Threads, step: Step) -> bool {
 
 /// Takes the steps among new threads of these limits.
 fn play(rt: &impl Abort, alloc: Global, limits: Option<Limits>, steps: &[Step]) {
-    let limits = limits.expect(rt, "limits");
-    let mut threads = Threads::new(alloc, &limits).expect(rt, "memory");
+    let mut threads = threads_of(rt, alloc, limits);
     for (i, step) in steps.iter().enumerate() {
         make_change(rt, &mut threads, *step);
         check_step(rt, i, holds(rt, &mut threads, *step));
@@ -262,7 +267,7 @@ const LATER: Status = Status::Running {
     used: 20,
 };
 
-const RUNNING: [Step; 17] = [
+const RUNNING: &[Step] = &[
     Step::AddThread,
     Step::AddThread,
     Step::Fund(10, 0, Target::Thread(1)),
@@ -286,10 +291,10 @@ const RUNNING: [Step; 17] = [
 // much.
 #[test]
 fn threads_run(rt: HostRuntime) {
-    play(&rt, rt.alloc(), small_limits(), &RUNNING)
+    play(&rt, rt.alloc(), small_limits(), RUNNING)
 }
 
-const ENDED: [Step; 14] = [
+const ENDED: &[Step] = &[
     Step::AddThread,
     Step::AddThread,
     Step::AddThread,
@@ -309,10 +314,10 @@ const ENDED: [Step; 14] = [
 // A thread that ends leaves its processor, and wins no draw, however small a part of its quantum it had used.
 #[test]
 fn threads_end(rt: HostRuntime) {
-    play(&rt, rt.alloc(), small_limits(), &ENDED)
+    play(&rt, rt.alloc(), small_limits(), ENDED)
 }
 
-const SERVED: [Step; 20] = [
+const SERVED: &[Step] = &[
     Step::AddThread,
     Step::AddThread,
     Step::MakeCurrency,
@@ -338,10 +343,10 @@ const SERVED: [Step; 20] = [
 // A client lends all that it is worth to its server, which its tickets stay active for; a server can't lend back.
 #[test]
 fn clients_lend(rt: HostRuntime) {
-    play(&rt, rt.alloc(), small_limits(), &SERVED)
+    play(&rt, rt.alloc(), small_limits(), SERVED)
 }
 
-const WAITING: [Step; 20] = [
+const WAITING: &[Step] = &[
     Step::AddThread,
     Step::AddThread,
     Step::AddThread,
@@ -367,10 +372,10 @@ const WAITING: [Step; 20] = [
 // Waiters lend to the owner of the mutex, whoever it is.
 #[test]
 fn waiters_lend(rt: HostRuntime) {
-    play(&rt, rt.alloc(), small_limits(), &WAITING)
+    play(&rt, rt.alloc(), small_limits(), WAITING)
 }
 
-const LEAST: [Step; 5] = [
+const LEAST: &[Step] = &[
     Step::Idles(0),
     Step::AddThread,
     Step::Idles(1),
@@ -380,10 +385,10 @@ const LEAST: [Step; 5] = [
 
 #[test]
 fn least_size(rt: HostRuntime) {
-    play(&rt, rt.alloc(), Limits::new(Sizes::SMALLEST), &LEAST)
+    play(&rt, rt.alloc(), Limits::new(Sizes::SMALLEST), LEAST)
 }
 
-const LARGEST: [Step; 6] = [
+const LARGEST: &[Step] = &[
     Step::AddThread,
     Step::Fund(1, 0, Target::Thread(1)),
     Step::Wins(255, (1, 255, 256)),
@@ -400,5 +405,5 @@ const LAST: Status = Status::Running {
 
 #[test]
 fn largest_size(rt: HostRuntime) {
-    play(&rt, rt.alloc(), Limits::new(Sizes::LARGEST), &LARGEST)
+    play(&rt, rt.alloc(), Limits::new(Sizes::LARGEST), LARGEST)
 }

@@ -1,27 +1,14 @@
--- The report is written after the lines.
-use Rattle.std.proofs.Common.{◌≡◌, Err, rules}
-use Rattle.lot_play.specs.Texts.{last_report, made_texts}
-use Rattle.lot_playback.specs.Turns.{program_turns}
-use Rattle.lot_play.proofs.PlayedFacts.{ends-well, err-is, fails-first, fails-last}
-use Rattle.lot_play.proofs.TextFacts.{played-texts}
+-- All is written before the outcome is known.
+use Rattle.std.proofs.Common.{◌≡◌, Err, refl}
+use Rattle.lot_simulation.specs.Output.{played_output}
+use Rattle.lot_play.proofs.PlayedFacts.{ends-err, err-is}
 use Rattle.lot_play.proofs.lines.play_program.Goals as goal
 
-pub returns-in_err-write_turns-clause-played : goal.returns-in_err-write_turns-clause-played
-returns-in_err-write_turns-clause-played g c =
+pub returns-in_err-write_play-clause-played : goal.returns-in_err-write_play-clause-played
+returns-in_err-write_play-clause-played g c =
     let program = c.args.program.now in
-    let is : c.from_residual.result ≡ Err c.in_err-write_turns.field-0.0 = err-is c.from_residual.result _ c.from_residual.ensures.1 in
-    fails-first (g.W.Write.contents c.args.writer.now.inner) (g.W.Write.contents c.write_turns.new.writer.inner) (made_texts (program_turns program)) (last_report program program.duration) _ (played-texts program program.duration) c.write_turns.new.writer.failed
-    c.from_residual.result _ is c.in_err-write_turns.ensures.text
-
-pub returns-in_err-end_play-clause-played : goal.returns-in_err-end_play-clause-played
-returns-in_err-end_play-clause-played g c =
-    let program = c.args.program.now in
-    let is : c.from_residual-in_err-end_play.result ≡ Err c.in_err-end_play.field-0.0 = search (rules, c.from_residual-in_err-end_play.ensures) in
-    fails-last (g.W.Write.contents c.args.writer.now.inner) (g.W.Write.contents c.end_play.new.writer.inner) (made_texts (program_turns program)) (last_report program program.duration) _ (played-texts program program.duration) c.end_play.new.writer.failed
-    (g.W.Write.contents c.write_turns.new.writer.inner) c.in_ok-write_turns.ensures.text.1 c.from_residual-in_err-end_play.result _ is c.in_err-end_play.ensures.text
+    let is : c.from_residual.result ≡ Err c.in_err-write_play.field-0.0 = err-is c.from_residual.result _ c.from_residual.ensures.1 in
+    ends-err (g.W.Write.contents c.args.writer.now.inner) (g.W.Write.contents c.write_play.new.writer.inner) (played_output program program.duration) c.write_play.new.writer.failed c.from_residual.result _ is c.in_err-write_play.ensures.text
 
 pub returns-clause-played : goal.returns-clause-played
-returns-clause-played g c =
-    let program = c.args.program.now in
-    ends-well (g.W.Write.contents c.args.writer.now.inner) (g.W.Write.contents c.end_play.new.writer.inner) (made_texts (program_turns program)) (last_report program program.duration) _ (played-texts program program.duration) c.end_play.new.writer.failed
-    (g.W.Write.contents c.write_turns.new.writer.inner) c.in_ok-write_turns.ensures.text.1 c.in_ok-end_play.ensures.text
+returns-clause-played g c = (refl, c.in_ok-write_play.ensures.text.0, c.in_ok-write_play.ensures.text.1)

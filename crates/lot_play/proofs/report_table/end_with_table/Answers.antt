@@ -1,31 +1,14 @@
--- What is flushed is the table.
-use Rattle.std.proofs.Common.{◌≡◌, [], Err, rules, subst, append-nil}
-use Rattle.std.specs.Io.KnownBytes.{Appends}
-use Rattle.lot_io.specs.Writing.{Begins}
-use Rattle.lot_io.proofs.WritingFacts.{appends-both, begins-after}
-use Rattle.lot_play.specs.ReportTable.{last_table}
-use Rattle.std.proofs.Common.{◌||◌, ap, ◌∙◌}
+-- The end of the play is that of the system it had.
+use Rattle.std.proofs.Common.{◌||◌, ap, subst, sym, ◌∙◌}
 use Rattle.lot_engine.specs.Seen.{Seen}
+use Rattle.lot_playback.specs.Orders.{IsInOrder}
+use Rattle.lot_playback.specs.Stages.{HasMade}
+use Rattle.lot_playback.specs.Turns.{program_turns}
+use Rattle.lot_play.proofs.PlayedFacts.{on-any}
 use Rattle.lot_play.proofs.RefusedFacts.{stopped-at-end}
+use Rattle.lot_play.proofs.SeedFacts.{over-at-end}
 use Rattle.lot_play.specs.Leaving.{stopped_in}
 use Rattle.lot_play.proofs.report_table.end_with_table.Goals as goal
-
-pub returns-in_err-flush-clause-text : goal.returns-in_err-flush-clause-text
-returns-in_err-flush-clause-text g c =
-    let table = last_table c.args.form c.args.program.now c.args.program.now.duration in
-    let is : c.from_residual-in_err-flush.result ≡ Err c.in_err-flush.field-0.0 = search rules in
-    let old = g.W.Write.contents c.args.writer.now.inner in
-    let new = g.W.Write.contents c.flush.new.writer.inner in
-    let told = c.in_err-flush.ensures.text in
-    rw is (told.0, told.1, subst (Begins old new) (append-nil table) (begins-after old (g.W.Write.contents c.write_table.new.writer.inner) new table [] c.in_ok-write_table.ensures.text.1 told.2))
-
-pub returns-clause-text : goal.returns-clause-text
-returns-clause-text g c =
-    let table = last_table c.args.form c.args.program.now c.args.program.now.duration in
-    let old = g.W.Write.contents c.args.writer.now.inner in
-    let new = g.W.Write.contents c.flush.new.writer.inner in
-    let told = c.in_ok-flush.ensures.text in
-    (told.0, subst (Appends old new) (append-nil table) (appends-both old (g.W.Write.contents c.write_table.new.writer.inner) new table [] c.in_ok-write_table.ensures.text.1 told.1))
 
 pub returns-clause-stopped : goal.returns-clause-stopped
 returns-clause-stopped g c =
@@ -35,4 +18,33 @@ returns-clause-stopped g c =
     let order = c.into_parts-system.result.1 in
     let old = c.args.warnings.now.stopped in
     let at = stopped-at-end program c.args.playback seen order c.requires.made.program_is parts.system parts.made parts.order c.requires.ended in
-    c.note_last.ensures.stopped ∙ ap (λ (s : Seen). old || stopped_in program s order) c.in_ok-write_table.ensures.same ∙ ap (λ b. old || b) at
+    on-any c.write_flushed-written.result
+    (c.note_ended.ensures ∙ ap (λ (s : Seen). old || stopped_in program s order) c.write_flushed-written.ensures.same ∙ ap (λ b. old || b) at)
+
+pub write_flushed-written-requires-clause-made : goal.write_flushed-written-requires-clause-made
+write_flushed-written-requires-clause-made g c = subst (HasMade c.args.program.now (program_turns c.args.program.now)) (sym c.into_parts-system.ensures.system) c.requires.made
+
+pub write_flushed-written-requires-clause-order : goal.write_flushed-written-requires-clause-order
+write_flushed-written-requires-clause-order g c = c.into_parts-system.ensures.order
+
+pub write_flushed-written-requires-clause-ended : goal.write_flushed-written-requires-clause-ended
+write_flushed-written-requires-clause-ended g c =
+    let parts = c.into_parts-system.ensures in
+    (over-at-end c.args.playback c.into_parts-system.result.0 c.into_parts-system.result.1 parts.system parts.made parts.order c.requires.ended).ended
+
+pub write_flushed-written-requires-clause-working : goal.write_flushed-written-requires-clause-working
+write_flushed-written-requires-clause-working g c = c.requires.working
+
+pub note_ended-requires-clause-program : goal.note_ended-requires-clause-program
+note_ended-requires-clause-program g c =
+    ap (λ (s : Seen). s.setting.program) (c.write_flushed-written.ensures.same ∙ c.into_parts-system.ensures.system) ∙ c.requires.made.program_is
+
+pub note_ended-requires-clause-order : goal.note_ended-requires-clause-order
+note_ended-requires-clause-order g c =
+    subst (λ (s : Seen). IsInOrder s c.into_parts-system.result.1) (sym c.write_flushed-written.ensures.same) c.into_parts-system.ensures.order
+
+pub returns-clause-flushed : goal.returns-clause-flushed
+returns-clause-flushed g c = c.write_flushed-written.ensures.flushed
+
+pub returns-clause-text : goal.returns-clause-text
+returns-clause-text g c = c.write_flushed-written.ensures.text

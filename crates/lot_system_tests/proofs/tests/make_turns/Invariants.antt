@@ -3,4 +3,4 @@ use Rattle.lot_system_tests.proofs.tests.make_turns.Given as goal
 
 -- the system is still one of the same program and room
 abbrev pub invariant-loop-actor : goal.invariant-loop-actor
-invariant-loop-actor l = l.system.setting ≡ l.initial.system.setting
+invariant-loop-actor g l = l.system.setting ≡ l.initial.system.setting

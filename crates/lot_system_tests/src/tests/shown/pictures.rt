@@ -84,30 +84,35 @@ fn drawn(rt: &impl Abort, alloc: Global, input: &str) -> (Result<Played, IoFault
     (came, picture)
 }
 
-#[test]
-fn pictures(rt: HostRuntime) {
-    let (came, picture) = drawn(&rt, rt.alloc(), SCHEDULED);
-    check_same(&rt, &came, &Ok(Played::Done));
-    for part in [
-        "<title id='title'>Two &amp; none</title>\n",
-        "<polyline points=' 100.0,460.0 267.5,360.0 435.0,260.0 602.5,160.0 770.0,60.0' stroke='#0072b2'/>\n",
-        "<text x='788' y='60.0' dy='4'>a 100.0%</text>\n",
-        "<text x='788' y='460.0' dy='4'>b 0.0%</text>\n",
-    ] {
-        check_same_at(&rt, &part, &picture.as_str().contains(part), &true);
+/// Draws the picture of the input, and looks for these parts of it.
+fn check_parts(rt: &impl Abort, alloc: Global, input: &str, parts: &[&str]) {
+    let (came, picture) = drawn(rt, alloc, input);
+    check_same(rt, &came, &Ok(Played::Done));
+    for part in parts {
+        check_same_at(rt, part, &picture.as_str().contains(*part), &true);
     }
 }
 
+const PARTS: &[&str] = &[
+    "<title id='title'>Two &amp; none</title>\n",
+    "<polyline points=' 100.0,460.0 267.5,360.0 435.0,260.0 602.5,160.0 770.0,60.0' stroke='#0072b2'/>\n",
+    "<text x='788' y='60.0' dy='4'>a 100.0%</text>\n",
+    "<text x='788' y='460.0' dy='4'>b 0.0%</text>\n",
+];
+
+#[test]
+fn pictures(rt: HostRuntime) {
+    check_parts(&rt, rt.alloc(), SCHEDULED, PARTS)
+}
+
+const PARTS_WITH_REMOVED: &[&str] = &[
+    "<text x='788' y='60.0' dy='4'>1 50.0%</text>\n",
+    "<text x='788' y='76.0' dy='4'>a 50.0%</text>\n",
+];
+
 #[test]
 fn pictures_with_removed(rt: HostRuntime) {
-    let (came, picture) = drawn(&rt, rt.alloc(), REMOVED);
-    check_same(&rt, &came, &Ok(Played::Done));
-    for part in [
-        "<text x='788' y='60.0' dy='4'>1 50.0%</text>\n",
-        "<text x='788' y='76.0' dy='4'>a 50.0%</text>\n",
-    ] {
-        check_same_at(&rt, &part, &picture.as_str().contains(part), &true);
-    }
+    check_parts(&rt, rt.alloc(), REMOVED, PARTS_WITH_REMOVED)
 }
 
 /// The three commands at tick 3 of 5 share a mark, the only one: the command at tick 0 has none. The frame follows. The

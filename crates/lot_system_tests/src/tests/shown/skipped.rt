@@ -1,39 +1,55 @@
 //! Refused lines that can be skipped, and lines that can't.
 use crate::tests::same::check_same_at;
+use lot_simulation::InputFault;
 use lot_text::{ParseFault, parse};
 use lot_words::line_to_skip;
 use std::alloc::Global;
 use std::process::Abort;
 
+/// The fault of the input, which is refused.
+pub(super) fn fault_of(rt: &impl Abort, alloc: Global, input: &[u8]) -> InputFault {
+    match parse(alloc, input) {
+        Err(ParseFault::Input(fault)) => fault,
+        _ => panic!(rt; "it isn't refused: {input:?}"),
+    }
+}
+
 /// Reads the input, which is refused, and compares the place of the line to skip.
 fn check<H: Abort>(rt: &H, alloc: Global, input: &[u8], expected: Option<usize>) {
-    let Err(ParseFault::Input(fault)) = parse(alloc, input) else {
-        panic!(rt; "it isn't refused: {input:?}");
-    };
-    let place = line_to_skip(alloc, input, fault);
+    let place = line_to_skip(alloc, input, fault_of(rt, alloc, input));
     check_same_at(rt, &input, &place, &expected);
 }
 
-/// Checks the second line of `lottery 1` inputs.
-fn check_second<H: Abort>(rt: &H, alloc: Global, line: &str, expected: Option<usize>) {
-    let input = format!(in alloc; "lottery 1\n{line}\nschedule 0\n").expect(rt, "memory");
-    check(rt, alloc, input.as_bytes(), expected);
+/// The texts before and after a line in an input.
+type Around = (&'static str, &'static str);
+
+/// Checks an input for each of these lines, with these texts before and after it.
+fn check_lines<H: Abort>(
+    rt: &H,
+    alloc: Global,
+    (front, back): Around,
+    lines: &[&str],
+    expected: Option<usize>,
+) {
+    for line in lines {
+        let input = format!(in alloc; "{front}{line}\n{back}").expect(rt, "memory");
+        check(rt, alloc, input.as_bytes(), expected);
+    }
 }
 
-/// Checks the third line of `lottery 1` inputs, which is in a script.
-fn check_step<H: Abort>(rt: &H, alloc: Global, line: &str, expected: Option<usize>) {
-    let input = format!(in alloc; "lottery 1\nscript s\n{line}\nendscript\n").expect(rt, "memory");
-    check(rt, alloc, input.as_bytes(), expected);
-}
+/// The second line of a `lottery 1` input.
+const SECOND: Around = ("lottery 1\n", "schedule 0\n");
 
-/// Checks the fifth line of `lottery 3` inputs, which is in a script.
-fn check_steps<H: Abort>(rt: &H, alloc: Global, line: &str, expected: Option<usize>) {
-    let front = "lottery 3\nfor 5\nmutex m\nscript s\n";
-    let input = format!(in alloc; "{front}{line}\nendscript\n").expect(rt, "memory");
-    check(rt, alloc, input.as_bytes(), expected);
-}
+/// The third line of a `lottery 1` input, which is in a script.
+const STEP: Around = ("lottery 1\nscript s\n", "endscript\n");
 
-const BODY_LINES: [&str; 9] = [
+/// The fifth line of a `lottery 3` input, which is in a script.
+const STEPS: Around = ("lottery 3\nfor 5\nmutex m\nscript s\n", "endscript\n");
+
+/// The third line of a `lottery 3` input.
+const TIMED: Around = ("lottery 3\nfor 5\n", "");
+
+const BODY_LINES: &[&str] = &[
     "mktk 5 base",
     "  nonsense",
     "mktkt\t5 base",
@@ -47,15 +63,13 @@ const BODY_LINES: [&str; 9] = [
 
 #[test]
 fn body_lines(rt: HostRuntime) {
-    for line in BODY_LINES {
-        check_second(&rt, rt.alloc(), line, Some(10));
-    }
+    check_lines(&rt, rt.alloc(), SECOND, BODY_LINES, Some(10));
     let input = b"lottery 3\nfor 5\nat 3\nat 2\nmkcur a\n";
     check(&rt, rt.alloc(), input, Some(21));
 }
 
 /// Lines of the header, lines that declare a name, also misspelt, words of scripts, and words of other formats.
-const LINES_WITH_OTHERS: [&str; 15] = [
+const LINES_WITH_OTHERS: &[&str] = &[
     "quantum 0",
     "quantm 5",
     "lottery 1",
@@ -75,42 +89,35 @@ const LINES_WITH_OTHERS: [&str; 15] = [
 
 #[test]
 fn lines_with_others(rt: HostRuntime) {
-    for line in LINES_WITH_OTHERS {
-        check_second(&rt, rt.alloc(), line, None);
-    }
+    check_lines(&rt, rt.alloc(), SECOND, LINES_WITH_OTHERS, None)
 }
 
-/// Checks the third line of `lottery 3` inputs.
-fn check_timed<H: Abort>(rt: &H, alloc: Global, line: &str, expected: Option<usize>) {
-    let input = format!(in alloc; "lottery 3\nfor 5\n{line}\n").expect(rt, "memory");
-    check(rt, alloc, input.as_bytes(), expected);
-}
+const SKIPPED_TIMED: &[&str] = &[
+    "mktkt 05 base",
+    "mktk 5 base",
+    "rmtkt gift",
+    "fundx 5 base a",
+];
+
+const KEPT_TIMED: &[&str] = &[
+    "mktkt 05 base as gift",
+    "mktkt 5 base gift",
+    "mktk 5 base as gift",
+    "fundx 5 as gift",
+    "strct",
+];
 
 // Lines after one that names a ticket may have the name.
 #[test]
 fn lines_that_name_tickets(rt: HostRuntime) {
-    for line in [
-        "mktkt 05 base",
-        "mktk 5 base",
-        "rmtkt gift",
-        "fundx 5 base a",
-    ] {
-        check_timed(&rt, rt.alloc(), line, Some(16));
-    }
-    for line in [
-        "mktkt 05 base as gift",
-        "mktkt 5 base gift",
-        "mktk 5 base as gift",
-        "fundx 5 as gift",
-        "strct",
-    ] {
-        check_timed(&rt, rt.alloc(), line, None);
-    }
-    check_second(&rt, rt.alloc(), "mktkt 5 base as", Some(10));
-    check_second(&rt, rt.alloc(), "mktkt 5 base as gift", None);
+    let alloc = rt.alloc();
+    check_lines(&rt, alloc, TIMED, SKIPPED_TIMED, Some(16));
+    check_lines(&rt, alloc, TIMED, KEPT_TIMED, None);
+    check_lines(&rt, alloc, SECOND, &["mktkt 5 base as"], Some(10));
+    check_lines(&rt, alloc, SECOND, &["mktkt 5 base as gift"], None)
 }
 
-const INPUTS_WITHOUT: [&[u8]; 10] = [
+const INPUTS_WITHOUT: &[&[u8]] = &[
     b"",
     b"mktk 5 base\n",
     b"lottery 1\r\n",
@@ -130,67 +137,83 @@ fn inputs_without(rt: HostRuntime) {
     }
 }
 
+const SKIPPED_STEPS: &[&str] = &[
+    "compute 0",
+    "comptue 5",
+    "yeild",
+    "lock m",
+    "set",
+    "nonsense 7",
+];
+
+const KEPT_STEPS: &[&str] = &[
+    "loop 0",
+    "lop 2",
+    "end",
+    "ennd",
+    "endscript 1",
+    "endscrpt",
+    "compute 5 end",
+    "mktkt 5 base",
+    "prot p",
+    "sleep 5",
+];
+
 #[test]
 fn steps(rt: HostRuntime) {
-    for line in [
-        "compute 0",
-        "comptue 5",
-        "yeild",
-        "lock m",
-        "set",
-        "nonsense 7",
-    ] {
-        check_step(&rt, rt.alloc(), line, Some(19));
-    }
-    for line in [
-        "loop 0",
-        "lop 2",
-        "end",
-        "ennd",
-        "endscript 1",
-        "endscrpt",
-        "compute 5 end",
-        "mktkt 5 base",
-        "prot p",
-        "sleep 5",
-    ] {
-        check_step(&rt, rt.alloc(), line, None);
-    }
+    let alloc = rt.alloc();
+    check_lines(&rt, alloc, STEP, SKIPPED_STEPS, Some(19));
+    check_lines(&rt, alloc, STEP, KEPT_STEPS, None);
 }
+
+const SKIPPED_STEP_LINES: &[&str] = &[
+    "yield lock n compute 5",
+    "comptue 5 yield",
+    "compute 5 compute",
+    "yield # before the end",
+];
+
+const KEPT_STEP_LINES: &[&str] = &[
+    "loop 2 compute 0 end",
+    "compute end",
+    "yield endscript yield",
+    "comptue 5 ennd",
+    "loop 2 endscript",
+];
 
 #[test]
 fn steps_of_one_line(rt: HostRuntime) {
-    for line in [
-        "yield lock n compute 5",
-        "comptue 5 yield",
-        "compute 5 compute",
-        "yield # before the end",
-    ] {
-        check_steps(&rt, rt.alloc(), line, Some(33));
-    }
-    for line in [
-        "loop 2 compute 0 end",
-        "compute end",
-        "yield endscript yield",
-        "comptue 5 ennd",
-        "loop 2 endscript",
-    ] {
-        check_steps(&rt, rt.alloc(), line, None);
-    }
+    let alloc = rt.alloc();
+    check_lines(&rt, alloc, STEPS, SKIPPED_STEP_LINES, Some(33));
+    check_lines(&rt, alloc, STEPS, KEPT_STEP_LINES, None);
 }
 
-// A ninth loop, the line after the last of a script, and a comment that is too long.
+/// The front, and then the text so many times.
+pub(super) fn repeated<H: Abort>(
+    rt: &H,
+    alloc: Global,
+    front: &str,
+    text: &str,
+    count: u32,
+) -> String {
+    let mut input = String::from_str(alloc, front).expect(rt, "memory");
+    for _ in 0..count {
+        input.push_str(text).expect(rt, "memory");
+    }
+    input
+}
+
+/// A ninth loop, the line after the last of a script, and a comment that is too long.
+const LIMITS: &[(&str, &str, u32)] = &[
+    ("lottery 1\nscript s\n", "loop 2\n", 9),
+    ("lottery 1\nscript s\n", "yield\n", 1025),
+    ("lottery 1\n#", "01234567", 600),
+];
+
 #[test]
 fn limits(rt: HostRuntime) {
-    for (front, line, count) in [
-        ("lottery 1\nscript s\n", "loop 2\n", 9u32),
-        ("lottery 1\nscript s\n", "yield\n", 1025),
-        ("lottery 1\n#", "01234567", 600),
-    ] {
-        let mut input = String::from_str(rt.alloc(), front).expect(&rt, "memory");
-        for _ in 0..count {
-            input.push_str(line).expect(&rt, "memory");
-        }
+    for (front, text, count) in LIMITS {
+        let input = repeated(&rt, rt.alloc(), front, text, *count);
         check(&rt, rt.alloc(), input.as_bytes(), None);
     }
 }

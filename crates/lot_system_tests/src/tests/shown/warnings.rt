@@ -1,173 +1,195 @@
 //! Plays that leave something to warn of, and the words that tell it.
-use crate::tests::same::check_same;
+use super::{check_said, words_of};
+use crate::tests::same::check_same_at;
 use lot_io::Watched;
 use lot_play::{Warnings, play_bytes};
-use lot_words::write_warnings;
 use std::alloc::Global;
 use std::process::Abort;
 
-/// Plays the input, and compares the words of its warnings.
-fn check<H: Abort>(rt: &H, alloc: Global, input: &str, expected: &str) {
+/// The warnings of the input, which is played to its end.
+fn warned(rt: &impl Abort, alloc: Global, input: &str) -> Warnings {
     let mut warnings = Warnings::none(alloc).expect(rt, "memory");
     let mut writer = Watched::new(Vec::new(alloc));
     let is_played = play_bytes(alloc, input.as_bytes(), &mut warnings, &mut writer).is_ok();
-    let mut words = Vec::new(alloc);
-    let is_written = write_warnings(&mut words, &warnings, input.as_bytes()).is_ok();
-    let said = str::from_utf8(words.as_slice()).unwrap_or("");
-    check_same(rt, &(is_played && is_written, said), &(true, expected));
+    check_same_at(rt, &input, &is_played, &true);
+    warnings
 }
 
-/// Checks, like `check`, a timed input of these commands, with a script `spin` and a script `stop`.
-fn check_commands<H: Abort>(rt: &H, alloc: Global, commands: &str, expected: &str) {
-    let input = format!(in alloc;
-        "lottery 3\nfor 9\nscript spin\ncompute 99 endscript\nscript stop\nendscript\n{commands}"
-    );
-    let input = input.expect(rt, "memory");
-    check(rt, alloc, input.as_str(), expected);
+/// The words of the input's warnings.
+fn words_after(rt: &impl Abort, alloc: Global, input: &str) -> Vec<u8> {
+    let warnings = warned(rt, alloc, input);
+    words_of(alloc, &warnings, input).expect(rt, "words")
 }
+
+/// Plays the input, and compares the words of its warnings.
+fn check<H: Abort>(rt: &H, alloc: Global, input: &str, expected: &str) {
+    let words = words_after(rt, alloc, input);
+    check_said(rt, words.as_slice(), expected)
+}
+
+/// An input, or its commands, and the words.
+type Row = (&'static str, &'static str);
+
+/// Checks each of these inputs.
+fn check_all<H: Abort>(rt: &H, alloc: Global, rows: &[Row]) {
+    for (input, expected) in rows {
+        check(rt, alloc, input, expected);
+    }
+}
+
+/// Checks, for each row, a timed input of its commands, with a script `spin` and a script `stop`.
+fn check_commands<H: Abort>(rt: &H, alloc: Global, rows: &[Row]) {
+    for (commands, expected) in rows {
+        let input = format!(in alloc;
+            "lottery 3\nfor 9\nscript spin\ncompute 99 endscript\nscript stop\nendscript\n{commands}"
+        );
+        let input = input.expect(rt, "memory");
+        check(rt, alloc, input.as_str(), expected);
+    }
+}
+
+const UNKNOWN_NAMES: &[Row] = &[
+    (
+        "mkcur alice\nmktkt 5 base\nfund 1 alcie\n",
+        "line 9: the command was refused: no currency and no thread has the name 'alcie'; did you mean 'alice'?\n",
+    ),
+    (
+        "fundx 1 base mallory spin\nmktkt 5 base\nfund 2 malory\n",
+        "line 9: the command was refused: no currency and no thread has the name 'malory'; did you mean \
+         'mallory'?\n",
+    ),
+    (
+        "mkcur group\nmktkt 5 groop\n",
+        "line 8: the command was refused: no currency has the name 'groop'; did you mean 'group'?\n",
+    ),
+    (
+        "mktkt 5 bass\n",
+        "line 7: the command was refused: no currency has the name 'bass'; did you mean 'base'?\n",
+    ),
+    (
+        "fundx 5 bse a spin\n",
+        "line 7: the command was refused: no currency has the name 'bse'; did you mean 'base'?\n",
+    ),
+    (
+        "fundx 1 base worker spin\nkill workers\n",
+        "line 8: the command was refused: no thread has the name 'workers'; did you mean 'worker'?\n",
+    ),
+    (
+        "fundx 1 base a spin\nmkthr b spinn\n",
+        "line 8: the command was refused: no script of an earlier line has the name 'spinn'; did you mean \
+         'spin'?\n",
+    ),
+];
 
 // Lines 1 to 6 are the header and the scripts.
 #[test]
 fn unknown_names(rt: HostRuntime) {
-    for (commands, expected) in [
-        (
-            "mkcur alice\nmktkt 5 base\nfund 1 alcie\n",
-            "line 9: the command was refused: no currency and no thread has the name 'alcie'; did you mean 'alice'?\n",
-        ),
-        (
-            "fundx 1 base mallory spin\nmktkt 5 base\nfund 2 malory\n",
-            "line 9: the command was refused: no currency and no thread has the name 'malory'; did you mean \
-             'mallory'?\n",
-        ),
-        (
-            "mkcur group\nmktkt 5 groop\n",
-            "line 8: the command was refused: no currency has the name 'groop'; did you mean 'group'?\n",
-        ),
-        (
-            "mktkt 5 bass\n",
-            "line 7: the command was refused: no currency has the name 'bass'; did you mean 'base'?\n",
-        ),
-        (
-            "fundx 5 bse a spin\n",
-            "line 7: the command was refused: no currency has the name 'bse'; did you mean 'base'?\n",
-        ),
-        (
-            "fundx 1 base worker spin\nkill workers\n",
-            "line 8: the command was refused: no thread has the name 'workers'; did you mean 'worker'?\n",
-        ),
-        (
-            "fundx 1 base a spin\nmkthr b spinn\n",
-            "line 8: the command was refused: no script of an earlier line has the name 'spinn'; did you mean \
-             'spin'?\n",
-        ),
-    ] {
-        check_commands(&rt, rt.alloc(), commands, expected);
-    }
+    check_commands(&rt, rt.alloc(), UNKNOWN_NAMES)
 }
+
+const NO_NAME_IS_NEAR: &[Row] = &[
+    (
+        "mkcur alice\nmktkt 5 base\nfund 1 bob\n",
+        "line 9: the command was refused: no currency and no thread has the name 'bob'\n",
+    ),
+    (
+        "mkcur alice\nkill alicf\n",
+        "line 8: the command was refused: no thread has the name 'alicf'\n",
+    ),
+    (
+        "fundx 1 base alice spin\nrmcur alicf\n",
+        "line 8: the command was refused: no currency has the name 'alicf'\n",
+    ),
+    (
+        "mktkt 5 base\nfund 1 bas\n",
+        "line 8: the command was refused: no currency and no thread has the name 'bas'\n",
+    ),
+    (
+        "fundx 1 base b spin\nkill a\n",
+        "line 8: the command was refused: no thread has the name 'a'\n",
+    ),
+];
 
 // A currency is no thread, and a thread no currency, so neither is suggested for the other. Base can't be funded.
 #[test]
 fn no_name_is_near(rt: HostRuntime) {
-    for (commands, expected) in [
-        (
-            "mkcur alice\nmktkt 5 base\nfund 1 bob\n",
-            "line 9: the command was refused: no currency and no thread has the name 'bob'\n",
-        ),
-        (
-            "mkcur alice\nkill alicf\n",
-            "line 8: the command was refused: no thread has the name 'alicf'\n",
-        ),
-        (
-            "fundx 1 base alice spin\nrmcur alicf\n",
-            "line 8: the command was refused: no currency has the name 'alicf'\n",
-        ),
-        (
-            "mktkt 5 base\nfund 1 bas\n",
-            "line 8: the command was refused: no currency and no thread has the name 'bas'\n",
-        ),
-        (
-            "fundx 1 base b spin\nkill a\n",
-            "line 8: the command was refused: no thread has the name 'a'\n",
-        ),
-    ] {
-        check_commands(&rt, rt.alloc(), commands, expected);
-    }
+    check_commands(&rt, rt.alloc(), NO_NAME_IS_NEAR)
 }
+
+const NAMES_OF_ANOTHER_TIME: &[Row] = &[
+    (
+        "fundx 1 base alice stop\nmkcur alicf\nat 5\nunfund 1\nrmthr alice\nrmthr alice\n",
+        "line 12: the command was refused: no thread has the name 'alice'\n",
+    ),
+    (
+        "mktkt 5 base\nfund 1 alice\nmkcur alice\nmkcur alicf\n",
+        "line 8: the command was refused: no currency and no thread has the name 'alice'\n",
+    ),
+    (
+        "mkthr a late\nscript late\nendscript\n",
+        "line 7: the command was refused: no script of an earlier line has the name 'late'\n",
+    ),
+];
 
 // Thread `alice` ends at its first tick. A name that was removed, or that a later line gives, isn't misspelt.
 #[test]
 fn names_of_another_time(rt: HostRuntime) {
-    for (commands, expected) in [
-        (
-            "fundx 1 base alice stop\nmkcur alicf\nat 5\nunfund 1\nrmthr alice\nrmthr alice\n",
-            "line 12: the command was refused: no thread has the name 'alice'\n",
-        ),
-        (
-            "mktkt 5 base\nfund 1 alice\nmkcur alice\nmkcur alicf\n",
-            "line 8: the command was refused: no currency and no thread has the name 'alice'\n",
-        ),
-        (
-            "mkthr a late\nscript late\nendscript\n",
-            "line 7: the command was refused: no script of an earlier line has the name 'late'\n",
-        ),
-    ] {
-        check_commands(&rt, rt.alloc(), commands, expected);
-    }
+    check_commands(&rt, rt.alloc(), NAMES_OF_ANOTHER_TIME)
 }
+
+const WORDS_THAT_ARE_THE_CAUSE: &[Row] = &[
+    (
+        "mkcur alice\nmkthr alice spin\n",
+        "line 8: the command was refused: a currency or a thread already has the name 'alice'\n",
+    ),
+    (
+        "fundx 5 base Alice spin\n",
+        "line 7: the command was refused: a name is a letter a to z, and then letters a to z, digits, '_' or \
+         '-', and not 'Alice'\n",
+    ),
+    (
+        "rmtkt 7\n",
+        "line 7: the command was refused: no ticket has the number 7\n",
+    ),
+    (
+        "mktkt 0 base\n",
+        "line 7: the command was refused: an amount is a number from 1 to 4294967295, and not 0\n",
+    ),
+    (
+        "mktkt 1 base\nsettkt 1 4294967296\n",
+        "line 8: the command was refused: an amount is a number from 1 to 4294967295, and not 4294967296\n",
+    ),
+    (
+        "mktkt 1 base\nunfund 1\n",
+        "line 8: the command was refused: the ticket funds nothing\n",
+    ),
+];
 
 #[test]
 fn words_that_are_the_cause(rt: HostRuntime) {
-    for (commands, expected) in [
-        (
-            "mkcur alice\nmkthr alice spin\n",
-            "line 8: the command was refused: a currency or a thread already has the name 'alice'\n",
-        ),
-        (
-            "fundx 5 base Alice spin\n",
-            "line 7: the command was refused: a name is a letter a to z, and then letters a to z, digits, '_' or \
-             '-', and not 'Alice'\n",
-        ),
-        (
-            "rmtkt 7\n",
-            "line 7: the command was refused: no ticket has the number 7\n",
-        ),
-        (
-            "mktkt 0 base\n",
-            "line 7: the command was refused: an amount is a number from 1 to 4294967295, and not 0\n",
-        ),
-        (
-            "mktkt 1 base\nsettkt 1 4294967296\n",
-            "line 8: the command was refused: an amount is a number from 1 to 4294967295, and not 4294967296\n",
-        ),
-        (
-            "mktkt 1 base\nunfund 1\n",
-            "line 8: the command was refused: the ticket funds nothing\n",
-        ),
-    ] {
-        check_commands(&rt, rt.alloc(), commands, expected);
-    }
+    check_commands(&rt, rt.alloc(), WORDS_THAT_ARE_THE_CAUSE)
 }
+
+const TICKETS_BY_NAME: &[Row] = &[
+    (
+        "mktkt 5 base as gift\nrmtkt gift\nrmtkt gift\n",
+        "line 9: the command was refused: no ticket has the name 'gift' now\n",
+    ),
+    (
+        "mktkt 0 base as gift\nfund gift base\n",
+        "line 7: the command was refused: an amount is a number from 1 to 4294967295, and not 0
+line 8: the command was refused: no ticket has the name 'gift' now
+",
+    ),
+    (
+        "mktkt 5 base as gift\nunfund gift\n",
+        "line 8: the command was refused: the ticket funds nothing\n",
+    ),
+];
 
 #[test]
 fn tickets_by_name(rt: HostRuntime) {
-    for (commands, expected) in [
-        (
-            "mktkt 5 base as gift\nrmtkt gift\nrmtkt gift\n",
-            "line 9: the command was refused: no ticket has the name 'gift' now\n",
-        ),
-        (
-            "mktkt 0 base as gift\nfund gift base\n",
-            "line 7: the command was refused: an amount is a number from 1 to 4294967295, and not 0
-line 8: the command was refused: no ticket has the name 'gift' now
-",
-        ),
-        (
-            "mktkt 5 base as gift\nunfund gift\n",
-            "line 8: the command was refused: the ticket funds nothing\n",
-        ),
-    ] {
-        check_commands(&rt, rt.alloc(), commands, expected);
-    }
+    check_commands(&rt, rt.alloc(), TICKETS_BY_NAME)
 }
 
 /// The second command is refused, so the third is never made.
@@ -189,25 +211,25 @@ unlock m yield endscript
 fundx 5 base a unlocks
 ";
 
-#[test]
-fn strict_inputs(rt: HostRuntime) {
-    for (input, expected) in [
-        (
-            STRICT,
-            "the run ended at tick 0 of 9: the input is strict, and turn 2 was refused
+const STRICT_INPUTS: &[Row] = &[
+    (
+        STRICT,
+        "the run ended at tick 0 of 9: the input is strict, and turn 2 was refused
 line 5: the command was refused: no currency and no thread has the name 'alice'
 line 6: this command was never made: the refusal ended the run
 ",
-        ),
-        (
-            STRICT_TRAP,
-            "the run ended at tick 1 of 9: the input is strict, and turn 3 was refused
+    ),
+    (
+        STRICT_TRAP,
+        "the run ended at tick 1 of 9: the input is strict, and turn 3 was refused
 line 6: 'unlock m' in script 'unlocks' was refused to thread 'a' once: the thread doesn't own the mutex
 ",
-        ),
-    ] {
-        check(&rt, rt.alloc(), input, expected);
-    }
+    ),
+];
+
+#[test]
+fn strict_inputs(rt: HostRuntime) {
+    check_all(&rt, rt.alloc(), STRICT_INPUTS)
 }
 
 /// Nobody serves at port `print`, the second. Thread `own` ends with mutex `gate`, the second, and with the client
@@ -317,54 +339,54 @@ rmthr a
 fundx 1 base a twice
 ";
 
-// Of the twelve refused traps of `MANY` eight are listed. Of `AGAIN` it isn't known which script thread `a` ran.
-#[test]
-fn waits_and_refused_traps(rt: HostRuntime) {
-    for (input, expected) in [
-        (
-            WAITING,
-            "thread 'ask' waits for good for a reply of thread 'own'
+const WAITS_AND_REFUSED_TRAPS: &[Row] = &[
+    (
+        WAITING,
+        "thread 'ask' waits for good for a reply of thread 'own'
 thread 'sheet' waits for good for a server at port 'print'
 thread 'guest' waits for good for mutex 'gate', whose owner, thread 'own', has ended
 thread 'late' waits for good for mutex 'door', which thread 'ask' owns
 ",
-        ),
-        (
-            DEADLOCK,
-            "line 7: 'lock n' in script 'sleeps' was refused to thread 'a' 3 times: waiting would deadlock, since \
-             the mutex's owner waits for this thread, directly or through others
+    ),
+    (
+        DEADLOCK,
+        "line 7: 'lock n' in script 'sleeps' was refused to thread 'a' 3 times: waiting would deadlock, since \
+         the mutex's owner waits for this thread, directly or through others
 line 8: 'unlock n' in script 'sleeps' was refused to thread 'a' once: the thread doesn't own the mutex
 ",
-        ),
-        (
-            DEADLOCK_OF_A_SERVER,
-            "line 6: 'lock m' in script 'serves' (here or in 2 more lines) was refused to thread 'a' 3 times: \
-             waiting would deadlock, since the mutex's owner waits for this thread, directly or through others
+    ),
+    (
+        DEADLOCK_OF_A_SERVER,
+        "line 6: 'lock m' in script 'serves' (here or in 2 more lines) was refused to thread 'a' 3 times: \
+         waiting would deadlock, since the mutex's owner waits for this thread, directly or through others
 line 11: 'reply' in script 'serves' (here or in 1 more line) was refused to thread 'a' once: the thread serves no client
 ",
-        ),
-        (
-            MANY,
-            "line 6: 'reply' in script 'all' was refused to thread 'a' once: the thread serves no client
+    ),
+    (
+        MANY,
+        "line 6: 'reply' in script 'all' was refused to thread 'a' once: the thread serves no client
 line 6: 'serve p' in script 'all' was refused to thread 'a' once: the thread serves no client
 line 6: 'unlock m' in script 'all' (here or in 1 more line) was refused to thread 'a' once: the thread doesn't own \
-             the mutex
+         the mutex
 line 7: 'lock m' in script 'all' was refused to thread 'a' once: the thread owns the mutex already
 line 6: 'reply' in script 'all' was refused to thread 'b' once: the thread serves no client
 line 6: 'serve p' in script 'all' was refused to thread 'b' once: the thread serves no client
 line 6: 'unlock m' in script 'all' (here or in 1 more line) was refused to thread 'b' once: the thread doesn't own \
-             the mutex
+         the mutex
 line 7: 'lock m' in script 'all' was refused to thread 'b' once: the thread owns the mutex already
 and 4 more traps that were refused
 ",
-        ),
-        (
-            AGAIN,
-            "'unlock m' was refused to thread 'a' once: the thread doesn't own the mutex
+    ),
+    (
+        AGAIN,
+        "'unlock m' was refused to thread 'a' once: the thread doesn't own the mutex
 'unlock m' was refused to thread 'a' 2 times: the thread doesn't own the mutex
 ",
-        ),
-    ] {
-        check(&rt, rt.alloc(), input, expected);
-    }
+    ),
+];
+
+// Of the twelve refused traps of `MANY` eight are listed. Of `AGAIN` it isn't known which script thread `a` ran.
+#[test]
+fn waits_and_refused_traps(rt: HostRuntime) {
+    check_all(&rt, rt.alloc(), WAITS_AND_REFUSED_TRAPS)
 }

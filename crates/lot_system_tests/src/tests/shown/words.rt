@@ -1,276 +1,258 @@
 //! Refused inputs, and the diagnostic for each.
+use super::check_said;
+use super::skipped::{fault_of, repeated};
 use crate::tests::same::{check_same, check_same_at};
-use lot_text::{ParseFault, parse};
 use lot_words::{line_of_command, write_words};
 use std::alloc::Global;
 use std::process::Abort;
 
-/// Reads the input, which is refused, and compares the diagnostic.
-fn check<H: Abort>(rt: &H, alloc: Global, input: &[u8], expected: &str) {
-    let Err(ParseFault::Input(fault)) = parse(alloc, input) else {
-        panic!(rt; "it isn't refused: {expected}");
-    };
+/// The diagnostic of the input, which is refused.
+fn diagnostic(rt: &impl Abort, alloc: Global, input: &[u8]) -> Vec<u8> {
+    let fault = fault_of(rt, alloc, input);
     let mut words = Vec::new(alloc);
     let is_written = write_words(alloc, &mut words, input, fault).is_ok();
-    let said = str::from_utf8(words.as_slice()).unwrap_or("");
-    check_same(rt, &(is_written, said), &(true, expected));
+    check_same(rt, &is_written, &true);
+    words
 }
+
+/// Reads the input, which is refused, and compares the diagnostic.
+fn check<H: Abort>(rt: &H, alloc: Global, input: &[u8], expected: &str) {
+    let words = diagnostic(rt, alloc, input);
+    check_said(rt, words.as_slice(), expected)
+}
+
+/// An input, or some lines of one, and the diagnostic.
+type Row = (&'static str, &'static str);
+
+/// Checks each of these inputs.
+fn check_all<H: Abort>(rt: &H, alloc: Global, rows: &[Row]) {
+    for (input, expected) in rows {
+        check(rt, alloc, input.as_bytes(), expected);
+    }
+}
+
+/// Checks, for each row, an input of its lines with these texts before and after them.
+fn check_within<H: Abort>(rt: &H, alloc: Global, (front, back): (&str, &str), rows: &[Row]) {
+    for (lines, expected) in rows {
+        let input = format!(in alloc; "{front}{lines}{back}").expect(rt, "memory");
+        check(rt, alloc, input.as_bytes(), expected);
+    }
+}
+
+const START: &str = "line 1: an input begins with 'lottery 1', 'lottery 2' or 'lottery 3'\n";
+
+const FIRST_LINES: &[Row] = &[
+    ("", START),
+    ("lottery 9\n", START),
+    ("script s\n", START),
+    (
+        "lottery 1\nquantum 5\nprocessors 2\n",
+        "line 3: 'processors' comes too late: the header has 'lottery', 'processors', 'quantum', 'turns', 'seed' and \
+         'limits', each at most once, in this order and before all else\n",
+    ),
+];
 
 #[test]
 fn first_lines(rt: HostRuntime) {
-    let (rt, alloc) = (&rt, rt.alloc());
-    let start = "line 1: an input begins with 'lottery 1', 'lottery 2' or 'lottery 3'\n";
-    check(rt, alloc, b"", start);
-    check(rt, alloc, b"lottery 9\n", start);
-    check(rt, alloc, b"script s\n", start);
-    check(
-        rt,
-        alloc,
-        b"lottery 1\nquantum 5\nprocessors 2\n",
-        "line 3: 'processors' comes too late: the header has 'lottery', 'processors', 'quantum', 'turns', 'seed' and \
-         'limits', each at most once, in this order and before all else\n",
-    );
+    check_all(&rt, rt.alloc(), FIRST_LINES)
 }
+
+const MISSPELT_WORDS: &[Row] = &[
+    (
+        "lottery 1\n# a ticket\nmktk 5 base\n",
+        "line 3: 'mktk' is no body line; did you mean 'mktkt'?\n",
+    ),
+    (
+        "lottery 1\nnonsense\n",
+        "line 2: 'nonsense' is no body line\n",
+    ),
+    (
+        "lottery 1\nscript s\ncomptue 4\n",
+        "line 3: 'comptue' is no word of a script; did you mean 'compute'?\n",
+    ),
+    (
+        "lottery 1\nscript s\nserve_\n",
+        "line 3: 'serve_' is no word of a script\n",
+    ),
+    (
+        "lottery 3\nfor 5\nscript s\nserve_\n",
+        "line 4: 'serve_' is no word of a script; did you mean 'serve'?\n",
+    ),
+    (
+        "lottery 1\nport disk\nscript s\ncall disc\n",
+        "line 4: 'disc' is no port of an earlier line; did you mean 'disk'?\n",
+    ),
+];
 
 #[test]
 fn misspelt_words(rt: HostRuntime) {
-    let (rt, alloc) = (&rt, rt.alloc());
-    check(
-        rt,
-        alloc,
-        b"lottery 1\n# a ticket\nmktk 5 base\n",
-        "line 3: 'mktk' is no body line; did you mean 'mktkt'?\n",
-    );
-    check(
-        rt,
-        alloc,
-        b"lottery 1\nnonsense\n",
-        "line 2: 'nonsense' is no body line\n",
-    );
-    check(
-        rt,
-        alloc,
-        b"lottery 1\nscript s\ncomptue 4\n",
-        "line 3: 'comptue' is no word of a script; did you mean 'compute'?\n",
-    );
-    check(
-        rt,
-        alloc,
-        b"lottery 1\nscript s\nserve_\n",
-        "line 3: 'serve_' is no word of a script\n",
-    );
-    check(
-        rt,
-        alloc,
-        b"lottery 3\nfor 5\nscript s\nserve_\n",
-        "line 4: 'serve_' is no word of a script; did you mean 'serve'?\n",
-    );
-    check(
-        rt,
-        alloc,
-        b"lottery 1\nport disk\nscript s\ncall disc\n",
-        "line 4: 'disc' is no port of an earlier line; did you mean 'disk'?\n",
-    );
+    check_all(&rt, rt.alloc(), MISSPELT_WORDS)
 }
+
+const PLACES_OF_LINES: &[Row] = &[
+    (
+        "lottery 1\ncompute 4\n",
+        "line 2: 'compute' is a word of a script, and no script is open: 'script NAME' opens one\n",
+    ),
+    (
+        "lottery 1\nscript s\nmktkt 5 base\n",
+        "line 3: 'mktkt' is no word of a script, and the one that line 2 opens isn't closed: 'endscript' closes it\n",
+    ),
+    (
+        "lottery 1\nscript s\nyield\n",
+        "line 2: this script isn't closed: 'endscript' closes it\n",
+    ),
+    (
+        "lottery 1\nscript s\nend\n",
+        "line 3: 'end' closes a loop, and none is open\n",
+    ),
+    (
+        "lottery 1\nscript s\nloop 2\nendscript\n",
+        "line 4: 'endscript' stands inside a loop: 'end' closes it\n",
+    ),
+    (
+        "lottery 1\nscript s\nloop 2\nloop 2\nloop 2\nloop 2\nloop 2\nloop 2\nloop 2\nloop 2\nloop 2\n",
+        "line 11: a ninth loop is open here, at most 8\n",
+    ),
+    (
+        "lottery 1\nruns 1 5\n",
+        "line 2: 'runs' is for 'lottery 2': in 'lottery 1' write 'schedule ACTOR ..'\n",
+    ),
+];
 
 #[test]
 fn places_of_lines(rt: HostRuntime) {
-    let (rt, alloc) = (&rt, rt.alloc());
-    check(
-        rt,
-        alloc,
-        b"lottery 1\ncompute 4\n",
-        "line 2: 'compute' is a word of a script, and no script is open: 'script NAME' opens one\n",
-    );
-    check(
-        rt,
-        alloc,
-        b"lottery 1\nscript s\nmktkt 5 base\n",
-        "line 3: 'mktkt' is no word of a script, and the one that line 2 opens isn't closed: 'endscript' closes it\n",
-    );
-    check(
-        rt,
-        alloc,
-        b"lottery 1\nscript s\nyield\n",
-        "line 2: this script isn't closed: 'endscript' closes it\n",
-    );
-    check(
-        rt,
-        alloc,
-        b"lottery 1\nscript s\nend\n",
-        "line 3: 'end' closes a loop, and none is open\n",
-    );
-    check(
-        rt,
-        alloc,
-        b"lottery 1\nscript s\nloop 2\nendscript\n",
-        "line 4: 'endscript' stands inside a loop: 'end' closes it\n",
-    );
-    check(
-        rt,
-        alloc,
-        b"lottery 1\nscript s\nloop 2\nloop 2\nloop 2\nloop 2\nloop 2\nloop 2\nloop 2\nloop 2\nloop 2\n",
-        "line 11: a ninth loop is open here, at most 8\n",
-    );
-    check(
-        rt,
-        alloc,
-        b"lottery 1\nruns 1 5\n",
-        "line 2: 'runs' is for 'lottery 2': in 'lottery 1' write 'schedule ACTOR ..'\n",
-    );
+    check_all(&rt, rt.alloc(), PLACES_OF_LINES)
 }
+
+const BYTES: &[Row] = &[
+    (
+        "lottery 1\nmktkt\t5 base\n",
+        "line 2: a tab: put spaces between words\n",
+    ),
+    (
+        "lottery 1\r\n",
+        "line 1: a carriage return: save the file with line feeds alone as line ends\n",
+    ),
+    (
+        "lottery 1\nmkcur \u{e9}\n",
+        "line 2: byte 195 in column 7: outside comments only ASCII is read\n",
+    ),
+    // In this format a tab and a carriage return separate words, and no other control character does.
+    (
+        "lottery 3\r\nfor 5\r\n\tport\tp\r\n\tmutex\x0bm\r\n",
+        "line 4: byte 11 in column 7: outside comments only ASCII is read\n",
+    ),
+];
 
 #[test]
 fn bytes(rt: HostRuntime) {
-    let (rt, alloc) = (&rt, rt.alloc());
-    check(
-        rt,
-        alloc,
-        b"lottery 1\nmktkt\t5 base\n",
-        "line 2: a tab: put spaces between words\n",
-    );
-    check(
-        rt,
-        alloc,
-        b"lottery 1\r\n",
-        "line 1: a carriage return: save the file with line feeds alone as line ends\n",
-    );
-    check(
-        rt,
-        alloc,
-        b"lottery 1\nmkcur \xc3\xa9\n",
-        "line 2: byte 195 in column 7: outside comments only ASCII is read\n",
-    );
-    // In this format a tab and a carriage return separate words, and no other control character does.
-    check(
-        rt,
-        alloc,
-        b"lottery 3\r\nfor 5\r\n\tport\tp\r\n\tmutex\x0bm\r\n",
-        "line 4: byte 11 in column 7: outside comments only ASCII is read\n",
-    );
+    check_all(&rt, rt.alloc(), BYTES)
 }
 
 #[test]
 fn long_lines(rt: HostRuntime) {
-    let mut long = String::from_str(rt.alloc(), "lottery 1\n#").expect(&rt, "memory");
-    for _ in 0..600 {
-        long.push_str("0123456789").expect(&rt, "memory");
-    }
+    let long = repeated(&rt, rt.alloc(), "lottery 1\n#", "0123456789", 600);
     let expected = "line 2: 6001 bytes, at most 4096\n";
     check(&rt, rt.alloc(), long.as_bytes(), expected);
 }
 
+const COUNTS_OF_WORDS: &[Row] = &[
+    (
+        "lottery 1\nmktkt 5\n",
+        "line 2: this line is written 'mktkt AMOUNT CURRENCY', and here are 2 words\n",
+    ),
+    (
+        "lottery 1\nmktkt 5 base # mine\n",
+        "line 2: a comment has a line of its own; 'mktkt AMOUNT CURRENCY' has no room for one\n",
+    ),
+    (
+        "lottery 1\nprocessors 2\nseed 1\n",
+        "line 3: this line is written 'seed S1 .. SP, with a number for each processor', and here are 2 words\n",
+    ),
+    (
+        "lottery 2\nruns 0 6 1\n",
+        "line 2: this line is written 'runs ACTOR TURNS ..', and here are 4 words\n",
+    ),
+];
+
 #[test]
 fn counts_of_words(rt: HostRuntime) {
-    let (rt, alloc) = (&rt, rt.alloc());
-    check(
-        rt,
-        alloc,
-        b"lottery 1\nmktkt 5\n",
-        "line 2: this line is written 'mktkt AMOUNT CURRENCY', and here are 2 words\n",
-    );
-    check(
-        rt,
-        alloc,
-        b"lottery 1\nmktkt 5 base # mine\n",
-        "line 2: a comment has a line of its own; 'mktkt AMOUNT CURRENCY' has no room for one\n",
-    );
-    check(
-        rt,
-        alloc,
-        b"lottery 1\nprocessors 2\nseed 1\n",
-        "line 3: this line is written 'seed S1 .. SP, with a number for each processor', and here are 2 words\n",
-    );
-    check(
-        rt,
-        alloc,
-        b"lottery 2\nruns 0 6 1\n",
-        "line 2: this line is written 'runs ACTOR TURNS ..', and here are 4 words\n",
-    );
+    check_all(&rt, rt.alloc(), COUNTS_OF_WORDS)
 }
+
+const NUMBERS: &[Row] = &[
+    (
+        "lottery 1\nmktkt 05 base\n",
+        "line 2: '05' is no number: digits, without a 0 before others, at most 18446744073709551615\n",
+    ),
+    (
+        "lottery 1\nprocessors 65\n",
+        "line 2: '65' is no number from 1 to 64\n",
+    ),
+    (
+        "lottery 1\nprocessors 2\nschedule 0 1 2 3\n",
+        "line 3: '3': the last processor is 2, and 0 is the console\n",
+    ),
+];
 
 #[test]
 fn numbers(rt: HostRuntime) {
-    let (rt, alloc) = (&rt, rt.alloc());
-    check(
-        rt,
-        alloc,
-        b"lottery 1\nmktkt 05 base\n",
-        "line 2: '05' is no number: digits, without a 0 before others, at most 18446744073709551615\n",
-    );
-    check(
-        rt,
-        alloc,
-        b"lottery 1\nprocessors 65\n",
-        "line 2: '65' is no number from 1 to 64\n",
-    );
-    check(
-        rt,
-        alloc,
-        b"lottery 1\nprocessors 2\nschedule 0 1 2 3\n",
-        "line 3: '3': the last processor is 2, and 0 is the console\n",
-    );
+    check_all(&rt, rt.alloc(), NUMBERS)
 }
+
+const NAMES_FOR_NUMBERS: &[Row] = &[
+    (
+        "fund alice 3",
+        "line 2: 'alice' is no number; this line is written 'fund TICKET TARGET'\n",
+    ),
+    (
+        "mktkt base 5",
+        "line 2: 'base' is no number; this line is written 'mktkt AMOUNT CURRENCY'\n",
+    ),
+    (
+        "fundx base 5 alice s",
+        "line 2: 'base' is no number; this line is written 'fundx AMOUNT CURRENCY NAME SCRIPT'\n",
+    ),
+    (
+        "schedule 0 all",
+        "line 2: 'all' is no number; this line is written 'schedule ACTOR ..'\n",
+    ),
+    (
+        "fund -1 alice",
+        "line 2: '-1' is no number: digits, without a 0 before others, at most 18446744073709551615\n",
+    ),
+];
 
 // A word that isn't a name was meant as a number.
 #[test]
 fn names_for_numbers(rt: HostRuntime) {
-    for (line, expected) in [
-        (
-            "fund alice 3",
-            "line 2: 'alice' is no number; this line is written 'fund TICKET TARGET'\n",
-        ),
-        (
-            "mktkt base 5",
-            "line 2: 'base' is no number; this line is written 'mktkt AMOUNT CURRENCY'\n",
-        ),
-        (
-            "fundx base 5 alice s",
-            "line 2: 'base' is no number; this line is written 'fundx AMOUNT CURRENCY NAME SCRIPT'\n",
-        ),
-        (
-            "schedule 0 all",
-            "line 2: 'all' is no number; this line is written 'schedule ACTOR ..'\n",
-        ),
-        (
-            "fund -1 alice",
-            "line 2: '-1' is no number: digits, without a 0 before others, at most 18446744073709551615\n",
-        ),
-    ] {
-        let input = format!(in rt.alloc(); "lottery 1\n{line}\n").expect(&rt, "memory");
-        check(&rt, rt.alloc(), input.as_bytes(), expected);
-    }
+    check_within(&rt, rt.alloc(), ("lottery 1\n", "\n"), NAMES_FOR_NUMBERS)
 }
+
+const NAMES: &[Row] = &[
+    (
+        "lottery 1\nmkcur a_name_of_17_bytes\n",
+        "line 2: 'a_name_of_17_bytes' has 18 bytes, and a name at most 16\n",
+    ),
+    (
+        "lottery 1\nport Disk\n",
+        "line 2: 'Disk' is no name: a letter a to z, and then letters a to z, digits, '_' or '-'\n",
+    ),
+    (
+        "lottery 1\nmutex m\nport m\nmutex m\n",
+        "line 4: 'm' is the name of an earlier mutex\n",
+    ),
+];
 
 #[test]
 fn names(rt: HostRuntime) {
-    let (rt, alloc) = (&rt, rt.alloc());
-    check(
-        rt,
-        alloc,
-        b"lottery 1\nmkcur a_name_of_17_bytes\n",
-        "line 2: 'a_name_of_17_bytes' has 18 bytes, and a name at most 16\n",
-    );
-    check(
-        rt,
-        alloc,
-        b"lottery 1\nport Disk\n",
-        "line 2: 'Disk' is no name: a letter a to z, and then letters a to z, digits, '_' or '-'\n",
-    );
-    check(
-        rt,
-        alloc,
-        b"lottery 1\nmutex m\nport m\nmutex m\n",
-        "line 4: 'm' is the name of an earlier mutex\n",
-    );
+    check_all(&rt, rt.alloc(), NAMES)
 }
 
 #[test]
 fn too_many(rt: HostRuntime) {
-    let mut input = String::from_str(rt.alloc(), "lottery 1\nscript s\n").expect(&rt, "memory");
-    for _ in 0..1025 {
-        input.push_str("yield\n").expect(&rt, "memory");
-    }
+    let input = repeated(&rt, rt.alloc(), "lottery 1\nscript s\n", "yield\n", 1025);
     let expected = "line 1027: one word of a script too many, at most 1024\n";
     check(&rt, rt.alloc(), input.as_bytes(), expected);
 }
@@ -302,229 +284,219 @@ fn long_inputs(rt: HostRuntime) {
     }
 }
 
-#[test]
-fn turns_in_time(rt: HostRuntime) {
-    let (rt, alloc) = (&rt, rt.alloc());
-    let lacks =
-        "line 2: the header doesn't say how long the input runs: 'for TICKS' comes before the first body line\n";
-    check(rt, alloc, b"lottery 3\nmkcur a\n", lacks);
-    check(rt, alloc, b"lottery 3\nquantum 5\n", lacks);
-    check(
-        rt,
-        alloc,
-        b"lottery 3\n",
+const LACKS_AN_END: &str =
+    "line 2: the header doesn't say how long the input runs: 'for TICKS' comes before the first body line\n";
+
+const TURNS_IN_TIME: &[Row] = &[
+    ("lottery 3\nmkcur a\n", LACKS_AN_END),
+    ("lottery 3\nquantum 5\n", LACKS_AN_END),
+    (
+        "lottery 3\n",
         "line 1: the header doesn't say how long the input runs: 'for TICKS' comes before the first body line\n",
-    );
-    check(
-        rt,
-        alloc,
-        b"lottery 3\nfor 5\nschedule 0\n",
+    ),
+    (
+        "lottery 3\nfor 5\nschedule 0\n",
         "line 3: 'schedule' is not for 'lottery 3', whose turns come in the order of time: 'at TICK' says when \
          commands are made\n",
-    );
-    check(
-        rt,
-        alloc,
-        b"lottery 3\nfor 5\nat 3\nat 2\n",
+    ),
+    (
+        "lottery 3\nfor 5\nat 3\nat 2\n",
         "line 4: '2' is no number from 3 to 4294967295\n",
-    );
-    check(
-        rt,
-        alloc,
-        b"lottery 2\nat 5\n",
+    ),
+    (
+        "lottery 2\nat 5\n",
         "line 2: 'at' is for 'lottery 3', whose turns come in the order of time\n",
-    );
-    check(
-        rt,
-        alloc,
-        b"lottery 1\nport p\nscript s\nserve p\n",
+    ),
+    (
+        "lottery 1\nport p\nscript s\nserve p\n",
         "line 4: 'serve' is for 'lottery 3', whose turns come in the order of time\n",
-    );
+    ),
+];
+
+#[test]
+fn turns_in_time(rt: HostRuntime) {
+    check_all(&rt, rt.alloc(), TURNS_IN_TIME)
 }
+
+const LATE_HEADER_LINES: &[Row] = &[
+    (
+        "lottery 3\nfor 5\nquantum 5\nfor 6\n",
+        "line 4: 'for' begins an earlier line: each header line comes at most once\n",
+    ),
+    (
+        "lottery 3\nfor 5\nlottery 3\n",
+        "line 3: 'lottery' begins an earlier line: each header line comes at most once\n",
+    ),
+    (
+        "lottery 3\nfor 5\nport p\nquantum 5\n",
+        "line 4: 'quantum' stands after a body line: header lines come before all else\n",
+    ),
+    (
+        "lottery 3\nseed 5\nfor 5\nprocessors 1\n",
+        "line 4: 'processors' comes before 'seed', which has a number for each processor\n",
+    ),
+    (
+        "lottery 3\nreuse\nquantum 5\n",
+        "line 3: the header doesn't say how long the input runs: 'for TICKS' comes before the first body line\n",
+    ),
+];
 
 /// Header lines of a timed input, which come in any order, but not too late.
 #[test]
 fn late_header_lines(rt: HostRuntime) {
-    for (input, expected) in [
-        (
-            "lottery 3\nfor 5\nquantum 5\nfor 6\n",
-            "line 4: 'for' begins an earlier line: each header line comes at most once\n",
-        ),
-        (
-            "lottery 3\nfor 5\nlottery 3\n",
-            "line 3: 'lottery' begins an earlier line: each header line comes at most once\n",
-        ),
-        (
-            "lottery 3\nfor 5\nport p\nquantum 5\n",
-            "line 4: 'quantum' stands after a body line: header lines come before all else\n",
-        ),
-        (
-            "lottery 3\nseed 5\nfor 5\nprocessors 1\n",
-            "line 4: 'processors' comes before 'seed', which has a number for each processor\n",
-        ),
-        (
-            "lottery 3\nreuse\nquantum 5\n",
-            "line 3: the header doesn't say how long the input runs: 'for TICKS' comes before the first body line\n",
-        ),
-    ] {
-        check(&rt, rt.alloc(), input.as_bytes(), expected);
-    }
+    check_all(&rt, rt.alloc(), LATE_HEADER_LINES)
 }
+
+const NUMBERS_GIVEN_AGAIN: &[Row] = &[
+    (
+        "lottery 2\nreuse\n",
+        "line 2: 'reuse' is for 'lottery 3', whose turns come in the order of time\n",
+    ),
+    (
+        "lottery 3\nfor 5\nreuse 1\n",
+        "line 3: this line is written 'reuse', and here are 2 words\n",
+    ),
+    (
+        "lottery 3\nfor 5\nreuse\nreuse\n",
+        "line 4: 'reuse' begins an earlier line: each header line comes at most once\n",
+    ),
+    (
+        "lottery 3\nfor 5\nscript s\nreuse\n",
+        "line 4: 'reuse' is no word of a script, and the one that line 3 opens isn't closed: 'endscript' closes \
+         it\n",
+    ),
+    (
+        "lottery 3\nreuse\nmkcur a\n",
+        "line 3: the header doesn't say how long the input runs: 'for TICKS' comes before the first body line\n",
+    ),
+];
 
 #[test]
 fn numbers_given_again(rt: HostRuntime) {
-    for (input, expected) in [
-        (
-            "lottery 2\nreuse\n",
-            "line 2: 'reuse' is for 'lottery 3', whose turns come in the order of time\n",
-        ),
-        (
-            "lottery 3\nfor 5\nreuse 1\n",
-            "line 3: this line is written 'reuse', and here are 2 words\n",
-        ),
-        (
-            "lottery 3\nfor 5\nreuse\nreuse\n",
-            "line 4: 'reuse' begins an earlier line: each header line comes at most once\n",
-        ),
-        (
-            "lottery 3\nfor 5\nscript s\nreuse\n",
-            "line 4: 'reuse' is no word of a script, and the one that line 3 opens isn't closed: 'endscript' closes \
-             it\n",
-        ),
-        (
-            "lottery 3\nreuse\nmkcur a\n",
-            "line 3: the header doesn't say how long the input runs: 'for TICKS' comes before the first body line\n",
-        ),
-    ] {
-        check(&rt, rt.alloc(), input.as_bytes(), expected);
-    }
+    check_all(&rt, rt.alloc(), NUMBERS_GIVEN_AGAIN)
 }
+
+const STRICT_INPUTS: &[Row] = &[
+    (
+        "lottery 2\nstrict\n",
+        "line 2: 'strict' is for 'lottery 3', whose turns come in the order of time\n",
+    ),
+    (
+        "lottery 3\nfor 5\nstrict 1\n",
+        "line 3: this line is written 'strict', and here are 2 words\n",
+    ),
+    (
+        "lottery 3\nstrict\nfor 5\nstrict\n",
+        "line 4: 'strict' begins an earlier line: each header line comes at most once\n",
+    ),
+    (
+        "lottery 3\nfor 5\nport p\nstrict\n",
+        "line 4: 'strict' stands after a body line: header lines come before all else\n",
+    ),
+];
 
 #[test]
 fn strict_inputs(rt: HostRuntime) {
-    for (input, expected) in [
-        (
-            "lottery 2\nstrict\n",
-            "line 2: 'strict' is for 'lottery 3', whose turns come in the order of time\n",
-        ),
-        (
-            "lottery 3\nfor 5\nstrict 1\n",
-            "line 3: this line is written 'strict', and here are 2 words\n",
-        ),
-        (
-            "lottery 3\nstrict\nfor 5\nstrict\n",
-            "line 4: 'strict' begins an earlier line: each header line comes at most once\n",
-        ),
-        (
-            "lottery 3\nfor 5\nport p\nstrict\n",
-            "line 4: 'strict' stands after a body line: header lines come before all else\n",
-        ),
-    ] {
-        check(&rt, rt.alloc(), input.as_bytes(), expected);
-    }
+    check_all(&rt, rt.alloc(), STRICT_INPUTS)
 }
 
-/// Checks, like `check`, an input of a named ticket and this line.
-fn check_named<H: Abort>(rt: &H, alloc: Global, line: &str, expected: &str) {
-    let input = format!(in alloc; "lottery 3\nfor 5\nmktkt 5 base as gift\n{line}\n");
-    let input = input.expect(rt, "memory");
-    check(rt, alloc, input.as_bytes(), expected);
-}
+/// The texts before and after a line, in an input that names a ticket first.
+const NAMED: (&str, &str) = ("lottery 3\nfor 5\nmktkt 5 base as gift\n", "\n");
+
+const TICKETS_BY_NAME: &[Row] = &[
+    (
+        "rmtkt gitf",
+        "line 4: 'gitf' is no ticket of an earlier line; did you mean 'gift'?\n",
+    ),
+    (
+        "fund alice 1",
+        "line 4: 'alice' is no ticket of an earlier line; this line is written 'fund TICKET TARGET'\n",
+    ),
+    (
+        "settkt Gift 5",
+        "line 4: 'Gift' is no ticket: it has a number, or a name that 'as' gave it\n",
+    ),
+    (
+        "settkt 007 5",
+        "line 4: '007' is no number: digits, without a 0 before others, at most 18446744073709551615\n",
+    ),
+    (
+        "settkt gift five",
+        "line 4: 'five' is no number; this line is written 'settkt TICKET AMOUNT'\n",
+    ),
+    (
+        "unfund gift now",
+        "line 4: this line is written 'unfund TICKET', and here are 3 words\n",
+    ),
+];
 
 #[test]
 fn tickets_by_name(rt: HostRuntime) {
-    for (line, expected) in [
-        (
-            "rmtkt gitf",
-            "line 4: 'gitf' is no ticket of an earlier line; did you mean 'gift'?\n",
-        ),
-        (
-            "fund alice 1",
-            "line 4: 'alice' is no ticket of an earlier line; this line is written 'fund TICKET TARGET'\n",
-        ),
-        (
-            "settkt Gift 5",
-            "line 4: 'Gift' is no ticket: it has a number, or a name that 'as' gave it\n",
-        ),
-        (
-            "settkt 007 5",
-            "line 4: '007' is no number: digits, without a 0 before others, at most 18446744073709551615\n",
-        ),
-        (
-            "settkt gift five",
-            "line 4: 'five' is no number; this line is written 'settkt TICKET AMOUNT'\n",
-        ),
-        (
-            "unfund gift now",
-            "line 4: this line is written 'unfund TICKET', and here are 3 words\n",
-        ),
-    ] {
-        check_named(&rt, rt.alloc(), line, expected);
-    }
+    check_within(&rt, rt.alloc(), NAMED, TICKETS_BY_NAME)
 }
+
+static NAMES_OF_TICKETS: [Row; 9] = [
+    (
+        "mktkt 5 base as gift",
+        "line 4: 'gift' is the name of an earlier ticket\n",
+    ),
+    (
+        "fundx 5 base a s as gift",
+        "line 4: 'gift' is the name of an earlier ticket\n",
+    ),
+    (
+        "mktkt 5 base as Wage",
+        "line 4: 'Wage' is no name: a letter a to z, and then letters a to z, digits, '_' or '-'\n",
+    ),
+    (
+        "mktkt 5 base as abcdefghijklmnopq",
+        "line 4: 'abcdefghijklmnopq' has 17 bytes, and a name at most 16\n",
+    ),
+    (
+        "mktkt base 5 as Wage",
+        "line 4: 'base' is no number; this line is written 'mktkt AMOUNT CURRENCY [as NAME]'\n",
+    ),
+    (
+        "mktkt base 5 is wage",
+        "line 4: 'is' stands in the place of 'as': this line is written 'mktkt AMOUNT CURRENCY [as NAME]'\n",
+    ),
+    (
+        "mktkt 5 base # wage",
+        "line 4: a comment has a line of its own; 'mktkt AMOUNT CURRENCY [as NAME]' has no room for one\n",
+    ),
+    (
+        "mktkt 5 base as",
+        "line 4: this line is written 'mktkt AMOUNT CURRENCY [as NAME]', and here are 4 words\n",
+    ),
+    (
+        "fundx 5 base a s as",
+        "line 4: this line is written 'fundx AMOUNT CURRENCY NAME SCRIPT [as NAME]', and here are 6 words\n",
+    ),
+];
 
 #[test]
 fn names_of_tickets(rt: HostRuntime) {
-    for (line, expected) in [
-        (
-            "mktkt 5 base as gift",
-            "line 4: 'gift' is the name of an earlier ticket\n",
-        ),
-        (
-            "fundx 5 base a s as gift",
-            "line 4: 'gift' is the name of an earlier ticket\n",
-        ),
-        (
-            "mktkt 5 base as Wage",
-            "line 4: 'Wage' is no name: a letter a to z, and then letters a to z, digits, '_' or '-'\n",
-        ),
-        (
-            "mktkt 5 base as abcdefghijklmnopq",
-            "line 4: 'abcdefghijklmnopq' has 17 bytes, and a name at most 16\n",
-        ),
-        (
-            "mktkt base 5 as Wage",
-            "line 4: 'base' is no number; this line is written 'mktkt AMOUNT CURRENCY [as NAME]'\n",
-        ),
-        (
-            "mktkt base 5 is wage",
-            "line 4: 'is' stands in the place of 'as': this line is written 'mktkt AMOUNT CURRENCY [as NAME]'\n",
-        ),
-        (
-            "mktkt 5 base # wage",
-            "line 4: a comment has a line of its own; 'mktkt AMOUNT CURRENCY [as NAME]' has no room for one\n",
-        ),
-        (
-            "mktkt 5 base as",
-            "line 4: this line is written 'mktkt AMOUNT CURRENCY [as NAME]', and here are 4 words\n",
-        ),
-        (
-            "fundx 5 base a s as",
-            "line 4: this line is written 'fundx AMOUNT CURRENCY NAME SCRIPT [as NAME]', and here are 6 words\n",
-        ),
-    ] {
-        check_named(&rt, rt.alloc(), line, expected);
-    }
+    check_within(&rt, rt.alloc(), NAMED, &NAMES_OF_TICKETS)
 }
+
+const NAMES_OF_TICKETS_IN_OTHER_FORMATS: &[Row] = &[
+    (
+        "lottery 2\nfundx 5 base a s as gift\n",
+        "line 2: 'as' is for 'lottery 3', whose turns come in the order of time\n",
+    ),
+    (
+        "lottery 1\nmktkt 5 base as\n",
+        "line 2: this line is written 'mktkt AMOUNT CURRENCY', and here are 4 words\n",
+    ),
+    (
+        "lottery 1\nrmtkt gift\n",
+        "line 2: 'gift' is no number; this line is written 'rmtkt TICKET'\n",
+    ),
+];
 
 #[test]
 fn names_of_tickets_in_other_formats(rt: HostRuntime) {
-    for (input, expected) in [
-        (
-            "lottery 2\nfundx 5 base a s as gift\n",
-            "line 2: 'as' is for 'lottery 3', whose turns come in the order of time\n",
-        ),
-        (
-            "lottery 1\nmktkt 5 base as\n",
-            "line 2: this line is written 'mktkt AMOUNT CURRENCY', and here are 4 words\n",
-        ),
-        (
-            "lottery 1\nrmtkt gift\n",
-            "line 2: 'gift' is no number; this line is written 'rmtkt TICKET'\n",
-        ),
-    ] {
-        check(&rt, rt.alloc(), input.as_bytes(), expected);
-    }
+    check_all(&rt, rt.alloc(), NAMES_OF_TICKETS_IN_OTHER_FORMATS)
 }
 
 #[test]
@@ -538,160 +510,154 @@ fn too_many_names_of_tickets(rt: HostRuntime) {
     check(&rt, rt.alloc(), input.as_bytes(), expected);
 }
 
+static COMMANDS_OF_ONE_FORMAT: [Row; 16] = [
+    (
+        "lottery 2\nsettkt 1 5\n",
+        "line 2: 'settkt' is for 'lottery 3', whose turns come in the order of time\n",
+    ),
+    (
+        "lottery 2\nsetkt 1 5\n",
+        "line 2: 'setkt' is no body line; did you mean 'mktkt'?\n",
+    ),
+    (
+        "lottery 3\nfor 5\nsetkt 1 5\n",
+        "line 3: 'setkt' is no body line; did you mean 'settkt'?\n",
+    ),
+    (
+        "lottery 3\nfor 5\nsettkt 1\n",
+        "line 3: this line is written 'settkt TICKET AMOUNT', and here are 2 words\n",
+    ),
+    (
+        "lottery 1\nrmthr a\n",
+        "line 2: 'rmthr' is for 'lottery 3', whose turns come in the order of time\n",
+    ),
+    (
+        "lottery 3\nfor 5\nrmth a\n",
+        "line 3: 'rmth' is no body line; did you mean 'rmthr'?\n",
+    ),
+    (
+        "lottery 3\nfor 5\nrmthr a b\n",
+        "line 3: this line is written 'rmthr THREAD', and here are 3 words\n",
+    ),
+    (
+        "lottery 3\nfor 5\nrmthr abcdefghijklmnopq\n",
+        "line 3: 'abcdefghijklmnopq' has 17 bytes, and a name at most 16\n",
+    ),
+    (
+        "lottery 2\nkill a\n",
+        "line 2: 'kill' is for 'lottery 3', whose turns come in the order of time\n",
+    ),
+    ("lottery 1\nkil a\n", "line 2: 'kil' is no body line\n"),
+    (
+        "lottery 3\nfor 5\nkil a\n",
+        "line 3: 'kil' is no body line; did you mean 'kill'?\n",
+    ),
+    (
+        "lottery 3\nfor 5\nkill\n",
+        "line 3: this line is written 'kill THREAD', and here is 1 word\n",
+    ),
+    (
+        "lottery 2\nscript s\nsleep 5\n",
+        "line 3: 'sleep' is for 'lottery 3', whose turns come in the order of time\n",
+    ),
+    (
+        "lottery 3\nfor 5\nscript s\nslep 5\n",
+        "line 4: 'slep' is no word of a script; did you mean 'sleep'?\n",
+    ),
+    (
+        "lottery 3\nfor 5\nscript s\nyield sleep\n",
+        "line 4: a word is missing at the end: 'sleep TICKS'\n",
+    ),
+    (
+        "lottery 3\nfor 5\nscript s\nsleep 0\n",
+        "line 4: '0' is no number from 1 to 4294967295\n",
+    ),
+];
+
 #[test]
 fn commands_of_one_format(rt: HostRuntime) {
-    for (input, expected) in [
-        (
-            "lottery 2\nsettkt 1 5\n",
-            "line 2: 'settkt' is for 'lottery 3', whose turns come in the order of time\n",
-        ),
-        (
-            "lottery 2\nsetkt 1 5\n",
-            "line 2: 'setkt' is no body line; did you mean 'mktkt'?\n",
-        ),
-        (
-            "lottery 3\nfor 5\nsetkt 1 5\n",
-            "line 3: 'setkt' is no body line; did you mean 'settkt'?\n",
-        ),
-        (
-            "lottery 3\nfor 5\nsettkt 1\n",
-            "line 3: this line is written 'settkt TICKET AMOUNT', and here are 2 words\n",
-        ),
-        (
-            "lottery 1\nrmthr a\n",
-            "line 2: 'rmthr' is for 'lottery 3', whose turns come in the order of time\n",
-        ),
-        (
-            "lottery 3\nfor 5\nrmth a\n",
-            "line 3: 'rmth' is no body line; did you mean 'rmthr'?\n",
-        ),
-        (
-            "lottery 3\nfor 5\nrmthr a b\n",
-            "line 3: this line is written 'rmthr THREAD', and here are 3 words\n",
-        ),
-        (
-            "lottery 3\nfor 5\nrmthr abcdefghijklmnopq\n",
-            "line 3: 'abcdefghijklmnopq' has 17 bytes, and a name at most 16\n",
-        ),
-        (
-            "lottery 2\nkill a\n",
-            "line 2: 'kill' is for 'lottery 3', whose turns come in the order of time\n",
-        ),
-        ("lottery 1\nkil a\n", "line 2: 'kil' is no body line\n"),
-        (
-            "lottery 3\nfor 5\nkil a\n",
-            "line 3: 'kil' is no body line; did you mean 'kill'?\n",
-        ),
-        (
-            "lottery 3\nfor 5\nkill\n",
-            "line 3: this line is written 'kill THREAD', and here is 1 word\n",
-        ),
-        (
-            "lottery 2\nscript s\nsleep 5\n",
-            "line 3: 'sleep' is for 'lottery 3', whose turns come in the order of time\n",
-        ),
-        (
-            "lottery 3\nfor 5\nscript s\nslep 5\n",
-            "line 4: 'slep' is no word of a script; did you mean 'sleep'?\n",
-        ),
-        (
-            "lottery 3\nfor 5\nscript s\nyield sleep\n",
-            "line 4: a word is missing at the end: 'sleep TICKS'\n",
-        ),
-        (
-            "lottery 3\nfor 5\nscript s\nsleep 0\n",
-            "line 4: '0' is no number from 1 to 4294967295\n",
-        ),
-    ] {
-        check(&rt, rt.alloc(), input.as_bytes(), expected);
-    }
+    check_all(&rt, rt.alloc(), &COMMANDS_OF_ONE_FORMAT)
 }
+
+const OF_ONE_FORMAT: &str =
+    "line 3: 'sleep' is for 'lottery 3', whose turns come in the order of time\n";
+
+const SLEEPS: &[Row] = &[
+    ("lottery 1\nscript s\nsleep 5\n", OF_ONE_FORMAT),
+    ("lottery 2\nscript s\nsleep\n", OF_ONE_FORMAT),
+    (
+        "lottery 3\nfor 5\nscript s\nyield sleep 4294967296\n",
+        "line 4: '4294967296' is no number from 1 to 4294967295\n",
+    ),
+    (
+        "lottery 3\nfor 5\nscript s\nsleep\n",
+        "line 4: a word is missing at the end: 'sleep TICKS'\n",
+    ),
+];
 
 #[test]
 fn sleeps(rt: HostRuntime) {
-    let of_one_format =
-        "line 3: 'sleep' is for 'lottery 3', whose turns come in the order of time\n";
-    for (input, expected) in [
-        ("lottery 1\nscript s\nsleep 5\n", of_one_format),
-        ("lottery 2\nscript s\nsleep\n", of_one_format),
-        (
-            "lottery 3\nfor 5\nscript s\nyield sleep 4294967296\n",
-            "line 4: '4294967296' is no number from 1 to 4294967295\n",
-        ),
-        (
-            "lottery 3\nfor 5\nscript s\nsleep\n",
-            "line 4: a word is missing at the end: 'sleep TICKS'\n",
-        ),
-    ] {
-        check(&rt, rt.alloc(), input.as_bytes(), expected);
-    }
+    check_all(&rt, rt.alloc(), SLEEPS)
 }
+
+/// The texts before and after the lines of a script that end an input.
+const IN_SCRIPT: (&str, &str) = ("lottery 3\nfor 5\nmutex m\nscript s\n", "");
+
+const SEVERAL_WORDS: &[Row] = &[
+    (
+        "yield compute",
+        "line 5: a word is missing at the end: 'compute TICKS'\n",
+    ),
+    ("compute 5 7", "line 5: '7' is no word of a script\n"),
+    (
+        "loop 2 comptue 5 end",
+        "line 5: 'comptue' is no word of a script; did you mean 'compute'?\n",
+    ),
+    (
+        "loop 2 compute 0 end",
+        "line 5: '0' is no number from 1 to 4294967295\n",
+    ),
+    (
+        "yield lock n",
+        "line 5: 'n' is no mutex of an earlier line\n",
+    ),
+    (
+        "yield end",
+        "line 5: 'end' closes a loop, and none is open\n",
+    ),
+    (
+        "loop 2 yield endscript",
+        "line 5: 'endscript' stands inside a loop: 'end' closes it\n",
+    ),
+    (
+        "yield endscript yield",
+        "line 5: 'yield' stands behind 'endscript', which ends its line\n",
+    ),
+    (
+        "yield # gives way",
+        "line 5: a comment has a line of its own\n",
+    ),
+    (
+        "yield\nmktkt 5 base",
+        "line 6: 'mktkt' is no word of a script, and the one that line 4 opens isn't closed: 'endscript' closes \
+         it\n",
+    ),
+    (
+        "yield endscript\nmktk 5 base",
+        "line 6: 'mktk' is no body line; did you mean 'mktkt'?\n",
+    ),
+    (
+        "# endscript\nnonsense",
+        "line 6: 'nonsense' is no word of a script\n",
+    ),
+];
 
 #[test]
 fn several_words(rt: HostRuntime) {
-    let (rt, alloc) = (&rt, rt.alloc());
-    for (line, expected) in [
-        (
-            "yield compute",
-            "line 5: a word is missing at the end: 'compute TICKS'\n",
-        ),
-        ("compute 5 7", "line 5: '7' is no word of a script\n"),
-        (
-            "loop 2 comptue 5 end",
-            "line 5: 'comptue' is no word of a script; did you mean 'compute'?\n",
-        ),
-        (
-            "loop 2 compute 0 end",
-            "line 5: '0' is no number from 1 to 4294967295\n",
-        ),
-        (
-            "yield lock n",
-            "line 5: 'n' is no mutex of an earlier line\n",
-        ),
-        (
-            "yield end",
-            "line 5: 'end' closes a loop, and none is open\n",
-        ),
-        (
-            "loop 2 yield endscript",
-            "line 5: 'endscript' stands inside a loop: 'end' closes it\n",
-        ),
-        (
-            "yield endscript yield",
-            "line 5: 'yield' stands behind 'endscript', which ends its line\n",
-        ),
-        (
-            "yield # gives way",
-            "line 5: a comment has a line of its own\n",
-        ),
-        (
-            "yield\nmktkt 5 base",
-            "line 6: 'mktkt' is no word of a script, and the one that line 4 opens isn't closed: 'endscript' closes \
-             it\n",
-        ),
-        (
-            "yield endscript\nmktk 5 base",
-            "line 6: 'mktk' is no body line; did you mean 'mktkt'?\n",
-        ),
-        (
-            "# endscript\nnonsense",
-            "line 6: 'nonsense' is no word of a script\n",
-        ),
-    ] {
-        check_script(rt, alloc, line, expected);
-    }
+    check_within(&rt, rt.alloc(), IN_SCRIPT, SEVERAL_WORDS)
 }
 
-/// Checks, like `check`, an input that ends with this line of a script, or with these lines.
-fn check_script<H: Abort>(rt: &H, alloc: Global, line: &str, expected: &str) {
-    let input = format!(in alloc; "lottery 3\nfor 5\nmutex m\nscript s\n{line}");
-    let input = input.expect(rt, "memory");
-    check(rt, alloc, input.as_bytes(), expected);
-}
-
-#[test]
-fn lines_of_commands(rt: HostRuntime) {
-    let input = b"lottery 3
+const COMMANDS: &[u8] = b"lottery 3
 for 5
 port endscript
 script s
@@ -704,13 +670,19 @@ mktkt 5 base as gift
 fundx 5 base a s
 lsthr
 ";
-    for (place, line) in [
-        (0usize, Some(8u32)),
-        (1, Some(10)),
-        (2, Some(11)),
-        (3, Some(12)),
-        (4, None),
-    ] {
-        check_same_at(&rt, &place, &line_of_command(input, place), &line);
+
+/// Places among the commands above, and their lines.
+const LINES: &[(usize, Option<u32>)] = &[
+    (0, Some(8)),
+    (1, Some(10)),
+    (2, Some(11)),
+    (3, Some(12)),
+    (4, None),
+];
+
+#[test]
+fn lines_of_commands(rt: HostRuntime) {
+    for (place, line) in LINES {
+        check_same_at(&rt, place, &line_of_command(COMMANDS, *place), line);
     }
 }

@@ -1,7 +1,8 @@
-use Rattle.std.proofs.Common.{◌≡◌, take, arith}
+use Rattle.std.proofs.Common.{◌≡◌, take, refl, arith}
 use Rattle.std.proofs.lemmas.List.{take_all}
 use Rattle.lot_simulation.proofs.ActorRuns.{length-actors_of}
 use Rattle.lot_text.proofs.RunLemmas.{All-actors_of}
+use Rattle.std.proofs.lemmas.Result.{IfOk-from_err}
 use Rattle.lot_text.proofs.runs.actors_of.Goals as goal
 
 pub returns-clause-count : goal.returns-clause-count
@@ -13,3 +14,20 @@ pub returns-clause-below : goal.returns-clause-below
 returns-clause-below c p each =
     let all : take c.loop-run.run-index c.args.runs.now ≡ c.args.runs.now = take_all c.loop-run.run-index c.args.runs.now (omega arith) in
     rw (c.loop-run.invariant, all) (All-actors_of p c.args.runs.now each)
+
+pub loop-run-init : goal.loop-run-init
+loop-run-init c = c.new-actors.ensures.items
+
+pub returns-in_err-resize-clause-actors : goal.returns-in_err-resize-clause-actors
+returns-in_err-resize-clause-actors c = IfOk-from_err c.from_residual.result _ c.from_residual.ensures.0
+
+pub returns-in_err-resize-clause-count : goal.returns-in_err-resize-clause-count
+returns-in_err-resize-clause-count c = IfOk-from_err c.from_residual.result _ c.from_residual.ensures.0
+
+pub returns-in_err-resize-clause-below : goal.returns-in_err-resize-clause-below
+returns-in_err-resize-clause-below c p each = IfOk-from_err c.from_residual.result _ c.from_residual.ensures.0
+
+pub returns-clause-actors : goal.returns-clause-actors
+returns-clause-actors c =
+    let all : take c.loop-run.run-index c.args.runs.now ≡ c.args.runs.now = take_all c.loop-run.run-index c.args.runs.now (omega arith) in
+    rw (c.loop-run.invariant, all) refl

@@ -1,4 +1,7 @@
-use Rattle.std.proofs.Common.{◌∙◌, ◌+◌, ℕ, None, Option, Some, List, ap, arith, option_map, slice_get, slice_set, subst, sym}
+use Rattle.std.specs.List.{Contains}
+use Rattle.lot_machine.specs.declared.funding.Node.{Node}
+use Rattle.lot_threads.specs.Threaded.{Threaded}
+use Rattle.std.proofs.Common.{List, None, Option, Some, ap, arith, inl, option_map, slice_get, slice_set, subst, sym, ℕ, ◌+◌, ◌∙◌}
 use Rattle.std.proofs.lemmas.Option.{slice_get_within}
 use Rattle.lot_machine.specs.declared.record.Thread.{Thread}
 use Rattle.lot_machine.specs.Commands.{with_thread}
@@ -6,7 +9,7 @@ use Rattle.lot_machine.specs.State.{sizes_of}
 use Rattle.lot_kernel.specs.FreePlaces.{HasIdlePlace, freed_in}
 use Rattle.lot_kernel.specs.FreeStacks.{FreeStack}
 use Rattle.lot_kernel.specs.Names.{IsIndexOf, names_of}
-use Rattle.lot_kernel.specs.Snapshots.{held}
+use Rattle.lot_kernel.specs.Snapshots.{Snapshot, held}
 use Rattle.lot_kernel.proofs.Holding.{held-threads, makes-held}
 use Rattle.lot_kernel.proofs.Indexed.{gap-free}
 use Rattle.lot_kernel.proofs.Reusing.{first-thread_gap, given-threads, popped-threads, room-threads}
@@ -103,3 +106,21 @@ returns-clause-state c =
     (ap (λ places. held (sizes_of i.limits) (record (freed_in i.freed) { threads = places }) i.currencies.items new i.queues) (ap (λ (x : FreeStack). x.places) c.pop.ensures.rest)
     ∙ state-again i.threads new place thread c.reuse_thread.ensures.made (sizes_of i.limits) (freed_in i.freed) i.currencies.items i.queues given (sym c.in_ok-place.ensures.first) nobody
     ∙ ap (λ n. with_thread s n c.args.script) c.copied.ensures)
+
+pub invariant_of-self : goal.invariant_of-self
+invariant_of-self c = rw c.in_err-place.ensures.unchanged c.self.invariant
+
+pub returns-in_err-place-clause-meter : goal.returns-in_err-place-clause-meter
+returns-in_err-place-clause-meter c = ap (λ (x : Snapshot). x.meter) c.self.view_is
+
+pub returns-clause-kept : goal.returns-clause-kept
+returns-clause-kept c = rw (← c.self.view_is) c.reuse_thread.ensures.kept
+
+pub returns-clause-meter : goal.returns-clause-meter
+returns-clause-meter c = ap (λ (v : Threaded). v.meter) c.reuse_thread.ensures.made ∙ ap (λ (x : Snapshot). x.meter) c.self.view_is
+
+pub returns-in_err-place-clause-stale : goal.returns-in_err-place-clause-stale
+returns-in_err-place-clause-stale c x old = inl (subst (λ (nodes : List Node). Contains nodes x) (ap (λ (y : Snapshot). y.stale) c.self.view_is) old)
+
+pub returns-in_err-place-clause-kept : goal.returns-in_err-place-clause-kept
+returns-in_err-place-clause-kept c x old = subst (λ (nodes : List Node). Contains nodes x) (sym (ap (λ (y : Snapshot). y.stale) c.self.view_is)) old

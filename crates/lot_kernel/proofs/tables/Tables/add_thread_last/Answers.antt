@@ -1,4 +1,6 @@
-use Rattle.std.proofs.Common.{◌≡◌, ◌∙◌, Option, List, ap, length, option_map, rules, subst, sym}
+use Rattle.lot_kernel.specs.Snapshots.{Snapshot}
+use Rattle.lot_threads.specs.Threaded.{Threaded}
+use Rattle.std.proofs.Common.{List, Option, ap, length, option_map, rules, subst, sym, ◌∙◌, ◌≡◌}
 use Rattle.std.proofs.lemmas.List.{length-map}
 use Rattle.lot_machine.specs.declared.record.Thread.{Thread}
 use Rattle.lot_lists.specs.NodeLists.{IsFree}
@@ -22,3 +24,9 @@ returns-clause-stale c =
     let threads = held-threads (sizes_of i.limits) (freed_in i.freed) i.currencies.items i.threads c.add_thread-2.new.self i.queues c.self.invariant.threads _ _ c.add_thread-2.ensures.added in
     let held_then : IsHeld (sizes_of i.limits) (freed_in i.freed) i.currencies.items c.add_thread-2.new.self c.add_thread.new.self = search (rules, threads) in
     rw (← c.self.view_is) (makes-held (sizes_of i.limits) (freed_in i.freed) i.currencies.items i.currencies.items i.threads c.add_thread-2.new.self i.queues c.add_thread.new.self c.self.invariant.threads held_then c.add_thread-2.ensures.stale)
+
+pub returns-clause-kept : goal.returns-clause-kept
+returns-clause-kept c = rw (← c.self.view_is) c.add_thread-2.ensures.kept
+
+pub returns-clause-meter : goal.returns-clause-meter
+returns-clause-meter c = ap (λ (v : Threaded). v.meter) c.add_thread-2.ensures.added ∙ ap (λ (x : Snapshot). x.meter) c.self.view_is

@@ -1,4 +1,10 @@
-use Rattle.std.proofs.Common.{List, Some, [], ap, arith, false, is_some, length, option_and_then, rules, subst, sym, ℕ, ◌∙◌, ◌≡◌}
+use Rattle.lot_kernel.proofs.Holding.{held-records, held-stale}
+use Rattle.lot_kernel.proofs.Keeping.{keeps-threads}
+use Rattle.lot_machine.specs.declared.event.Event.TheVariants as event
+use Rattle.lot_threads.specs.declared.runners.Runner.{Runner}
+use Rattle.lot_machine.specs.declared.refusal.Refusal.TheVariants.{BadProcessor, Busy}
+use Rattle.lot_kernel.proofs.Refusing.{busy-on, refused-event-reply, refused-event-state}
+use Rattle.std.proofs.Common.{List, Some, [], ap, arith, inl, is_some, length, option_and_then, refl, subst, sym, true, ℕ, ◌∙◌, ◌≡◌}
 use Rattle.std.specs.List.{Contains}
 use Rattle.lot_tree.specs.Visits.{CountsReads}
 use Rattle.lot_threads.specs.Threaded.{MakesStaleIn, Threaded, drawn_in, funding_in, with_records}
@@ -13,23 +19,21 @@ use Rattle.lot_value.specs.Counts.{counted_up}
 use Rattle.lot_value.specs.declared.meter.Meter.{Meter}
 use Rattle.lot_kernel.proofs.Drawing.{start-fresh, step-idle, step-won}
 use Rattle.lot_value.specs.Caches.{edges_into_all}
-use Rattle.lot_kernel.specs.Snapshots.{held}
-use Rattle.lot_machine.specs.Step.{is_bad_processor, started}
+use Rattle.lot_kernel.specs.Snapshots.{Snapshot, held}
+use Rattle.lot_machine.specs.Step.{event_refusal, is_bad_processor, started}
 use Rattle.lot_kernel.specs.Counted.{settled}
-use Rattle.lot_kernel.proofs.Trapping.{status-there}
+use Rattle.lot_kernel.proofs.Trapping.{change-count, status-there}
 use Rattle.lot_kernel.specs.contracts.tables.Tables.{the_view}
 use Rattle.lot_machine.specs.declared.reply.Reply.TheVariants as answer
 use Rattle.lot_kernel.proofs.tables.Tables.draw.Goals as goal
-use Rattle.lot_kernel.specs.contracts.tables.Tables.{the_view}
 use Rattle.lot_kernel.specs.FreePlaces.{freed_in}
-use Rattle.lot_kernel.specs.contracts.tables.Tables.{the_view}
 
 pub returns-in_default-clause-reply : goal.returns-in_default-clause-reply
 returns-in_default-clause-reply c =
     let i = c.self.inside in
     let s = (the_view i).state in
-    let good : is_bad_processor s c.args.processor.number ≡ false = search rules in
-    let free : is_some (thread_on s.records c.args.processor.number) ≡ false = search rules in
+    let good = ap (λ (x : Snapshot). is_bad_processor x.state c.args.processor.number) c.self.view_is ∙ sym c.if-is_bad_processor.ensures in
+    let free = busy-on c.runner.result (λ (r : Runner). r.thread.number) (thread_on s.records c.args.processor.number) c.runner.ensures.thread ∙ sym c.if-is_some.ensures in
     let none = ap (λ (v : Threaded). drawn_in v c.args.d) (sym c.self.invariant.threads) ∙ sym c.draw.ensures.winner ∙ c.in_default.is in
     rw (← c.self.view_is) (sym (ap (λ (x : Step). x.reply) (step-idle s c.args.processor.number c.args.d good free i.threads.stale i.threads.meter none)))
 
@@ -37,8 +41,8 @@ pub returns-in_default-clause-state : goal.returns-in_default-clause-state
 returns-in_default-clause-state c =
     let i = c.self.inside in
     let s = (the_view i).state in
-    let good : is_bad_processor s c.args.processor.number ≡ false = search rules in
-    let free : is_some (thread_on s.records c.args.processor.number) ≡ false = search rules in
+    let good = ap (λ (x : Snapshot). is_bad_processor x.state c.args.processor.number) c.self.view_is ∙ sym c.if-is_bad_processor.ensures in
+    let free = busy-on c.runner.result (λ (r : Runner). r.thread.number) (thread_on s.records c.args.processor.number) c.runner.ensures.thread ∙ sym c.if-is_some.ensures in
     let none = ap (λ (v : Threaded). drawn_in v c.args.d) (sym c.self.invariant.threads) ∙ sym c.draw.ensures.winner ∙ c.in_default.is in
     rw (← c.self.view_is) (ap (λ (v : Threaded). held (sizes_of i.limits) (freed_in i.freed) i.currencies.items v i.queues) c.draw.ensures.settled ∙ sym (ap (λ (x : Step). x.state) (step-idle s c.args.processor.number c.args.d good free i.threads.stale i.threads.meter none)))
 
@@ -58,8 +62,8 @@ returns-clause-reply c =
     let i = c.self.inside in
     let s = (the_view i).state in
     let w = c.in-Some.winner in
-    let good : is_bad_processor s c.args.processor.number ≡ false = search rules in
-    let free : is_some (thread_on s.records c.args.processor.number) ≡ false = search rules in
+    let good = ap (λ (x : Snapshot). is_bad_processor x.state c.args.processor.number) c.self.view_is ∙ sym c.if-is_bad_processor.ensures in
+    let free = busy-on c.runner.result (λ (r : Runner). r.thread.number) (thread_on s.records c.args.processor.number) c.runner.ensures.thread ∙ sym c.if-is_some.ensures in
     let some = ap (λ (v : Threaded). drawn_in v c.args.d) (sym c.self.invariant.threads) ∙ sym c.draw.ensures.winner ∙ c.in-Some.is in
     let delivered = c.start-delivered.ensures.delivered ∙ ap (λ (v : Threaded). option_and_then (λ (r : Record). r.delivered) (at_number v.records w.thread)) c.draw.ensures.settled in
     rw (← c.self.view_is) (ap (answer.Winner w.thread w.number w.total) delivered ∙ sym (ap (λ (x : Step). x.reply) (step-won s c.args.processor.number c.args.d good free i.threads.stale i.threads.meter w some)))
@@ -69,8 +73,8 @@ returns-clause-state c =
     let i = c.self.inside in
     let s = (the_view i).state in
     let w = c.in-Some.winner in
-    let good : is_bad_processor s c.args.processor.number ≡ false = search rules in
-    let free : is_some (thread_on s.records c.args.processor.number) ≡ false = search rules in
+    let good = ap (λ (x : Snapshot). is_bad_processor x.state c.args.processor.number) c.self.view_is ∙ sym c.if-is_bad_processor.ensures in
+    let free = busy-on c.runner.result (λ (r : Runner). r.thread.number) (thread_on s.records c.args.processor.number) c.runner.ensures.thread ∙ sym c.if-is_some.ensures in
     let some = ap (λ (v : Threaded). drawn_in v c.args.d) (sym c.self.invariant.threads) ∙ sym c.draw.ensures.winner ∙ c.in-Some.is in
     rw (← c.self.view_is) (ap (λ (v : Threaded). held (sizes_of i.limits) (freed_in i.freed) i.currencies.items v i.queues) c.start-delivered.ensures.started
     ∙ ap (λ (v : Threaded). held (sizes_of i.limits) (freed_in i.freed) i.currencies.items (with_records v (change_record (started c.args.processor.number) v.records w.thread) v.stale) i.queues) c.draw.ensures.settled
@@ -96,3 +100,36 @@ returns-clause-counts c =
       record { fresh = none; once = c.draw.ensures.once; reads = ap (λ (m : Meter). m.ticket_reads) kept ∙ c.draw.ensures.reads ∙ reads },
       subst (λ (m : Meter). CountsReads (the_view i).state.limits.threads i.threads.meter.tree_visits m.tree_visits) (sym kept) visits,
     )
+
+pub returns-then-is_bad_processor : goal.returns-then-is_bad_processor
+returns-then-is_bad_processor c =
+    let s = c.args.self.now.state in
+    let is : event_refusal s (event.Draw c.args.processor.number c.args.d) ≡ Some BadProcessor = rw (← c.if-is_bad_processor.ensures) refl in
+    record { reply = refused-event-reply s (event.Draw c.args.processor.number c.args.d) BadProcessor is; state = refused-event-state s (event.Draw c.args.processor.number c.args.d) BadProcessor is; stale = λ x old. inl old; counts = record { kept = λ x old. old; meter = refl } }
+
+pub returns-then-is_some : goal.returns-then-is_some
+returns-then-is_some c =
+    let s = c.args.self.now.state in
+    let busy = busy-on c.runner.result (λ (r : Runner). r.thread.number) (thread_on c.self.inside.threads.records c.args.processor.number) c.runner.ensures.thread ∙ sym c.if-is_some.ensures in
+    let on : is_some (thread_on s.records c.args.processor.number) ≡ true = ap (λ (x : Snapshot). is_some (thread_on x.state.records c.args.processor.number)) (sym c.self.view_is) ∙ busy in
+    let is : event_refusal s (event.Draw c.args.processor.number c.args.d) ≡ Some Busy = rw (← c.if-is_bad_processor.ensures, on) refl in
+    record { reply = refused-event-reply s (event.Draw c.args.processor.number c.args.d) Busy is; state = refused-event-state s (event.Draw c.args.processor.number c.args.d) Busy is; stale = λ x old. inl old; counts = record { kept = λ x old. old; meter = refl } }
+
+pub returns-in_default-clause-stale : goal.returns-in_default-clause-stale
+returns-in_default-clause-stale c x stale = absurd (contains-nothing x (subst (λ (nodes : List Node). Contains nodes x) (ap (λ (v : Threaded). v.stale) c.draw.ensures.settled) stale))
+
+pub invariant_of-self : goal.invariant_of-self
+invariant_of-self c =
+    let i = c.self.inside in
+    let is = c.draw.ensures.settled in
+    keeps-threads i c.self.invariant c.draw.new.self (held-stale (sizes_of i.limits) (freed_in i.freed) i.currencies.items i.threads c.draw.new.self i.queues c.self.invariant.threads [] c.draw.new.self.meter is) (ap (λ (v : Threaded). length v.records) is) (ap (λ (v : Threaded). v.threads) is)
+
+pub invariant_of-self-2 : goal.invariant_of-self-2
+invariant_of-self-2 c =
+    let i = c.self.inside in
+    let is = c.draw.ensures.settled in
+    let then_is = c.start-delivered.ensures.started in
+    let drawn = held-stale (sizes_of i.limits) (freed_in i.freed) i.currencies.items i.threads c.draw.new.self i.queues c.self.invariant.threads [] c.draw.new.self.meter is in
+    keeps-threads i c.self.invariant c.start-delivered.new.self (held-records (sizes_of i.limits) (freed_in i.freed) i.currencies.items c.draw.new.self c.start-delivered.new.self i.queues drawn _ then_is)
+    (ap (λ (v : Threaded). length v.records) then_is ∙ change-count _ c.draw.new.self.records c.in-Some.winner.thread ∙ ap (λ (v : Threaded). length v.records) is)
+    (ap (λ (v : Threaded). v.threads) then_is ∙ ap (λ (v : Threaded). v.threads) is)

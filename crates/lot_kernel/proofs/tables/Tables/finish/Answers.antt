@@ -1,13 +1,17 @@
-use Rattle.std.proofs.Common.{arith, rules, subst, sym}
+use Rattle.lot_machine.specs.Numbered.{set_number}
+use Rattle.lot_machine.specs.Traps.{after_trap, with_ticks}
+use Rattle.std.proofs.Math.ListN.{length-set}
+use Rattle.lot_kernel.proofs.Keeping.{keeps-threads}
+use Rattle.std.proofs.Common.{List, ap, arith, length, refl, rules, subst, sym, ◌-◌, ◌∙◌, ◌≡◌}
 use Rattle.lot_threads.specs.Threaded.{CanChange, Threaded}
 use Rattle.lot_threads.specs.Timely.{IsTimely}
 use Rattle.lot_machine.specs.declared.record.Record.{Record}
 use Rattle.lot_kernel.proofs.Finishing.{can-finish}
 use Rattle.lot_kernel.proofs.Holding.{held-records, makes-held}
-use Rattle.lot_machine.specs.State.{sizes_of}
+use Rattle.lot_machine.specs.State.{change_record, sizes_of}
 use Rattle.lot_kernel.proofs.Trapping.{status-there}
 use Rattle.lot_kernel.specs.contracts.tables.Tables.{the_view}
-use Rattle.lot_kernel.specs.Snapshots.{threads_of}
+use Rattle.lot_kernel.specs.Snapshots.{Snapshot, held, threads_of}
 use Rattle.lot_kernel.proofs.tables.Tables.finish.Goals as goal
 use Rattle.lot_kernel.specs.FreePlaces.{freed_in}
 use Rattle.lot_kernel.specs.contracts.tables.Tables.{the_view}
@@ -30,3 +34,27 @@ returns-clause-stale c =
     let i = c.self.inside in
     let threads = held-records (sizes_of i.limits) (freed_in i.freed) i.currencies.items i.threads c.change.new.self i.queues c.self.invariant.threads _ c.change.ensures.changed in
     rw (← c.self.view_is) (makes-held (sizes_of i.limits) (freed_in i.freed) i.currencies.items i.currencies.items i.threads c.change.new.self i.queues i.queues c.self.invariant.threads threads c.change.ensures.stale)
+
+pub returns-clause-kept : goal.returns-clause-kept
+returns-clause-kept c = rw (← c.self.view_is) c.change.ensures.kept
+
+pub returns-clause-meter : goal.returns-clause-meter
+returns-clause-meter c = ap (λ (v : Threaded). v.meter) c.change.ensures.changed ∙ ap (λ (x : Snapshot). x.meter) c.self.view_is
+
+pub invariant_of-self : goal.invariant_of-self
+invariant_of-self c =
+    let i = c.self.inside in
+    let is = c.change.ensures.changed in
+    keeps-threads i c.self.invariant c.change.new.self (held-records (sizes_of i.limits) (freed_in i.freed) i.currencies.items i.threads c.change.new.self i.queues c.self.invariant.threads _ is)
+    (ap (λ (v : Threaded). length v.records) is ∙ length-set i.threads.records (c.args.trap.thread.number - 1) c.record_after-next.result) (ap (λ (v : Threaded). v.threads) is)
+
+pub returns-clause-state : goal.returns-clause-state
+returns-clause-state c =
+    let i = c.self.inside in
+    let t = c.args.trap.thread.number in
+    let change : Record → Record = λ r. with_ticks c.args.trap.ticks (after_trap c.args.after c.args.trap.processor.number c.args.trap.used (sizes_of i.limits) r) in
+    let made : change_record change i.threads.records t ≡ set_number i.threads.records t (change c.in-Some.before) = rw (← c.in-Some.ensures.record) refl in
+    ap (λ (v : Threaded). held (sizes_of i.limits) (freed_in i.freed) i.currencies.items v i.queues) c.change.ensures.changed
+    ∙ ap (λ (r : Record). record (the_view i).state { records = set_number i.threads.records t r }) c.record_after-next.ensures
+    ∙ ap (λ (rs : List Record). record (the_view i).state { records = rs }) (sym made)
+    ∙ ap (λ (x : Snapshot). record x.state { records = change_record (λ r. with_ticks c.args.trap.ticks (after_trap c.args.after c.args.trap.processor.number c.args.trap.used x.state.limits r)) x.state.records t }) c.self.view_is

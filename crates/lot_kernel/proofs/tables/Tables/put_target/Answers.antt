@@ -1,11 +1,12 @@
-use Rattle.std.proofs.Common.{◌≡◌, ◌∙◌, Option, Some, ap, option_map, refl, subst, sym}
+use Rattle.lot_kernel.proofs.Keeping.{keeps-threads}
+use Rattle.std.proofs.Common.{Option, Some, ap, length, option_map, refl, subst, sym, ◌∙◌, ◌≡◌}
 use Rattle.lot_machine.specs.Funding.{Funding, retargeted, with_target}
 use Rattle.lot_machine.specs.Numbered.{set_number}
 use Rattle.lot_machine.specs.State.{sizes_of}
 use Rattle.lot_machine.specs.declared.ticket.Ticket.{Ticket}
 use Rattle.lot_value.specs.Changing.{CanTarget}
 use Rattle.lot_threads.specs.Threaded.{Threaded, funding_in}
-use Rattle.lot_kernel.specs.Snapshots.{held}
+use Rattle.lot_kernel.specs.Snapshots.{Snapshot, held}
 use Rattle.lot_kernel.proofs.Holding.{held-tickets, makes-held}
 use Rattle.lot_kernel.specs.FreePlaces.{freed_in}
 use Rattle.lot_kernel.proofs.tables.Tables.put_target.Goals as goal
@@ -27,3 +28,15 @@ returns-clause-stale c =
     let i = c.self.inside in
     let threads = held-tickets (sizes_of i.limits) (freed_in i.freed) i.currencies.items i.threads c.apply.new.self i.queues c.self.invariant.threads _ c.apply.ensures.applied in
     rw (← c.self.view_is) (makes-held (sizes_of i.limits) (freed_in i.freed) i.currencies.items i.currencies.items i.threads c.apply.new.self i.queues i.queues c.self.invariant.threads threads c.apply.ensures.stale.reached)
+
+pub invariant_of-self : goal.invariant_of-self
+invariant_of-self c =
+    let i = c.self.inside in
+    let is = c.apply.ensures.applied in
+    keeps-threads i c.self.invariant c.apply.new.self (held-tickets (sizes_of i.limits) (freed_in i.freed) i.currencies.items i.threads c.apply.new.self i.queues c.self.invariant.threads _ is) (ap (λ (v : Threaded). length v.records) is) (ap (λ (v : Threaded). v.threads) is)
+
+pub returns-clause-kept : goal.returns-clause-kept
+returns-clause-kept c = rw (← c.self.view_is) c.apply.ensures.stale.kept
+
+pub returns-clause-meter : goal.returns-clause-meter
+returns-clause-meter c = ap (λ (v : Threaded). v.meter) c.apply.ensures.applied ∙ ap (λ (x : Snapshot). x.meter) c.self.view_is

@@ -1,14 +1,18 @@
-use Rattle.std.proofs.Common.{◌≡◌, ◌∙◌, true, Some, [], ap, arith, is_some, map, rules, slice_get, subst}
-use Rattle.lot_machine.specs.Funding.{backing_currency, issued_in}
-use Rattle.lot_machine.specs.State.{sizes_of}
+use Rattle.lot_machine.specs.declared.refusal.Refusal.TheVariants.{NoCurrency, BaseFixed}
+use Rattle.lot_machine.specs.Commands.{Step, command_refusal, is_in_use}
+use Rattle.lot_machine.specs.declared.command.Command.TheVariants.{RemoveCurrency}
+use Rattle.lot_kernel.proofs.Refusing.{done, refused-reply, refused-state}
+use Rattle.std.proofs.Common.{None, Some, [], ap, arith, false, is_some, map, ne_eqb, refl, rules, slice_get, subst, sym, true, ◌∙◌, ◌≡◌}
+use Rattle.lot_machine.specs.Funding.{Funding, backing_currency, issued_in}
+use Rattle.lot_machine.specs.State.{funding_of, sizes_of}
 use Rattle.lot_graph.specs.Graphs.{LimitedFunding}
-use Rattle.lot_threads.specs.Threaded.{Threaded}
+use Rattle.lot_threads.specs.Threaded.{Threaded, funding_in}
 use Rattle.std.proofs.lemmas.List.{length-map}
 use Rattle.std.proofs.lemmas.Option.{slice_get_within}
 use Rattle.lot_machine.specs.Order.{IsInOrder}
 use Rattle.lot_kernel.specs.FreeStacks.{FreeStack}
 use Rattle.lot_kernel.specs.FreePlaces.{freed_in}
-use Rattle.lot_kernel.specs.Snapshots.{held}
+use Rattle.lot_kernel.specs.Snapshots.{Snapshot, held}
 use Rattle.lot_kernel.proofs.Reusing.{currency-fits, currency-left, none-currencies, room-currencies}
 use Rattle.lot_kernel.proofs.Holding.{held-removed}
 use Rattle.lot_kernel.proofs.tables.Tables.remove_currency.Goals as goal
@@ -17,7 +21,7 @@ pub apply-requires-clause-allowed : goal.apply-requires-clause-allowed
 apply-requires-clause-allowed c =
     let i = c.self.inside in
     let place = c.in-Some.number in
-    let there : slice_get (map is_some i.currencies.items) place ≡ Some true = search rules in
+    let there : slice_get (map is_some i.currencies.items) place ≡ Some true = ap (λ (x : Snapshot). slice_get (map is_some x.state.currencies) c.in-Some.number) c.self.view_is ∙ c.in-Some.ensures.there in
     let flags = ap (λ (v : Threaded). slice_get v.currencies place) c.self.invariant.threads in
     let unused = subst (λ (w : LimitedFunding). (issued_in w.funding place ≡ []) × (backing_currency w.funding place ≡ [])) c.graph.ensures (c.is_unused.ensures.0 c.if-not-is_unused.false) in
     ((omega (arith, c.if-number-eq0.false), flags ∙ there), unused.0, unused.1)
@@ -25,13 +29,13 @@ apply-requires-clause-allowed c =
 pub remove-requires : goal.remove-requires
 remove-requires c =
     let i = c.self.inside in
-    let there : slice_get (map is_some i.currencies.items) c.in-Some.number ≡ Some true = search rules in
+    let there : slice_get (map is_some i.currencies.items) c.in-Some.number ≡ Some true = ap (λ (x : Snapshot). slice_get (map is_some x.state.currencies) c.in-Some.number) c.self.view_is ∙ c.in-Some.ensures.there in
     omega (arith, slice_get_within (map is_some i.currencies.items) c.in-Some.number true there, length-map i.currencies.items is_some, c.self.invariant.currencies, c.self.invariant.currency_places, i.currencies.ok.0)
 
 pub index_mut-requires : goal.index_mut-requires
 index_mut-requires c =
     let i = c.self.inside in
-    let there : slice_get (map is_some i.currencies.items) c.in-Some.number ≡ Some true = search rules in
+    let there : slice_get (map is_some i.currencies.items) c.in-Some.number ≡ Some true = ap (λ (x : Snapshot). slice_get (map is_some x.state.currencies) c.in-Some.number) c.self.view_is ∙ c.in-Some.ensures.there in
     omega (arith, slice_get_within (map is_some i.currencies.items) c.in-Some.number true there, length-map i.currencies.items is_some)
 
 pub invariant_of-self : goal.invariant_of-self
@@ -48,7 +52,7 @@ leave-requires c =
     let i = c.self.inside in
     let s = held (sizes_of i.limits) (freed_in i.freed) i.currencies.items i.threads i.queues in
     let order : IsInOrder s = rw (← c.self.view_is) at c.requires in
-    let there : slice_get (map is_some i.currencies.items) c.in-Some.number ≡ Some true = search rules in
+    let there : slice_get (map is_some i.currencies.items) c.in-Some.number ≡ Some true = ap (λ (x : Snapshot). slice_get (map is_some x.state.currencies) c.in-Some.number) c.self.view_is ∙ c.in-Some.ensures.there in
     record { room = λ on. omega (arith, currency-fits s order on c.in-Some.number there, c.self.invariant.currencies, (c.self.invariant.freed_room on).currencies) }
 
 pub returns-clause-state : goal.returns-clause-state
@@ -57,3 +61,38 @@ returns-clause-state c =
     let s = held (sizes_of i.limits) (freed_in i.freed) i.currencies.items i.threads i.queues in
     let left = currency-left s c.self.invariant.none_freed c.in-Some.number in
     search (rules, left)
+
+pub returns-in_default : goal.returns-in_default
+returns-in_default c =
+    let s = c.args.self.now.state in
+    let is : command_refusal s (RemoveCurrency c.args.currency.now) ≡ Some NoCurrency = rw (← c.in_default.ensures.meant) refl in
+    record { reply = refused-reply s (RemoveCurrency c.args.currency.now) NoCurrency is; state = refused-state s (RemoveCurrency c.args.currency.now) NoCurrency is; stale = refl; meter = refl }
+
+pub returns-then-number-eq0 : goal.returns-then-number-eq0
+returns-then-number-eq0 c =
+    let s = c.args.self.now.state in
+    let is : command_refusal s (RemoveCurrency c.args.currency.now) ≡ Some BaseFixed = rw (← c.in-Some.ensures.meant, c.if-number-eq0.true) refl in
+    record { reply = refused-reply s (RemoveCurrency c.args.currency.now) BaseFixed is; state = refused-state s (RemoveCurrency c.args.currency.now) BaseFixed is; stale = refl; meter = refl }
+
+pub returns-then-not-is_unused-clause-stale : goal.returns-then-not-is_unused-clause-stale
+returns-then-not-is_unused-clause-stale c = refl
+
+pub returns-then-not-is_unused-clause-meter : goal.returns-then-not-is_unused-clause-meter
+returns-then-not-is_unused-clause-meter c = refl
+
+pub returns-clause-reply : goal.returns-clause-reply
+returns-clause-reply c =
+    let s = c.args.self.now.state in
+    let place = c.in-Some.number in
+    let funding : funding_in c.self.inside.threads ≡ funding_of s = ap funding_in c.self.invariant.threads ∙ ap (λ (x : Snapshot). funding_of x.state) c.self.view_is in
+    let unused = subst (λ (w : LimitedFunding). (issued_in w.funding place ≡ []) × (backing_currency w.funding place ≡ [])) c.graph.ensures (c.is_unused.ensures.0 c.if-not-is_unused.false) in
+    let free = subst (λ (f : Funding). (issued_in f place ≡ []) × (backing_currency f place ≡ [])) funding unused in
+    let idle : is_in_use s place ≡ false = rw (free.0, free.1) refl in
+    let is : command_refusal s (RemoveCurrency c.args.currency.now) ≡ None = rw (← c.in-Some.ensures.meant, ne_eqb place 0 c.if-number-eq0.false, idle) refl in
+    sym (ap (λ (x : Step). x.reply) (done s (RemoveCurrency c.args.currency.now) is))
+
+pub returns-clause-stale : goal.returns-clause-stale
+returns-clause-stale c = c.apply.ensures.stale.same tt ∙ ap (λ (x : Snapshot). x.stale) c.self.view_is
+
+pub returns-clause-meter : goal.returns-clause-meter
+returns-clause-meter c = ap (λ (v : Threaded). v.meter) c.apply.ensures.applied ∙ ap (λ (x : Snapshot). x.meter) c.self.view_is

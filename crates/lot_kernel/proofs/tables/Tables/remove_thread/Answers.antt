@@ -1,4 +1,7 @@
-use Rattle.std.proofs.Common.{◌≡◌, ◌∙◌, ◌-◌, ◌∷◌, ℕ, List, None, Option, Some, ap, arith, cond, false, inl, true, option_map, rules, slice_get, slice_set, subst, sym}
+use Rattle.lot_machine.specs.declared.refusal.Refusal.TheVariants.{Alive, InUse, NoThread}
+use Rattle.lot_machine.specs.declared.command.Command.TheVariants.{RemoveThread}
+use Rattle.lot_kernel.proofs.Refusing.{done, refused-reply, refused-state}
+use Rattle.std.proofs.Common.{List, None, Option, Some, ap, arith, cond, false, inl, option_map, refl, rules, slice_get, slice_set, subst, sym, true, ℕ, ◌-◌, ◌∙◌, ◌∷◌, ◌≡◌}
 use Rattle.std.proofs.lemmas.List.{map-set}
 use Rattle.std.proofs.lemmas.Option.{slice_get_within}
 use Rattle.lot_machine.specs.declared.record.Thread.{Thread}
@@ -13,7 +16,7 @@ use Rattle.lot_machine.specs.State.{sizes_of}
 use Rattle.lot_kernel.proofs.Indexed.{meant-place}
 use Rattle.std.specs.List.{Contains}
 use Rattle.lot_machine.specs.declared.funding.Node.{Node}
-use Rattle.lot_machine.specs.Commands.{Step, is_dead_in, is_thread_in_use, thread_meant}
+use Rattle.lot_machine.specs.Commands.{Step, command_refusal, is_dead_in, is_thread_in_use, thread_meant}
 use Rattle.lot_threads.specs.Threaded.{Threaded}
 use Rattle.lot_kernel.proofs.tables.Tables.remove_thread.Goals as goal
 
@@ -42,14 +45,14 @@ invariant_of-self c =
       count = search rules;
       few = search rules;
       clients = search rules;
-      currencies = search rules;
-      currency_room = search rules;
-      currency_index = search rules;
-      currency_places = search rules;
+      currencies = c.self.invariant.currencies;
+      currency_room = c.self.invariant.currency_room;
+      currency_index = c.self.invariant.currency_index;
+      currency_places = c.self.invariant.currency_places;
       thread_index = subst (λ (ns : List (Option (List ℕ))). IsIndexOf c.remove.new.self ns) (sym (left ∙ ap (λ k. slice_set (names_of i.threads.threads) k None) (sym c.index_of.ensures))) index;
       thread_places = search rules;
-      queue_room = search rules;
-      lottery_room = search rules;
+      queue_room = c.self.invariant.queue_room;
+      lottery_room = c.self.invariant.lottery_room;
       freed_room = room-threads (sizes_of i.limits) i.freed c.self.invariant.freed_room c.leave.new.self (ap (λ (x : FreeStack). x.room) c.leave.ensures);
       none_freed = none-threads i.limits.reuse i.freed c.self.invariant.none_freed c.leave.new.self _ (ap (λ (x : FreeStack). x.places) c.leave.ensures);
     }
@@ -85,3 +88,30 @@ returns-clause-state c =
     rw (← c.self.view_is)
     (thread-gone (sizes_of i.limits) (freed_in i.freed) i.currencies.items i.threads c.remove_thread.new.self i.queues c.leave.new.self.places n c.self.invariant.none_freed c.remove_thread.ensures left
     ∙ sym (ap (λ (x : Step). x.state) (removes-thread s c.args.thread.now n meant dead unused)))
+
+pub returns-in_default : goal.returns-in_default
+returns-in_default c =
+    let s = c.args.self.now.state in
+    let is : command_refusal s (RemoveThread c.args.thread.now) ≡ Some NoThread = rw (← c.in_default.ensures) refl in
+    record { reply = refused-reply s (RemoveThread c.args.thread.now) NoThread is; state = refused-state s (RemoveThread c.args.thread.now) NoThread is; stale = λ x old. inl old; kept = λ x old. old; meter = refl }
+
+pub returns-then-not-is_dead : goal.returns-then-not-is_dead
+returns-then-not-is_dead c =
+    let s = c.args.self.now.state in
+    let is : command_refusal s (RemoveThread c.args.thread.now) ≡ Some Alive = rw (← c.in-Some.ensures, ← c.if-not-is_dead.ensures) refl in
+    record { reply = refused-reply s (RemoveThread c.args.thread.now) Alive is; state = refused-state s (RemoveThread c.args.thread.now) Alive is; stale = λ x old. inl old; kept = λ x old. old; meter = refl }
+
+pub returns-then-is_thread_in_use : goal.returns-then-is_thread_in_use
+returns-then-is_thread_in_use c =
+    let s = c.args.self.now.state in
+    let is : command_refusal s (RemoveThread c.args.thread.now) ≡ Some InUse = rw (← c.in-Some.ensures, ← c.if-not-is_dead.ensures, ← c.if-is_thread_in_use.ensures) refl in
+    record { reply = refused-reply s (RemoveThread c.args.thread.now) InUse is; state = refused-state s (RemoveThread c.args.thread.now) InUse is; stale = λ x old. inl old; kept = λ x old. old; meter = refl }
+
+pub returns-clause-reply : goal.returns-clause-reply
+returns-clause-reply c =
+    let s = c.args.self.now.state in
+    let is : command_refusal s (RemoveThread c.args.thread.now) ≡ None = rw (← c.in-Some.ensures, ← c.if-not-is_dead.ensures, ← c.if-is_thread_in_use.ensures) refl in
+    sym (ap (λ (x : Step). x.reply) (done s (RemoveThread c.args.thread.now) is))
+
+pub returns-clause-meter : goal.returns-clause-meter
+returns-clause-meter c = ap (λ (v : Threaded). v.meter) c.remove_thread.ensures ∙ ap (λ (x : Snapshot). x.meter) c.self.view_is

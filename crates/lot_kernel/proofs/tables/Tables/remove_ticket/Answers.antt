@@ -1,9 +1,14 @@
-use Rattle.std.proofs.Common.{ap, arith, rules, sym}
+use Rattle.lot_threads.specs.Threaded.{Threaded}
+use Rattle.lot_machine.specs.declared.refusal.Refusal.TheVariants.{Funding, NoTicket}
+use Rattle.lot_machine.specs.Commands.{Step, command_refusal}
+use Rattle.lot_machine.specs.declared.command.Command.TheVariants.{RemoveTicket}
+use Rattle.lot_kernel.proofs.Refusing.{done, refused-reply, refused-state}
+use Rattle.std.proofs.Common.{None, Some, ap, arith, refl, rules, sym, ◌∙◌, ◌≡◌}
 use Rattle.lot_machine.specs.State.{sizes_of}
 use Rattle.lot_machine.specs.Order.{IsInOrder}
 use Rattle.lot_kernel.specs.FreeStacks.{FreeStack}
 use Rattle.lot_kernel.specs.FreePlaces.{freed_in}
-use Rattle.lot_kernel.specs.Snapshots.{held}
+use Rattle.lot_kernel.specs.Snapshots.{Snapshot, held}
 use Rattle.lot_kernel.proofs.Holding.{held-tickets}
 use Rattle.lot_kernel.proofs.Reusing.{none-tickets, room-tickets, ticket-fits, ticket-left, ticket-some}
 use Rattle.lot_kernel.proofs.tables.Tables.remove_ticket.Goals as goal
@@ -33,3 +38,27 @@ invariant_of-self c =
     let room = room-tickets (sizes_of i.limits) i.freed c.self.invariant.freed_room c.leave.new.self (ap (λ (x : FreeStack). x.room) c.leave.ensures) in
     let none = none-tickets i.limits.reuse i.freed c.self.invariant.none_freed c.leave.new.self _ (ap (λ (x : FreeStack). x.places) c.leave.ensures) in
     search (rules, threads, room, none)
+
+pub returns-in_default : goal.returns-in_default
+returns-in_default c =
+    let s = c.args.self.now.state in
+    let is : command_refusal s (RemoveTicket c.args.ticket) ≡ Some NoTicket = rw (← c.in_default.ensures.found) refl in
+    record { reply = refused-reply s (RemoveTicket c.args.ticket) NoTicket is; state = refused-state s (RemoveTicket c.args.ticket) NoTicket is; stale = refl; meter = refl }
+
+pub returns-clause-stale : goal.returns-clause-stale
+returns-clause-stale c = c.apply.ensures.stale.same tt ∙ ap (λ (x : Snapshot). x.stale) c.self.view_is
+
+pub returns-clause-meter : goal.returns-clause-meter
+returns-clause-meter c = ap (λ (v : Threaded). v.meter) c.apply.ensures.applied ∙ ap (λ (x : Snapshot). x.meter) c.self.view_is
+
+pub returns-then-is_funding : goal.returns-then-is_funding
+returns-then-is_funding c =
+    let s = c.args.self.now.state in
+    let is : command_refusal s (RemoveTicket c.args.ticket) ≡ Some Funding = rw (← c.in-Some.ensures.found, ← c.if-is_funding.ensures) refl in
+    record { reply = refused-reply s (RemoveTicket c.args.ticket) Funding is; state = refused-state s (RemoveTicket c.args.ticket) Funding is; stale = refl; meter = refl }
+
+pub returns-clause-reply : goal.returns-clause-reply
+returns-clause-reply c =
+    let s = c.args.self.now.state in
+    let is : command_refusal s (RemoveTicket c.args.ticket) ≡ None = rw (← c.in-Some.ensures.found, ← c.if-is_funding.ensures) refl in
+    sym (ap (λ (x : Step). x.reply) (done s (RemoveTicket c.args.ticket) is))

@@ -1,4 +1,10 @@
-use Rattle.std.proofs.Common.{arith, rules, sym}
+use Rattle.lot_queues.specs.QueueLists.{QueueLists}
+use Rattle.lot_threads.specs.Threaded.{Threaded}
+use Rattle.lot_kernel.proofs.Keeping.{keeps-both}
+use Rattle.lot_machine.specs.declared.action.Action.TheVariants as action
+use Rattle.lot_machine.specs.declared.refusal.TrapRefusal.TheVariants.{NothingToReply}
+use Rattle.lot_kernel.proofs.Refusing.{refused-shows}
+use Rattle.std.proofs.Common.{ap, arith, refl, sym}
 use Rattle.lot_machine.specs.State.{sizes_of}
 use Rattle.lot_kernel.proofs.PortTraps.{port-leaves, port-shows}
 use Rattle.lot_kernel.proofs.Trapping.{reply-done, reply-keeps, running-there}
@@ -12,8 +18,20 @@ reply-requires-clause-server c =
     (there.0, omega (arith, there.1, c.self.invariant.clients))
 
 pub invariant_of-self : goal.invariant_of-self
-invariant_of-self c = let left = port-leaves (sizes_of c.self.inside.limits) (freed_in c.self.inside.freed) c.self.inside.currencies.items c.self.inside.threads c.self.inside.queues c.reply.new.threads c.reply.new.queues _ c.self.invariant.threads (reply-keeps c.self.inside.threads.records c.self.inside.queues.clients c.self.inside.queues.ports c.args.thread.number c.args.number) c.reply.ensures.done.threads c.reply.ensures.done.queues in search (rules, left.0, left.1, left.2)
+invariant_of-self c = let left = port-leaves (sizes_of c.self.inside.limits) (freed_in c.self.inside.freed) c.self.inside.currencies.items c.self.inside.threads c.self.inside.queues c.reply.new.threads c.reply.new.queues _ c.self.invariant.threads (reply-keeps c.self.inside.threads.records c.self.inside.queues.clients c.self.inside.queues.ports c.args.thread.number c.args.number) c.reply.ensures.done.threads c.reply.ensures.done.queues in
+    keeps-both c.self.inside c.self.invariant c.reply.new.threads c.reply.new.queues left.0 left.1 (ap (λ (v : Threaded). v.threads) c.reply.ensures.done.threads) left.2 (ap (λ (q : QueueLists). q.room) c.reply.ensures.done.queues)
 
 pub returns : goal.returns
 returns c = let shown = port-shows (sizes_of c.self.inside.limits) (freed_in c.self.inside.freed) c.self.inside.currencies.items c.self.inside.threads c.self.inside.queues c.reply.new.threads c.reply.new.queues _ _ _ _ c.self.invariant.threads (reply-done (the_view c.self.inside).state c.args.thread.number c.in-Some.client c.args.number (sym c.in-Some.ensures)) c.reply.ensures.done.outcome c.reply.ensures.done.after c.reply.ensures.done.threads c.reply.ensures.done.queues c.reply.ensures.done.stale c.reply.ensures.done.kept in
     rw (← c.self.view_is) (record { outcome = shown.outcome; after = shown.after; state = shown.state; stale = shown.stale; kept = shown.kept; meter = shown.meter })
+
+pub returns-in_default : goal.returns-in_default
+returns-in_default c =
+    let nobody = sym c.in_default.ensures in
+    let shown = refused-shows (the_view c.self.inside) c.args.thread.number (action.Reply c.args.number) NothingToReply c.refused.result.outcome c.refused.result.after (rw nobody refl) c.refused.ensures.outcome c.refused.ensures.after in
+    rw (← c.self.view_is) (record { outcome = shown.outcome; after = shown.after; state = shown.state; stale = shown.stale; kept = shown.kept; meter = shown.meter })
+
+pub first_client-requires : goal.first_client-requires
+first_client-requires c =
+    let there = running-there c.self.inside.threads.records c.args.thread.number (rw (← c.self.view_is) at c.requires.runs) in
+    (there.0, omega (arith, there.1, c.self.invariant.clients))

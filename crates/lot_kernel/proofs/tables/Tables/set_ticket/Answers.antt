@@ -1,7 +1,13 @@
-use Rattle.std.proofs.Common.{◌≡◌, ◌∙◌, false, is_none, rules, sym}
-use Rattle.lot_machine.specs.Funding.{ticket_in}
+use Rattle.lot_kernel.proofs.Keeping.{keeps-threads}
+use Rattle.lot_kernel.specs.Snapshots.{Snapshot, held}
+use Rattle.lot_machine.specs.declared.refusal.Refusal.TheVariants.{BadAmount, NoTicket}
+use Rattle.lot_machine.specs.Commands.{Step, command_refusal}
+use Rattle.lot_machine.specs.declared.command.Command.TheVariants.{SetTicket}
+use Rattle.lot_kernel.proofs.Refusing.{done, missing, present, refused-reply, refused-state}
+use Rattle.std.proofs.Common.{None, Some, ap, inl, is_none, is_some, length, refl, sym, ◌∙◌, ◌≡◌}
+use Rattle.lot_machine.specs.Funding.{ticket_in, with_amount}
 use Rattle.lot_machine.specs.State.{sizes_of}
-use Rattle.lot_threads.specs.Threaded.{funding_in}
+use Rattle.lot_threads.specs.Threaded.{Threaded, funding_in}
 use Rattle.lot_kernel.proofs.Commanding.{good-amount, ticket-found}
 use Rattle.lot_kernel.proofs.Holding.{held-tickets, makes-held}
 use Rattle.lot_kernel.specs.FreePlaces.{freed_in}
@@ -9,7 +15,7 @@ use Rattle.lot_kernel.proofs.tables.Tables.set_ticket.Goals as goal
 
 pub apply-requires-clause-allowed : goal.apply-requires-clause-allowed
 apply-requires-clause-allowed c =
-    let found : is_none (ticket_in c.self.inside.threads.tickets c.args.ticket) ≡ false = search rules in
+    let found = ap (λ (x : Snapshot). is_none (ticket_in x.state.tickets c.args.ticket)) c.self.view_is ∙ present (ticket_in c.args.self.now.state.tickets c.args.ticket) (sym c.if-is_none.ensures ∙ ap is_some c.ticket_at.ensures.found) in
     let (before, there) = ticket-found (funding_in c.self.inside.threads) c.args.ticket found in
     (before, there, good-amount c.args.amount (sym c.is_bad_amount.ensures ∙ c.if-is_bad_amount.false))
 
@@ -18,3 +24,44 @@ returns-clause-stale c =
     let i = c.self.inside in
     let threads = held-tickets (sizes_of i.limits) (freed_in i.freed) i.currencies.items i.threads c.apply.new.self i.queues c.self.invariant.threads _ c.apply.ensures.applied in
     rw (← c.self.view_is) (makes-held (sizes_of i.limits) (freed_in i.freed) i.currencies.items i.currencies.items i.threads c.apply.new.self i.queues i.queues c.self.invariant.threads threads c.apply.ensures.stale.reached)
+
+pub returns-then-is_bad_amount : goal.returns-then-is_bad_amount
+returns-then-is_bad_amount c =
+    let s = c.args.self.now.state in
+    let is : command_refusal s (SetTicket c.args.ticket c.args.amount) ≡ Some BadAmount = rw (← c.if-is_bad_amount.ensures) refl in
+    record { reply = refused-reply s (SetTicket c.args.ticket c.args.amount) BadAmount is; state = refused-state s (SetTicket c.args.ticket c.args.amount) BadAmount is; stale = λ x old. inl old; kept = λ x old. old; meter = refl }
+
+pub returns-then-is_none : goal.returns-then-is_none
+returns-then-is_none c =
+    let s = c.args.self.now.state in
+    let none = missing (ticket_in s.tickets c.args.ticket) (sym c.if-is_none.ensures ∙ ap is_some c.ticket_at.ensures.found) in
+    let is : command_refusal s (SetTicket c.args.ticket c.args.amount) ≡ Some NoTicket = rw (← c.if-is_bad_amount.ensures, none) refl in
+    record { reply = refused-reply s (SetTicket c.args.ticket c.args.amount) NoTicket is; state = refused-state s (SetTicket c.args.ticket c.args.amount) NoTicket is; stale = λ x old. inl old; kept = λ x old. old; meter = refl }
+
+pub returns-clause-reply : goal.returns-clause-reply
+returns-clause-reply c =
+    let s = c.args.self.now.state in
+    let there = present (ticket_in s.tickets c.args.ticket) (sym c.if-is_none.ensures ∙ ap is_some c.ticket_at.ensures.found) in
+    let is : command_refusal s (SetTicket c.args.ticket c.args.amount) ≡ None = rw (← c.if-is_bad_amount.ensures, there) refl in
+    sym (ap (λ (x : Step). x.reply) (done s (SetTicket c.args.ticket c.args.amount) is))
+
+pub returns-clause-state : goal.returns-clause-state
+returns-clause-state c =
+    let s = c.args.self.now.state in
+    let there = present (ticket_in s.tickets c.args.ticket) (sym c.if-is_none.ensures ∙ ap is_some c.ticket_at.ensures.found) in
+    let is : command_refusal s (SetTicket c.args.ticket c.args.amount) ≡ None = rw (← c.if-is_bad_amount.ensures, there) refl in
+    let i = c.self.inside in
+    ap (λ (v : Threaded). held (sizes_of i.limits) (freed_in i.freed) i.currencies.items v i.queues) c.apply.ensures.applied
+    ∙ ap (λ (x : Snapshot). record x.state { tickets = with_amount x.state.tickets c.args.ticket c.args.amount }) c.self.view_is ∙ sym (ap (λ (x : Step). x.state) (done s (SetTicket c.args.ticket c.args.amount) is))
+
+pub invariant_of-self : goal.invariant_of-self
+invariant_of-self c =
+    let i = c.self.inside in
+    let is = c.apply.ensures.applied in
+    keeps-threads i c.self.invariant c.apply.new.self (held-tickets (sizes_of i.limits) (freed_in i.freed) i.currencies.items i.threads c.apply.new.self i.queues c.self.invariant.threads _ is) (ap (λ (v : Threaded). length v.records) is) (ap (λ (v : Threaded). v.threads) is)
+
+pub returns-clause-kept : goal.returns-clause-kept
+returns-clause-kept c = rw (← c.self.view_is) c.apply.ensures.stale.kept
+
+pub returns-clause-meter : goal.returns-clause-meter
+returns-clause-meter c = ap (λ (v : Threaded). v.meter) c.apply.ensures.applied ∙ ap (λ (x : Snapshot). x.meter) c.self.view_is

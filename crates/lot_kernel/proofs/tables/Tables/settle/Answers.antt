@@ -1,3 +1,4 @@
+use Rattle.lot_kernel.proofs.Keeping.{keeps-settled}
 use Rattle.std.proofs.Common.{ap, ◌∙◌, []}
 use Rattle.lot_machine.specs.Funding.{Funding}
 use Rattle.lot_machine.specs.State.{sizes_of}
@@ -14,3 +15,6 @@ returns-clause-settled c =
     let seen : Threaded → Snapshot = λ v. record { state = held (sizes_of i.limits) (freed_in i.freed) i.currencies.items v i.queues; stale = v.stale; meter = v.meter } in
     let counted : Funding → Snapshot = λ f. record (seen i.threads) { stale = []; meter = record i.threads.meter { ticket_reads = counted_up i.threads.meter.ticket_reads (edges_into_all f i.threads.stale) } } in
     rw (← c.self.view_is) (ap seen c.settle.ensures.settled ∙ ap counted (ap funding_in c.self.invariant.threads))
+
+pub invariant_of-self : goal.invariant_of-self
+invariant_of-self c = keeps-settled c.self.inside c.self.invariant c.settle.new.self c.settle.ensures.settled

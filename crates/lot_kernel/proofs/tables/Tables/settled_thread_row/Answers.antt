@@ -1,6 +1,6 @@
-use Rattle.std.proofs.Common.{Some, ap, rules, ◌∙◌, ◌≡◌}
+use Rattle.lot_kernel.specs.Snapshots.{Snapshot}
+use Rattle.std.proofs.Common.{ap, sym, ◌∙◌}
 use Rattle.lot_threads.specs.Threaded.{Threaded, worth_in}
-use Rattle.lot_machine.specs.Numbered.{at_number}
 use Rattle.lot_machine.specs.Rows.{thread_name}
 use Rattle.lot_kernel.specs.contracts.tables.Tables.{the_view}
 use Rattle.lot_kernel.proofs.Rows.{thread-row-of}
@@ -10,7 +10,7 @@ pub returns : goal.returns
 returns c =
     let i = c.self.inside in
     let s = (the_view i).state in
-    let found : at_number s.records c.args.thread.number ≡ Some c.in_ok-found.found = search rules in
-    let named : thread_name s c.args.thread.number ≡ Some c.in_ok-name.name = search rules in
+    let found = sym c.in_ok-found.ensures.record in
+    let named = ap (λ (x : Snapshot). thread_name x.state c.args.thread.number) c.self.view_is ∙ sym c.in_ok-name.ensures in
     let value = c.worth_of-value.ensures ∙ ap (λ (v : Threaded). worth_in v c.args.thread.number) c.self.invariant.threads in
     record { row = rw (← c.self.view_is) (thread-row-of s c.args.thread.number c.in_ok-found.found c.in_ok-name.name c.worth_of-value.result c.weight.result found named value c.weight.ensures.weight) }

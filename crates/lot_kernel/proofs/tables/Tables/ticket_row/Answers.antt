@@ -1,6 +1,6 @@
 use Rattle.std.proofs.Common.{Bool, Some, [], ap, false, if◌then◌else◌, refl, rules, subst, sym, true, unwrap_or, ℕ, ◌↔◌, ◌∙◌, ◌≡◌}
 use Rattle.lot_machine.specs.Activity.{IsActive, is_active}
-use Rattle.lot_graph.specs.Graphs.{IsFunding}
+use Rattle.lot_graph.specs.Graphs.{IsFunding, LimitedFunding}
 use Rattle.lot_machine.specs.Order.{IsInOrder}
 use Rattle.std.specs.Prelude.{IsTrue}
 use Rattle.lot_machine.specs.State.{State, sizes_of, funding_of, live_in, live_of}
@@ -36,9 +36,9 @@ returns-clause-row c =
     let s = (the_view i).state in
     let order = rw (← c.self.view_is) at c.requires in
     let t = c.in_ok-found.found in
-    let found : ticket_in s.tickets c.args.ticket.number ≡ Some t = search rules in
+    let found : ticket_in s.tickets c.args.ticket.number ≡ Some t = sym (c.in_ok-found.ensures.ticket ∙ ap (λ (w : LimitedFunding). ticket_at w.funding c.args.ticket.number) c.graph.ensures) in
     let named : unwrap_or (currency_name s t.issuer) [] ≡ c.in_ok-issuer.issuer = search rules in
-    let targeted : c.target_name-target.result ≡ target_name s t.target = search rules in
+    let targeted = c.target_name-target.ensures ∙ ap (λ (x : Snapshot). target_name x.state t.target) (sym c.self.view_is) in
     let active = active-tested s order c.args.ticket.number t i.threads c.settle.new.self c.is_active.result c.self.invariant.threads c.settle.ensures.settled found c.is_active.ensures in
     let there : ticket_at (funding_in c.settle.new.self) c.args.ticket.number ≡ Some t = ap (λ (v : Threaded). ticket_at (funding_in v) c.args.ticket.number) c.settle.ensures.settled ∙ found in
     let value = c.ticket_value.ensures.worth t there ∙ ap (λ (v : Threaded). ticket_value v.unit (funding_in v) (live_in v.records) t) (c.settle.ensures.settled ∙ ap settled_in c.self.invariant.threads) in
@@ -71,7 +71,7 @@ pub invariant_of-self : goal.invariant_of-self
 invariant_of-self c =
     let i = c.self.inside in
     let t = c.in_ok-found.found in
-    let found : ticket_in i.threads.tickets c.args.ticket.number ≡ Some t = search rules in
+    let found : ticket_in i.threads.tickets c.args.ticket.number ≡ Some t = sym (c.in_ok-found.ensures.ticket ∙ ap (λ (w : LimitedFunding). ticket_at w.funding c.args.ticket.number) c.graph.ensures) in
     let here : ticket_in c.settle.new.self.tickets c.args.ticket.number ≡ Some t = ap (λ (v : Threaded). ticket_in v.tickets c.args.ticket.number) c.settle.ensures.settled ∙ found in
     let read = read-meter c.args.ticket.number t c.settle.new.self c.ticket_value.new.self here c.ticket_value.ensures.counted c.ticket_value.ensures.uncounted in
     let whole = read ∙ ap (λ (v : Threaded). record v { meter = with_ticket_read v.meter t }) c.settle.ensures.settled in
@@ -82,7 +82,7 @@ pub returns-clause-state : goal.returns-clause-state
 returns-clause-state c =
     let i = c.self.inside in
     let t = c.in_ok-found.found in
-    let found : ticket_in i.threads.tickets c.args.ticket.number ≡ Some t = search rules in
+    let found : ticket_in i.threads.tickets c.args.ticket.number ≡ Some t = sym (c.in_ok-found.ensures.ticket ∙ ap (λ (w : LimitedFunding). ticket_at w.funding c.args.ticket.number) c.graph.ensures) in
     let here : ticket_in c.settle.new.self.tickets c.args.ticket.number ≡ Some t = ap (λ (v : Threaded). ticket_in v.tickets c.args.ticket.number) c.settle.ensures.settled ∙ found in
     let read = read-meter c.args.ticket.number t c.settle.new.self c.ticket_value.new.self here c.ticket_value.ensures.counted c.ticket_value.ensures.uncounted in
     let after = settles-held (sizes_of i.limits) (freed_in i.freed) i.currencies.items i.threads c.settle.new.self i.queues c.self.invariant.threads c.settle.ensures.settled in

@@ -1,0 +1,37 @@
+use Rattle.lot_kernel.proofs.Trapping.{lock-checked}
+use Rattle.std.proofs.lemmas.Bool.{eq-eqb}
+use Rattle.lot_machine.specs.Mutexes.{mutex_at}
+use Rattle.lot_kernel.specs.Snapshots.{Snapshot}
+use Rattle.std.proofs.Common.{Some, ap, false, not, refl, sym, true, ◌∙◌}
+use Rattle.lot_kernel.proofs.tables.Tables.lock_refusal.Goals as goal
+
+pub returns-then-not-has_mutex : goal.returns-then-not-has_mutex
+returns-then-not-has_mutex c = let missing = c.has_mutex.ensures.missing ∙ ap not c.if-not-has_mutex.true in record { refusal = rw missing refl; unchanged = refl }
+
+pub returns-in_err-owner : goal.returns-in_err-owner
+returns-in_err-owner c =
+    let s = c.args.self.now.state in
+    let present = c.has_mutex.ensures.missing ∙ ap not c.if-not-has_mutex.false in
+    let none = ap (λ (x : Snapshot). (mutex_at x.state.mutexes c.args.mutex.number).owner) (sym c.self.view_is) ∙ sym c.in_err-owner.ensures in
+    record { refusal = c.from_residual.ensures ∙ rw (present, none) refl; unchanged = refl }
+
+pub returns-then-owner-thread : goal.returns-then-owner-thread
+returns-then-owner-thread c =
+    let s = c.args.self.now.state in
+    let present = c.has_mutex.ensures.missing ∙ ap not c.if-not-has_mutex.false in
+    let owned = ap (λ (x : Snapshot). (mutex_at x.state.mutexes c.args.mutex.number).owner) (sym c.self.view_is) ∙ sym c.in_ok-owner.ensures in
+    record { refusal = rw (present, owned ∙ ap Some c.if-owner-thread.true, eq-eqb c.args.thread.number c.args.thread.number refl) refl; unchanged = refl }
+
+pub returns-then-lends_on_to : goal.returns-then-lends_on_to
+returns-then-lends_on_to c =
+    let s = c.args.self.now.state in
+    let present = c.has_mutex.ensures.missing ∙ ap not c.if-not-has_mutex.false in
+    let owned = ap (λ (x : Snapshot). (mutex_at x.state.mutexes c.args.mutex.number).owner) (sym c.self.view_is) ∙ sym c.in_ok-owner.ensures in
+    record { refusal = sym (lock-checked s c.args.thread.number c.args.mutex.number c.in_ok-owner.owner true (c.has_mutex.ensures.there c.if-not-has_mutex.false) owned c.if-owner-thread.false (sym c.lends_on_to.ensures.leads ∙ c.if-lends_on_to.true)); unchanged = c.lends_on_to.ensures.unchanged }
+
+pub returns : goal.returns
+returns c =
+    let s = c.args.self.now.state in
+    let present = c.has_mutex.ensures.missing ∙ ap not c.if-not-has_mutex.false in
+    let owned = ap (λ (x : Snapshot). (mutex_at x.state.mutexes c.args.mutex.number).owner) (sym c.self.view_is) ∙ sym c.in_ok-owner.ensures in
+    record { refusal = sym (lock-checked s c.args.thread.number c.args.mutex.number c.in_ok-owner.owner false (c.has_mutex.ensures.there c.if-not-has_mutex.false) owned c.if-owner-thread.false (sym c.lends_on_to.ensures.leads ∙ c.if-lends_on_to.false)); unchanged = c.lends_on_to.ensures.unchanged }

@@ -1,0 +1,8 @@
+-- What an error leaves to prove.
+use Rattle.std.proofs.Common.{Result, Ok, Err, IfOk}
+use Rattle.std.specs.Prelude.{IsErr}
+
+-- nothing, of what is said of a success
+pub if-ok-none : {A E : Type 0} (r : Result A E) (P : A → Type 0) → IsErr r → IfOk r P
+if-ok-none (Ok x) P is = cc
+if-ok-none (Err e) P is = tt

@@ -1,0 +1,232 @@
+-- States of reading stay within the bounds of an input.
+use Rattle.std.proofs.Common.{◌≡◌, ◌<◌, ◌≤◌, ℕ, Bool, Option, Some, Ok, List, [], ◌∷◌, ◌++◌, length, refl, ap, arith}
+use Rattle.std.specs.Prelude.{All, IsTrue}
+use Rattle.std.specs.List.Sorted.{IsNonDecreasing}
+use Rattle.std.proofs.lemmas.Bool.{lt-leb}
+use Rattle.std.proofs.lemmas.Grind.{common_steps}
+use Rattle.std.proofs.lemmas.List.{length-append}
+use Rattle.std.proofs.lemmas.List.Elements.{All-push, All-same}
+use Rattle.lot_machine.specs.Bounds.{IsBetween}
+use Rattle.lot_machine.specs.declared.command.Command.{Command}
+use Rattle.lot_simulation.specs.declared.input.HeaderWord.TheVariants as header
+use Rattle.lot_simulation.specs.Reading.{OpenScript, Reading, number_between}
+use Rattle.lot_simulation.specs.Grammar.{add_naming, header_line}
+use Rattle.lot_text.specs.Readings.{IsReading, after_header}
+
+-- a line of the body that adds ports
+pub with_ports : (r : Reading) (ports : List (List ℕ)) → IsReading r → length ports ≤ 256 → IsReading (record r { place = 10; ports = ports })
+with_ports r ports read fits = record {
+  processors = read.processors;
+  quantum = read.quantum;
+  turns = read.turns;
+  seeds = read.seeds;
+  tickets = read.tickets;
+  currencies = read.currencies;
+  threads = read.threads;
+  port_count = fits;
+  mutex_count = read.mutex_count;
+  script_count = read.script_count;
+  open_script = read.open_script;
+  command_count = read.command_count;
+  actors = read.actors;
+  schedule_length = read.schedule_length;
+  time_count = read.time_count;
+  running = read.running;
+  rising = read.rising;
+  past = read.past;
+  ticket_name_count = read.ticket_name_count;
+  unscheduled = λ none. absurd (omega (arith, none));
+}
+
+-- one that adds mutexes
+pub with_mutexes : (r : Reading) (mutexes : List (List ℕ)) → IsReading r → length mutexes ≤ 256 → IsReading (record r { place = 10; mutexes = mutexes })
+with_mutexes r mutexes read fits = record {
+  processors = read.processors;
+  quantum = read.quantum;
+  turns = read.turns;
+  seeds = read.seeds;
+  tickets = read.tickets;
+  currencies = read.currencies;
+  threads = read.threads;
+  port_count = read.port_count;
+  mutex_count = fits;
+  script_count = read.script_count;
+  open_script = read.open_script;
+  command_count = read.command_count;
+  actors = read.actors;
+  schedule_length = read.schedule_length;
+  time_count = read.time_count;
+  running = read.running;
+  rising = read.rising;
+  past = read.past;
+  ticket_name_count = read.ticket_name_count;
+  unscheduled = λ none. absurd (omega (arith, none));
+}
+
+-- one that opens a script
+pub with_open : (r : Reading) (script : OpenScript) → IsReading r → length r.scripts < 256 → IsReading (record r { place = 10; unclosed = Some script })
+with_open r script read room = record {
+  processors = read.processors;
+  quantum = read.quantum;
+  turns = read.turns;
+  seeds = read.seeds;
+  tickets = read.tickets;
+  currencies = read.currencies;
+  threads = read.threads;
+  port_count = read.port_count;
+  mutex_count = read.mutex_count;
+  script_count = read.script_count;
+  open_script = λ _. room;
+  command_count = read.command_count;
+  actors = read.actors;
+  schedule_length = read.schedule_length;
+  time_count = read.time_count;
+  running = read.running;
+  rising = read.rising;
+  past = read.past;
+  ticket_name_count = read.ticket_name_count;
+  unscheduled = λ none. absurd (omega (arith, none));
+}
+
+-- a line of an open script
+pub with_line : (r : Reading) (script : OpenScript) → IsReading r → length r.scripts < 256 → IsReading (record r { unclosed = Some script })
+with_line r script read room = record {
+  processors = read.processors;
+  quantum = read.quantum;
+  turns = read.turns;
+  seeds = read.seeds;
+  tickets = read.tickets;
+  currencies = read.currencies;
+  threads = read.threads;
+  port_count = read.port_count;
+  mutex_count = read.mutex_count;
+  script_count = read.script_count;
+  open_script = λ _. room;
+  command_count = read.command_count;
+  actors = read.actors;
+  schedule_length = read.schedule_length;
+  time_count = read.time_count;
+  running = read.running;
+  rising = read.rising;
+  past = read.past;
+  ticket_name_count = read.ticket_name_count;
+  unscheduled = read.unscheduled;
+}
+
+-- limits are read
+pub with_limits : (r : Reading) (tickets currencies threads : ℕ) → IsReading r → IsBetween 1 65535 tickets → IsBetween 1 4096 currencies → IsBetween 1 4096 threads
+    → IsReading (record r { tickets = tickets; currencies = currencies; threads = threads })
+with_limits r tickets currencies threads read first second third = record {
+  processors = read.processors;
+  quantum = read.quantum;
+  turns = read.turns;
+  seeds = read.seeds;
+  tickets = first;
+  currencies = second;
+  threads = third;
+  port_count = read.port_count;
+  mutex_count = read.mutex_count;
+  script_count = read.script_count;
+  open_script = read.open_script;
+  command_count = read.command_count;
+  actors = read.actors;
+  schedule_length = read.schedule_length;
+  time_count = read.time_count;
+  running = read.running;
+  rising = read.rising;
+  past = read.past;
+  ticket_name_count = read.ticket_name_count;
+  unscheduled = read.unscheduled;
+}
+
+-- a quantum or turns are read, or numbers are given again, or refusals end the play
+pub with_settings : (r : Reading) (quantum turns : ℕ) (reuse strict : Bool) → IsReading r → IsBetween 1 1000 quantum → turns ≤ 10000
+    → IsReading (record r { quantum = quantum; turns = turns; reuse = reuse; strict = strict })
+with_settings r quantum turns reuse strict read first second = record {
+  processors = read.processors;
+  quantum = first;
+  turns = second;
+  seeds = read.seeds;
+  tickets = read.tickets;
+  currencies = read.currencies;
+  threads = read.threads;
+  port_count = read.port_count;
+  mutex_count = read.mutex_count;
+  script_count = read.script_count;
+  open_script = read.open_script;
+  command_count = read.command_count;
+  actors = read.actors;
+  schedule_length = read.schedule_length;
+  time_count = read.time_count;
+  running = read.running;
+  rising = read.rising;
+  past = read.past;
+  ticket_name_count = read.ticket_name_count;
+  unscheduled = read.unscheduled;
+}
+
+-- mechanisms are left out
+pub with_without : (r : Reading) (compensation lending : Bool) → IsReading r → IsReading (record r { without_compensation = compensation; without_lending = lending })
+with_without r compensation lending read = record {
+  processors = read.processors;
+  quantum = read.quantum;
+  turns = read.turns;
+  seeds = read.seeds;
+  tickets = read.tickets;
+  currencies = read.currencies;
+  threads = read.threads;
+  port_count = read.port_count;
+  mutex_count = read.mutex_count;
+  script_count = read.script_count;
+  open_script = read.open_script;
+  command_count = read.command_count;
+  actors = read.actors;
+  schedule_length = read.schedule_length;
+  time_count = read.time_count;
+  running = read.running;
+  rising = read.rising;
+  past = read.past;
+  ticket_name_count = read.ticket_name_count;
+  unscheduled = read.unscheduled;
+}
+
+-- a command is added, with its time
+pub with_timed : (r : Reading) (commands : List Command) (times : List ℕ) (names : List (Option ℕ)) (command : Command) → IsReading r → length r.commands < 100000 → IsTrue r.is_timed
+    → commands ≡ r.commands ++ command ∷ [] → times ≡ r.times ++ r.time ∷ [] → IsReading (record r { place = 10; commands = commands; times = times; names = names })
+with_timed r commands times names command read room timed added now = record {
+  processors = read.processors;
+  quantum = read.quantum;
+  turns = read.turns;
+  seeds = read.seeds;
+  tickets = read.tickets;
+  currencies = read.currencies;
+  threads = read.threads;
+  port_count = read.port_count;
+  mutex_count = read.mutex_count;
+  script_count = read.script_count;
+  open_script = read.open_script;
+  command_count = omega (arith, room, ap length added, length-append r.commands (command ∷ []));
+  actors = read.actors;
+  schedule_length = read.schedule_length;
+  time_count = λ _. omega (arith, read.time_count timed, ap length added, ap length now, length-append r.commands (command ∷ []), length-append r.times (r.time ∷ []));
+  running = read.running;
+  rising = rw now (rising-push r.times r.time read.rising read.past);
+  past = All-same (λ (time : ℕ). time ≤ r.time) _ _ now (All-push (λ (time : ℕ). time ≤ r.time) r.times r.time read.past (omega arith));
+  ticket_name_count = read.ticket_name_count;
+  unscheduled = λ none. absurd (omega (arith, none));
+}
+  where
+    rising-push : (times : List ℕ) (time : ℕ) → IsNonDecreasing times → All (λ (t : ℕ). t ≤ time) times → IsNonDecreasing (times ++ time ∷ [])
+    rising-push times time rising past = grind (arith, common_steps)
+
+-- so the command is read
+pub timed-read : (before r : Reading) (name : Option ℕ) (command : Command) → before ≡ r → IsTrue r.is_timed → length r.commands < 100000
+    → after_header (add_naming r name command)
+    ≡ Ok (record before { place = 10; commands = before.commands ++ command ∷ []; times = before.times ++ before.time ∷ []; names = before.names ++ name ∷ [] })
+timed-read before r name command same timed room = rw (same, lt-leb 100000 (length r.commands) room, timed) refl
+
+-- limits are read from left to right
+pub limits-read : (before r : Reading) (first second third : List ℕ) (tickets currencies threads : ℕ) → before ≡ r → Ok tickets ≡ number_between 1 65535 first
+    → Ok currencies ≡ number_between 1 4096 second → Ok threads ≡ number_between 1 4096 third
+    → header_line r header.Limits (first ∷ second ∷ third ∷ []) ≡ Ok (record before { tickets = tickets; currencies = currencies; threads = threads })
+limits-read before r first second third tickets currencies threads same is_tickets is_currencies is_threads = rw (← same, ← is_tickets, ← is_currencies, ← is_threads) refl

@@ -1,0 +1,12 @@
+use Rattle.std.proofs.Common.{refl}
+use Rattle.lot_simulation.specs.declared.input.BodyWord.TheVariants as body
+use Rattle.lot_simulation.specs.Grammar.{body_after_header}
+use Rattle.lot_text.proofs.FaultLemmas.{Gives-refusal, alone-refused}
+use Rattle.lot_text.proofs.body.unfund.Goals as goal
+
+pub returns-in_err-ticket : goal.returns-in_err-ticket
+returns-in_err-ticket c n =
+    let other =
+    alone-refused (body_after_header n c.args.reading.now body.Unfund) c.args.tokens c.in_err-ticket.field-0.0 refl (λ a b others. refl) c.in_err-ticket.ensures
+    in
+    Gives-refusal _ c.from_residual.result c.in_err-ticket.field-0.0 _ c.from_residual.ensures other

@@ -1,0 +1,16 @@
+use Rattle.std.proofs.Common.{refl}
+use Rattle.lot_simulation.specs.declared.input.HeaderWord.TheVariants as header
+use Rattle.lot_simulation.specs.Grammar.{header_line}
+use Rattle.std.proofs.Common.{true}
+use Rattle.lot_text.specs.ReadingFields.{reading_of}
+use Rattle.lot_text.proofs.ReadingLemmas.{with_settings}
+use Rattle.lot_text.proofs.FaultLemmas.{Gives-refusal, none-refused}
+use Rattle.lot_text.proofs.header.read_strict.Goals as goal
+
+pub returns-in_err-none : goal.returns-in_err-none
+returns-in_err-none c =
+    let other = none-refused (header_line c.args.reading.now header.Strict) c.args.tokens c.in_err-none.field-0.0 (λ first others. refl) c.in_err-none.ensures in
+    Gives-refusal _ c.from_residual.result c.in_err-none.field-0.0 _ c.from_residual.ensures other
+
+pub invariant_of-reading : goal.invariant_of-reading
+invariant_of-reading c = with_settings (reading_of c.reading.inside) c.reading.inside.quantum c.reading.inside.turns c.reading.inside.reuse true c.reading.invariant c.reading.invariant.quantum c.reading.invariant.turns

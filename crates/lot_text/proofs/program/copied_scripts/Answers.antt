@@ -1,0 +1,11 @@
+use Rattle.std.proofs.lemmas.Result.{IfOk-from_err}
+use Rattle.lot_text.proofs.program.copied_scripts.Goals as goal
+
+pub returns-in_err-copies : goal.returns-in_err-copies
+returns-in_err-copies c = IfOk-from_err c.from_residual.result _ c.from_residual.ensures.0
+
+pub returns-in_err-copied : goal.returns-in_err-copied
+returns-in_err-copied c = IfOk-from_err c.from_residual-in_err-copied.result _ c.from_residual-in_err-copied.ensures.0
+
+pub returns-in_err-push : goal.returns-in_err-push
+returns-in_err-push c = IfOk-from_err c.from_residual-in_err-push.result _ c.from_residual-in_err-push.ensures.0

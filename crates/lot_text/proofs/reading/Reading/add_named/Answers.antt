@@ -1,0 +1,17 @@
+use Rattle.lot_text.proofs.FaultLemmas.{Gives-memory, Gives-refusal}
+use Rattle.lot_text.proofs.NameLemmas.{ticket-refused}
+use Rattle.lot_text.specs.ReadingFields.{reading_of}
+use Rattle.lot_text.proofs.reading.Reading.add_named.Goals as goal
+
+pub invariant_of-self : goal.invariant_of-self
+invariant_of-self c = rw c.in_err-push.ensures.items c.self.invariant
+
+pub returns-in_err-push : goal.returns-in_err-push
+returns-in_err-push c = Gives-memory _ c.from_residual-in_err-push.result _ c.from_residual-in_err-push.ensures
+
+pub returns-in_err-name : goal.returns-in_err-name
+returns-in_err-name c =
+    let refused =
+    ticket-refused (reading_of c.self.inside) c.args.self.now c.args.token.now c.as_slice.result.now c.in_err-name.field-0.0 c.args.command c.self.view_is
+    c.as_slice.ensures.value c.in_err-name.ensures in
+    Gives-refusal _ c.from_residual.result c.in_err-name.field-0.0 _ c.from_residual.ensures refused
