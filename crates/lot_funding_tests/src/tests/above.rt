@@ -3,14 +3,13 @@ ghost use Rattle.std.specs.Prelude.{◌≡◌, IsTrue};
 ghost use Rattle.lot_graph.specs.Graphs.{IsNodeOf};
 ghost use Rattle.lot_graph.specs.Places.{layout_of};
 
-use super::graph::{add_thread, fund, give, issue, largest, lend, make_currency, wait};
+use super::graph::{add_thread, give, largest, lend, link, make_currency, wait};
 use crate::{is_mutex, is_thread};
 use lot_above::Above;
 use lot_graph::Graph;
 use lot_machine::{Node, Target};
 use std::alloc::Global;
 use std::process::Abort;
-use std::test::Fail;
 
 const BASE: u32 = 0;
 
@@ -19,12 +18,6 @@ const ALICE: u32 = 1;
 const TASK: u32 = 2;
 
 const BOB: u32 = 3;
-
-/// Makes a ticket of a currency fund the target.
-fn link(rt: &impl Abort, graph: &mut Graph, currency: u32, target: Target) {
-    let ticket = issue(rt, graph, currency, 1);
-    assert!(rt; fund(rt, graph, ticket, target));
-}
 
 const CURRENCIES: &[u32] = &[ALICE, TASK, BOB];
 
@@ -47,7 +40,7 @@ const LINKS: &[(u32, Target)] = &[
 
 fn make_edges(rt: &impl Abort, graph: &mut Graph) {
     for (currency, target) in LINKS {
-        link(rt, graph, *currency, *target);
+        link(rt, graph, *currency, 1, *target);
     }
     assert!(rt; lend(rt, graph, 1, 2));
     give(rt, graph, 1, 2);
@@ -56,11 +49,11 @@ fn make_edges(rt: &impl Abort, graph: &mut Graph) {
 
 /// Base funds alice and bob. Alice funds task, which funds thread 1, and bob funds thread 3. Thread 1 lends to
 /// thread 2, which owns mutex 1, and thread 3 waits for the mutex.
-fn make_graph(rt: &impl Abort, alloc: Global) -> Result<Graph, Fail> {
-    let mut graph = largest(rt, alloc)?;
+fn make_graph(rt: &impl Abort, alloc: Global) -> Graph {
+    let mut graph = largest(rt, alloc);
     make_nodes(rt, &mut graph);
     make_edges(rt, &mut graph);
-    Ok(graph)
+    graph
 }
 
 /// Whether the graph has this node.
@@ -98,11 +91,11 @@ fn finds(
     graph: &Graph,
     nodes: (Node, Node),
     currency: u32,
-) -> Result<bool, Fail> {
-    let mut above = Above::new(alloc, graph.layout())?;
+) -> bool {
+    let mut above = Above::new(alloc, graph.layout()).expect(rt, "memory");
     find(rt, &mut above, graph, nodes.0);
     find(rt, &mut above, graph, nodes.1);
-    Ok(has_found(rt, &above, graph, currency))
+    has_found(rt, &above, graph, currency)
 }
 
 /// A node, a currency, and whether the currency is above the node.
@@ -131,19 +124,31 @@ const ROWS: &[(Node, u32, bool)] = &[
     (Node::Thread(3), ALICE, false),
 ];
 
-fn check_rows(rt: &impl Abort, alloc: Global, graph: &Graph) -> Result<(), Fail> {
-    for (i, (node, currency, is)) in ROWS.iter().enumerate() {
-        // Every currency is above thread 2, so the second search must forget the first.
-        let nodes = (Node::Thread(2), *node);
-        let found = finds(rt, alloc, graph, nodes, *currency)?;
-        assert!(rt; found == *is, "row {i}");
+fn check_found(rt: &impl Abort, row: usize, is_so: bool) {
+    assert!(rt; is_so, "row {row}");
+}
+
+fn check_row(
+    rt: &impl Abort,
+    alloc: Global,
+    graph: &Graph,
+    row: usize,
+    (node, currency, is): (Node, u32, bool),
+) {
+    // Every currency is above thread 2, so the second search must forget the first.
+    let found = finds(rt, alloc, graph, (Node::Thread(2), node), currency);
+    check_found(rt, row, found == is);
+}
+
+fn check_rows(rt: &impl Abort, alloc: Global, graph: &Graph) {
+    for (i, row) in ROWS.iter().enumerate() {
+        check_row(rt, alloc, graph, i, *row);
     }
-    Ok(())
 }
 
 #[test]
-fn currencies_above_nodes(rt: HostRuntime) -> Result<(), Fail> {
+fn currencies_above_nodes(rt: HostRuntime) {
     let alloc = rt.alloc();
-    let graph = make_graph(&rt, alloc)?;
-    check_rows(&rt, alloc, &graph)
+    let graph = make_graph(&rt, alloc);
+    check_rows(&rt, alloc, &graph);
 }

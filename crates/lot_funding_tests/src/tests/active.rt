@@ -2,19 +2,28 @@
 use super::required::{
     check_issue, check_may_lend, check_may_own, check_mutex, check_room, check_thread,
 };
+use super::same::check_step;
 use crate::is_target;
 use lot_active::{Active, ends_of_edge};
 use lot_graph::Graph;
 use lot_machine::{Edge, Lend, Limits, Sizes, Target};
-use std::alloc::Global;
+use std::alloc::{AllocError, Global};
 use std::marker::Model;
 use std::process::Abort;
-use std::test::Fail;
 
-#[derive(Drop)]
 struct Kept {
     graph: Graph,
     active: Active,
+}
+
+impl Drop for Kept {
+    // An explicit drop: code that drops a `Kept` is then proved without unfolding its fields.
+    fn drop(self) {
+        let Self {
+            graph: _,
+            active: _,
+        } = self;
+    }
 }
 
 impl Model for Kept {
@@ -28,7 +37,7 @@ impl Model for Kept {
 }
 
 impl Kept {
-    fn new(rt: &impl Abort, alloc: Global, limits: Option<Limits>) -> Result<Self, Fail> {
+    fn new(rt: &impl Abort, alloc: Global, limits: Option<Limits>) -> Result<Self, AllocError> {
         let limits = limits.expect(rt, "limits are not in bounds");
         let graph = Graph::new(alloc, &limits)?;
         let active = Active::new(alloc, &graph)?;
@@ -145,7 +154,7 @@ impl Kept {
     /// Takes the steps of a row in turn.
     fn play_all(&mut self, rt: &impl Abort, steps: &[Step]) {
         for (i, step) in steps.iter().enumerate() {
-            assert!(rt; self.play(rt, *step), "step {i}");
+            check_step(rt, i, self.play(rt, *step));
         }
     }
 
@@ -223,21 +232,14 @@ fn play_within(
     limits: Option<Limits>,
     (threads, currencies): (u32, u32),
     steps: &[Step],
-) -> Result<(), Fail> {
-    let mut kept = Kept::new(rt, alloc, limits)?;
+) {
+    let mut kept = Kept::new(rt, alloc, limits).expect(rt, "memory");
     kept.add_nodes(rt, threads, currencies);
     kept.play_all(rt, steps);
-    Ok(())
 }
 
 /// Plays a row after this many threads and currencies were made.
-fn play(
-    rt: &impl Abort,
-    alloc: Global,
-    threads: u32,
-    currencies: u32,
-    steps: &[Step],
-) -> Result<(), Fail> {
+fn play(rt: &impl Abort, alloc: Global, threads: u32, currencies: u32, steps: &[Step]) {
     play_within(rt, alloc, limits(), (threads, currencies), steps)
 }
 
@@ -270,7 +272,7 @@ const TWO_LEVELS: &[Step] = &[
 ];
 
 #[test]
-fn two_levels_all_blocked_one_wakes(rt: HostRuntime) -> Result<(), Fail> {
+fn two_levels_all_blocked_one_wakes(rt: HostRuntime) {
     play(&rt, rt.alloc(), 2, 2, TWO_LEVELS)
 }
 
@@ -299,7 +301,7 @@ const DIAMOND: &[Step] = &[
 ];
 
 #[test]
-fn diamond(rt: HostRuntime) -> Result<(), Fail> {
+fn diamond(rt: HostRuntime) {
     play(&rt, rt.alloc(), 1, 4, DIAMOND)
 }
 
@@ -320,7 +322,7 @@ const LAST_AND_ANOTHER: &[Step] = &[
 ];
 
 #[test]
-fn the_last_goes_and_another_comes(rt: HostRuntime) -> Result<(), Fail> {
+fn the_last_goes_and_another_comes(rt: HostRuntime) {
     play(&rt, rt.alloc(), 1, 1, LAST_AND_ANOTHER)
 }
 
@@ -340,7 +342,7 @@ const FUNDED_BEFORE: &[Step] = &[
 
 /// A ticket that is funded while its target is inactive has no part in any amount until the target wakes.
 #[test]
-fn funded_before_it_wakes(rt: HostRuntime) -> Result<(), Fail> {
+fn funded_before_it_wakes(rt: HostRuntime) {
     play(&rt, rt.alloc(), 2, 1, FUNDED_BEFORE)
 }
 
@@ -368,7 +370,7 @@ const ELSEWHERE: &[Step] = &[
 
 /// A change passes on the edges into the nodes that it switches, each once, and no edge elsewhere.
 #[test]
-fn edges_elsewhere_stay(rt: HostRuntime) -> Result<(), Fail> {
+fn edges_elsewhere_stay(rt: HostRuntime) {
     play(&rt, rt.alloc(), 3, 1, ELSEWHERE)
 }
 
@@ -389,7 +391,7 @@ const FUNDED_TWICE: &[Step] = &[
 
 /// Two tickets of one currency fund the same thread: both count.
 #[test]
-fn funded_twice(rt: HostRuntime) -> Result<(), Fail> {
+fn funded_twice(rt: HostRuntime) {
     play(&rt, rt.alloc(), 1, 1, FUNDED_TWICE)
 }
 
@@ -414,7 +416,7 @@ const CALL: &[Step] = &[
 
 /// A client calls a server: what funds the client stays active while the server runs.
 #[test]
-fn a_call(rt: HostRuntime) -> Result<(), Fail> {
+fn a_call(rt: HostRuntime) {
     play(&rt, rt.alloc(), 2, 0, CALL)
 }
 
@@ -445,7 +447,7 @@ const OWNER_CALLS: &[Step] = &[
 
 /// The owner of a mutex blocks on a call: a thread that waits for the mutex stays backed, by the server.
 #[test]
-fn an_owner_calls(rt: HostRuntime) -> Result<(), Fail> {
+fn an_owner_calls(rt: HostRuntime) {
     play(&rt, rt.alloc(), 3, 0, OWNER_CALLS)
 }
 
@@ -471,15 +473,14 @@ const CHAIN: &[Step] = &[
     Step::IsAmount(4096, 0),
 ];
 
-fn play_chain(rt: &impl Abort, alloc: Global) -> Result<(), Fail> {
-    let mut kept = Kept::new(rt, alloc, Limits::new(Sizes::LARGEST))?;
+fn play_chain(rt: &impl Abort, alloc: Global) {
+    let mut kept = Kept::new(rt, alloc, Limits::new(Sizes::LARGEST)).expect(rt, "memory");
     chain(rt, &mut kept);
     kept.play_all(rt, CHAIN);
-    Ok(())
 }
 
 #[test]
-fn chain_of_4096_on_and_off(rt: HostRuntime) -> Result<(), Fail> {
+fn chain_of_4096_on_and_off(rt: HostRuntime) {
     play_chain(&rt, rt.alloc())
 }
 
@@ -501,17 +502,16 @@ fn fill(rt: &impl Abort, kept: &mut Kept) {
     }
 }
 
-fn play_filled(rt: &impl Abort, alloc: Global) -> Result<(), Fail> {
-    let mut kept = Kept::new(rt, alloc, Limits::new(Sizes::LARGEST))?;
+fn play_filled(rt: &impl Abort, alloc: Global) {
+    let mut kept = Kept::new(rt, alloc, Limits::new(Sizes::LARGEST)).expect(rt, "memory");
     kept.add_thread(rt);
     fill(rt, &mut kept);
     kept.play_all(rt, LARGEST);
-    Ok(())
 }
 
 /// As many tickets as the limit allows, each of the largest amount, fund one thread.
 #[test]
-fn largest_sizes(rt: HostRuntime) -> Result<(), Fail> {
+fn largest_sizes(rt: HostRuntime) {
     play_filled(&rt, rt.alloc())
 }
 
@@ -527,6 +527,6 @@ const LEAST: &[Step] = &[
 ];
 
 #[test]
-fn least_sizes(rt: HostRuntime) -> Result<(), Fail> {
+fn least_sizes(rt: HostRuntime) {
     play_within(&rt, rt.alloc(), Limits::new(Sizes::SMALLEST), (1, 1), LEAST)
 }

@@ -10,13 +10,18 @@ use lot_value::{Change, ValuedGraph};
 use std::alloc::{AllocError, Global};
 use std::marker::Model;
 use std::process::Abort;
-use std::test::Fail;
 
 /// A graph, and the queue of its threads.
-#[derive(Drop)]
 struct Room {
     graph: ValuedGraph,
     queue: RunQueue,
+}
+
+impl Drop for Room {
+    // An explicit drop: code that drops a `Room` is then proved without unfolding its fields.
+    fn drop(self) {
+        let Self { graph: _, queue: _ } = self;
+    }
 }
 
 impl Model for Room {
@@ -236,21 +241,15 @@ fn take_all(rt: &impl Abort, room: &mut Room, steps: &[Step]) {
 }
 
 /// A new room of these limits.
-fn room_of(alloc: Global, limits: Option<Limits>) -> Result<Room, Fail> {
-    let limits = limits.ok_or("limits")?;
-    Ok(Room::new(alloc, &limits)?)
+fn room_of(rt: &impl Abort, alloc: Global, limits: Option<Limits>) -> Room {
+    let limits = limits.expect(rt, "limits");
+    Room::new(alloc, &limits).expect(rt, "memory")
 }
 
 /// Takes the steps in a new room of these limits.
-fn play(
-    rt: &impl Abort,
-    alloc: Global,
-    limits: Option<Limits>,
-    steps: &[Step],
-) -> Result<(), Fail> {
-    let mut room = room_of(alloc, limits)?;
+fn play(rt: &impl Abort, alloc: Global, limits: Option<Limits>, steps: &[Step]) {
+    let mut room = room_of(rt, alloc, limits);
     take_all(rt, &mut room, steps);
-    Ok(())
 }
 
 /// 100 of base fund a currency, and 33 of it fund each of three threads.
@@ -266,11 +265,10 @@ const THIRDS: &[Step] = &[
 ];
 
 /// Takes the steps after these.
-fn play_thirds(rt: &impl Abort, alloc: Global, steps: &[Step]) -> Result<(), Fail> {
-    let mut room = room_of(alloc, small_limits())?;
+fn play_thirds(rt: &impl Abort, alloc: Global, steps: &[Step]) {
+    let mut room = room_of(rt, alloc, small_limits());
     take_all(rt, &mut room, THIRDS);
     take_all(rt, &mut room, steps);
-    Ok(())
 }
 
 const STALE: &[Step] = &[
@@ -282,7 +280,7 @@ const STALE: &[Step] = &[
 
 // Each edge into a stale node is read once: one into the currency, and one into each thread.
 #[test]
-fn reads_what_is_stale(rt: HostRuntime) -> Result<(), Fail> {
+fn reads_what_is_stale(rt: HostRuntime) {
     play_thirds(&rt, rt.alloc(), STALE)
 }
 
@@ -295,7 +293,7 @@ const FUNDED_BETWEEN: &[Step] = &[
 // A ticket that is made and funds the currency reads nothing by itself; the next draw reads the edges into what got
 // stale.
 #[test]
-fn funded_between_draws(rt: HostRuntime) -> Result<(), Fail> {
+fn funded_between_draws(rt: HostRuntime) {
     play_thirds(&rt, rt.alloc(), FUNDED_BETWEEN)
 }
 
@@ -314,7 +312,7 @@ const UPSTREAM: &[Step] = &[
 
 // A ticket two currencies upstream of the thread goes: only the thread's other funding still counts.
 #[test]
-fn unfunded_upstream(rt: HostRuntime) -> Result<(), Fail> {
+fn unfunded_upstream(rt: HostRuntime) {
     play(&rt, rt.alloc(), small_limits(), UPSTREAM)
 }
 
@@ -331,7 +329,7 @@ const RUNNING: &[Step] = &[
 
 // A thread that runs is worth what it was, and only the others are drawn.
 #[test]
-fn leaves_out_who_runs(rt: HostRuntime) -> Result<(), Fail> {
+fn leaves_out_who_runs(rt: HostRuntime) {
     play_thirds(&rt, rt.alloc(), RUNNING)
 }
 
@@ -352,23 +350,23 @@ const COMPENSATED: &[Step] = &[
 
 // Quantum 100: a thread that used 20 ticks of it weighs five times what it is worth.
 #[test]
-fn compensates(rt: HostRuntime) -> Result<(), Fail> {
+fn compensates(rt: HostRuntime) {
     play(&rt, rt.alloc(), small_limits(), COMPENSATED)
 }
 
 /// A room of 1000 threads, each of which a ticket of 1 funds.
-fn thousand(rt: &impl Abort, alloc: Global) -> Result<Room, Fail> {
+fn thousand(rt: &impl Abort, alloc: Global) -> Room {
     let limits = Limits::new(Sizes {
         tickets: 1000,
         threads: 1000,
         quantum: 100,
         ..Sizes::SMALLEST
     });
-    let mut room = room_of(alloc, limits)?;
+    let mut room = room_of(rt, alloc, limits);
     for _ in 0..1000 {
         add_funded(rt, &mut room, 1);
     }
-    Ok(room)
+    room
 }
 
 /// Draws a number below 1000, of which the first draw alone reads edges.
@@ -381,16 +379,15 @@ fn check_thousandth(rt: &impl Abort, room: &mut Room, d: u32)
     check_counts(rt, room, number, won, reads, 10);
 }
 
-fn check_thousand(rt: &impl Abort, alloc: Global) -> Result<(), Fail> {
-    let mut room = thousand(rt, alloc)?;
+fn check_thousand(rt: &impl Abort, alloc: Global) {
+    let mut room = thousand(rt, alloc);
     for d in 0..1000 {
         check_thousandth(rt, &mut room, d);
     }
-    Ok(())
 }
 
 #[test]
-fn visits_a_place_a_digit(rt: HostRuntime) -> Result<(), Fail> {
+fn visits_a_place_a_digit(rt: HostRuntime) {
     check_thousand(&rt, rt.alloc())
 }
 
@@ -402,7 +399,7 @@ const LEAST: &[Step] = &[
 ];
 
 #[test]
-fn queue_of_the_least_size(rt: HostRuntime) -> Result<(), Fail> {
+fn queue_of_the_least_size(rt: HostRuntime) {
     let limits = Limits::new(Sizes::SMALLEST);
     play(&rt, rt.alloc(), limits, LEAST)
 }
@@ -415,7 +412,7 @@ const LARGEST: &[Step] = &[
 ];
 
 #[test]
-fn queue_of_the_largest_size(rt: HostRuntime) -> Result<(), Fail> {
+fn queue_of_the_largest_size(rt: HostRuntime) {
     let limits = Limits::new(Sizes {
         unit: 1,
         ..Sizes::LARGEST

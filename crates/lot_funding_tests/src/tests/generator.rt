@@ -1,7 +1,7 @@
 //! The generator of drawn numbers, and the seeds of processors.
 use super::same::{check_same, check_same_at};
 use lot_draw::{ParkMiller, mixed_seed};
-use std::test::Fail;
+use std::process::Abort;
 
 /// Numbers, and whether each is a seed.
 const SEEDS: &[(u32, bool)] = &[
@@ -18,24 +18,27 @@ fn seeds(rt: HostRuntime) {
     }
 }
 
+/// The generator that begins with 1.
+fn generator(rt: &impl Abort) -> ParkMiller {
+    ParkMiller::new(1).expect(rt, "seed")
+}
+
 #[test]
-fn numbers(rt: HostRuntime) -> Result<(), Fail> {
-    let mut generator = ParkMiller::new(1).ok_or("seed")?;
+fn numbers(rt: HostRuntime) {
+    let mut generator = generator(&rt);
     check_same(&rt, &generator.number(), &36090892629924);
-    Ok(())
 }
 
 // By the definition: from 1 the values 16807, 282475249, 1622650073 and 984943658.
 #[test]
-fn wide_numbers(rt: HostRuntime) -> Result<(), Fail> {
-    let mut generator = ParkMiller::new(1).ok_or("seed")?;
+fn wide_numbers(rt: HostRuntime) {
+    let mut generator = generator(&rt);
     check_same(
         &rt,
         &generator.wide_number(),
         &166439864623969647858139600294153,
     );
     check_same(&rt, &generator.next(), &1144108930);
-    Ok(())
 }
 
 /// Processors, and their seeds.
@@ -57,12 +60,11 @@ fn mixed_seeds(rt: HostRuntime) {
 
 // The check that Park and Miller give for their generator: from 1, the value after 10000 steps.
 #[test]
-fn ten_thousandth(rt: HostRuntime) -> Result<(), Fail> {
-    let mut generator = ParkMiller::new(1).ok_or("seed")?;
+fn ten_thousandth(rt: HostRuntime) {
+    let mut generator = generator(&rt);
     let mut value = 1;
     for _ in 0..10000 {
         value = generator.next();
     }
     check_same(&rt, &value, &1043618065);
-    Ok(())
 }

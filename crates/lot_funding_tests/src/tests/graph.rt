@@ -8,18 +8,18 @@ use super::required::{
     check_issue, check_lends_nothing, check_may_own, check_mutex, check_room, check_thread,
     may_lend,
 };
+use super::same::check_step;
 use crate::is_target;
 use lot_graph::Graph;
 use lot_machine::{Edge, Lend, Limits, Node, Sizes, Target, Ticket};
 use std::alloc::Global;
 use std::process::Abort;
-use std::test::Fail;
 
 /// A graph of the largest tables.
-pub(super) fn largest(rt: &impl Abort, alloc: Global) -> Result<Graph, Fail> {
+pub(super) fn largest(rt: &impl Abort, alloc: Global) -> Graph {
     let limits = Limits::new(Sizes::LARGEST);
     let limits = limits.expect(rt, "limits are not in bounds");
-    Ok(Graph::new(alloc, &limits)?)
+    Graph::new(alloc, &limits).expect(rt, "memory")
 }
 
 pub(super) fn add_thread(rt: &impl Abort, graph: &mut Graph) {
@@ -53,7 +53,7 @@ fn try_issue(rt: &impl Abort, graph: &mut Graph, currency: u32, amount: u32) -> 
 }
 
 /// A ticket in a currency.
-pub(super) fn issue(rt: &impl Abort, graph: &mut Graph, currency: u32, amount: u32) -> u32 {
+fn issue(rt: &impl Abort, graph: &mut Graph, currency: u32, amount: u32) -> u32 {
     try_issue(rt, graph, currency, amount).expect(rt, "there is no room for a ticket")
 }
 
@@ -70,7 +70,7 @@ fn set_amount(rt: &impl Abort, graph: &mut Graph, ticket: u32, amount: u32) {
 }
 
 /// Makes a ticket fund a target, or returns false if it would make a cycle.
-pub(super) fn fund(rt: &impl Abort, graph: &mut Graph, ticket: u32, target: Target) -> bool {
+fn fund(rt: &impl Abort, graph: &mut Graph, ticket: u32, target: Target) -> bool {
     assert!(rt; is_target(graph, target));
     assert!(rt; graph.is_unfunded(ticket));
     graph.fund(ticket, target).is_ok()
@@ -116,24 +116,23 @@ pub(super) fn give(rt: &impl Abort, graph: &mut Graph, mutex: u32, thread: u32) 
     graph.take_mutex(mutex, thread);
 }
 
+/// Makes a new ticket of a currency fund the target.
+pub(super) fn link(rt: &impl Abort, graph: &mut Graph, currency: u32, amount: u32, target: Target) {
+    let ticket = issue(rt, graph, currency, amount);
+    assert!(rt; fund(rt, graph, ticket, target));
+}
+
 /// Tickets of base, each of the largest amount, that fund a thread.
 fn fill(rt: &impl Abort, graph: &mut Graph, thread: u32, count: u32) {
     for _ in 0..count {
-        let ticket = issue(rt, graph, 0, u32::MAX);
-        assert!(rt; fund(rt, graph, ticket, Target::Thread(thread)));
+        link(rt, graph, 0, u32::MAX, Target::Thread(thread));
     }
-}
-
-/// A ticket of one currency that funds the other.
-fn link(rt: &impl Abort, graph: &mut Graph, from: u32, to: u32) {
-    let ticket = issue(rt, graph, from, 1);
-    assert!(rt; fund(rt, graph, ticket, Target::Currency(to)));
 }
 
 /// Makes one more currency, which the one before funds.
 fn extend(rt: &impl Abort, graph: &mut Graph, last: u32) -> u32 {
     let next = make_currency(rt, graph);
-    link(rt, graph, last, next);
+    link(rt, graph, last, 1, Target::Currency(next));
     next
 }
 
@@ -148,14 +147,14 @@ fn chain(rt: &impl Abort, graph: &mut Graph, length: u32) -> u32 {
 
 /// One currency funds two.
 fn split(rt: &impl Abort, graph: &mut Graph, top: u32, sides: (u32, u32)) {
-    link(rt, graph, top, sides.0);
-    link(rt, graph, top, sides.1);
+    link(rt, graph, top, 1, Target::Currency(sides.0));
+    link(rt, graph, top, 1, Target::Currency(sides.1));
 }
 
 /// Two currencies fund one.
 fn join(rt: &impl Abort, graph: &mut Graph, sides: (u32, u32), bottom: u32) {
-    link(rt, graph, sides.0, bottom);
-    link(rt, graph, sides.1, bottom);
+    link(rt, graph, sides.0, 1, Target::Currency(bottom));
+    link(rt, graph, sides.1, 1, Target::Currency(bottom));
 }
 
 /// Two ways from a currency to a new one, which it returns.
@@ -408,15 +407,14 @@ fn change(rt: &impl Abort, graph: &mut Graph, step: Step) {
 /// Takes the steps in turn.
 fn take_all(rt: &impl Abort, graph: &mut Graph, steps: &[Step]) {
     for (i, step) in steps.iter().enumerate() {
-        assert!(rt; take(rt, graph, *step), "step {i}");
+        check_step(rt, i, take(rt, graph, *step));
     }
 }
 
 /// Takes the steps in a new graph of the largest tables.
-fn play(rt: &impl Abort, alloc: Global, steps: &[Step]) -> Result<(), Fail> {
-    let mut graph = largest(rt, alloc)?;
+fn play(rt: &impl Abort, alloc: Global, steps: &[Step]) {
+    let mut graph = largest(rt, alloc);
     take_all(rt, &mut graph, steps);
-    Ok(())
 }
 
 const CYCLES: &[Step] = &[
@@ -439,7 +437,7 @@ const CYCLES: &[Step] = &[
 ];
 
 #[test]
-fn cycles_are_refused(rt: HostRuntime) -> Result<(), Fail> {
+fn cycles_are_refused(rt: HostRuntime) {
     play(&rt, rt.alloc(), CYCLES)
 }
 
@@ -465,7 +463,7 @@ const REMOVED: &[Step] = &[
 ];
 
 #[test]
-fn removed_numbers_are_gone(rt: HostRuntime) -> Result<(), Fail> {
+fn removed_numbers_are_gone(rt: HostRuntime) {
     play(&rt, rt.alloc(), REMOVED)
 }
 
@@ -490,7 +488,7 @@ const REISSUED: &[Step] = &[
 ];
 
 #[test]
-fn amounts_change_in_place(rt: HostRuntime) -> Result<(), Fail> {
+fn amounts_change_in_place(rt: HostRuntime) {
     play(&rt, rt.alloc(), REISSUED)
 }
 
@@ -505,7 +503,7 @@ const LARGEST: &[Step] = &[
 ];
 
 #[test]
-fn largest_sizes(rt: HostRuntime) -> Result<(), Fail> {
+fn largest_sizes(rt: HostRuntime) {
     play(&rt, rt.alloc(), LARGEST)
 }
 
@@ -521,7 +519,7 @@ const BACKED: &[Step] = &[
 ];
 
 #[test]
-fn backing_of_a_currency(rt: HostRuntime) -> Result<(), Fail> {
+fn backing_of_a_currency(rt: HostRuntime) {
     play(&rt, rt.alloc(), BACKED)
 }
 
@@ -533,7 +531,7 @@ const CHAIN: &[Step] = &[
 ];
 
 #[test]
-fn chain_of_currencies(rt: HostRuntime) -> Result<(), Fail> {
+fn chain_of_currencies(rt: HostRuntime) {
     play(&rt, rt.alloc(), CHAIN)
 }
 
@@ -544,7 +542,7 @@ const LADDER: &[Step] = &[
 ];
 
 #[test]
-fn ladder_of_diamonds(rt: HostRuntime) -> Result<(), Fail> {
+fn ladder_of_diamonds(rt: HostRuntime) {
     play(&rt, rt.alloc(), LADDER)
 }
 
@@ -570,7 +568,7 @@ const LENT: &[Step] = &[
 ];
 
 #[test]
-fn lends_and_owners(rt: HostRuntime) -> Result<(), Fail> {
+fn lends_and_owners(rt: HostRuntime) {
     play(&rt, rt.alloc(), LENT)
 }
 
@@ -592,6 +590,6 @@ const EACH_KIND: &[Step] = &[
 ];
 
 #[test]
-fn edges_out_of_each_kind(rt: HostRuntime) -> Result<(), Fail> {
+fn edges_out_of_each_kind(rt: HostRuntime) {
     play(&rt, rt.alloc(), EACH_KIND)
 }

@@ -1,9 +1,8 @@
 //! Weights that are put into a tree of partial sums, and the places that draws find there.
 use super::same::{check_same, check_same_at};
 use lot_tree::SumTree;
-use std::alloc::{AllocError, Global};
+use std::alloc::Global;
 use std::process::Abort;
-use std::test::Fail;
 
 /// Half of the limit of a total.
 const HALF_LIMIT: u128 = 1 << 111;
@@ -16,13 +15,18 @@ fn put(rt: &impl Abort, tree: &mut SumTree, i: usize, w: u128) {
     tree.set(i, w);
 }
 
+/// A tree of this many places.
+fn new_tree(rt: &impl Abort, alloc: Global, places: usize) -> SumTree {
+    SumTree::new(alloc, places).expect(rt, "memory")
+}
+
 /// A tree of these weights.
-fn tree_of(rt: &impl Abort, alloc: Global, weights: &[u128]) -> Result<SumTree, AllocError> {
-    let mut tree = SumTree::new(alloc, weights.len())?;
+fn tree_of(rt: &impl Abort, alloc: Global, weights: &[u128]) -> SumTree {
+    let mut tree = new_tree(rt, alloc, weights.len());
     for (i, w) in weights.iter().enumerate() {
         put(rt, &mut tree, i, *w);
     }
-    Ok(tree)
+    tree
 }
 
 /// The place that `d` draws, and the number of partial sums that this reads.
@@ -94,11 +98,10 @@ fn check_by_sums(rt: &impl Abort, tree: &SumTree) {
 }
 
 #[test]
-fn draws_by_running_sums(rt: HostRuntime) -> Result<(), Fail> {
-    let tree = tree_of(&rt, rt.alloc(), WEIGHTS)?;
+fn draws_by_running_sums(rt: HostRuntime) {
+    let tree = tree_of(&rt, rt.alloc(), WEIGHTS);
     check_size(&rt, &tree, 5, 20);
     check_by_sums(&rt, &tree);
-    Ok(())
 }
 
 /// Puts other weights at two places.
@@ -108,10 +111,14 @@ fn put_others(rt: &impl Abort, tree: &mut SumTree) {
     check_same(rt, &tree.total(), &23);
 }
 
+fn check_weight(rt: &impl Abort, tree: &SumTree, i: usize, w: u128) {
+    assert!(rt; i < tree.len());
+    check_same_at(rt, &i, &tree.get(i), &w);
+}
+
 fn check_weights(rt: &impl Abort, tree: &SumTree, weights: &[u128]) {
     for (i, w) in weights.iter().enumerate() {
-        assert!(rt; i < tree.len());
-        check_same_at(rt, &i, &tree.get(i), w);
+        check_weight(rt, tree, i, *w);
     }
 }
 
@@ -127,26 +134,24 @@ fn check_places(rt: &impl Abort, tree: &SumTree, places: &[(u128, usize)]) {
 }
 
 #[test]
-fn puts_one_weight_for_another(rt: HostRuntime) -> Result<(), Fail> {
-    let mut tree = tree_of(&rt, rt.alloc(), WEIGHTS)?;
+fn puts_one_weight_for_another(rt: HostRuntime) {
+    let mut tree = tree_of(&rt, rt.alloc(), WEIGHTS);
     put_others(&rt, &mut tree);
     check_weights(&rt, &tree, OTHERS);
     check_places(&rt, &tree, BY_OTHERS);
-    Ok(())
 }
 
 const ONE: &[u128] = &[3];
 
-fn check_one(rt: &impl Abort, alloc: Global) -> Result<(), Fail> {
-    let one = tree_of(rt, alloc, ONE)?;
+fn check_one(rt: &impl Abort, alloc: Global) {
+    let one = tree_of(rt, alloc, ONE);
     check_same(rt, &draw(rt, &one, 0), &(0, 1));
     check_same(rt, &draw(rt, &one, 2), &(0, 1));
-    Ok(())
 }
 
 #[test]
-fn holds_no_place_and_one(rt: HostRuntime) -> Result<(), Fail> {
-    let none = SumTree::new(rt.alloc(), 0)?;
+fn holds_no_place_and_one(rt: HostRuntime) {
+    let none = new_tree(&rt, rt.alloc(), 0);
     check_size(&rt, &none, 0, 0);
     check_one(&rt, rt.alloc())
 }
@@ -173,22 +178,20 @@ const BY_LARGE: &[(u128, usize)] = &[
 ];
 
 #[test]
-fn holds_weights_past_64_bits(rt: HostRuntime) -> Result<(), Fail> {
-    let tree = tree_of(&rt, rt.alloc(), LARGE_WEIGHTS)?;
+fn holds_weights_past_64_bits(rt: HostRuntime) {
+    let tree = tree_of(&rt, rt.alloc(), LARGE_WEIGHTS);
     check_places(&rt, &tree, BY_LARGE);
-    Ok(())
 }
 
 #[test]
-fn reads_a_sum_for_each_digit_at_most(rt: HostRuntime) -> Result<(), Fail> {
-    let mut tree = SumTree::new(rt.alloc(), 1000)?;
+fn reads_a_sum_for_each_digit_at_most(rt: HostRuntime) {
+    let mut tree = new_tree(&rt, rt.alloc(), 1000);
     for i in 0..1000 {
         put(&rt, &mut tree, i, 1);
     }
     for i in 0..1000 {
         check_reads(&rt, &tree, i as u128, i, 10);
     }
-    Ok(())
 }
 
 /// Draws after this many reads, and checks that there are then as many as a number can count.
@@ -200,12 +203,11 @@ fn check_greatest(rt: &impl Abort, tree: &SumTree, reads: u64) {
 }
 
 #[test]
-fn counts_on_to_the_greatest_number(rt: HostRuntime) -> Result<(), Fail> {
-    let tree = tree_of(&rt, rt.alloc(), WEIGHTS)?;
+fn counts_on_to_the_greatest_number(rt: HostRuntime) {
+    let tree = tree_of(&rt, rt.alloc(), WEIGHTS);
     // One more read reaches the greatest number, and a read after it doesn't pass it.
     check_greatest(&rt, &tree, u64::MAX - 1);
     check_greatest(&rt, &tree, u64::MAX);
-    Ok(())
 }
 
 /// Puts a weight in both, and draws.
@@ -221,28 +223,26 @@ fn check_walk(rt: &impl Abort, tree: &mut SumTree, weights: &mut [u128], state: 
     }
 }
 
-/// Three hundred draws of a tree of this many places.
-fn check_walks(
-    rt: &impl Abort,
-    alloc: Global,
-    n: usize,
-    state: &mut u64,
-) -> Result<(), AllocError> {
-    let mut weights = vec![in alloc; 0; n]?;
-    let mut tree = SumTree::new(alloc, n)?;
+/// Three hundred such draws.
+fn walk_often(rt: &impl Abort, tree: &mut SumTree, weights: &mut [u128], state: &mut u64) {
     for _ in 0..300 {
-        check_walk(rt, &mut tree, &mut weights, state);
+        check_walk(rt, tree, weights, state);
     }
-    Ok(())
+}
+
+/// Such draws of a tree of this many places.
+fn check_walks(rt: &impl Abort, alloc: Global, n: usize, state: &mut u64) {
+    let mut weights = vec![in alloc; 0; n].expect(rt, "memory");
+    let mut tree = new_tree(rt, alloc, n);
+    walk_often(rt, &mut tree, &mut weights, state);
 }
 
 const SIZES: &[usize] = &[1, 2, 3, 4, 5, 7, 8, 9, 15, 16, 17, 31, 33, 64, 100];
 
 #[test]
-fn draws_as_a_walk_does(rt: HostRuntime) -> Result<(), Fail> {
+fn draws_as_a_walk_does(rt: HostRuntime) {
     let mut state = 1;
     for n in SIZES {
-        check_walks(&rt, rt.alloc(), *n, &mut state)?;
+        check_walks(&rt, rt.alloc(), *n, &mut state);
     }
-    Ok(())
 }

@@ -226,12 +226,7 @@ fn settle(graph: &mut ValuedGraph) -> u64 {
     graph.reads().saturating_sub(before)
 }
 
-fn opening(
-    rt: &impl Abort,
-    alloc: Global,
-    threads: u32,
-    currencies: u32,
-) -> Result<ValuedGraph, Fail> {
+fn opening(rt: &impl Abort, alloc: Global, threads: u32, currencies: u32) -> ValuedGraph {
     let limits = Limits::new(Sizes {
         tickets: 300,
         currencies: 200,
@@ -248,9 +243,9 @@ fn opening(
         without_lending: false,
     });
     let limits = limits.expect(rt, "limits are not in bounds");
-    let mut graph = ValuedGraph::new(alloc, &limits)?;
+    let mut graph = ValuedGraph::new(alloc, &limits).expect(rt, "memory");
     add_nodes(rt, &mut graph, threads, currencies);
-    Ok(graph)
+    graph
 }
 
 fn add_nodes(rt: &impl Abort, graph: &mut ValuedGraph, threads: u32, currencies: u32) {
@@ -314,9 +309,13 @@ fn play(rt: &impl Abort, graph: &mut ValuedGraph, row: &Row) {
     check(rt, graph, row.worth);
 }
 
+fn check_worth(rt: &impl Abort, graph: &ValuedGraph, node: Node, value: u64) {
+    assert!(rt; is_worth(graph, node, value), "worth");
+}
+
 fn check(rt: &impl Abort, graph: &ValuedGraph, worth: &[(Node, u64)]) {
     for (node, value) in worth {
-        assert!(rt; is_worth(graph, *node, *value), "worth");
+        check_worth(rt, graph, *node, *value);
     }
 }
 
@@ -336,16 +335,9 @@ fn play_all(rt: &impl Abort, graph: &mut ValuedGraph, rows: &[Row]) {
 }
 
 /// Plays the rows after this many threads and currencies were made.
-fn play_new(
-    rt: &impl Abort,
-    alloc: Global,
-    threads: u32,
-    currencies: u32,
-    rows: &[Row],
-) -> Result<(), Fail> {
-    let mut graph = opening(rt, alloc, threads, currencies)?;
+fn play_new(rt: &impl Abort, alloc: Global, threads: u32, currencies: u32, rows: &[Row]) {
+    let mut graph = opening(rt, alloc, threads, currencies);
     play_all(rt, &mut graph, rows);
-    Ok(())
 }
 
 const SHARED: &[Row<'static>] = &[
@@ -381,12 +373,11 @@ const SHARED: &[Row<'static>] = &[
 
 /// Base funds a currency, and it three threads. What isn't stale is not read again.
 #[test]
-fn shared_currency(rt: HostRuntime) -> Result<(), Fail> {
-    let mut graph = opening(&rt, rt.alloc(), 3, 1)?;
+fn shared_currency(rt: HostRuntime) {
+    let mut graph = opening(&rt, rt.alloc(), 3, 1);
     play_all(&rt, &mut graph, SHARED);
     check_ticket_worth(&rt, &mut graph, 1, 100);
     check_ticket_worth(&rt, &mut graph, 4, 50);
-    Ok(())
 }
 
 const INFLATION: &[Row<'static>] = &[
@@ -421,7 +412,7 @@ const INFLATION: &[Row<'static>] = &[
 /// Two threads of a currency are worth half of it each. One ticket's amount triples, and they share as 1 to 3; base's
 /// ticket falls to a fifth, and so do they. The same amounts again make nothing stale.
 #[test]
-fn inflation_and_deflation(rt: HostRuntime) -> Result<(), Fail> {
+fn inflation_and_deflation(rt: HostRuntime) {
     play_new(&rt, rt.alloc(), 2, 1, INFLATION)
 }
 
@@ -467,12 +458,11 @@ fn fund_again(rt: &impl Abort, graph: &mut ValuedGraph) {
 /// A ticket that funds nothing gets another amount, and nothing is stale; then the only one that its currency's value
 /// goes to, whose thread is worth as much as before. Both amounts count when the first ticket funds a thread again.
 #[test]
-fn amount_of_an_unfunded_ticket(rt: HostRuntime) -> Result<(), Fail> {
-    let mut graph = opening(&rt, rt.alloc(), 2, 1)?;
+fn amount_of_an_unfunded_ticket(rt: HostRuntime) {
+    let mut graph = opening(&rt, rt.alloc(), 2, 1);
     play_all(&rt, &mut graph, UNFUNDED);
     set_the_only_amount(&rt, &mut graph);
     fund_again(&rt, &mut graph);
-    Ok(())
 }
 
 const UPSTREAM: &[Row<'static>] = &[
@@ -496,7 +486,7 @@ const UPSTREAM: &[Row<'static>] = &[
 
 /// A ticket two currencies upstream of a thread goes: the thread is worth what it is funded with elsewhere.
 #[test]
-fn unfunded_upstream(rt: HostRuntime) -> Result<(), Fail> {
+fn unfunded_upstream(rt: HostRuntime) {
     play_new(&rt, rt.alloc(), 1, 2, UPSTREAM)
 }
 
@@ -530,7 +520,7 @@ const LAST_AND_ANOTHER: &[Row<'static>] = &[
 
 /// The last active edge out of a currency goes and another one comes, and nothing is settled between.
 #[test]
-fn the_last_goes_and_another_comes(rt: HostRuntime) -> Result<(), Fail> {
+fn the_last_goes_and_another_comes(rt: HostRuntime) {
     play_new(&rt, rt.alloc(), 2, 1, LAST_AND_ANOTHER)
 }
 
@@ -568,7 +558,7 @@ const LENT: &[Row<'static>] = &[
 
 /// A client lends to a server, and two threads wait for a mutex that the server owns.
 #[test]
-fn lent_and_inherited(rt: HostRuntime) -> Result<(), Fail> {
+fn lent_and_inherited(rt: HostRuntime) {
     play_new(&rt, rt.alloc(), 4, 0, LENT)
 }
 
@@ -596,7 +586,7 @@ const STALE_BEFORE: &[Row<'static>] = &[
 /// A thread becomes stale before a currency that funds it, and a ticket of base precedes that currency's. Each of the
 /// three edges into the thread is read once, and so are the two into the currency.
 #[test]
-fn stale_before_its_source(rt: HostRuntime) -> Result<(), Fail> {
+fn stale_before_its_source(rt: HostRuntime) {
     play_new(&rt, rt.alloc(), 1, 1, STALE_BEFORE)
 }
 
@@ -616,13 +606,12 @@ const MANY_WORTH: &[(Node, u64)] = &[(Node::Thread(1), 120)];
 /// A thread with a hundred tickets of base gets stale before each of twenty currencies that fund it too. The edges into
 /// it are read once, and not again for each of the currencies.
 #[test]
-fn stale_before_many_sources(rt: HostRuntime) -> Result<(), Fail> {
-    let mut graph = opening(&rt, rt.alloc(), 1, 20)?;
+fn stale_before_many_sources(rt: HostRuntime) {
+    let mut graph = opening(&rt, rt.alloc(), 1, 20);
     set_live(&rt, &mut graph, 1, true);
     fund_from_many(&rt, &mut graph);
     check_settle(&rt, &mut graph, 140);
     check(&rt, &graph, MANY_WORTH);
-    Ok(())
 }
 
 /// A step of a ladder: the currency before it funds two, and both fund the next.
@@ -647,11 +636,10 @@ const LADDER_WORTH: &[(Node, u64)] = &[(Node::Thread(1), 2)];
 
 /// A ladder of 64 diamonds: as many ways lead through it as two to the 64. Each of its edges is read once.
 #[test]
-fn ladder_of_diamonds(rt: HostRuntime) -> Result<(), Fail> {
-    let mut graph = opening(&rt, rt.alloc(), 1, 192)?;
+fn ladder_of_diamonds(rt: HostRuntime) {
+    let mut graph = opening(&rt, rt.alloc(), 1, 192);
     make_ladder(&rt, &mut graph);
     set_live(&rt, &mut graph, 1, true);
     check_settle(&rt, &mut graph, 257);
     check(&rt, &graph, LADDER_WORTH);
-    Ok(())
 }
