@@ -29,6 +29,15 @@ pub parts-next : {X : Type 0} (part : X → List ℕ) (xs : List X) (i : ℕ) (d
 parts-next part xs i d x old now next below at has is =
     is ∙ ap (λ ys. ys ++ part x) has ∙ flat_map_more part old (take i xs) x ∙ ap (λ y. old ++ flat_map part (take i xs ++ y ∷ [])) at ∙ ap (λ ys. old ++ flat_map part ys) (sym (take_more xs i d below))
 
+-- a part, and then what follows it
+pub parts-two : (old a rest one next : List ℕ) → one ≡ old ++ a → next ≡ one ++ rest → next ≡ old ++ (a ++ rest)
+parts-two old a rest one next has is = is ∙ ap (λ xs. xs ++ rest) has ∙ append_assoc old a rest
+
+-- three parts that were put at once, and then what follows them
+pub parts-after : (old a b c rest one next : List ℕ) → one ≡ old ++ (a ++ (b ++ c)) → next ≡ one ++ rest → next ≡ old ++ (a ++ (b ++ (c ++ rest)))
+parts-after old a b c rest one next has is =
+    parts-two old (a ++ (b ++ c)) rest one next has is ∙ ap (λ xs. old ++ xs) (append_assoc a (b ++ c) rest ∙ ap (λ xs. a ++ xs) (append_assoc b c rest))
+
 -- seven parts, one after another
 pub parts-seven : (old a b c d e f g one two three four five six seven : List ℕ) → one ≡ old ++ a → two ≡ one ++ b → three ≡ two ++ c → four ≡ three ++ d → five ≡ four ++ e → six ≡ five ++ f → seven ≡ six ++ g
     → seven ≡ old ++ (a ++ (b ++ (c ++ (d ++ (e ++ (f ++ g))))))

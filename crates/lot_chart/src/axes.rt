@@ -3,7 +3,7 @@ ghost use Rattle.std.specs.Prelude.{◌≡◌, ◌≤◌, ◌<◌, ◌^◌, ◌*
 ghost use Rattle.lot_chart.specs.Axes as definitions;
 
 /// The possible distances between marks.
-const STEPS: [u32; 28] = [
+static STEPS: [u32; 28] = [
     1, 2, 5, 10, 20, 50, 100, 200, 500, 1000, 2000, 5000, 10000, 20000, 50000, 100000, 200000,
     500000, 1000000, 2000000, 5000000, 10000000, 20000000, 50000000, 100000000, 200000000,
     500000000, 1000000000,
@@ -15,8 +15,8 @@ pub(crate) fn axis_step(most: u64) -> u64
     ensures positive { 0 < result }
     ensures small { result < 2 ^ 32 }
 {
-    for step in STEPS {
-        let step = u64::from(step);
+    for step in &STEPS {
+        let step = u64::from(*step);
         if most < 6 * step {
             return step;
         }

@@ -1,5 +1,7 @@
 //! Curves as a picture.
 ghost use Rattle.std.specs.Prelude.{◌≡◌, ◌+◌, ◌<◌, ◌≤◌, ◌^◌, ◌++◌, IfOk, OnOk, Option, None, Some, length};
+ghost use Rattle.std.specs.Prelude.{codes};
+ghost use Rattle.std.specs.Fmt.{decimal};
 ghost use Rattle.std.specs.List.{flat_map};
 ghost use Rattle.lot_chart.specs.Charts as definitions;
 ghost use Rattle.lot_chart.specs.Charts.{axes, column_mark, command_mark, command_marks, curve, drawn_of, frame, head};
@@ -9,6 +11,7 @@ ghost use Rattle.lot_chart.specs.Charts.{point_at, points, stroke, time_mark};
 ghost use Rattle.lot_chart.specs.Axes.{marks, time_marks};
 ghost use Rattle.lot_chart.specs.Dues.{Dues as DuesRecord, dues_by};
 ghost use Rattle.lot_chart.specs.Gauges.{AreLinesOf, HaveDues};
+ghost use Rattle.lot_chart.specs.Shares.{tenths};
 ghost use Rattle.lot_chart.specs.Standings as standings;
 ghost use Rattle.lot_curves.specs.Curves.{sample_count};
 ghost use Rattle.lot_curves.specs.Stretches.{last_end};
@@ -138,8 +141,7 @@ fn push_picture(
     push_curves(alloc, text, curves, others, tops, lines)?;
     text.push("</g>\n")?;
     push_labels(text, names, total_of(curves), lines)?;
-    text.push("</svg>\n")?;
-    Ok(())
+    text.push("</svg>\n")
 }
 
 /// The bytes of the longest name beside a line.
@@ -168,18 +170,21 @@ fn width_for(name: usize, title: usize) -> u64
 fn push_head(text: &mut Text, width: u64, title: &[u8]) -> Result<(), AllocError>
     ensures { OnOk result (text.new ≡ text.old ++ head width title.now) }
 {
-    text.push("<svg xmlns='http://www.w3.org/2000/svg' width='")?;
-    text.push_number(width)?;
-    text.push("' height='540' viewBox='0 0 ")?;
+    text.push_number_within(
+        "<svg xmlns='http://www.w3.org/2000/svg' width='",
+        width,
+        "' height='540' viewBox='0 0 ",
+    )?;
     text.push_number(width)?;
     text.push(FONT)?;
     push_escaped(text, title)?;
-    text.push("</title>\n<rect width='")?;
-    text.push_number(width)?;
-    text.push("' height='540' fill='#ffffff'/>\n<text x='100' y='34' font-size='18'>")?;
+    text.push_number_within(
+        "</title>\n<rect width='",
+        width,
+        "' height='540' fill='#ffffff'/>\n<text x='100' y='34' font-size='18'>",
+    )?;
     push_escaped(text, title)?;
-    text.push("</text>\n")?;
-    Ok(())
+    text.push("</text>\n")
 }
 
 /// Adds the axes, and the marks of commands.
@@ -189,8 +194,7 @@ fn push_axes(alloc: Global, text: &mut Text, curves: &Curves, most: u64) -> Resu
     push_height_marks(text, highest(curves, most))?;
     push_time_marks(text, curves)?;
     push_command_marks(alloc, text, curves)?;
-    push_frame(text, curves.by(), curves.window())?;
-    Ok(())
+    push_frame(text, curves.by(), curves.window())
 }
 
 /// The number at the top of the axis of heights: the most ticks of a line, or with a window 100 percent.
@@ -209,8 +213,7 @@ fn push_frame(text: &mut Text, by: By, window: Option<u32>) -> Result<(), AllocE
 {
     text.push(FRAME)?;
     push_heights_label(text, by, window)?;
-    text.push("</text>\n")?;
-    Ok(())
+    text.push("</text>\n")
 }
 
 /// Adds what heights mean.
@@ -218,8 +221,7 @@ fn push_heights_label(text: &mut Text, by: By, window: Option<u32>) -> Result<()
     ensures { OnOk result (text.new ≡ text.old ++ heights_label by window) }
 {
     text.push(lines_label(by))?;
-    push_measure_label(text, window)?;
-    Ok(())
+    push_measure_label(text, window)
 }
 
 /// What lines show.
@@ -246,10 +248,7 @@ fn push_measure_label(text: &mut Text, window: Option<u32>) -> Result<(), AllocE
 fn push_window_label(text: &mut Text, window: u32) -> Result<(), AllocError>
     ensures { OnOk result (text.new ≡ text.old ++ measure_label (Some window)) }
 {
-    text.push(" in the last ")?;
-    text.push_number(u64::from(window))?;
-    text.push(" ticks, in percent")?;
-    Ok(())
+    text.push_number_within(" in the last ", u64::from(window), " ticks, in percent")
 }
 
 /// Adds the marks of the axis of heights.
@@ -267,15 +266,32 @@ fn push_height_marks(text: &mut Text, most: u64) -> Result<(), AllocError>
 fn push_height_mark(text: &mut Text, most: u64, ticks: u64) -> Result<(), AllocError>
     ensures { OnOk result (text.new ≡ text.old ++ height_mark most ticks) }
 {
-    let height = height_of(most, ticks);
-    text.push("<path d='M100 ")?;
-    text.push_tenths(height)?;
-    text.push("H770' stroke='#dddddd'/>\n<text x='92' y='")?;
-    text.push_tenths(height)?;
-    text.push("' dy='4' text-anchor='end'>")?;
-    text.push_number(ticks)?;
-    text.push("</text>\n")?;
-    Ok(())
+    push_axis_mark(
+        text,
+        "<path d='M100 ",
+        height_of(most, ticks),
+        "H770' stroke='#dddddd'/>\n<text x='92' y='",
+        "' dy='4' text-anchor='end'>",
+        ticks,
+    )
+}
+
+/// Adds the mark of a number on an axis: its line, at this position between the first two texts, and its label, at the
+/// same position between the last two.
+fn push_axis_mark(
+    text: &mut Text,
+    before: &str,
+    position: u32,
+    between: &str,
+    after: &str,
+    number: u64,
+) -> Result<(), AllocError>
+    ensures { OnOk result (text.new ≡ text.old ++ (before.now ++ (tenths position ++ (between.now
+        ++ (tenths position ++ (after.now ++ (decimal number ++ codes "</text>\n"))))))) }
+{
+    text.push_tenths_within(before, position, between)?;
+    text.push_tenths(position)?;
+    text.push_number_within(after, number, "</text>\n")
 }
 
 /// Adds the marks of the axis of time.
@@ -298,15 +314,14 @@ fn push_time_mark(text: &mut Text, curves: &Curves, tick: u64) -> Result<(), All
     requires { tick < 2 ^ 56 }
     ensures { OnOk result (text.new ≡ text.old ++ time_mark curves.now tick) }
 {
-    let across = across(curves.last(), tick);
-    text.push("<path d='M")?;
-    text.push_tenths(across)?;
-    text.push(" 460v5' stroke='#222222'/>\n<text x='")?;
-    text.push_tenths(across)?;
-    text.push("' y='480' text-anchor='middle'>")?;
-    text.push_number(curves.origin() + tick)?;
-    text.push("</text>\n")?;
-    Ok(())
+    push_axis_mark(
+        text,
+        "<path d='M",
+        across(curves.last(), tick),
+        " 460v5' stroke='#222222'/>\n<text x='",
+        "' y='480' text-anchor='middle'>",
+        curves.origin() + tick,
+    )
 }
 
 /// Adds the marks at the times of commands.
@@ -339,12 +354,13 @@ fn push_command_mark(text: &mut Text, curves: &Curves, time: u64) -> Result<(), 
     ensures { OnOk result (text.new ≡ text.old ++ command_mark curves.now time) }
 {
     let tick = time.saturating_sub(curves.origin());
-    text.push("<path d='M")?;
-    text.push_tenths(across(curves.last(), tick))?;
-    text.push(" 60V460' stroke='#bbbbbb' stroke-dasharray='3 3'><title>command at ")?;
+    text.push_tenths_within(
+        "<path d='M",
+        across(curves.last(), tick),
+        " 60V460' stroke='#bbbbbb' stroke-dasharray='3 3'><title>command at ",
+    )?;
     text.push_number(time)?;
-    text.push("</title></path>\n")?;
-    Ok(())
+    text.push("</title></path>\n")
 }
 
 /// The horizontal position of a tick.
@@ -397,10 +413,7 @@ pub(crate) fn push_stroke(text: &mut Text, style: u32) -> Result<(), AllocError>
 {
     text.push("' stroke='")?;
     text.push(colour(style))?;
-    text.push("'")?;
-    text.push(strokes(style))?;
-    text.push("/>\n")?;
-    Ok(())
+    text.push_within("'", strokes(style), "/>\n")
 }
 
 /// Adds the points of a thread, or of the others.
@@ -465,11 +478,8 @@ pub(crate) fn push_point_at(
 ) -> Result<(), AllocError>
     ensures { OnOk result (text.new ≡ text.old ++ point_at curves.now tick height) }
 {
-    text.push(" ")?;
-    text.push_tenths(across(curves.last(), tick))?;
-    text.push(",")?;
-    text.push_tenths(height)?;
-    Ok(())
+    text.push_tenths_within(" ", across(curves.last(), tick), ",")?;
+    text.push_tenths(height)
 }
 
 /// The ticks that the top of the plot stands for at each sample.
@@ -544,36 +554,25 @@ fn push_label(text: &mut Text, names: &[Name], total: u64, line: &Line) -> Resul
     ensures { OnOk result (text.new ≡ text.old ++ label names.now total line.now) }
 {
     push_leader(text, line)?;
-    push_name(text, names, total, line)?;
-    Ok(())
+    push_name(text, names, total, line)
 }
 
 /// Adds the leader from the line's end to its name.
 fn push_leader(text: &mut Text, line: &Line) -> Result<(), AllocError>
     ensures { OnOk result (text.new ≡ text.old ++ leader line.now) }
 {
-    text.push("<path d='M770 ")?;
-    text.push_tenths(line.height)?;
-    text.push("L784 ")?;
+    text.push_tenths_within("<path d='M770 ", line.height, "L784 ")?;
     text.push_tenths(line.place)?;
-    text.push("' stroke='")?;
-    text.push(colour(line.style))?;
-    text.push("'/>\n")?;
-    Ok(())
+    text.push_within("' stroke='", colour(line.style), "'/>\n")
 }
 
 /// Adds the line's name, and its share of all ticks.
 fn push_name(text: &mut Text, names: &[Name], total: u64, line: &Line) -> Result<(), AllocError>
     ensures { OnOk result (text.new ≡ text.old ++ name_text names.now total line.now) }
 {
-    text.push("<text x='788' y='")?;
-    text.push_tenths(line.place)?;
-    text.push("' dy='4'>")?;
+    text.push_tenths_within("<text x='788' y='", line.place, "' dy='4'>")?;
     push_escaped(text, name_of(names, line.thread))?;
-    text.push(" ")?;
-    text.push_tenths(share_of(total, line.ticks))?;
-    text.push("%</text>\n")?;
-    Ok(())
+    text.push_tenths_within(" ", share_of(total, line.ticks), "%</text>\n")
 }
 
 /// The name of the thread or currency; thread 0 stands for the others.

@@ -68,8 +68,7 @@ fn push_thin_lines(
     let ran = ran_of(alloc, curves)?;
     text.push(THIN)?;
     push_lines(text, curves, dues, tops, ran.as_slice(), lines)?;
-    text.push("</g>\n")?;
-    Ok(())
+    text.push("</g>\n")
 }
 
 /// The most ticks that one of these lines is due at the last sample; 0 if the program isn't timed.
@@ -164,8 +163,7 @@ fn push_due_curve(
 {
     text.push("<polyline points='")?;
     push_due_points(text, curves, dues, tops, ran, line.thread, place)?;
-    push_stroke(text, line.style)?;
-    Ok(())
+    push_stroke(text, line.style)
 }
 
 /// Adds a point for each sample.

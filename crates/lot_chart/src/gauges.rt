@@ -18,7 +18,7 @@ use lot_simulation::TICK_PARTS;
 use std::alloc::{AllocError, Global};
 
 /// What makes a sum grow.
-#[derive(Clone, Copy, Debug, PartialEq, Eq)]
+#[derive(Clone, Copy)]
 pub enum Growth {
     /// The time in which what is shared out is worth anything.
     Live,
@@ -107,7 +107,7 @@ fn rate_of(whole_value: u128, ticks: u64) -> u128
 }
 
 /// A sum from the last turn on.
-#[derive(Clone, Copy, Debug)]
+#[derive(Clone, Copy)]
 pub struct Flow {
     /// What makes it grow.
     pub growth: Growth,
@@ -135,10 +135,16 @@ impl Flow {
 
 /// The ticks at which sums are read, both in ascending order: where the windows of all samples begin, and where they
 /// end.
-#[derive(Debug, Drop)]
 pub struct Marks {
     pub starts: Vec<u64>,
     pub ends: Vec<u64>,
+}
+
+impl Drop for Marks {
+    // An explicit drop: code that drops a `Marks` is then proved without unfolding its fields.
+    fn drop(self) {
+        let Self { starts: _, ends: _ } = self;
+    }
 }
 
 impl Marks {
@@ -180,7 +186,6 @@ fn ends_of(alloc: Global, curves: &Curves) -> Result<Vec<u64>, AllocError>
 }
 
 /// A sum, and what was read of it at the ticks that have passed.
-#[derive(Debug, Drop)]
 pub struct Gauge {
     pub growth: Growth,
     /// The sum at the last turn.
@@ -189,6 +194,18 @@ pub struct Gauge {
     pub starts: Vec<u128>,
     /// The sums where they end.
     pub ends: Vec<u128>,
+}
+
+impl Drop for Gauge {
+    // An explicit drop: code that drops a `Gauge` is then proved without unfolding its fields.
+    fn drop(self) {
+        let Self {
+            growth: _,
+            sum: _,
+            starts: _,
+            ends: _,
+        } = self;
+    }
 }
 
 impl Gauge {

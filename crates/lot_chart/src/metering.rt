@@ -1,5 +1,6 @@
 //! What is due to the lines of a picture: the program is played again, now that its lines and samples are known.
-ghost use Rattle.std.specs.Prelude.{◌≡◌, ◌-◌, ◌*◌, ◌<◌, ◌≤◌, ◌^◌, ⊤, [], List, IfOk, IsSome, OnOk, Some, length, sum_by};
+ghost use Rattle.std.specs.Prelude.{◌≡◌, ◌-◌, ◌*◌, ◌<◌, ◌≤◌, ◌^◌, ⊤, []};
+ghost use Rattle.std.specs.Prelude.{List, IfOk, IsSome, OnOk, Some, length, sum_by};
 ghost use Rattle.lot_machine.specs.Facts.{IsSound};
 ghost use Rattle.lot_simulation.specs.TimedReport.{tick_parts};
 ghost use Rattle.lot_curves.specs.Curves.{Curves as CurvesRecord, sample_count, sample_tick};
@@ -28,7 +29,7 @@ use std::alloc::{AllocError, Global};
 pub(crate) const BILLION: u64 = 1000000000;
 
 /// Follows what threads or currencies are due, by their values from turn to turn.
-#[derive(Debug, Drop)]
+#[derive(Drop)]
 pub struct Meter {
     /// What the lines stand for.
     pub by: By,
@@ -141,7 +142,6 @@ fn gauges_of(alloc: Global, shown: &[Standing]) -> Result<Vec<Gauge>, AllocError
 }
 
 /// What is due to the lines of a picture, at each of its samples.
-#[derive(Debug)]
 pub struct LineDues {
     pub live: Gauge,
     pub threads: Vec<Gauge>,

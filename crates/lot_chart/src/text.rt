@@ -8,7 +8,7 @@ use std::alloc::{AllocError, Global};
 use std::marker::Model;
 
 /// A text that grows at its end. If out of memory for a part, the text is discarded.
-#[derive(Debug, Drop)]
+#[derive(Drop)]
 pub(crate) struct Text {
     bytes: Vec<u8>,
 }
@@ -53,6 +53,20 @@ impl Text {
         self.push_bytes(text.as_bytes())
     }
 
+    /// Appends three texts.
+    pub(crate) fn push_within(
+        &mut self,
+        before: &str,
+        within: &str,
+        after: &str,
+    ) -> Result<(), AllocError>
+        ensures { OnOk result (self.new ≡ self.old ++ (before.now ++ (within.now ++ after.now))) }
+    {
+        self.push(before)?;
+        self.push(within)?;
+        self.push(after)
+    }
+
     /// Appends the number.
     pub(crate) fn push_number(&mut self, number: u64) -> Result<(), AllocError>
         ensures { OnOk result (self.new ≡ self.old ++ decimal number) }
@@ -61,13 +75,39 @@ impl Text {
         self.push(buffer.format(number))
     }
 
+    /// Appends the number between two texts.
+    pub(crate) fn push_number_within(
+        &mut self,
+        before: &str,
+        number: u64,
+        after: &str,
+    ) -> Result<(), AllocError>
+        ensures { OnOk result (self.new ≡ self.old ++ (before.now ++ (decimal number ++ after.now))) }
+    {
+        let mut buffer = Buffer::new();
+        self.push_within(before, buffer.format(number), after)
+    }
+
     /// Appends a number of tenths, with a point.
     pub(crate) fn push_tenths(&mut self, tenths: u32) -> Result<(), AllocError>
         ensures { OnOk result (self.new ≡ self.old ++ shares.tenths tenths) }
     {
         self.push_number(u64::from(tenths / 10))?;
         self.push(".")?;
-        self.push_number(u64::from(tenths % 10))?;
-        Ok(())
+        self.push_number(u64::from(tenths % 10))
+    }
+
+    /// Appends a number of tenths between two texts.
+    pub(crate) fn push_tenths_within(
+        &mut self,
+        before: &str,
+        tenths: u32,
+        after: &str,
+    ) -> Result<(), AllocError>
+        ensures { OnOk result (self.new ≡ self.old ++ (before.now ++ (shares.tenths tenths ++ after.now))) }
+    {
+        self.push(before)?;
+        self.push_tenths(tenths)?;
+        self.push(after)
     }
 }

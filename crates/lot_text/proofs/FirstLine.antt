@@ -1,10 +1,10 @@
 -- The first of the lines, and those after it.
-use Rattle.std.proofs.Common.{◌≡◌, ◌<◌, ◌≤◌, ◌+◌, ◌-◌, ℕ, zero, suc, min, ◌==◌, sym, ◌∙◌, Option, None, Ok, Err, Bool, true, false, not, List, [], ◌∷◌, length, take, drop, refl, ap, arith, cond, if◌then◌else◌}
+use Rattle.std.proofs.Common.{◌≡◌, ◌<◌, ◌≤◌, ◌+◌, ◌-◌, ℕ, zero, suc, min, max, ◌==◌, sym, ◌∙◌, Option, None, Ok, Err, Bool, true, false, not, List, [], ◌∷◌, length, take, drop, refl, ap, arith, cond, if◌then◌else◌}
 use Rattle.std.specs.List.{prefix_len}
 use Rattle.std.proofs.lemmas.List.{length-take, drop_min, length-drop, take_rest}
 use Rattle.lot_simulation.specs.Lines.{lines_of, with_first_byte, without_end}
 use Rattle.lot_simulation.specs.Reading.{Reading, ◌>>=◌}
-use Rattle.lot_simulation.specs.Grammar.{read_lines, read_line, refused_on, program_in}
+use Rattle.lot_simulation.specs.Grammar.{read_lines, read_line, refused_on, program_in, whole_program}
 use Rattle.lot_simulation.specs.declared.input.InputRefusal.{InputRefusal}
 use Rattle.lot_text.specs.declared.fault.LineFault.{LineFault}
 use Rattle.lot_text.specs.declared.fault.LineFault.TheVariants.{Memory, Refused}
@@ -106,3 +106,15 @@ lines_of-count k b bs more some at whole rest =
 pub length-after : (end all k b : ℕ) (bs : List ℕ) → b ≡ min (k + 1) (length bs) → end + length bs ≡ all
     → end + b + length (take (length bs - b) (drop b bs)) ≡ all
 length-after end all k b bs is same = rw (take_rest bs b) (omega (arith, length-drop b bs, is, same))
+
+-- if no bytes are left, the input is what was read of it
+pub program_in-read : (n end : ℕ) (reading : Option Reading) (bytes bs : List ℕ) → length bs ≡ 0
+    → read_lines n end reading (lines_of bs) ≡ read_lines 1 0 None (lines_of bytes) → program_in bytes ≡ whole_program (length (lines_of bytes)) reading
+program_in-read n end reading bytes [] none same = rw (sym same) refl
+program_in-read n end reading bytes (b ∷ bs) none same = absurd (omega (arith, none))
+
+-- and its last line has the number of the last that was read
+pub last-line : (number last : ℕ) (bytes bs : List ℕ) → length bs ≡ 0 → number + length (lines_of bs) ≡ length (lines_of bytes) → last ≡ max number 1
+    → last ≡ max 1 (length (lines_of bytes))
+last-line number last bytes [] none count is = omega (arith, count, is)
+last-line number last bytes (b ∷ bs) none count is = absurd (omega (arith, none))

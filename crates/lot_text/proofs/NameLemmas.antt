@@ -1,49 +1,43 @@
 -- Lines that give a name to a port, a mutex, a script or a ticket.
-use Rattle.std.proofs.Common.{◌≡◌, ◌<◌, ◌≤◌, ℕ, Ok, Err, List, [], ◌∷◌, ◌++◌, length, Some, refl}
+use Rattle.std.proofs.Common.{◌≡◌, ◌<◌, ◌≤◌, ℕ, Bool, true, false, Result, Ok, Err, List, [], ◌∷◌, ◌++◌, length, Some, refl}
+use Rattle.std.specs.Prelude.{nat_le}
 use Rattle.std.proofs.lemmas.Bool.{le-leb, lt-leb}
 use Rattle.lot_machine.specs.declared.command.Command.{Command}
 use Rattle.lot_simulation.specs.declared.input.BodyWord.TheVariants as body
 use Rattle.lot_simulation.specs.declared.input.InputRefusal.{InputRefusal}
 use Rattle.lot_simulation.specs.declared.input.InputRefusal.TheVariants.{TooLong}
-use Rattle.lot_simulation.specs.Grammar.{add_named, body_after_header, script_names}
-use Rattle.lot_simulation.specs.Reading.{Reading, new_name}
+use Rattle.lot_simulation.specs.Grammar.{add_named, add_naming, body_after_header, script_names}
+use Rattle.lot_simulation.specs.Reading.{Reading, ◌>>=◌, checked, new_name}
+use Rattle.lot_text.specs.Alone.{new_name_alone}
 use Rattle.lot_text.specs.Readings.{after_header}
 
--- the name of a port is refused
-pub port-refused : (n : ℕ) (before r : Reading) (token : List ℕ) (names : List (List ℕ)) (refusal : InputRefusal) → before ≡ r → names ≡ before.ports
-    → Err refusal ≡ new_name names token
-    → body_after_header n r body.Port (token ∷ []) ≡ Err refusal
-port-refused n before r token names refusal same is refused = rw (← same, ← is, ← refused) refl
+-- a line that names a port is read by its only token
+pub port-line : (n : ℕ) (r : Reading) (tokens : List (List ℕ))
+    → body_after_header n r body.Port tokens ≡ (new_name_alone 256 r.ports tokens >>= λ name. Ok (record r { place = 10; ports = r.ports ++ name ∷ [] }))
+port-line n r [] = refl
+port-line n r (token ∷ []) = at (new_name r.ports token) (nat_le 256 (length r.ports))
+  where
+    at : (name : Result (List ℕ) InputRefusal) (full : Bool)
+        → ((name >>= λ name. checked ((full, TooLong) ∷ []) (record r { ports = r.ports ++ name ∷ [] })) >>= λ after. Ok (record after { place = 10 }))
+        ≡ ((name >>= λ name. checked ((full, TooLong) ∷ []) name) >>= λ name. Ok (record r { place = 10; ports = r.ports ++ name ∷ [] }))
+    at (Err refusal) full = refl
+    at (Ok name) true = refl
+    at (Ok name) false = refl
+port-line n r (token ∷ other ∷ tokens) = refl
 
--- or there are as many as are allowed
-pub port-full : (n : ℕ) (before r : Reading) (token : List ℕ) (names : List (List ℕ)) (name : List ℕ) → before ≡ r → names ≡ before.ports
-    → Ok name ≡ new_name names token → 256 ≤ length before.ports
-    → body_after_header n r body.Port (token ∷ []) ≡ Err TooLong
-port-full n before r token names name same is named full = rw (← same, le-leb 256 (length before.ports) full, ← is, ← named) refl
-
--- or it is new
-pub port-named : (n : ℕ) (before r : Reading) (token : List ℕ) (names : List (List ℕ)) (name : List ℕ) → before ≡ r → names ≡ before.ports
-    → Ok name ≡ new_name names token → length before.ports < 256
-    → body_after_header n r body.Port (token ∷ []) ≡ Ok (record before { place = 10; ports = before.ports ++ name ∷ [] })
-port-named n before r token names name same is named room = rw (← same, lt-leb 256 (length before.ports) room, ← is, ← named) refl
-
--- the name of a mutex is refused
-pub mutex-refused : (n : ℕ) (before r : Reading) (token : List ℕ) (names : List (List ℕ)) (refusal : InputRefusal) → before ≡ r → names ≡ before.mutexes
-    → Err refusal ≡ new_name names token
-    → body_after_header n r body.Mutex (token ∷ []) ≡ Err refusal
-mutex-refused n before r token names refusal same is refused = rw (← same, ← is, ← refused) refl
-
--- or there are as many as are allowed
-pub mutex-full : (n : ℕ) (before r : Reading) (token : List ℕ) (names : List (List ℕ)) (name : List ℕ) → before ≡ r → names ≡ before.mutexes
-    → Ok name ≡ new_name names token → 256 ≤ length before.mutexes
-    → body_after_header n r body.Mutex (token ∷ []) ≡ Err TooLong
-mutex-full n before r token names name same is named full = rw (← same, le-leb 256 (length before.mutexes) full, ← is, ← named) refl
-
--- or it is new
-pub mutex-named : (n : ℕ) (before r : Reading) (token : List ℕ) (names : List (List ℕ)) (name : List ℕ) → before ≡ r → names ≡ before.mutexes
-    → Ok name ≡ new_name names token → length before.mutexes < 256
-    → body_after_header n r body.Mutex (token ∷ []) ≡ Ok (record before { place = 10; mutexes = before.mutexes ++ name ∷ [] })
-mutex-named n before r token names name same is named room = rw (← same, lt-leb 256 (length before.mutexes) room, ← is, ← named) refl
+-- a line that names a mutex is read by its only token
+pub mutex-line : (n : ℕ) (r : Reading) (tokens : List (List ℕ))
+    → body_after_header n r body.Mutex tokens ≡ (new_name_alone 256 r.mutexes tokens >>= λ name. Ok (record r { place = 10; mutexes = r.mutexes ++ name ∷ [] }))
+mutex-line n r [] = refl
+mutex-line n r (token ∷ []) = at (new_name r.mutexes token) (nat_le 256 (length r.mutexes))
+  where
+    at : (name : Result (List ℕ) InputRefusal) (full : Bool)
+        → ((name >>= λ name. checked ((full, TooLong) ∷ []) (record r { mutexes = r.mutexes ++ name ∷ [] })) >>= λ after. Ok (record after { place = 10 }))
+        ≡ ((name >>= λ name. checked ((full, TooLong) ∷ []) name) >>= λ name. Ok (record r { place = 10; mutexes = r.mutexes ++ name ∷ [] }))
+    at (Err refusal) full = refl
+    at (Ok name) true = refl
+    at (Ok name) false = refl
+mutex-line n r (token ∷ other ∷ tokens) = refl
 
 -- the name of a script is refused
 pub script-refused : (n : ℕ) (before r : Reading) (token : List ℕ) (names : List (List ℕ)) (refusal : InputRefusal) → before ≡ r → names ≡ script_names before
@@ -68,3 +62,10 @@ script-named n before r token names name same is named room = rw (← same, lt-l
 pub ticket-refused : (before r : Reading) (token : List ℕ) (names : List (List ℕ)) (refusal : InputRefusal) (command : Command) → before ≡ r
     → names ≡ before.ticket_names → Err refusal ≡ new_name names token → after_header (add_named r token command) ≡ Err refusal
 ticket-refused before r token names refusal command same is refused = rw (← same, ← is, ← refused) refl
+
+-- or it is new, and there is room for it
+pub ticket-named : (before r : Reading) (token : List ℕ) (names : List (List ℕ)) (name : List ℕ) (command : Command) → before ≡ r
+    → Ok name ≡ new_name names token → names ≡ before.ticket_names → length before.ticket_names < 4096
+    → after_header (add_named r token command)
+    ≡ after_header (add_naming (record before { ticket_names = before.ticket_names ++ name ∷ [] }) (Some (length (before.ticket_names ++ name ∷ []))) command)
+ticket-named before r token names name command same named is room = rw (← same, lt-leb 4096 (length before.ticket_names) room, ← is, ← named) refl

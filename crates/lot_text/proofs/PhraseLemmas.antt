@@ -1,9 +1,11 @@
 -- The words of a line within a script, from left to right.
-use Rattle.std.proofs.Common.{◌≡◌, ◌<◌, ℕ, Bool, true, false, Ok, List, [], ◌∷◌, drop, length, take, refl, sym, ap, ◌∙◌, arith}
+use Rattle.std.proofs.Common.{◌≡◌, ◌<◌, ℕ, Bool, true, false, Some, Ok, List, [], ◌∷◌, drop, length, take, refl, sym, ap, ◌∙◌, arith}
 use Rattle.std.specs.Prelude.{if◌then◌else◌}
 use Rattle.std.proofs.lemmas.List.{length-drop}
-use Rattle.lot_simulation.specs.Grammar.{is_alone, phrase_inside, phrases_inside, phrases_of}
-use Rattle.lot_simulation.specs.Reading.{Reading, ◌>>=◌}
+use Rattle.lot_simulation.specs.Grammar.{is_alone, phrase_inside, phrases_inside, phrases_of, script_line, stands_alone}
+use Rattle.lot_simulation.specs.Reading.{OpenScript, Reading, ◌>>=◌}
+use Rattle.lot_simulation.specs.Words.{timed_script_words, word_in}
+use Rattle.lot_simulation.specs.declared.input.ScriptWord.{ScriptWord}
 use Rattle.lot_text.specs.declared.fault.LineFault.{LineFault}
 use Rattle.lot_text.specs.Faults.{Fails}
 use Rattle.lot_text.specs.Readings.{argument_count, phrase_at}
@@ -50,3 +52,11 @@ phrases-fail fault r word tokens fails =
 -- fewer tokens are left
 pub fewer-tokens : (word next : List ℕ) (tokens left more : List (List ℕ)) → left ≡ drop (argument_count word) tokens → left ≡ next ∷ more → length more < length tokens
 fewer-tokens word next tokens left more is some = omega (arith, length-drop (argument_count word) tokens, ap length is, ap length some)
+
+-- a word of an open script is a line of it, with the argument that it takes
+pub phrase-read : (before r : Reading) (s : OpenScript) (w : ScriptWord) (alone : Bool) (word : List ℕ) (tokens : List (List ℕ)) → before ≡ r
+    → before.unclosed ≡ Some s → Some w ≡ word_in timed_script_words word → alone ≡ stands_alone w
+    → phrase_inside r r.unclosed (phrase_at word tokens) ≡ script_line (record before { unclosed = Some s }) s w (take (if alone then 0 else 1) tokens)
+phrase-read before r s w alone word tokens same unclosed is stands =
+    let again : r ≡ record before { unclosed = Some s } = sym same ∙ ap (λ u. record before { unclosed = u }) unclosed in
+    rw (again, ← is, stands) refl

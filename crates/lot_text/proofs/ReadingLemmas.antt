@@ -1,15 +1,16 @@
 -- States of reading stay within the bounds of an input.
-use Rattle.std.proofs.Common.{◌≡◌, ◌<◌, ◌≤◌, ℕ, Bool, Option, Some, Ok, List, [], ◌∷◌, ◌++◌, length, refl, ap, arith}
+use Rattle.std.proofs.Common.{◌≡◌, ◌∙◌, ◌<◌, ◌≤◌, ◌+◌, ℕ, Bool, false, Option, Some, None, Ok, Err, List, [], ◌∷◌, ◌++◌, length, refl, sym, ap, arith, rules}
 use Rattle.std.specs.Prelude.{All, IsTrue}
 use Rattle.std.specs.List.Sorted.{IsNonDecreasing}
-use Rattle.std.proofs.lemmas.Bool.{lt-leb}
+use Rattle.std.proofs.lemmas.Bool.{le-leb, lt-leb, true≢false}
 use Rattle.std.proofs.lemmas.Grind.{common_steps}
-use Rattle.std.proofs.lemmas.List.{length-append}
-use Rattle.std.proofs.lemmas.List.Elements.{All-push, All-same}
+use Rattle.std.proofs.lemmas.List.{append-nil, length-append}
+use Rattle.std.proofs.lemmas.List.Elements.{All-append, All-push, All-same}
 use Rattle.lot_machine.specs.Bounds.{IsBetween}
 use Rattle.lot_machine.specs.declared.command.Command.{Command}
 use Rattle.lot_simulation.specs.declared.input.HeaderWord.TheVariants as header
-use Rattle.lot_simulation.specs.Reading.{OpenScript, Reading, number_between}
+use Rattle.lot_simulation.specs.declared.input.InputRefusal.TheVariants.{TooLong}
+use Rattle.lot_simulation.specs.Reading.{NamedScript, OpenScript, Reading, number_between}
 use Rattle.lot_simulation.specs.Grammar.{add_naming, header_line}
 use Rattle.lot_text.specs.Readings.{IsReading, after_header}
 
@@ -230,3 +231,142 @@ pub limits-read : (before r : Reading) (first second third : List ℕ) (tickets 
     → Ok currencies ≡ number_between 1 4096 second → Ok threads ≡ number_between 1 4096 third
     → header_line r header.Limits (first ∷ second ∷ third ∷ []) ≡ Ok (record before { tickets = tickets; currencies = currencies; threads = threads })
 limits-read before r first second third tickets currencies threads same is_tickets is_currencies is_threads = rw (← same, ← is_tickets, ← is_currencies, ← is_threads) refl
+
+-- a command is added without a time
+pub with_command : (r : Reading) (commands : List Command) (command : Command) → IsReading r → length r.commands < 100000 → r.is_timed ≡ false
+    → commands ≡ r.commands ++ command ∷ [] → IsReading (record r { place = 10; commands = commands })
+with_command r commands command read room untimed added = record {
+  processors = read.processors;
+  quantum = read.quantum;
+  turns = read.turns;
+  seeds = read.seeds;
+  tickets = read.tickets;
+  currencies = read.currencies;
+  threads = read.threads;
+  port_count = read.port_count;
+  mutex_count = read.mutex_count;
+  script_count = read.script_count;
+  open_script = read.open_script;
+  command_count = omega (arith, room, ap length added, length-append r.commands (command ∷ []));
+  actors = read.actors;
+  schedule_length = read.schedule_length;
+  time_count = λ timed. absurd (true≢false (sym timed ∙ untimed));
+  running = read.running;
+  rising = read.rising;
+  past = read.past;
+  ticket_name_count = read.ticket_name_count;
+  unscheduled = λ none. absurd (omega (arith, none));
+}
+
+-- so the command is read
+pub naming-read : (before r : Reading) (name : Option ℕ) (command : Command) → before ≡ r → before.is_timed ≡ false → length before.commands < 100000
+    → after_header (add_naming r name command) ≡ Ok (record before { place = 10; commands = before.commands ++ command ∷ [] })
+naming-read before r name command same untimed room =
+    rw (← same, lt-leb 100000 (length before.commands) room, untimed, append-nil before.names, append-nil before.times) refl
+
+-- or there are as many as are allowed
+pub naming-full : (before r : Reading) (name : Option ℕ) (command : Command) → before ≡ r → 100000 ≤ length before.commands
+    → after_header (add_naming r name command) ≡ Err TooLong
+naming-full before r name command same full = rw (← same, le-leb 100000 (length before.commands) full) refl
+
+-- entries are added to the schedule
+pub with_schedule : (r : Reading) (schedule more : List ℕ) → IsReading r → All (λ (actor : ℕ). actor ≤ r.processors) more
+    → length r.schedule + length more ≤ 1000000 → schedule ≡ r.schedule ++ more → IsReading (record r { place = 10; schedule = schedule })
+with_schedule r schedule more read below room added = record {
+  processors = read.processors;
+  quantum = read.quantum;
+  turns = read.turns;
+  seeds = read.seeds;
+  tickets = read.tickets;
+  currencies = read.currencies;
+  threads = read.threads;
+  port_count = read.port_count;
+  mutex_count = read.mutex_count;
+  script_count = read.script_count;
+  open_script = read.open_script;
+  command_count = read.command_count;
+  actors = All-same (λ (actor : ℕ). actor ≤ r.processors) _ _ added (All-append (λ (actor : ℕ). actor ≤ r.processors) r.schedule more read.actors below);
+  schedule_length = omega (arith, room, ap length added, length-append r.schedule more);
+  time_count = read.time_count;
+  running = read.running;
+  rising = read.rising;
+  past = read.past;
+  ticket_name_count = read.ticket_name_count;
+  unscheduled = λ none. absurd (omega (arith, none));
+}
+
+-- a ticket gets a name
+pub with_ticket_names : (r : Reading) (names : List (List ℕ)) → IsReading r → length names ≤ 4096 → IsReading (record r { ticket_names = names })
+with_ticket_names r names read fits = record {
+  processors = read.processors;
+  quantum = read.quantum;
+  turns = read.turns;
+  seeds = read.seeds;
+  tickets = read.tickets;
+  currencies = read.currencies;
+  threads = read.threads;
+  port_count = read.port_count;
+  mutex_count = read.mutex_count;
+  script_count = read.script_count;
+  open_script = read.open_script;
+  command_count = read.command_count;
+  actors = read.actors;
+  schedule_length = read.schedule_length;
+  time_count = read.time_count;
+  running = read.running;
+  rising = read.rising;
+  past = read.past;
+  ticket_name_count = fits;
+  unscheduled = read.unscheduled;
+}
+
+-- seeds and scripts are taken out
+pub without_seeds : (r : Reading) (scripts : List NamedScript) → IsReading r → length scripts ≤ length r.scripts
+    → IsReading (record r { seeds = None; scripts = scripts })
+without_seeds r scripts read fewer = record {
+  processors = read.processors;
+  quantum = read.quantum;
+  turns = read.turns;
+  seeds = search rules;
+  tickets = read.tickets;
+  currencies = read.currencies;
+  threads = read.threads;
+  port_count = read.port_count;
+  mutex_count = read.mutex_count;
+  script_count = omega (arith, read.script_count, fewer);
+  open_script = λ some. omega (arith, read.open_script some, fewer);
+  command_count = read.command_count;
+  actors = read.actors;
+  schedule_length = read.schedule_length;
+  time_count = read.time_count;
+  running = read.running;
+  rising = read.rising;
+  past = read.past;
+  ticket_name_count = read.ticket_name_count;
+  unscheduled = read.unscheduled;
+}
+
+-- the tables of the program are
+pub without_tables : (r : Reading) → IsReading r → IsReading (record r { commands = []; schedule = []; times = []; names = [] })
+without_tables r read = record {
+  processors = read.processors;
+  quantum = read.quantum;
+  turns = read.turns;
+  seeds = read.seeds;
+  tickets = read.tickets;
+  currencies = read.currencies;
+  threads = read.threads;
+  port_count = read.port_count;
+  mutex_count = read.mutex_count;
+  script_count = read.script_count;
+  open_script = read.open_script;
+  command_count = omega arith;
+  actors = search rules;
+  schedule_length = omega arith;
+  time_count = λ _. refl;
+  running = read.running;
+  rising = search rules;
+  past = search rules;
+  ticket_name_count = read.ticket_name_count;
+  unscheduled = λ _. refl;
+}

@@ -1,7 +1,9 @@
 -- Runs of turns of one actor.
-use Rattle.std.proofs.Common.{◌≡◌, ◌≤◌, ◌%◌, ◌==◌, ◌↔◌, ◌||◌, Bool, true, false, not, ℕ, Result, Ok, Err, List, [], ◌∷◌, length, replicate, refl, sym, arith, ◌∙◌}
+use Rattle.std.proofs.Common.{◌≡◌, ◌<◌, ◌≤◌, ◌+◌, ◌%◌, ◌==◌, ◌↔◌, ◌||◌, Bool, true, false, not, ℕ, Result, Ok, Err, List, [], ◌∷◌, ◌++◌, length, replicate, get_or, take, refl, sym, arith, ◌∙◌}
 use Rattle.std.specs.Prelude.{All, IsTrue}
 use Rattle.std.proofs.lemmas.Bool.{eq-eqb, not-false, not-true, true≢false}
+use Rattle.std.proofs.lemmas.List.{append-nil, take_more}
+use Rattle.std.proofs.lemmas.List.Concat.{flat_map-append}
 use Rattle.std.proofs.lemmas.List.Elements.{All-append, All-replicate, All-nil, All-head, All-tail}
 use Rattle.lot_simulation.specs.declared.input.InputRefusal.{InputRefusal}
 use Rattle.lot_simulation.specs.declared.input.InputRefusal.TheVariants.{BadLine}
@@ -23,6 +25,18 @@ All-actors_of p (run ∷ runs) each =
     All-append (λ (a : ℕ). a ≤ p) (replicate run.count run.actor) (actors_of runs)
     (All-replicate (λ (a : ℕ). a ≤ p) run.count run.actor (All-head (λ (r : ActorRun). r.actor ≤ p) run runs each))
     (All-actors_of p runs (All-tail (λ (r : ActorRun). r.actor ≤ p) run runs each))
+
+-- one more run has its actor as often as it has turns
+pub actors_of-more : (runs : List ActorRun) (i : ℕ) (run item : ActorRun) → i < length runs → run ≡ item → item ≡ get_or runs i item
+    → actors_of (take (i + 1) runs) ≡ actors_of (take i runs) ++ replicate run.count run.actor
+actors_of-more runs i run item within same is =
+    rw (
+      same,
+      take_more runs i item within,
+      ← is,
+      flat_map-append (λ (r : ActorRun). replicate r.count r.actor) (take i runs) (item ∷ []),
+      append-nil (replicate item.count item.actor),
+    ) refl
 
 -- an odd number of tokens is refused, and so is a line of runs if the unit is 1 or turns come in the order of time: else the runs are read, and then added
 pub runs_line-pairs : (n : ℕ) (before r : Reading) (tokens : List (List ℕ)) (is_empty has_runs are_pairs : Bool) → before ≡ r

@@ -7,7 +7,7 @@ ghost use Rattle.lot_text.specs.Faults.{Fails, Gives};
 ghost use Rattle.lot_text.specs.Readings.{after_header, pairs_added};
 
 use crate::fault::LineFault;
-use crate::name::{any_name, new_name};
+use crate::name::{any_name, only_new_name};
 use crate::number::{actor_below, any_number, number_in};
 use crate::reading::{BODY, MOST_ENTRIES, OpenScript, Reading};
 use crate::runs::read_runs;
@@ -56,11 +56,8 @@ pub(crate) fn body_line(
 fn port(reading: &mut Reading, tokens: Tokens<'_>) -> Result<(), LineFault>
     ensures { (n : ℕ) → Gives reading.new result (body_after_header n reading.old BodyWord.Port tokens.entry) }
 {
-    let token = tokens.only()?;
-    let name = new_name(reading.ports.as_slice(), token)?;
-    if Sizes::LARGEST.ports as usize <= reading.ports.len() {
-        return Err(LineFault::Refused(InputRefusal::TooLong));
-    }
+    let most = Sizes::LARGEST.ports as usize;
+    let name = only_new_name(reading.ports.as_slice(), most, tokens)?;
     reading.ports.push(name)?;
     reading.place = BODY;
     Ok(())
@@ -70,11 +67,8 @@ fn port(reading: &mut Reading, tokens: Tokens<'_>) -> Result<(), LineFault>
 fn mutex(reading: &mut Reading, tokens: Tokens<'_>) -> Result<(), LineFault>
     ensures { (n : ℕ) → Gives reading.new result (body_after_header n reading.old BodyWord.Mutex tokens.entry) }
 {
-    let token = tokens.only()?;
-    let name = new_name(reading.mutexes.as_slice(), token)?;
-    if Sizes::LARGEST.mutexes as usize <= reading.mutexes.len() {
-        return Err(LineFault::Refused(InputRefusal::TooLong));
-    }
+    let most = Sizes::LARGEST.mutexes as usize;
+    let name = only_new_name(reading.mutexes.as_slice(), most, tokens)?;
     reading.mutexes.push(name)?;
     reading.place = BODY;
     Ok(())

@@ -7,7 +7,7 @@ ghost use Rattle.lot_text.specs.Faults.{Fails, Gives};
 ghost use Rattle.lot_text.specs.Readings.{AreSeeds};
 
 use crate::fault::LineFault;
-use crate::number::number_in;
+use crate::number::{number_in, only_number};
 use crate::reading::Reading;
 use crate::tokens::Tokens;
 use lot_simulation::{
@@ -80,8 +80,7 @@ fn read_processors(reading: &mut Reading, tokens: Tokens<'_>) -> Result<(), Line
     requires early { reading.old.place < 1 }
     ensures { Gives reading.new result (header_line_read reading.old HeaderWord.Processors tokens.entry) }
 {
-    let processors = tokens.only()?;
-    reading.processors = number_in(ranges::PROCESSORS, processors)?;
+    reading.processors = only_number(ranges::PROCESSORS, tokens)?;
     Ok(())
 }
 
@@ -89,8 +88,7 @@ fn read_processors(reading: &mut Reading, tokens: Tokens<'_>) -> Result<(), Line
 fn read_quantum(reading: &mut Reading, tokens: Tokens<'_>) -> Result<(), LineFault>
     ensures { Gives reading.new result (header_line_read reading.old HeaderWord.Quantum tokens.entry) }
 {
-    let quantum = tokens.only()?;
-    reading.quantum = number_in(ranges::QUANTUM, quantum)?;
+    reading.quantum = only_number(ranges::QUANTUM, tokens)?;
     Ok(())
 }
 
@@ -98,8 +96,7 @@ fn read_quantum(reading: &mut Reading, tokens: Tokens<'_>) -> Result<(), LineFau
 fn read_turns(reading: &mut Reading, tokens: Tokens<'_>) -> Result<(), LineFault>
     ensures { Gives reading.new result (header_line_read reading.old HeaderWord.Turns tokens.entry) }
 {
-    let turns = tokens.only()?;
-    reading.turns = number_in(ranges::TURNS, turns)?;
+    reading.turns = only_number(ranges::TURNS, tokens)?;
     Ok(())
 }
 

@@ -1,9 +1,11 @@
 //! Names.
-ghost use Rattle.std.specs.Prelude.{◌≡◌, ◌<◌, ◌≤◌, length, position, IfSome};
+ghost use Rattle.std.specs.Prelude.{◌≡◌, ◌<◌, ◌≤◌, length, position, IfOk, IfSome};
 ghost use Rattle.std.specs.Str.{bytes_eq};
 ghost use Rattle.lot_simulation.specs.Reading.{any_name as any_name_read, new_name as new_name_read};
 ghost use Rattle.lot_simulation.specs.Reading.{known_name as known_name_read, number_named as number_named_read};
+ghost use Rattle.lot_text.specs.Alone.{new_name_alone};
 
+use crate::tokens::Tokens;
 use lot_machine::{Name, is_good_name};
 use lot_simulation::InputRefusal;
 
@@ -22,6 +24,24 @@ pub(crate) fn new_name(names: &[Name], token: &[u8]) -> Result<Name, InputRefusa
     let name = any_name(token)?;
     if !is_good_name(token) || number_named(names, token).is_some() {
         return Err(InputRefusal::BadLine);
+    }
+    Ok(name)
+}
+
+/// The only token as a new name, if there are fewer names than this.
+pub(crate) fn only_new_name(
+    names: &[Name],
+    most: usize,
+    tokens: Tokens<'_>,
+) -> Result<Name, InputRefusal>
+    requires { length names.now ≤ 4096 }
+    ensures room { IfOk result (λ _. length names.now < most) }
+    ensures read { result ≡ new_name_alone most names.now tokens.entry }
+{
+    let token = tokens.only()?;
+    let name = new_name(names, token)?;
+    if most <= names.len() {
+        return Err(InputRefusal::TooLong);
     }
     Ok(name)
 }

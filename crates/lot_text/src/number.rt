@@ -7,8 +7,10 @@ ghost use Rattle.std.specs.Str.Parse.{digits_value};
 ghost use Rattle.lot_simulation.specs.Lines.{is_numeral as is_numeral_token, number_of};
 ghost use Rattle.lot_simulation.specs.Reading.{number_between as number_read, any_number as any_number_read};
 ghost use Rattle.lot_simulation.specs.Reading.{actor_below as actor_read};
+ghost use Rattle.lot_text.specs.Alone.{number_alone};
 ghost use Rattle.lot_text.specs.Numbers.{within_64_bits};
 
+use crate::tokens::Tokens;
 use lot_simulation::{InputRefusal, Range};
 
 /// Whether the token is one or more digits, without a leading zero except in `0` itself.
@@ -111,4 +113,13 @@ pub(crate) fn actor_below(processors: u32, token: &[u8]) -> Result<u8, InputRefu
         return Err(InputRefusal::BadActor);
     }
     Ok(number as u8)
+}
+
+/// The only token as a number in the range.
+pub(crate) fn only_number(range: Range, tokens: Tokens<'_>) -> Result<u32, InputRefusal>
+    ensures between { IfOk result (IsBetween range.first range.last) }
+    ensures read { result ≡ number_alone range.first range.last tokens.entry }
+{
+    let token = tokens.only()?;
+    number_in(range, token)
 }

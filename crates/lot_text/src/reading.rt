@@ -1,6 +1,6 @@
 //! The state of reading an input.
 ghost use Rattle.std.specs.Prelude.{◌≡◌, ℕ, ◌<◌, ◌≤◌, max, false, All, length, map, option_map, position, unwrap_or};
-ghost use Rattle.std.specs.Prelude.{IfErr, IfOk, IfSome, IsTrue, Ok, OnOk, Some, if◌then◌else◌};
+ghost use Rattle.std.specs.Prelude.{[], IfErr, IfOk, IfSome, IsTrue, Ok, OnOk, Some, if◌then◌else◌};
 ghost use Rattle.std.specs.Arc.{arc_slice_items};
 ghost use Rattle.std.specs.List.{range_with_len};
 ghost use Rattle.std.specs.Option.{ForSome};
@@ -12,7 +12,7 @@ ghost use Rattle.lot_simulation.specs.Grammar.{add_named as add_named_read, add_
 ghost use Rattle.lot_simulation.specs.Grammar.{closed_program, lacks_duration as lacks_duration_read, limits_of};
 ghost use Rattle.lot_simulation.specs.Grammar.{is_after_seed as is_after_seed_read, is_given as is_given_read};
 ghost use Rattle.lot_simulation.specs.Grammar.{has_line as has_line_read};
-ghost use Rattle.lot_simulation.specs.Grammar.{is_late as is_late_read, script_names, whole_program};
+ghost use Rattle.lot_simulation.specs.Grammar.{is_late as is_late_read, program_of, script_names, whole_program};
 ghost use Rattle.lot_simulation.specs.Grammar.{with_header_word};
 ghost use Rattle.lot_simulation.specs.Formats.{is_timed, unit_of};
 ghost use Rattle.lot_simulation.specs.Reading.{number_named, opening_reading};
@@ -31,6 +31,7 @@ use lot_script::{Script, ScriptBuilder};
 use lot_simulation::{Format, HEADER_WORDS, HeaderWord, InputFault, InputRefusal};
 use std::alloc::{AllocError, Global};
 use std::marker::Model;
+use std::mem;
 use std::sync::ArcSlice;
 
 /// A closed script.
@@ -74,7 +75,6 @@ pub(crate) const MOST_ENTRIES: usize = 1000000;
 const MOST_TICKET_NAMES: usize = 4096;
 
 /// The state after some lines of an input.
-#[derive(Drop)]
 pub(crate) struct Reading {
     /// The place of the last header line, or 0 in a timed input; from the body on the body's.
     pub(crate) place: u32,
@@ -111,6 +111,39 @@ pub(crate) struct Reading {
     /// The number of the name that each command so far has for its ticket, in a timed input.
     pub(crate) names: Vec<Option<u16>>,
     pub(crate) schedule: Vec<u8>,
+}
+
+impl Drop for Reading {
+    // An explicit drop: code that drops a `Reading` is then proved without unfolding its fields.
+    fn drop(self) {
+        let Self {
+            place: _,
+            given: _,
+            format: _,
+            processors: _,
+            quantum: _,
+            turns: _,
+            duration: _,
+            seeds: _,
+            tickets: _,
+            currencies: _,
+            threads: _,
+            reuse: _,
+            without_compensation: _,
+            without_lending: _,
+            strict: _,
+            ports: _,
+            mutexes: _,
+            scripts: _,
+            unclosed: _,
+            commands: _,
+            time: _,
+            times: _,
+            ticket_names: _,
+            names: _,
+            schedule: _,
+        } = self;
+    }
 }
 
 impl Model for Reading {
@@ -350,63 +383,61 @@ impl Reading {
         ensures program { IfOk result (λ program. closed_program self self.unclosed ≡ Ok program) }
         ensures fault { IfErr result (IsFaultOf (closed_program self self.unclosed)) }
     {
-        let limits = self.limits();
-        let Reading {
-            place: _,
-            given: _,
-            format,
-            processors,
-            quantum: _,
-            turns,
-            duration,
-            seeds,
-            tickets: _,
-            currencies: _,
-            threads: _,
-            reuse: _,
-            without_compensation: _,
-            without_lending: _,
-            strict,
-            ports: _,
-            mutexes: _,
-            scripts,
-            unclosed,
-            commands,
-            time: _,
-            times,
-            ticket_names,
-            names,
-            schedule,
-        } = self;
+        let unclosed = &self.unclosed;
         if let Some(script) = unclosed {
             return Err(ParseFault::Input(InputFault {
                 line: script.begins,
                 refusal: InputRefusal::OpenScript,
             }));
         }
-        let tables = shared(commands, schedule, times, names)?;
-        let seeds = seeds_or_own(alloc, seeds, processors, format)?;
-        let scripts = without_names(alloc, scripts)?;
-        let SharedTables {
-            commands,
-            schedule,
-            times,
-            names,
-        } = tables;
+        let mut reading = self;
+        Ok(reading.take_program(alloc)?)
+    }
+
+    /// The program, whose scripts are all closed. It takes seeds, scripts and tables out of the reading.
+    fn take_program(&mut self, alloc: Global) -> Result<Program, AllocError>
+        requires { lacks_duration_read self.old ≡ false }
+        ensures { IfOk result (λ program. program ≡ program_of self.old) }
+    {
+        let limits = self.limits();
+        let ticket_names = self.ticket_names.len() as u32;
+        let format = self.format;
+        let turns = self.turns;
+        let duration = self.duration;
+        let strict = self.strict;
+        let seeds = seeds_or_own(alloc, self.seeds.take(), self.processors, format)?;
+        let scripts = without_names(alloc, mem::replace(&mut self.scripts, Vec::new(alloc)))?;
+        let tables = self.take_tables(alloc)?;
         Ok(Program {
             format,
             limits,
             seeds,
             turns,
             scripts,
-            commands,
-            schedule,
+            commands: tables.commands,
+            schedule: tables.schedule,
             duration,
-            times,
-            ticket_names: ticket_names.len() as u32,
-            names,
+            times: tables.times,
+            ticket_names,
+            names: tables.names,
             strict,
         })
+    }
+
+    /// The tables that copies of the program share. The reading has none of them afterwards.
+    fn take_tables(&mut self, alloc: Global) -> Result<SharedTables, AllocError>
+        ensures left { self.new ≡ record self.old { commands = []; schedule = []; times = []; names = [] } }
+        ensures commands { IfOk result (λ tables. tables.commands ≡ self.old.commands) }
+        ensures schedule { IfOk result (λ tables. arc_slice_items tables.schedule ≡ self.old.schedule) }
+        ensures times { IfOk result (λ tables. arc_slice_items tables.times ≡ self.old.times) }
+        ensures names { IfOk result (λ tables. arc_slice_items tables.names ≡ self.old.names) }
+    {
+        shared(
+            mem::replace(&mut self.commands, CommandList::new(alloc)),
+            mem::replace(&mut self.schedule, Vec::new(alloc)),
+            mem::replace(&mut self.times, Vec::new(alloc)),
+            mem::replace(&mut self.names, Vec::new(alloc)),
+        )
     }
 }
 

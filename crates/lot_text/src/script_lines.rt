@@ -7,7 +7,7 @@ ghost use Rattle.lot_text.specs.Readings.{line_added, within_script};
 
 use crate::fault::LineFault;
 use crate::name::known_name;
-use crate::number::number_in;
+use crate::number::only_number;
 use crate::reading::{NamedScript, OpenScript, Reading};
 use crate::tokens::Tokens;
 use lot_script::ScriptBuilder;
@@ -44,8 +44,7 @@ fn compute(reading: &mut Reading, script: OpenScript, tokens: Tokens<'_>) -> Res
     ensures { Gives reading.new result
         (script_line_read (within_script reading.old script) script ScriptWord.Compute tokens.entry) }
 {
-    let ticks = tokens.only()?;
-    let ticks = number_in(ranges::WORK, ticks)?;
+    let ticks = only_number(ranges::WORK, tokens)?;
     add_line(reading, script, Line::Compute(ticks))
 }
 
@@ -55,8 +54,7 @@ fn set(reading: &mut Reading, script: OpenScript, tokens: Tokens<'_>) -> Result<
     ensures { Gives reading.new result
         (script_line_read (within_script reading.old script) script ScriptWord.Set tokens.entry) }
 {
-    let number = tokens.only()?;
-    let number = number_in(ranges::NUMBER, number)?;
+    let number = only_number(ranges::NUMBER, tokens)?;
     add_line(reading, script, Line::Set(number))
 }
 
@@ -66,8 +64,7 @@ fn add(reading: &mut Reading, script: OpenScript, tokens: Tokens<'_>) -> Result<
     ensures { Gives reading.new result
         (script_line_read (within_script reading.old script) script ScriptWord.Add tokens.entry) }
 {
-    let number = tokens.only()?;
-    let number = number_in(ranges::NUMBER, number)?;
+    let number = only_number(ranges::NUMBER, tokens)?;
     add_line(reading, script, Line::Add(number))
 }
 
@@ -81,8 +78,7 @@ fn begin_loop(
     ensures { Gives reading.new result
         (script_line_read (within_script reading.old script) script ScriptWord.Loop tokens.entry) }
 {
-    let times = tokens.only()?;
-    let times = number_in(ranges::TIMES, times)?;
+    let times = only_number(ranges::TIMES, tokens)?;
     if 8 <= script.builder.open_loops() {
         return Err(LineFault::Refused(InputRefusal::TooDeep));
     }
@@ -164,8 +160,7 @@ fn sleep(reading: &mut Reading, script: OpenScript, tokens: Tokens<'_>) -> Resul
     ensures { Gives reading.new result
         (script_line_read (within_script reading.old script) script ScriptWord.Sleep tokens.entry) }
 {
-    let ticks = tokens.only()?;
-    let ticks = number_in(ranges::SLEEP, ticks)?;
+    let ticks = only_number(ranges::SLEEP, tokens)?;
     add_line(reading, script, Line::Trap(ScriptTrap::Sleep(ticks)))
 }
 

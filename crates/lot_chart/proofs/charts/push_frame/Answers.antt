@@ -1,5 +1,13 @@
-use Rattle.std.proofs.Common.{append_assoc}
+use Rattle.std.proofs.Common.{◌++◌, codes}
+use Rattle.std.proofs.lemmas.Result.{on_ok_weaker}
+use Rattle.lot_chart.specs.Charts.{heights_label}
+use Rattle.lot_chart.proofs.Parts.{parts-two}
 use Rattle.lot_chart.proofs.charts.push_frame.Goals as goal
 
 pub returns : goal.returns
-returns c = rw (c.in_ok-push-2.ensures, c.in_ok-push_heights_label.ensures, c.in_ok-push.ensures) (simp append_assoc)
+returns c =
+    let label = heights_label c.args.by c.args.window in
+    let after = codes "</text>\n" in
+    on_ok_weaker c.push-2.result
+    (λ put. parts-two c.args.text.now _ (label ++ after) c.push.new.self c.push-2.new.self c.in_ok-push.ensures (parts-two c.push.new.self label after c.push_heights_label.new.text c.push-2.new.self c.in_ok-push_heights_label.ensures put))
+    c.push-2.ensures

@@ -1,6 +1,4 @@
-use Rattle.std.proofs.Common.{append_assoc}
 use Rattle.lot_chart.proofs.charts.push_height_mark.Goals as goal
 
 pub returns : goal.returns
-returns c =
-    rw (c.in_ok-push-4.ensures, c.in_ok-push_number.ensures, c.in_ok-push-3.ensures, c.in_ok-push_tenths-2.ensures, c.in_ok-push-2.ensures, c.in_ok-push_tenths.ensures, c.in_ok-push.ensures) (simp append_assoc (rw c.height_of-height.ensures.exact))
+returns c = rw c.height_of.ensures.exact at c.push_axis_mark.ensures

@@ -1,5 +1,10 @@
-use Rattle.std.proofs.Common.{append_assoc}
+use Rattle.std.proofs.lemmas.Result.{on_ok_weaker}
+use Rattle.lot_chart.specs.Charts.{lines_label, measure_label}
+use Rattle.lot_chart.proofs.Parts.{parts-two}
 use Rattle.lot_chart.proofs.charts.push_heights_label.Goals as goal
 
 pub returns : goal.returns
-returns c = rw (c.in_ok-push_measure_label.ensures, c.in_ok-push.ensures, c.lines_label.ensures) (simp append_assoc)
+returns c =
+    on_ok_weaker c.push_measure_label.result
+    (parts-two c.args.text.now (lines_label c.args.by) (measure_label c.args.window) c.push.new.self c.push_measure_label.new.text (rw c.lines_label.ensures at c.in_ok-push.ensures))
+    c.push_measure_label.ensures

@@ -1,5 +1,6 @@
 use Rattle.std.proofs.Common.{List, length, ℕ, ◌+◌, ap, ◌∙◌}
 use Rattle.std.proofs.lemmas.List.{length-map}
+use Rattle.std.proofs.lemmas.Result.{on_ok_weaker}
 use Rattle.std.proofs.lemmas.List.FromFn.{length-map-range_with_len}
 use Rattle.lot_curves.specs.Curves.{sample_count, sample_tick, sample_ticks}
 use Rattle.lot_curves.specs.Stretches.{last_end}
@@ -22,12 +23,13 @@ push_curves-requires-clause-tops c =
     ∙ length-map-range_with_len (sample_tick last) 0 (sample_count last + 1)
 
 pub returns : goal.returns
-returns c due have =
+returns c =
     let lines = c.args.lines.now in
-    let shown = c.args.selection.now.shown.items in
     let longest = c.longest_name.ensures.exact ∙ ap (λ (names : List (List ℕ)). longest_name names lines) c.names-names.ensures.names in
     let width = c.width_for-width.ensures ∙ ap (λ n. width_for n (length c.args.title.now)) longest in
-    picture-is c.args.title.now c.args.curves.now due shown c.args.selection.now.others.items c.as_slice-others.result.now lines c.width_for-width.result c.args.most c.total_of.result c.as_slice-tops.result.now c.names-names.result.now c.args.text.now
+    on_ok_weaker c.push-3.result
+    (λ put due have. picture-is c.args.title.now c.args.curves.now due c.args.selection.now.shown.items c.args.selection.now.others.items c.as_slice-others.result.now lines c.width_for-width.result c.args.most c.total_of.result c.as_slice-tops.result.now c.names-names.result.now c.args.text.now
     c.push_head.new.text c.push_axes.new.text c.push_due_curves.new.text c.push.new.self c.push_curves.new.text c.push-2.new.self c.push_labels.new.text c.push-3.new.self
     width (c.as_slice-tops.ensures.value ∙ c.in_ok-heads.ensures) c.as_slice-others.ensures.value c.total_of.ensures c.names-names.ensures.names
-    c.in_ok-push_head.ensures c.in_ok-push_axes.ensures (c.in_ok-push_due_curves.ensures due shown have c.requires.lines) c.in_ok-push.ensures c.in_ok-push_curves.ensures c.in_ok-push-2.ensures c.in_ok-push_labels.ensures c.in_ok-push-3.ensures
+    c.in_ok-push_head.ensures c.in_ok-push_axes.ensures (c.in_ok-push_due_curves.ensures due c.args.selection.now.shown.items have c.requires.lines) c.in_ok-push.ensures c.in_ok-push_curves.ensures c.in_ok-push-2.ensures c.in_ok-push_labels.ensures put)
+    c.push-3.ensures

@@ -1,5 +1,4 @@
-use Rattle.std.proofs.Common.{append_assoc}
 use Rattle.lot_chart.proofs.charts.push_window_label.Goals as goal
 
 pub returns : goal.returns
-returns c = rw (c.in_ok-push-2.ensures, c.in_ok-push_number.ensures, c.from.ensures, c.in_ok-push.ensures) (simp append_assoc)
+returns c = rw c.from.ensures at c.push_number_within.ensures

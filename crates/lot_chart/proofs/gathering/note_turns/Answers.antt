@@ -16,3 +16,9 @@ returns-clause-early c = omega (arith, c.in_ok-play_through.ensures.observed.1.e
 
 pub returns-clause-stopped : goal.returns-clause-stopped
 returns-clause-stopped c = search (rules, c.in_ok-play_through.ensures.observed.2, c.in_ok-play_through.ensures.observed.3)
+
+pub returns-clause-ended : goal.returns-clause-ended
+returns-clause-ended c = c.in_ok-play_through.ensures.ended
+
+pub returns-clause-made : goal.returns-clause-made
+returns-clause-made c = c.in_ok-play_through.ensures.made

@@ -1,8 +1,8 @@
-use Rattle.std.proofs.Common.{◌≡◌, ◌<◌, ◌+◌, ◌^◌, false, ap, sym, ◌∙◌}
+use Rattle.std.proofs.Common.{◌≡◌, ◌<◌, ◌+◌, ◌^◌, false, ap, sym, ◌∙◌, arith, refl, length, ℕ}
 use Rattle.lot_machine.specs.Commands.{is_funding}
 use Rattle.lot_machine.specs.Numbered.{option_any}
 use Rattle.lot_graph.specs.Walks.{funds_at, funding_edges}
-use Rattle.lot_graph.proofs.WalkLemmas.{all-rest, passed-over}
+use Rattle.lot_graph.proofs.WalkLemmas.{all-rest, passed-over, first-low}
 use Rattle.lot_graph.proofs.walks.next_funding.Goals as goal
 
 pub returns-then-is_funding-clause-low : goal.returns-then-is_funding-clause-low
@@ -17,3 +17,15 @@ loop-place-preserved c =
       all-rest (λ place. place + 1 < 2 ^ 32) c.loop-place.places c.in-Some.place c.next.new.self c.in-Some.ensures.steps c.loop-place.invariant.2,
       sym (passed-over tickets c.in-Some.place c.next.new.self off) ∙ ap (funding_edges tickets) (sym c.in-Some.ensures.steps) ∙ c.loop-place.invariant.3,
     )
+
+pub loop-place-init : goal.loop-place-init
+loop-place-init c = (tt, tt, c.requires.low, refl)
+
+pub overflow_cast-ticket : goal.overflow_cast-ticket
+overflow_cast-ticket c = let low = first-low c.loop-place.places c.in-Some.place c.next.new.self (2 ^ 32) c.in-Some.ensures.steps c.loop-place.invariant.2 in omega (arith, low)
+
+pub overflow_add-ticket : goal.overflow_add-ticket
+overflow_add-ticket c = let low = first-low c.loop-place.places c.in-Some.place c.next.new.self (2 ^ 32) c.in-Some.ensures.steps c.loop-place.invariant.2 in omega (arith, low)
+
+pub loop-place-smaller : goal.loop-place-smaller
+loop-place-smaller c = omega (arith, ap (length {A = ℕ}) c.in-Some.ensures.steps)

@@ -1,30 +1,15 @@
-use Rattle.std.proofs.Common.{ap, refl, arith, length, [], ◌∷◌}
+use Rattle.std.proofs.Common.{ap, arith, length, [], ◌∷◌, refl}
 use Rattle.std.proofs.lemmas.List.{length-append}
-use Rattle.lot_simulation.specs.declared.input.BodyWord.TheVariants as body
-use Rattle.lot_simulation.specs.Grammar.{body_after_header}
 use Rattle.lot_text.specs.ReadingFields.{reading_of}
-use Rattle.lot_text.proofs.FaultLemmas.{Gives-memory, Gives-refusal, alone-refused}
-use Rattle.lot_text.proofs.NameLemmas.{port-full, port-named, port-refused}
+use Rattle.lot_text.proofs.FaultLemmas.{Gives-memory, Gives-refusal}
+use Rattle.lot_text.proofs.NameLemmas.{port-line}
 use Rattle.lot_text.proofs.ReadingLemmas.{with_ports}
 use Rattle.lot_text.proofs.body.port.Goals as goal
 
-pub returns-in_err-token : goal.returns-in_err-token
-returns-in_err-token c n =
-    let other =
-    alone-refused (body_after_header n c.args.reading.now body.Port) c.args.tokens c.in_err-token.field-0.0 refl (λ a b others. refl) c.in_err-token.ensures in
-    Gives-refusal _ c.from_residual.result c.in_err-token.field-0.0 _ c.from_residual.ensures other
-
 pub returns-in_err-name : goal.returns-in_err-name
 returns-in_err-name c n =
-    let refused =
-    port-refused n (reading_of c.reading.inside) c.args.reading.now c.in_ok-token.token.now c.as_slice.result.now c.in_err-name.field-0.0 c.reading.view_is
-    c.as_slice.ensures.value c.in_err-name.ensures in
-    Gives-refusal _ c.from_residual-in_err-name.result c.in_err-name.field-0.0 _ c.from_residual-in_err-name.ensures (rw c.in_ok-token.ensures refused)
-
-pub returns-then-len : goal.returns-then-len
-returns-then-len c n =
-    rw c.in_ok-token.ensures
-    (port-full n (reading_of c.reading.inside) c.args.reading.now c.in_ok-token.token.now c.as_slice.result.now c.in_ok-name.name c.reading.view_is c.as_slice.ensures.value c.in_ok-name.ensures (omega (arith, c.if-len.true, c.len.ensures)))
+    Gives-refusal _ c.from_residual.result c.in_err-name.field-0.0 _ c.from_residual.ensures
+    (rw (port-line n c.args.reading.now c.args.tokens, ← c.reading.view_is, ← c.as_slice.ensures.value, ← c.in_err-name.ensures.read) refl)
 
 pub invariant_of-reading : goal.invariant_of-reading
 invariant_of-reading c = rw c.in_err-push.ensures.items c.reading.invariant
@@ -35,11 +20,9 @@ returns-in_err-push c n = Gives-memory _ c.from_residual-in_err-push.result _ c.
 pub invariant_of-reading-2 : goal.invariant_of-reading-2
 invariant_of-reading-2 c =
     with_ports (reading_of c.reading.inside) c.push.new.self.items c.reading.invariant
-    (omega (arith, ap length c.in_ok-push.ensures.items, length-append c.reading.inside.ports.items (c.in_ok-name.name ∷ []), c.if-len.false, c.len.ensures))
+    (omega (arith, ap length c.in_ok-push.ensures.items, length-append c.reading.inside.ports.items (c.in_ok-name.name ∷ []), c.in_ok-name.ensures.room, ap length c.as_slice.ensures.value))
 
 pub returns : goal.returns
 returns c n =
-    let read =
-    port-named n (reading_of c.reading.inside) c.args.reading.now c.in_ok-token.token.now c.as_slice.result.now c.in_ok-name.name c.reading.view_is
-    c.as_slice.ensures.value c.in_ok-name.ensures (omega (arith, c.if-len.false, c.len.ensures)) in
-    rw (c.in_ok-token.ensures, c.in_ok-push.ensures.items) read
+    rw (c.in_ok-push.ensures.items, port-line n c.args.reading.now c.args.tokens, ← c.reading.view_is)
+    (let read = rw c.as_slice.ensures.value at c.in_ok-name.ensures.read in rw (← read) refl)

@@ -1,10 +1,26 @@
-use Rattle.std.proofs.Common.{refl, true}
+use Rattle.std.proofs.Common.{◌≡◌, ◌∙◌, ap, sym, refl, Bool, true, false, Err, List, [], ◌∷◌, ℕ, if◌then◌else◌}
+use Rattle.std.specs.Prelude.{codes, not}
+use Rattle.std.specs.Str.{bytes_eq}
+use Rattle.lot_simulation.specs.declared.input.InputRefusal.TheVariants.{BadHeader, BadLine}
+use Rattle.lot_simulation.specs.Reading.{Reading, checked}
 use Rattle.lot_simulation.specs.declared.input.HeaderWord.TheVariants as header
-use Rattle.lot_simulation.specs.Grammar.{header_line}
+use Rattle.lot_simulation.specs.Grammar.{header_line, without_line}
 use Rattle.lot_text.specs.ReadingFields.{reading_of}
 use Rattle.lot_text.proofs.FaultLemmas.{Gives-refusal, alone-refused}
 use Rattle.lot_text.proofs.ReadingLemmas.{with_without}
 use Rattle.lot_text.proofs.header.read_without.Goals as goal
+
+-- only a timed input has such a line
+untimed : (r : Reading) (mechanism : List ℕ) → r.is_timed ≡ false → without_line r mechanism ≡ Err BadLine
+untimed r mechanism is = at (bytes_eq mechanism (codes "compensation")) (bytes_eq mechanism (codes "lending"))
+  where
+    at : (first second : Bool)
+        → (if first then checked ((not r.is_timed, BadLine) ∷ (r.without_compensation, BadHeader) ∷ []) (record r { without_compensation = true })
+        else if second then checked ((not r.is_timed, BadLine) ∷ (r.without_lending, BadHeader) ∷ []) (record r { without_lending = true })
+        else Err BadLine) ≡ Err BadLine
+    at true second = rw is refl
+    at false true = rw is refl
+    at false false = refl
 
 pub returns-in_err-mechanism : goal.returns-in_err-mechanism
 returns-in_err-mechanism c =
@@ -18,3 +34,26 @@ invariant_of-reading c = with_without (reading_of c.reading.inside) true c.readi
 
 pub invariant_of-reading-then-eq-2 : goal.invariant_of-reading-then-eq-2
 invariant_of-reading-then-eq-2 c = with_without (reading_of c.reading.inside) c.reading.inside.without_compensation true c.reading.invariant
+
+pub returns-then-not-is_timed : goal.returns-then-not-is_timed
+returns-then-not-is_timed c =
+    rw c.in_ok-mechanism.ensures
+    (untimed c.args.reading.now c.in_ok-mechanism.mechanism.now (ap (λ (r : Reading). r.is_timed) (sym c.reading.view_is) ∙ sym c.if-not-is_timed.ensures))
+
+pub returns-then-reading : goal.returns-then-reading
+returns-then-reading c =
+    rw (c.in_ok-mechanism.ensures, ← c.reading.view_is, ← c.if-eq.ensures, ← c.if-not-is_timed.ensures, c.if-reading.true) refl
+
+pub returns-then-eq : goal.returns-then-eq
+returns-then-eq c = rw (c.in_ok-mechanism.ensures, ← c.reading.view_is, ← c.if-eq.ensures, ← c.if-not-is_timed.ensures, c.if-reading.false) refl
+
+pub returns-then-reading-2 : goal.returns-then-reading-2
+returns-then-reading-2 c =
+    rw (c.in_ok-mechanism.ensures, ← c.reading.view_is, ← c.if-eq.ensures, ← c.if-eq-2.ensures, ← c.if-not-is_timed.ensures, c.if-reading-2.true) refl
+
+pub returns-then-eq-2 : goal.returns-then-eq-2
+returns-then-eq-2 c =
+    rw (c.in_ok-mechanism.ensures, ← c.reading.view_is, ← c.if-eq.ensures, ← c.if-eq-2.ensures, ← c.if-not-is_timed.ensures, c.if-reading-2.false) refl
+
+pub returns : goal.returns
+returns c = rw (c.in_ok-mechanism.ensures, ← c.if-eq.ensures, ← c.if-eq-2.ensures) refl

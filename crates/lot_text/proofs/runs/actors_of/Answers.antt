@@ -1,7 +1,8 @@
-use Rattle.std.proofs.Common.{◌≡◌, take, refl, arith}
+use Rattle.std.proofs.Common.{◌≡◌, ◌+◌, ◌-◌, take, sym, refl, arith}
+use Rattle.std.specs.Vec.{vec_len}
 use Rattle.std.proofs.lemmas.List.{take_all}
 use Rattle.lot_simulation.proofs.ActorRuns.{length-actors_of}
-use Rattle.lot_text.proofs.RunLemmas.{All-actors_of}
+use Rattle.lot_text.proofs.RunLemmas.{All-actors_of, actors_of-more}
 use Rattle.std.proofs.lemmas.Result.{IfOk-from_err}
 use Rattle.lot_text.proofs.runs.actors_of.Goals as goal
 
@@ -31,3 +32,13 @@ pub returns-clause-actors : goal.returns-clause-actors
 returns-clause-actors c =
     let all : take c.loop-run.run-index c.args.runs.now ≡ c.args.runs.now = take_all c.loop-run.run-index c.args.runs.now (omega arith) in
     rw (c.loop-run.invariant, all) refl
+
+pub loop-run-preserved : goal.loop-run-preserved
+loop-run-preserved c =
+    let actors = c.loop-run.actors.items in
+    let len = c.len.result in
+    let count = c.run.inside.count in
+    let all : take (len + count) actors ≡ actors = take_all (len + count) actors (omega (arith, c.len.ensures)) in
+    let more : len + count - vec_len c.loop-run.actors ≡ count = omega (arith, c.len.ensures) in
+    rw (c.in_ok-resize.ensures.items, all, more, c.loop-run.invariant)
+    (sym (actors_of-more c.args.runs.now c.loop-run.run-index _ c.run-item.result c.loop-run-test.true c.run.view_is c.run-item.is))

@@ -1,21 +1,24 @@
-use Rattle.std.proofs.Common.{refl}
+use Rattle.std.proofs.Common.{◌≡◌, ℕ, List, [], ◌∷◌, refl}
 use Rattle.lot_simulation.specs.declared.input.ScriptWord.TheVariants as word
-use Rattle.lot_simulation.specs.Grammar.{script_line}
-use Rattle.lot_text.proofs.FaultLemmas.{Gives-refusal, alone-refused}
+use Rattle.lot_simulation.specs.declared.script.Line.TheVariants as line
+use Rattle.lot_simulation.specs.Grammar.{add_line, script_line}
+use Rattle.lot_simulation.specs.Reading.{OpenScript, Reading, ◌>>=◌}
+use Rattle.lot_text.specs.Alone.{number_alone}
 use Rattle.lot_text.specs.Readings.{within_script}
+use Rattle.lot_text.proofs.FaultLemmas.{Gives-refusal}
 use Rattle.lot_text.proofs.script_lines.add.Goals as goal
+
+-- the number of a line is its only token
+alone : (r : Reading) (s : OpenScript) (tokens : List (List ℕ))
+    → script_line r s word.Add tokens ≡ (number_alone 0 4294967295 tokens >>= λ n. add_line r s (line.Add n))
+alone r s [] = refl
+alone r s (token ∷ []) = refl
+alone r s (token ∷ other ∷ tokens) = refl
 
 pub returns-in_err-number : goal.returns-in_err-number
 returns-in_err-number c =
-    let other =
-    alone-refused (script_line (within_script c.args.reading.now c.args.script) c.args.script word.Add) c.args.tokens c.in_err-number.field-0.0 refl
-    (λ a b others. refl) c.in_err-number.ensures in
-    Gives-refusal _ c.from_residual.result c.in_err-number.field-0.0 _ c.from_residual.ensures other
+    Gives-refusal _ c.from_residual.result c.in_err-number.field-0.0 _ c.from_residual.ensures
+    (rw (alone (within_script c.args.reading.now c.args.script) c.args.script c.args.tokens, ← c.in_err-number.ensures.read) refl)
 
-pub returns-in_err-number-2 : goal.returns-in_err-number-2
-returns-in_err-number-2 c =
-    Gives-refusal _ c.from_residual-in_err-number-2.result c.in_err-number-2.field-0.0 _ c.from_residual-in_err-number-2.ensures
-    (rw (
-      c.in_ok-number.ensures,
-      ← c.in_err-number-2.ensures.read,
-    ) refl)
+pub returns : goal.returns
+returns c = rw (alone (within_script c.args.reading.now c.args.script) c.args.script c.args.tokens, ← c.in_ok-number.ensures.read) c.add_line.ensures

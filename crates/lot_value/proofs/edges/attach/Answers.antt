@@ -1,8 +1,8 @@
-use Rattle.std.proofs.Common.{◌≡◌, ◌⊎◌, ◌∙◌, inl, inr, sym, subst}
+use Rattle.std.proofs.Common.{◌≡◌, ◌⊎◌, ◌∙◌, inl, inr, sym, subst, ap}
 use Rattle.lot_machine.specs.declared.funding.Node.{Node}
 use Rattle.lot_machine.specs.Equations.{HasEquation}
 use Rattle.lot_graph.specs.Graphs.{IsNodeOf}
-use Rattle.lot_value.specs.Caches.{IsStale}
+use Rattle.lot_value.specs.Caches.{IsStale, Known}
 use Rattle.lot_value.specs.Touched.{IsListed}
 use Rattle.lot_value.specs.Valued.{live_of}
 use Rattle.lot_value.proofs.Ends.{there-edge, to-is}
@@ -48,3 +48,17 @@ touch-requires-clause-node c =
     let (before, ends, adds, stands, together) = c.requires.before in
     let same = to-is w.funding c.args.edge ends.from ends.to (there-edge w.funding c.args.edge ends adds.here) c.in-Some.ends (sym c.ends_of_edge.ensures.ends ∙ c.in-Some.is) in
     subst (IsNodeOf w) (sym same) stands.within
+
+pub attach-requires : goal.attach-requires
+attach-requires c = let (before, ends, adds, stands, together) = c.requires.before in record { kept = (before, ends, live_of before c.args.active.now, adds, together.kept) }
+
+pub touch-requires-clause-layout : goal.touch-requires-clause-layout
+touch-requires-clause-layout c =
+    let (before, ends, adds, stands, together) = c.requires.before in
+    ap (λ (k : Known). k.layout) c.touch_listed.ensures.touched.others ∙ together.right.layout ∙ sym adds.layout
+
+pub returns-clause-kept : goal.returns-clause-kept
+returns-clause-kept c node is = c.touch.ensures.kept node (c.touch_listed.ensures.touched.kept node is)
+
+pub returns-clause-others : goal.returns-clause-others
+returns-clause-others c = c.touch.ensures.others ∙ ap (λ (k : Known). record k { stale = c.touch.new.self.stale }) c.touch_listed.ensures.touched.others

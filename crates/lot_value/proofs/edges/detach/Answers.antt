@@ -1,10 +1,11 @@
-use Rattle.std.proofs.Common.{◌≡◌, ◌⊎◌, ◌∙◌, inl, inr, refl}
+use Rattle.std.proofs.Common.{◌≡◌, ◌⊎◌, ◌∙◌, inl, inr, refl, ap}
 use Rattle.lot_machine.specs.declared.funding.Node.{Node}
 use Rattle.lot_value.specs.Touched.{IsListed}
 use Rattle.lot_value.specs.Valued.{live_of}
 use Rattle.lot_value.proofs.OneEdge.{ends-have}
 use Rattle.lot_value.proofs.GraphCalls.{follows-one}
 use Rattle.lot_value.proofs.Touches.{touched-one, touched-then, listed-more}
+use Rattle.lot_value.specs.Caches.{Known}
 use Rattle.lot_value.proofs.edges.detach.Goals as goal
 
 pub touch_listed-requires : goal.touch_listed-requires
@@ -31,3 +32,20 @@ returns-clause-follows c before edge adds stands together =
     let touched = touched-then w c.args.values.now c.touch_listed.new.values c.touch.new.self (IsListed w c.detach.new.self) such such c.touch_listed.ensures.touched one (λ x so. inl so) (λ x so. so) in
     let listed = listed-more w c.detach.new.self c.touch_listed.new.values c.touch.new.self c.touch.ensures.kept c.touch_listed.ensures.listed in
     follows-one before w edge c.args.ends (inr adds) stands c.args.active.now c.detach.new.self c.args.values.now c.touch.new.self together is changes touched listed c.touch.ensures.marked
+
+pub detach-requires-clause-kept : goal.detach-requires-clause-kept
+detach-requires-clause-kept c = let (before, edge, adds, stands, together) = c.requires.before in (before, edge, live_of before c.args.active.now, adds, together.kept)
+
+pub touch-requires-clause-layout : goal.touch-requires-clause-layout
+touch-requires-clause-layout c =
+    let (before, edge, adds, stands, together) = c.requires.before in
+    ap (λ (k : Known). k.layout) c.touch_listed.ensures.touched.others ∙ together.right.layout ∙ adds.layout
+
+pub touch-requires-clause-node : goal.touch-requires-clause-node
+touch-requires-clause-node c = let (before, edge, adds, stands, together) = c.requires.before in stands.within
+
+pub returns-clause-kept : goal.returns-clause-kept
+returns-clause-kept c node is = c.touch.ensures.kept node (c.touch_listed.ensures.touched.kept node is)
+
+pub returns-clause-others : goal.returns-clause-others
+returns-clause-others c = c.touch.ensures.others ∙ ap (λ (k : Known). record k { stale = c.touch.new.self.stale }) c.touch_listed.ensures.touched.others

@@ -1,13 +1,22 @@
-use Rattle.std.proofs.Common.{◌≡◌, ◌<◌, Some, ◌∙◌, ap₂, sym, subst, length}
-use Rattle.lot_machine.specs.declared.ticket.Target.TheVariants.{Unfunded}
+use Rattle.std.proofs.Common.{◌≡◌, ◌<◌, Some, ◌∙◌, ap₂, sym, subst, length, ap, is_some, refl}
+use Rattle.lot_machine.specs.declared.ticket.Target.TheVariants.{Unfunded, Currency, Thread}
 use Rattle.lot_machine.specs.declared.funding.Edge.TheVariants.{OfTicket}
-use Rattle.lot_machine.specs.Funding.{target_of}
+use Rattle.lot_machine.specs.Funding.{target_of, Funding, target_node, with_target, ticket_in}
 use Rattle.lot_lists.specs.NodeLists.{IsFree, with_pushed}
 use Rattle.lot_graph.specs.Graphs.{LimitedFunding, IsTarget, IsCycle}
-use Rattle.lot_graph.proofs.FieldLemmas.{unfunded-within, unfunded-free, place-low}
+use Rattle.lot_graph.proofs.FieldLemmas.{unfunded-within, unfunded-free, place-low, target-ticket}
 use Rattle.lot_graph.proofs.CycleLemmas.{target-low, fund-kept}
 use Rattle.lot_graph.proofs.LimitLemmas.{graph-fits}
+use Rattle.std.specs.Option.{IsSome}
+use Rattle.lot_machine.specs.declared.ticket.Target.{Target}
+use Rattle.lot_graph.specs.Changes.{with_tickets}
 use Rattle.lot_graph.proofs.graph.Graph.give.Goals as goal
+
+-- an existing target is a node
+target-funded : (f : Funding) (to : Target) → IsTarget f to → IsSome (target_node to)
+target-funded f Unfunded there = absurd there
+target-funded f (Currency c) there = refl
+target-funded f (Thread t) there = refl
 
 pub place_of-requires : goal.place_of-requires
 place_of-requires c =
@@ -41,3 +50,14 @@ returns-clause-sound c = (invariant_of-self c).sound
 
 pub returns-clause-fits : goal.returns-clause-fits
 returns-clause-fits c = graph-fits _ (invariant_of-self c)
+
+pub set_target-requires : goal.set_target-requires
+set_target-requires c =
+    let r = target-ticket c.args.self.now.funding c.args.ticket Unfunded c.requires.unfunded in
+    record { there = subst (λ (v : LimitedFunding). IsSome (ticket_in v.funding.tickets c.args.ticket)) (sym c.self.view_is) (ap is_some r.1) }
+
+pub target_node-requires : goal.target_node-requires
+target_node-requires c = target-funded c.args.self.now.funding c.args.target c.requires.target
+
+pub returns-clause-funded : goal.returns-clause-funded
+returns-clause-funded c = rw c.set_target.ensures (ap (λ (v : LimitedFunding). with_tickets v (with_target v.funding.tickets c.args.ticket c.args.target)) c.self.view_is)

@@ -1,9 +1,14 @@
-use Rattle.std.proofs.Common.{◌≡◌, None, Some, ap, arith, subst, sym, ◌∙◌}
-use Rattle.lot_machine.specs.Numbered.{at_number}
+use Rattle.std.proofs.Common.{◌≡◌, None, Some, ap, arith, subst, sym, ◌∙◌, ◌≤◌}
+use Rattle.lot_machine.specs.Numbered.{at_number, set_number}
 use Rattle.lot_lists.specs.NodeLists.{with_pushed}
 use Rattle.lot_graph.specs.Graphs.{LimitedFunding, IsCurrency}
-use Rattle.lot_graph.proofs.FieldLemmas.{again-free, again-held}
+use Rattle.lot_graph.proofs.FieldLemmas.{again-free, again-held, node-within}
 use Rattle.lot_graph.proofs.LimitLemmas.{graph-fits}
+use Rattle.lot_machine.proofs.LendSums.{number-within}
+use Rattle.lot_machine.specs.declared.funding.Node.TheVariants.{Currency}
+use Rattle.lot_machine.specs.declared.ticket.Target.TheVariants.{Unfunded}
+use Rattle.lot_machine.specs.declared.ticket.Ticket.{Ticket}
+use Rattle.lot_graph.specs.Changes.{with_tickets}
 use Rattle.lot_graph.proofs.graph.Graph.issue_again.Goals as goal
 
 pub push_back-requires-clause-free : goal.push_back-requires-clause-free
@@ -22,3 +27,29 @@ returns-clause-sound c = (invariant_of-self c).sound
 
 pub returns-clause-fits : goal.returns-clause-fits
 returns-clause-fits c = graph-fits _ (invariant_of-self c)
+
+pub put-requires-clause-gap : goal.put-requires-clause-gap
+put-requires-clause-gap c = subst (λ (v : LimitedFunding). at_number v.funding.tickets c.args.ticket ≡ Some None) (sym c.self.view_is) c.requires.gap
+
+pub put-requires-clause-issuer : goal.put-requires-clause-issuer
+put-requires-clause-issuer c =
+    let low : c.args.currency ≤ c.self.inside.layout.currencies = node-within _ c.self.invariant (Currency c.args.currency) (subst (λ (v : LimitedFunding). IsCurrency v.funding c.args.currency) (sym c.self.view_is) c.requires.currency) in
+    omega (arith, low, c.self.invariant.currencies_short)
+
+pub index_of-requires : goal.index_of-requires
+index_of-requires c = (number-within c.self.inside.tickets.tickets c.args.ticket None (subst (λ (v : LimitedFunding). at_number v.funding.tickets c.args.ticket ≡ Some None) (sym c.self.view_is) c.requires.gap)).0
+
+pub push_back-requires-clause-list_exists : goal.push_back-requires-clause-list_exists
+push_back-requires-clause-list_exists c =
+    let low : c.args.currency ≤ c.self.inside.layout.currencies = node-within _ c.self.invariant (Currency c.args.currency) (subst (λ (v : LimitedFunding). IsCurrency v.funding c.args.currency) (sym c.self.view_is) c.requires.currency) in
+    omega (arith, low, c.self.invariant.issued_lists)
+
+pub push_back-requires-clause-node_exists : goal.push_back-requires-clause-node_exists
+push_back-requires-clause-node_exists c =
+    let low = number-within c.self.inside.tickets.tickets c.args.ticket None (subst (λ (v : LimitedFunding). at_number v.funding.tickets c.args.ticket ≡ Some None) (sym c.self.view_is) c.requires.gap) in
+    omega (arith, low.0, low.1, c.index_of.ensures, c.self.invariant.tickets_fit, c.self.invariant.issued_nodes)
+
+pub returns-clause-issued : goal.returns-clause-issued
+returns-clause-issued c =
+    let again : Ticket = record { amount = c.args.amount; issuer = c.args.currency; target = Unfunded } in
+    rw c.put.ensures (ap (λ (v : LimitedFunding). with_tickets v (set_number v.funding.tickets c.args.ticket (Some again))) c.self.view_is)

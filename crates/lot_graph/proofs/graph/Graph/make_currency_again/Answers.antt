@@ -1,6 +1,9 @@
-use Rattle.std.proofs.Common.{refl}
+use Rattle.std.proofs.Common.{refl, ◌≡◌, Some, ap, arith, false, slice_get, slice_set, subst, sym, true}
 use Rattle.lot_graph.proofs.FieldLemmas.{again_currency-held}
 use Rattle.lot_graph.proofs.LimitLemmas.{graph-fits}
+use Rattle.std.proofs.lemmas.Option.{slice_get_within}
+use Rattle.lot_graph.specs.Graphs.{LimitedFunding}
+use Rattle.lot_graph.specs.Changes.{with_currencies}
 use Rattle.lot_graph.proofs.graph.Graph.make_currency_again.Goals as goal
 
 pub invariant_of-self : goal.invariant_of-self
@@ -11,3 +14,10 @@ returns-clause-sound c = (invariant_of-self c).sound
 
 pub returns-clause-fits : goal.returns-clause-fits
 returns-clause-fits c = graph-fits _ (invariant_of-self c)
+
+pub index_mut-requires : goal.index_mut-requires
+index_mut-requires c =
+    let low = slice_get_within c.self.inside.currencies.items c.args.currency false (subst (λ (v : LimitedFunding). slice_get v.funding.currencies c.args.currency ≡ Some false) (sym c.self.view_is) c.requires.gap) in omega (arith, low)
+
+pub returns-clause-made : goal.returns-clause-made
+returns-clause-made c = ap (λ (v : LimitedFunding). with_currencies v (slice_set v.funding.currencies c.args.currency true)) c.self.view_is

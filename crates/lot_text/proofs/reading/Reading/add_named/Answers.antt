@@ -1,5 +1,8 @@
+use Rattle.std.proofs.Common.{◌≡◌, ap, arith, length, [], ◌∷◌}
+use Rattle.std.proofs.lemmas.List.{length-append}
 use Rattle.lot_text.proofs.FaultLemmas.{Gives-memory, Gives-refusal}
-use Rattle.lot_text.proofs.NameLemmas.{ticket-refused}
+use Rattle.lot_text.proofs.NameLemmas.{ticket-named, ticket-refused}
+use Rattle.lot_text.proofs.ReadingLemmas.{with_ticket_names}
 use Rattle.lot_text.specs.ReadingFields.{reading_of}
 use Rattle.lot_text.proofs.reading.Reading.add_named.Goals as goal
 
@@ -15,3 +18,16 @@ returns-in_err-name c =
     ticket-refused (reading_of c.self.inside) c.args.self.now c.args.token.now c.as_slice.result.now c.in_err-name.field-0.0 c.args.command c.self.view_is
     c.as_slice.ensures.value c.in_err-name.ensures in
     Gives-refusal _ c.from_residual.result c.in_err-name.field-0.0 _ c.from_residual.ensures refused
+
+pub invariant_of-self-2 : goal.invariant_of-self-2
+invariant_of-self-2 c =
+    with_ticket_names (reading_of c.self.inside) c.push.new.self.items c.self.invariant
+    (omega (arith, ap length c.in_ok-push.ensures.items, length-append c.self.inside.ticket_names.items (c.in_ok-name.name ∷ []), c.if-len-ge-MOST_TICKET_NAMES.false, c.len.ensures))
+
+pub returns : goal.returns
+returns c =
+    let named =
+    ticket-named (reading_of c.self.inside) c.args.self.now c.args.token.now c.as_slice.result.now c.in_ok-name.name c.args.command c.self.view_is
+    c.in_ok-name.ensures c.as_slice.ensures.value (omega (arith, c.if-len-ge-MOST_TICKET_NAMES.false, c.len.ensures)) in
+    let number : length c.push.new.self.items ≡ c.len-number.result = omega (arith, c.len-number.ensures) in
+    rw (named, ← c.in_ok-push.ensures.items, number) c.add_naming.ensures

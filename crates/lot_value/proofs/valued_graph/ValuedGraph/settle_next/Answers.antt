@@ -4,11 +4,14 @@ use Rattle.lot_machine.specs.Bounds.{IsUnit}
 use Rattle.lot_graph.specs.declared.layout.Layout.{Layout}
 use Rattle.lot_graph.specs.Graphs.{LimitedFunding, IsNodeOf}
 use Rattle.lot_graph.specs.Places.{IsNodeWithin, layout_of}
-use Rattle.lot_value.specs.Caches.{Known, Settles}
+use Rattle.lot_value.specs.Caches.{Known, Settles, IsOnce}
 use Rattle.lot_value.specs.Valued.{Valued, live_of}
 use Rattle.lot_value.proofs.Following.{stays-small}
 use Rattle.lot_value.proofs.Nodes.{node-within, within-node}
 use Rattle.lot_value.proofs.Rightness.{right-worth}
+use Rattle.lot_machine.specs.Funding.{edge_count_into}
+use Rattle.lot_machine.specs.Equations.{HasEquation}
+use Rattle.lot_value.specs.Counts.{counted_up}
 use Rattle.lot_value.proofs.valued_graph.ValuedGraph.settle_next.Goals as goal
 
 unit-stays : (old new : Known) (o : Option Node) → IfSome o (Settles old new) → IfNone o ((old.stale ≡ []) × (new ≡ old)) → new.unit ≡ old.unit
@@ -46,3 +49,26 @@ returns-clause-worth c node within fresh has =
 pub returns-clause-within : goal.returns-clause-within
 returns-clause-within c =
     subst (λ (v : Valued). IfSome c.settle_next.result (IsNodeOf v.now)) c.self.view_is (is-of c.self.inside.graph c.self.inside.values c.settle_next.result c.self.invariant.right.layout c.settle_next.ensures.within)
+
+pub returns-clause-now : goal.returns-clause-now
+returns-clause-now c = ap (λ (v : Valued). v.now) c.self.view_is
+
+pub returns-clause-live : goal.returns-clause-live
+returns-clause-live c = ap (λ (v : Valued). v.live) c.self.view_is
+
+pub returns-clause-layout : goal.returns-clause-layout
+returns-clause-layout c =
+    let inv = c.self.invariant in (c.settle_next.ensures.right (live_of c.self.inside.graph c.self.inside.active) inv.kept inv.right).layout
+
+pub returns-clause-node : goal.returns-clause-node
+returns-clause-node c = subst (λ (v : Valued). IfSome c.settle_next.result (HasEquation v.now.funding)) c.self.view_is c.settle_next.ensures.node
+
+pub returns-clause-once : goal.returns-clause-once
+returns-clause-once c = subst (λ (v : Valued). IsOnce v.known) c.self.view_is c.settle_next.ensures.once
+
+pub returns-clause-settles : goal.returns-clause-settles
+returns-clause-settles c = subst (λ (v : Valued). IfSome c.settle_next.result (Settles v.known c.settle_next.new.self)) c.self.view_is c.settle_next.ensures.settles
+
+pub returns-clause-counted : goal.returns-clause-counted
+returns-clause-counted c =
+    subst (λ (v : Valued). IfSome c.settle_next.result (λ node. c.settle_next.new.self.reads ≡ counted_up v.known.reads (edge_count_into v.now.funding node))) c.self.view_is c.settle_next.ensures.counted

@@ -1,0 +1,52 @@
+-- What the program shares are the tables that were read.
+use Rattle.std.proofs.Common.{rules, arith, ◌∙◌, ap, sym, length, []}
+use Rattle.std.proofs.lemmas.List.{length-map}
+use Rattle.std.proofs.lemmas.Result.{IfOk-from_err}
+use Rattle.lot_machine.specs.declared.sizes.Sizes.{Sizes}
+use Rattle.lot_simulation.specs.Reading.{Reading}
+use Rattle.lot_text.specs.ReadingFields.{reading_of}
+use Rattle.lot_text.specs.declared.reading.NamedScript.{NamedScript}
+use Rattle.lot_text.proofs.ReadingLemmas.{without_seeds}
+use Rattle.lot_text.proofs.reading.Reading.take_program.Goals as goal
+
+pub invariant_of-self : goal.invariant_of-self
+invariant_of-self c = rw c.take.ensures.after (without_seeds (reading_of c.self.inside) c.self.inside.scripts.items c.self.invariant (omega arith))
+
+pub invariant_of-self-2 : goal.invariant_of-self-2
+invariant_of-self-2 c =
+    rw (c.take.ensures.after, c.replace.ensures.after, c.new.ensures.items) (without_seeds (reading_of c.self.inside) [] c.self.invariant (omega arith))
+
+pub invariant_of-result : goal.invariant_of-result
+invariant_of-result c =
+    let commands = c.in_ok-tables.ensures.commands in
+    let schedule = c.in_ok-tables.ensures.schedule in
+    let times = c.in_ok-tables.ensures.times in
+    let read = c.self.invariant in
+    let processors = ap (λ (sizes : Sizes). sizes.processors) c.limits-limits.ensures ∙ sym (ap (λ (r : Reading). r.processors) c.self.view_is) in
+    record {
+      program = record {
+        limits = search rules;
+        seed_count = c.in_ok-seeds.ensures.seeds.count ∙ sym processors;
+        seeds = c.in_ok-seeds.ensures.seeds.each;
+        turns = read.turns;
+        script_count = ap length c.in_ok-scripts.ensures ∙ rw c.replace.ensures.value (length-map c.self.inside.scripts.items (λ (s : NamedScript). s.lines)
+            ∙ ap (λ (r : Reading). length r.scripts) c.self.view_is ∙ sym (ap (λ (sizes : Sizes). sizes.scripts) c.limits-limits.ensures));
+        command_count = rw commands read.command_count;
+        actors = rw (schedule, processors) read.actors;
+        schedule_length = rw schedule read.schedule_length;
+        time_count = λ some. rw (times, commands) (read.time_count (read.running some));
+        rising = rw times read.rising;
+        ticket_names = search rules;
+      };
+      unit = search rules;
+      timed = search rules;
+    }
+
+pub returns-in_err-seeds : goal.returns-in_err-seeds
+returns-in_err-seeds c = IfOk-from_err c.from_residual.result _ c.from_residual.ensures.0
+
+pub returns-in_err-scripts : goal.returns-in_err-scripts
+returns-in_err-scripts c = IfOk-from_err c.from_residual-in_err-scripts.result _ c.from_residual-in_err-scripts.ensures.0
+
+pub returns-in_err-tables : goal.returns-in_err-tables
+returns-in_err-tables c = IfOk-from_err c.from_residual-in_err-tables.result _ c.from_residual-in_err-tables.ensures.0
