@@ -9,6 +9,7 @@ pub mod laws;
 mod run;
 mod schedule;
 mod source;
+mod subcommands;
 mod view;
 
 pub use exit_status::{status, unread_status};
