@@ -1,7 +1,7 @@
 //! The lines of an input's commands.
 
-use crate::forms::{is_command, place_of};
-use crate::input::{OpenScript, words_of};
+use crate::forms::{argument_named, is_command};
+use crate::input::{OpenScript, ends_line, first_word};
 use crate::keywords::row_of;
 use crate::phrases::after_line;
 use lot_simulation::{BodyWord, Form};
@@ -24,13 +24,13 @@ impl<'a> CommandLine<'a> {
         let mut script = None;
         let mut number = 0u32;
         let mut before = 0usize;
-        for line in input.split(|byte| *byte == b'\n') {
+        for line in input.split(ends_line) {
             number = number.saturating_add(1);
             if let Some(open) = script {
                 script = after_line(open, line);
                 continue;
             }
-            match row_of(words_of(line).next().unwrap_or("")) {
+            match row_of(first_word(line)) {
                 Some((_, BodyWord::Script, _)) => script = Some(OpenScript::opened(number)),
                 Some((_, _, form)) if is_command(form) && before == place => {
                     return Some(CommandLine { number, line, form });
@@ -44,7 +44,7 @@ impl<'a> CommandLine<'a> {
 
     /// The word of the command that is the argument with this name.
     pub(crate) fn argument(&self, name: &str) -> Option<&'a str> {
-        words_of(self.line).nth(place_of(self.form, name)?)
+        argument_named(self.form, self.line, name)
     }
 }
 

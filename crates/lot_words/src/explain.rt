@@ -5,7 +5,7 @@ use crate::forms::{
     Shape, WordCount, argument_at, form_in, form_outside, has_room_for, words_at_end,
 };
 use crate::header::HeaderLines;
-use crate::input::{OpenScript, Refused, words_of};
+use crate::input::{OpenScript, Refused, count_words, first_word, word_at, words_of};
 use crate::keywords::{Keyword, body_word, header_word, is_only_timed, row_of};
 use crate::names::{Named, name_numbered};
 use crate::nearest::nearest_word;
@@ -27,7 +27,7 @@ pub(crate) fn problem_of<'a>(
     refused: &Refused<'a>,
     refusal: InputRefusal,
 ) -> Problem<'a> {
-    let word = words_of(refused.line).next().unwrap_or("");
+    let word = first_word(refused.line);
     match refusal {
         InputRefusal::OpenScript => Problem::Unclosed,
         InputRefusal::TooDeep => Problem::Limit(LimitProblem::DeepLoop),
@@ -50,10 +50,9 @@ fn is_long_input(refused: &Refused<'_>) -> bool {
 
 /// Whether the line is the first of a timed input. If that line is refused, it is also the last one.
 fn is_timed_start(line: &[u8]) -> bool {
-    let mut words = words_of(line);
-    let is_start = words.next().unwrap_or("").as_bytes() == FIRST_WORD;
-    match Format::of_word(words.next().unwrap_or("").as_bytes()) {
-        Some(format) => is_start && format.is_timed() && words.next().is_none(),
+    let is_start = first_word(line).as_bytes() == FIRST_WORD && word_at(line, 2).is_none();
+    match Format::of_word(word_at(line, 1).unwrap_or("").as_bytes()) {
+        Some(format) => is_start && format.is_timed(),
         None => false,
     }
 }
@@ -225,8 +224,7 @@ fn form_problem<'a>(
 
 /// The problem with the words together of a line that must have this shape, if there is one.
 fn shape_problem<'a>(refused: &Refused<'a>, shape: Shape<'a>) -> Option<FormProblem<'a>> {
-    let mut words = words_of(refused.line);
-    let count = words.count().saturating_sub(1);
+    let count = count_words(refused.line).saturating_sub(1);
     if !has_room_for(shape.form, count, refused.processors) {
         return Some(count_problem(refused, shape, count));
     }

@@ -1,6 +1,6 @@
 //! The forms of lines.
 
-use crate::input::words_of;
+use crate::input::word_at;
 use crate::keywords::{header_word, row_of};
 use lot_simulation::{Argument, BodyWord, Form, HeaderWord};
 use std::fmt;
@@ -59,9 +59,9 @@ pub(crate) fn words_at_end(form: Form, line: &[u8]) -> Option<(&str, &str)> {
     let Form::Naming(arguments) = form else {
         return None;
     };
-    let mut words = words_of(line);
-    let before = words.nth(arguments.len().saturating_add(1))?;
-    Some((before, words.next()?))
+    let place = arguments.len().saturating_add(1);
+    let name = word_at(line, place.saturating_add(1))?;
+    Some((word_at(line, place)?, name))
 }
 
 /// Whether a line of this form is a command.
@@ -81,9 +81,20 @@ pub(crate) fn form_in(is_timed: bool, form: Form) -> Form {
 }
 
 /// The index in a line of this form of the argument with this name, where the first word has index 0.
-pub(crate) fn place_of(form: Form, name: &str) -> Option<usize> {
-    let place = form.arguments().iter().position(|row| row.0 == name)?;
-    Some(place.saturating_add(1))
+fn place_of(form: Form, name: &str) -> Option<usize> {
+    let mut place = 1usize;
+    for (argument, _) in form.arguments() {
+        if *argument == name {
+            return Some(place);
+        }
+        place = place.saturating_add(1);
+    }
+    None
+}
+
+/// The argument with this name of a line of this form, if it has that many words.
+pub(crate) fn argument_named<'a>(form: Form, line: &'a [u8], name: &str) -> Option<&'a str> {
+    word_at(line, place_of(form, name)?)
 }
 
 /// Whether a line may have this many words after the first.

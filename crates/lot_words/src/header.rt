@@ -12,7 +12,7 @@ impl fmt::Display for HeaderLines {
     fn fmt<W: fmt::Write>(&self, f: &mut fmt::Formatter<W>) -> fmt::Result {
         let last = last_place(self.0);
         let mut between = "";
-        for place in 0..HEADER_WORDS.len() as u32 {
+        for place in 0..PLACES {
             let Some(spelling) = spelling_at(self.0, place) else {
                 continue;
             };
@@ -25,6 +25,9 @@ impl fmt::Display for HeaderLines {
         Ok(())
     }
 }
+
+/// The number of places of lines in a header.
+const PLACES: u32 = HEADER_WORDS.len() as u32;
 
 /// The place of the last line that a header has in inputs of this format.
 fn last_place(format: Format) -> u32 {

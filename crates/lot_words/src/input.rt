@@ -52,7 +52,7 @@ impl<'a> Refused<'a> {
         };
         let mut begin = 0usize;
         let mut at = 1u32;
-        for line in input.split(|byte| *byte == b'\n') {
+        for line in input.split(ends_line) {
             let end = begin.saturating_add(line.len()).saturating_add(1);
             if at >= number {
                 refused.before = &input[..begin.min(input.len())];
@@ -85,8 +85,8 @@ impl<'a> Refused<'a> {
 
     /// Whether one of the lines before it begins with this word of the header.
     pub(crate) fn has_header_line(&self, word: HeaderWord) -> bool {
-        for line in self.before.split(|byte| *byte == b'\n') {
-            if header_word(words_of(line).next().unwrap_or("")) == Some(word) {
+        for line in self.before.split(ends_line) {
+            if header_word(first_word(line)) == Some(word) {
                 return true;
             }
         }
@@ -95,16 +95,13 @@ impl<'a> Refused<'a> {
 
     /// Records the content of the line with this number.
     fn pass(&mut self, number: u32, line: &[u8]) {
-        let mut words = words_of(line);
-        let Some(word) = words.next() else {
-            return;
-        };
-        if word.starts_with('#') {
+        let word = first_word(line);
+        if word.is_empty() || word.starts_with('#') {
             return;
         }
         match self.script {
             Some(script) => self.script = after_line(script, line),
-            None => self.pass_outside(number, word, words.next().unwrap_or("")),
+            None => self.pass_outside(number, word, word_at(line, 1).unwrap_or("")),
         }
         self.has_start = true;
     }
@@ -167,4 +164,25 @@ impl OpenScript {
 /// The words of a line. A line that isn't text has none.
 pub(crate) fn words_of(line: &[u8]) -> SplitAsciiWhitespace<'_> {
     str::from_utf8(line).unwrap_or("").split_ascii_whitespace()
+}
+
+/// The first word of a line, or no text if it has none.
+pub(crate) fn first_word(line: &[u8]) -> &str {
+    word_at(line, 0).unwrap_or("")
+}
+
+/// The word of a line with this index, from 0, if it has one.
+pub(crate) fn word_at(line: &[u8], place: usize) -> Option<&str> {
+    words_of(line).nth(place)
+}
+
+/// The number of the words of a line.
+pub(crate) fn count_words(line: &[u8]) -> usize {
+    let mut words = words_of(line);
+    words.count()
+}
+
+/// Whether this byte ends a line.
+pub(crate) fn ends_line(byte: &u8) -> bool {
+    *byte == b'\n'
 }

@@ -1,7 +1,7 @@
 //! The names that an input declares.
 
-use crate::forms::{form_outside, place_of, words_at_end};
-use crate::input::words_of;
+use crate::forms::{argument_named, form_outside, words_at_end};
+use crate::input::{ends_line, first_word};
 use crate::keywords::{body_word, spelling_of};
 use lot_simulation::{AS_WORD, BodyWord};
 use std::fmt;
@@ -44,18 +44,26 @@ pub(crate) fn argument_given<'a>(
     line: &'a [u8],
     name: &str,
 ) -> Option<&'a str> {
-    let word = words_of(line).next()?;
-    if keywords.contains(&body_word(word)?) {
-        words_of(line).nth(place_of(form_outside(word)?, name)?)
+    let word = first_word(line);
+    if is_one_of(keywords, word) {
+        argument_named(form_outside(word)?, line, name)
     } else {
         None
     }
 }
 
+/// Whether this is one of these words.
+fn is_one_of(keywords: &[BodyWord], word: &str) -> bool {
+    match body_word(word) {
+        Some(word) => keywords.contains(&word),
+        None => false,
+    }
+}
+
 /// The name that the line gives to the ticket that it makes, if it gives one.
 fn ticket_name_given(line: &[u8]) -> Option<&str> {
-    let word = words_of(line).next()?;
-    let (before, name) = words_at_end(form_outside(word)?, line)?;
+    let form = form_outside(first_word(line))?;
+    let (before, name) = words_at_end(form, line)?;
     if before.as_bytes() == AS_WORD {
         Some(name)
     } else {
@@ -65,7 +73,7 @@ fn ticket_name_given(line: &[u8]) -> Option<&str> {
 
 /// Whether one of these lines gives this name to a thing of this kind.
 pub(crate) fn is_given(lines: &[u8], kind: Named, name: &str) -> bool {
-    for line in lines.split(|byte| *byte == b'\n') {
+    for line in lines.split(ends_line) {
         if kind.given_by(line) == Some(name) {
             return true;
         }
@@ -76,7 +84,7 @@ pub(crate) fn is_given(lines: &[u8], kind: Named, name: &str) -> bool {
 /// The name with this number, from 1, among those that these lines give to things of this kind.
 pub(crate) fn name_numbered(lines: &[u8], kind: Named, number: u32) -> Option<&str> {
     let mut before = 0u32;
-    for line in lines.split(|byte| *byte == b'\n') {
+    for line in lines.split(ends_line) {
         let name = kind.given_by(line);
         if name.is_some() {
             before = before.saturating_add(1);

@@ -1,5 +1,6 @@
 //! Suggestions for misspelt words.
 
+use crate::input::ends_line;
 use crate::keywords::{Keyword, text_of};
 use crate::names::Named;
 use lot_simulation::{Format, WordRow};
@@ -102,7 +103,7 @@ pub(crate) fn nearest_name<'a>(
     misspelt: &str,
 ) -> Nearest<'a> {
     let mut nearest = Nearest::NONE;
-    for line in lines.split(|byte| *byte == b'\n') {
+    for line in lines.split(ends_line) {
         if let Some(name) = name_of_kinds(kinds, line) {
             nearest = nearest.or(alloc, misspelt, name);
         }

@@ -11,19 +11,19 @@ use thiserror::Error;
 /// large enum safe takes more than twice as long with twice the cases.
 #[derive(Clone, Copy, Debug, Error)]
 pub(crate) enum Problem<'a> {
-    #[error("{0}")]
+    #[error(transparent)]
     Byte(ByteProblem),
-    #[error("{0}")]
+    #[error(transparent)]
     Header(HeaderProblem<'a>),
-    #[error("{0}")]
+    #[error(transparent)]
     Keyword(KeywordProblem<'a>),
-    #[error("{0}")]
+    #[error(transparent)]
     Form(FormProblem<'a>),
-    #[error("{0}")]
+    #[error(transparent)]
     Number(NumberProblem<'a>),
-    #[error("{0}")]
+    #[error(transparent)]
     Name(NameProblem<'a>),
-    #[error("{0}")]
+    #[error(transparent)]
     Limit(LimitProblem),
     #[error("this script isn't closed: 'endscript' closes it")]
     Unclosed,
@@ -52,7 +52,7 @@ pub(crate) enum HeaderProblem<'a> {
     #[error("'{word}' comes too late: the header has {lines}, \
         each at most once, in this order and before all else")]
     LateHeader { word: &'a str, lines: HeaderLines },
-    #[error("{0}")]
+    #[error(transparent)]
     LateTimed(LateProblem<'a>),
     #[error("the header doesn't say how long the input runs: 'for TICKS' comes before the first body line")]
     NoDuration,

@@ -1,7 +1,7 @@
 //! Whether a refused line can be skipped, since its fault has no consequences for other lines.
 
 use crate::forms::form_outside;
-use crate::input::{Refused, words_of};
+use crate::input::{Refused, count_words, first_word, words_of};
 use crate::keywords::{Keyword, body_word, header_word, row_of};
 use crate::nearest::{nearer_word, nearest_word};
 use crate::problem::{ByteProblem, KeywordProblem, Problem};
@@ -35,7 +35,7 @@ fn is_of_one_line(problem: Problem<'_>) -> bool {
 
 /// Whether a line outside scripts can be skipped, by its first word.
 fn can_skip_body_line(alloc: Global, refused: &Refused<'_>) -> bool {
-    let word = words_of(refused.line).next().unwrap_or("");
+    let word = first_word(refused.line);
     let is_timed = refused.is_timed();
     let nearest = nearest_word(alloc, BodyWord::rows(), is_timed, word);
     let nearest = nearer_word(alloc, nearest, HeaderWord::rows(), is_timed, word);
@@ -91,8 +91,7 @@ fn may_name_ticket(refused: &Refused<'_>, meant: &str) -> bool {
         return false;
     };
     let has_as = words_of(refused.line).any(|word| word.as_bytes() == AS_WORD);
-    let mut words = words_of(refused.line);
-    let is_longer = words.count() > arguments.len().saturating_add(1);
+    let is_longer = count_words(refused.line) > arguments.len().saturating_add(1);
     refused.is_timed() && (has_as || is_longer)
 }
 

@@ -1,6 +1,6 @@
 //! Traps that the kernel refused.
 
-use crate::input::{OpenScript, words_of};
+use crate::input::{OpenScript, ends_line, words_of};
 use crate::keywords::{row_of, spelling_of};
 use crate::names::{Named, argument_given, name_given, name_numbered};
 use crate::phrases::after_line;
@@ -62,10 +62,10 @@ impl<'a> TrapWords<'a> {
 
 impl fmt::Display for TrapWords<'_> {
     fn fmt<W: fmt::Write>(&self, f: &mut fmt::Formatter<W>) -> fmt::Result {
-        f.write_str(spelling_of(self.word))?;
+        let word = spelling_of(self.word);
         match self.name {
-            Some(name) => write!(f, " {name}"),
-            None => Ok(()),
+            Some(name) => write!(f, "{word} {name}"),
+            None => f.write_str(word),
         }
     }
 }
@@ -87,7 +87,7 @@ impl<'a> TrapLines<'a> {
         let mut lines: Option<TrapLines> = None;
         let mut open: Option<OpenScript> = None;
         let mut number = 0u32;
-        for line in input.split(|byte| *byte == b'\n') {
+        for line in input.split(ends_line) {
             number = number.saturating_add(1);
             if let Some(before) = open {
                 if words.are_in(line) {
@@ -119,11 +119,10 @@ impl<'a> TrapLines<'a> {
 
 /// The script of the threads with this name, if each command that makes such a thread names the same one.
 fn script_of<'a>(input: &'a [u8], thread: &str) -> Option<&'a str> {
-    let makers = [BodyWord::MakeThread, BodyWord::MakeFunded];
     let mut script: Option<&str> = None;
-    for line in input.split(|byte| *byte == b'\n') {
-        if name_given(&makers, line) == Some(thread) {
-            let given = argument_given(&makers, line, "SCRIPT");
+    for line in input.split(ends_line) {
+        if name_given(MAKERS, line) == Some(thread) {
+            let given = argument_given(MAKERS, line, "SCRIPT");
             if script.is_some() && script != given {
                 return None;
             }
@@ -132,6 +131,9 @@ fn script_of<'a>(input: &'a [u8], thread: &str) -> Option<&'a str> {
     }
     script
 }
+
+/// The words of the commands that make a thread.
+const MAKERS: &[BodyWord] = &[BodyWord::MakeThread, BodyWord::MakeFunded];
 
 /// Traps of a thread with the same words that were refused for the same reason.
 #[derive(Clone, Copy)]
@@ -160,9 +162,16 @@ fn lines_of<'a>(
     traps: &RefusedTrap,
     words: TrapWords<'_>,
 ) -> Option<TrapLines<'a>> {
-    let name = traps.name.as_ref()?;
-    let script = script_of(input, str::from_utf8(name.as_bytes()).ok()?)?;
+    let script = script_of(input, thread_name(traps)?)?;
     TrapLines::of(input, script, words)
+}
+
+/// The name of the thread of these traps, if it has one.
+fn thread_name(traps: &RefusedTrap) -> Option<&str> {
+    match &traps.name {
+        Some(name) => str::from_utf8(name.as_bytes()).ok(),
+        None => None,
+    }
 }
 
 impl fmt::Display for RefusedWords<'_> {
@@ -172,13 +181,7 @@ impl fmt::Display for RefusedWords<'_> {
             words,
             lines,
         } = *self;
-        if let Some(TrapLines { first, .. }) = lines {
-            write!(f, "line {first}: ")?;
-        }
-        write!(f, "'{words}'")?;
-        if let Some(TrapLines { script, others, .. }) = lines {
-            write!(f, " in script '{script}'{}", Others(others))?;
-        }
+        write_trap_words(f, words, lines)?;
         let thread = Called::thread(traps.name.as_ref(), traps.thread);
         let reason = reason_of(traps.refusal);
         write!(
@@ -186,6 +189,28 @@ impl fmt::Display for RefusedWords<'_> {
             " was refused to {thread} {}: {reason}",
             Times(traps.times)
         )
+    }
+}
+
+/// Writes the words of a trap, and their lines if they are known.
+fn write_trap_words<W: fmt::Write>(
+    f: &mut fmt::Formatter<W>,
+    words: TrapWords<'_>,
+    lines: Option<TrapLines<'_>>,
+) -> fmt::Result {
+    match lines {
+        Some(
+            TrapLines {
+                script,
+                first,
+                others,
+            },
+        ) => write!(
+            f,
+            "line {first}: '{words}' in script '{script}'{}",
+            Others(others)
+        ),
+        None => write!(f, "'{words}'"),
     }
 }
 
