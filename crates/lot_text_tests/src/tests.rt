@@ -569,7 +569,7 @@ fn reads_what_inputs_say(rt: HostRuntime) {
     check_all_said(&rt, rt.alloc(), &READ);
 }
 
-/// Reads the text, unless memory lacks.
+/// Reads the text, unless out of memory.
 fn check_read(rt: &impl Abort, alloc: Global, name: &str, text: &str) {
     let fault = fault_of(alloc, text.as_bytes()).unwrap_or(None);
     check_same_at(rt, &name, &fault, &None);

@@ -45,9 +45,9 @@ const ABOUT_THREADS: &[Asked<'static>] = &[
     Asked::MakeFundedIn(1, 65536, "", 1),
 ];
 
-/// Adds a command, and returns whether memory was enough.
+/// Adds a copy of a command, and returns whether memory was enough.
 fn is_added(rt: &impl Abort, list: &mut CommandList, asked: Asked<'_>) -> bool {
-    list.push(command(rt, asked)).is_ok()
+    list.push(command(rt, asked).copied()).is_ok()
 }
 
 /// A list of these commands.
@@ -83,7 +83,7 @@ fn keeps_each_command(rt: HostRuntime) {
     check_all_packed(&rt, rt.alloc(), PACKED);
 }
 
-/// Adds a command, once more if the first attempt lacks memory.
+/// Adds a command, once more if the first attempt runs out of memory.
 fn add_in_the_end(rt: &impl Abort, list: &mut CommandList, index: usize, asked: Asked<'_>) {
     if !is_added(rt, list, asked) {
         check_same(rt, &list.len(), &index);
@@ -91,7 +91,7 @@ fn add_in_the_end(rt: &impl Abort, list: &mut CommandList, index: usize, asked: 
     }
 }
 
-/// Adds each command, once more if the first attempt lacks memory.
+/// Adds each command, once more if the first attempt runs out of memory.
 fn listed_in_the_end(rt: &impl Abort, alloc: Global, commands: &[Asked<'_>]) -> CommandList {
     let mut list = CommandList::new(alloc);
     for (index, asked) in commands.iter().enumerate() {
@@ -100,7 +100,7 @@ fn listed_in_the_end(rt: &impl Abort, alloc: Global, commands: &[Asked<'_>]) -> 
     list
 }
 
-// For runs in which one allocation is refused: a push that lacks memory adds no command, and the next push does.
+// For runs in which one allocation is refused: a push that runs out of memory adds no command, and the next push does.
 #[test]
 fn keeps_or_lacks_memory(rt: HostRuntime) {
     let list = listed_in_the_end(&rt, rt.alloc(), ABOUT_THREADS);
