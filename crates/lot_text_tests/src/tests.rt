@@ -3,8 +3,6 @@ mod printing;
 mod same;
 mod slices;
 
-ghost use Rattle.std.specs.Prelude.{◌<◌, length};
-
 use crate::fault_of;
 use lot_machine::{Command, CurrencyRef, Kind, Limits, Name, Sizes, TargetRef, ThreadRef};
 use lot_script::Script;
@@ -12,6 +10,7 @@ use lot_simulation::{InputFault, InputRefusal, Line, MutexTrap, PortTrap, Script
 use lot_text::{Commands, ParseFault, Program, Seed, parse, parse_seeded};
 use same::{check_same, check_same_at};
 use std::alloc::Global;
+use std::fmt::Debug;
 use std::process::Abort;
 
 /// A command with its names as texts.
@@ -29,14 +28,6 @@ enum Asked<'a> {
     Kill(&'a str),
     MakeFunded(u64, &'a str, &'a str, u32),
     List(Kind),
-    // With a number in place of a name.
-    MakeTicketIn(u64, u32),
-    RemoveCurrencyAt(u32),
-    FundCurrency(u64, u32),
-    FundThread(u64, u32),
-    RemoveThreadAt(u32),
-    KillAt(u32),
-    MakeFundedIn(u64, u32, &'a str, u32),
 }
 
 /// The content of an input.
@@ -58,51 +49,13 @@ fn name(rt: &impl Abort, text: &str) -> Name {
     Name::new(text).expect(rt, "it is too long for a name")
 }
 
-/// A command that says what it is about by numbers.
-fn numbered_command(rt: &impl Abort, asked: Asked<'_>) -> Command {
-    match asked {
-        Asked::RemoveTicket(ticket) => Command::RemoveTicket { ticket },
-        Asked::Unfund(ticket) => Command::Unfund { ticket },
-        Asked::SetTicket(ticket, amount) => Command::SetTicket { ticket, amount },
-        Asked::List(kind) => Command::List(kind),
-        Asked::MakeTicketIn(amount, number) => Command::MakeTicket {
-            amount,
-            currency: CurrencyRef::Numbered(number),
-        },
-        Asked::RemoveCurrencyAt(number) => Command::RemoveCurrency {
-            currency: CurrencyRef::Numbered(number),
-        },
-        Asked::FundCurrency(ticket, number) => Command::Fund {
-            ticket,
-            target: TargetRef::Currency(number),
-        },
-        Asked::FundThread(ticket, number) => Command::Fund {
-            ticket,
-            target: TargetRef::Thread(number),
-        },
-        Asked::RemoveThreadAt(number) => Command::RemoveThread {
-            thread: ThreadRef::Numbered(number),
-        },
-        Asked::KillAt(number) => Command::Kill {
-            thread: ThreadRef::Numbered(number),
-        },
-        Asked::MakeFundedIn(amount, number, text, script) => Command::MakeFunded {
-            amount,
-            currency: CurrencyRef::Numbered(number),
-            name: name(rt, text),
-            script,
-        },
-        // All others have names.
-        _ => rt.abort(),
-    }
-}
-
 fn command(rt: &impl Abort, asked: Asked<'_>) -> Command {
     match asked {
         Asked::MakeTicket(amount, text) => {
             let currency = CurrencyRef::Named(name(rt, text));
             Command::MakeTicket { amount, currency }
         }
+        Asked::RemoveTicket(ticket) => Command::RemoveTicket { ticket },
         Asked::MakeCurrency(text) => Command::MakeCurrency {
             name: name(rt, text),
         },
@@ -113,6 +66,8 @@ fn command(rt: &impl Abort, asked: Asked<'_>) -> Command {
             let target = TargetRef::Named(name(rt, text));
             Command::Fund { ticket, target }
         }
+        Asked::Unfund(ticket) => Command::Unfund { ticket },
+        Asked::SetTicket(ticket, amount) => Command::SetTicket { ticket, amount },
         Asked::MakeThread(text, script) => {
             let name = name(rt, text);
             Command::MakeThread { name, script }
@@ -129,7 +84,7 @@ fn command(rt: &impl Abort, asked: Asked<'_>) -> Command {
             name: name(rt, text),
             script,
         },
-        _ => numbered_command(rt, asked),
+        Asked::List(kind) => Command::List(kind),
     }
 }
 
@@ -151,82 +106,66 @@ fn sizes_of(limits: Limits) -> Sizes {
     }
 }
 
-/// Compares all but the scripts and the commands.
-fn check_numbers(rt: &impl Abort, name: &str, program: &Program, said: &Said<'_>) {
-    check_same_at(rt, &name, &sizes_of(program.limits()), &said.sizes);
-    let found = (
-        program.seeds(),
-        program.schedule(),
-        program.times(),
-        program.names(),
-    );
-    check_same_at(
-        rt,
-        &name,
-        &found,
-        &(said.seeds, said.schedule, said.times, said.names),
-    );
-    let found = (
-        program.turns(),
-        program.duration(),
-        program.ticket_names(),
-        program.is_strict(),
-    );
-    check_same_at(
-        rt,
-        &name,
-        &found,
-        &(said.turns, said.duration, said.ticket_names, said.strict),
-    );
+fn check_limits(rt: &impl Abort, limits: Limits, wanted: Sizes) {
+    check_same(rt, &sizes_of(limits), &wanted);
 }
 
-fn check_scripts(rt: &impl Abort, name: &str, scripts: &[Script], wanted: &[&[Line]]) {
-    check_same_at(rt, &name, &scripts.len(), &wanted.len());
-    for (index, script) in scripts.iter().enumerate() {
-        check_same_at(
-            rt,
-            &(name, index),
-            &Some(&script.lines()),
-            &wanted.get(index),
-        );
+fn check_items<T: PartialEq + Debug>(rt: &impl Abort, found: &[T], wanted: &[T]) {
+    check_same(rt, &found, &wanted);
+}
+
+/// Compares the limits, the seeds, the turns and the schedule.
+fn check_numbers(rt: &impl Abort, program: &Program, said: &Said<'_>) {
+    check_limits(rt, program.limits(), said.sizes);
+    check_items(rt, program.seeds(), said.seeds);
+    check_items(rt, program.schedule(), said.schedule);
+    check_same(rt, &program.turns(), &said.turns);
+}
+
+/// Compares how long it runs, and when its commands are made.
+fn check_times(rt: &impl Abort, program: &Program, said: &Said<'_>) {
+    check_items(rt, program.times(), said.times);
+    check_same(rt, &program.duration(), &said.duration);
+}
+
+/// Compares the names of tickets, and whether a refusal ends the play.
+fn check_names(rt: &impl Abort, program: &Program, said: &Said<'_>) {
+    check_same(rt, &program.ticket_names(), &said.ticket_names);
+    check_items(rt, program.names(), said.names);
+    check_same(rt, &program.is_strict(), &said.strict);
+}
+
+fn check_scripts(rt: &impl Abort, scripts: &[Script], wanted: &[&[Line]]) {
+    check_same(rt, &scripts.len(), &wanted.len());
+    for (script, lines) in scripts.iter().zip(wanted) {
+        check_items(rt, script.lines(), lines);
     }
 }
 
-fn check_command(
-    rt: &impl Abort,
-    name: &str,
-    commands: &Commands,
-    index: usize,
-    wanted: &[Asked<'_>],
-)
-    requires { index < length commands.now }
-{
-    let asked = wanted.get(index).expect(rt, "there are as many");
-    check_same_at(
-        rt,
-        &(name, index),
-        &commands.at(index),
-        &command(rt, *asked),
-    );
+fn check_command(rt: &impl Abort, found: &Command, asked: Asked<'_>) {
+    check_same(rt, found, &command(rt, asked));
 }
 
-fn check_commands(rt: &impl Abort, name: &str, commands: &Commands, wanted: &[Asked<'_>]) {
-    check_same_at(rt, &name, &commands.len(), &wanted.len());
+fn check_commands(rt: &impl Abort, commands: &Commands, wanted: &[Asked<'_>]) {
+    check_same(rt, &commands.len(), &wanted.len());
     for index in 0..commands.len() {
-        check_command(rt, name, commands, index, wanted);
+        let asked = wanted.get(index).expect(rt, "there are as many");
+        check_command(rt, &commands.at(index), *asked);
     }
 }
 
-fn check_program(rt: &impl Abort, name: &str, program: &Program, said: &Said<'_>) {
-    check_numbers(rt, name, program, said);
-    check_scripts(rt, name, program.scripts(), said.scripts);
-    check_commands(rt, name, program.commands(), said.commands);
+fn check_program(rt: &impl Abort, program: &Program, said: &Said<'_>) {
+    check_numbers(rt, program, said);
+    check_times(rt, program, said);
+    check_names(rt, program, said);
+    check_scripts(rt, program.scripts(), said.scripts);
+    check_commands(rt, program.commands(), said.commands);
 }
 
-/// Reads the text, and compares the program with what it says. A failure shows the name.
-fn check_said(rt: &impl Abort, alloc: Global, name: &str, text: &str, said: &Said<'_>) {
-    let program = parse(alloc, text.as_bytes()).expect(rt, name);
-    check_program(rt, name, &program, said);
+/// Reads the text, and compares the program with what it says.
+fn check_said(rt: &impl Abort, alloc: Global, text: &str, said: &Said<'_>) {
+    let program = parse(alloc, text.as_bytes()).expect(rt, "it is read");
+    check_program(rt, &program, said);
 }
 
 const FIRST_RUN: &str =
@@ -268,11 +207,16 @@ const FIRST_RUN_SAYS: &Said<'static> = &Said {
     strict: false,
 };
 
+#[test]
+fn reads_the_first_run(rt: HostRuntime) {
+    check_said(&rt, rt.alloc(), FIRST_RUN, FIRST_RUN_SAYS);
+}
+
 /// Compares the seeds of an input that names three, read with this one in their place.
 fn check_seeds(rt: &impl Abort, alloc: Global, given: Option<Seed>, wanted: &[u32]) {
     let text = "lottery 3\nprocessors 3\nfor 1\nseed 7 8 9\n";
     let program = parse_seeded(alloc, given, text.as_bytes()).expect(rt, "it is read");
-    check_same(rt, &program.seeds(), &wanted);
+    check_items(rt, program.seeds(), wanted);
 }
 
 const SEEDS: &[u32] = &[7, 8, 9];
@@ -285,7 +229,8 @@ const SEEDS_AFTER_5: &[u32] = &[5, 241355, 913028970];
 fn given_seeds(rt: HostRuntime) {
     check_seeds(&rt, rt.alloc(), None, SEEDS);
     check_seeds(&rt, rt.alloc(), Seed::new(5), SEEDS_AFTER_5);
-    check_same(&rt, &[Seed::new(0), Seed::new(2147483647)], &[None, None]);
+    check_same(&rt, &Seed::new(0), &None);
+    check_same(&rt, &Seed::new(2147483647), &None);
 }
 
 const HEADERS: &str =
@@ -318,6 +263,11 @@ const HEADERS_SAY: &Said<'static> = &Said {
     names: &[],
     strict: false,
 };
+
+#[test]
+fn reads_headers(rt: HostRuntime) {
+    check_said(&rt, rt.alloc(), HEADERS, HEADERS_SAY);
+}
 
 /// Every kind of line of inputs whose turns follow a schedule. Two names have 16 bytes, the longest.
 const WHOLE_GRAMMAR: &str =
@@ -382,6 +332,11 @@ const WHOLE_GRAMMAR_SAYS: &Said<'static> = &Said {
     strict: false,
 };
 
+#[test]
+fn reads_the_whole_grammar(rt: HostRuntime) {
+    check_said(&rt, rt.alloc(), WHOLE_GRAMMAR, WHOLE_GRAMMAR_SAYS);
+}
+
 /// The parts that only timed inputs have. One name has 16 bytes, the longest, and isn't good.
 const TIMED: &str =
     "lottery 3\nprocessors 2\nturns 5\nfor 4294967295\nreuse\nport p\nscript s\nloop 2 serve p yield\n\
@@ -436,18 +391,20 @@ const TIMED_SAYS: &Said<'static> = &Said {
     strict: false,
 };
 
-/// The headers of a timed input in three orders.
-const HEADER_ORDER: &str =
-    "lottery 3\nprocessors 2\nquantum 50\nturns 5\nfor 9\nseed 7 8\nlimits 4 3 2\nreuse\nwithout lending\n\
-     without compensation\nstrict\nport p\n";
+#[test]
+fn reads_turns_in_the_order_of_time(rt: HostRuntime) {
+    check_said(&rt, rt.alloc(), TIMED, TIMED_SAYS);
+}
 
-const SECOND_HEADER_ORDER: &str =
-    "lottery 3\nstrict\nwithout compensation\nreuse\nlimits 4 3 2\nwithout lending\nprocessors 2\nseed 7 8\nfor 9\n\
-     turns 5\nquantum 50\nport p\n";
-
-const THIRD_HEADER_ORDER: &str =
-    "lottery 3\nfor 9\nstrict\nwithout lending\nprocessors 2\nreuse\nturns 5\nwithout compensation\nlimits 4 3 2\n\
-     quantum 50\nseed 7 8\nport p\n";
+/// One header of a timed input in three orders.
+const HEADER_ORDERS: &[&str] = &[
+    "processors 2\nquantum 50\nturns 5\nfor 9\nseed 7 8\nlimits 4 3 2\nreuse\nwithout lending\nwithout compensation\n\
+     strict",
+    "strict\nwithout compensation\nreuse\nlimits 4 3 2\nwithout lending\nprocessors 2\nseed 7 8\nfor 9\nturns 5\n\
+     quantum 50",
+    "for 9\nstrict\nwithout lending\nprocessors 2\nreuse\nturns 5\nwithout compensation\nlimits 4 3 2\nquantum 50\n\
+     seed 7 8",
+];
 
 const HEADER_ORDERS_SAY: &Said<'static> = &Said {
     sizes: Sizes {
@@ -476,6 +433,18 @@ const HEADER_ORDERS_SAY: &Said<'static> = &Said {
     names: &[],
     strict: true,
 };
+
+fn check_header_order(rt: &impl Abort, alloc: Global, header: &str) {
+    let text = format!(in alloc; "lottery 3\n{header}\nport p\n").expect(rt, "memory");
+    check_said(rt, alloc, text.as_str(), HEADER_ORDERS_SAY);
+}
+
+#[test]
+fn reads_timed_headers_in_any_order(rt: HostRuntime) {
+    for header in HEADER_ORDERS {
+        check_header_order(&rt, rt.alloc(), header);
+    }
+}
 
 /// Two tickets have names, and one has none.
 const NAMED: &str = "lottery 3
@@ -542,49 +511,23 @@ const NAMED_SAYS: &Said<'static> = &Said {
     strict: false,
 };
 
-/// The name of an input, the input, and what it says.
-type Row<'a> = (&'a str, &'a str, &'a Said<'a>);
-
-// The tables of all inputs are statics, and functions of their own loop over them: a constant that a test names, or
-// loops over, is proved there with all that it refers to.
-static READ: [Row<'static>; 8] = [
-    ("the first run", FIRST_RUN, FIRST_RUN_SAYS),
-    ("headers", HEADERS, HEADERS_SAY),
-    ("the whole grammar", WHOLE_GRAMMAR, WHOLE_GRAMMAR_SAYS),
-    ("turns in the order of time", TIMED, TIMED_SAYS),
-    ("timed headers", HEADER_ORDER, HEADER_ORDERS_SAY),
-    ("in another order", SECOND_HEADER_ORDER, HEADER_ORDERS_SAY),
-    ("in a third order", THIRD_HEADER_ORDER, HEADER_ORDERS_SAY),
-    ("names of tickets", NAMED, NAMED_SAYS),
-];
-
-fn check_all_said(rt: &impl Abort, alloc: Global, rows: &[Row<'_>]) {
-    for (name, text, said) in rows {
-        check_said(rt, alloc, name, text, said);
-    }
-}
-
 #[test]
-fn reads_what_inputs_say(rt: HostRuntime) {
-    check_all_said(&rt, rt.alloc(), &READ);
+fn reads_names_of_tickets(rt: HostRuntime) {
+    check_said(&rt, rt.alloc(), NAMED, NAMED_SAYS);
 }
 
-/// Reads the text, unless out of memory.
-fn check_read(rt: &impl Abort, alloc: Global, name: &str, text: &str) {
-    let fault = fault_of(alloc, text.as_bytes()).unwrap_or(None);
-    check_same_at(rt, &name, &fault, &None);
+/// Reads the text, unless memory lacks.
+fn check_read(rt: &impl Abort, alloc: Global, text: &str) {
+    let result = parse(alloc, text.as_bytes());
+    assert!(rt; matches!(&result, Ok(_) | Err(ParseFault::Memory)));
 }
 
-fn check_all_read(rt: &impl Abort, alloc: Global, rows: &[Row<'_>]) {
-    for (name, text, _) in rows {
-        check_read(rt, alloc, name, text);
-    }
-}
-
-// For runs in which one allocation is refused: the test above fails in those that refuse one of these.
+// For runs in which one allocation is refused: the tests above fail in those that refuse one of these.
 #[test]
 fn reads_or_lacks_memory(rt: HostRuntime) {
-    check_all_read(&rt, rt.alloc(), &READ);
+    check_read(&rt, rt.alloc(), WHOLE_GRAMMAR);
+    check_read(&rt, rt.alloc(), TIMED);
+    check_read(&rt, rt.alloc(), NAMED);
 }
 
 /// The ends of inputs that are refused on one line, for one reason.
@@ -594,34 +537,21 @@ struct Refusals<'a> {
     ends: &'a [&'a str],
 }
 
-/// The parts of an input in turn, each with how often it stands there.
-type Parts<'a> = &'a [(&'a str, u32)];
-
-fn text_of(rt: &impl Abort, alloc: Global, parts: Parts<'_>) -> String {
-    let mut text = String::new(alloc);
-    for (part, count) in parts {
-        for _ in 0..*count {
-            text.push_str(part).expect(rt, "memory");
-        }
-    }
-    text
+/// The line and the refusal of an input, if it is refused.
+fn refused(rt: &impl Abort, alloc: Global, text: &str) -> Option<(u32, InputRefusal)> {
+    let fault = fault_of(alloc, text.as_bytes()).expect(rt, "memory")?;
+    Some((fault.line, fault.refusal))
 }
 
-/// Compares the line and the refusal of an input, if it is refused, and shows its parts.
-fn check_fault(rt: &impl Abort, alloc: Global, parts: Parts<'_>, wanted: Option<InputFault>) {
-    let text = text_of(rt, alloc, parts);
-    let found = fault_of(alloc, text.as_bytes()).ok();
-    check_same_at(rt, &parts, &found, &Some(wanted));
+fn check_refused(rt: &impl Abort, alloc: Global, text: &str, line: u32, refusal: InputRefusal) {
+    check_same_at(rt, &text, &refused(rt, alloc, text), &Some((line, refusal)));
 }
 
 /// Checks that this beginning is refused with each of these ends.
 fn check_ends(rt: &impl Abort, alloc: Global, beginning: &str, wanted: &Refusals<'_>) {
-    let fault = InputFault {
-        line: wanted.line,
-        refusal: wanted.refusal,
-    };
     for end in wanted.ends {
-        check_fault(rt, alloc, &[(beginning, 1), (end, 1)], Some(fault));
+        let text = format!(in alloc; "{beginning}{end}").expect(rt, "memory");
+        check_refused(rt, alloc, text.as_str(), wanted.line, wanted.refusal);
     }
 }
 
@@ -656,6 +586,11 @@ const FIRST_LINES: &[Refusals<'static>] = &[
         ends: &["\t", "lottery 1\r"],
     },
 ];
+
+#[test]
+fn refuses_first_lines(rt: HostRuntime) {
+    check_table(&rt, rt.alloc(), "", FIRST_LINES);
+}
 
 const REFUSED_HEADERS: &[Refusals<'static>] = &[
     Refusals {
@@ -704,6 +639,11 @@ const REFUSED_HEADERS: &[Refusals<'static>] = &[
         ],
     },
 ];
+
+#[test]
+fn refuses_headers(rt: HostRuntime) {
+    check_table(&rt, rt.alloc(), "lottery 1\n", REFUSED_HEADERS);
+}
 
 const REFUSED_BODIES: &[Refusals<'static>] = &[
     Refusals {
@@ -787,6 +727,11 @@ const REFUSED_BODIES: &[Refusals<'static>] = &[
     },
 ];
 
+#[test]
+fn refuses_bodies(rt: HostRuntime) {
+    check_table(&rt, rt.alloc(), "lottery 1\n", REFUSED_BODIES);
+}
+
 /// The call and its reply, up to a line of the server's script.
 const CALL: &str = "lottery 1\nquantum 10\nport p\nscript srv\n";
 
@@ -835,6 +780,11 @@ const REFUSED_SCRIPTS: &[Refusals<'static>] = &[
     },
 ];
 
+#[test]
+fn refuses_scripts(rt: HostRuntime) {
+    check_table(&rt, rt.alloc(), CALL, REFUSED_SCRIPTS);
+}
+
 const REFUSED_RUNS: &[Refusals<'static>] = &[
     Refusals {
         line: 2,
@@ -867,6 +817,11 @@ const REFUSED_RUNS: &[Refusals<'static>] = &[
         ends: &["runs 0 1000000 0 1"],
     },
 ];
+
+#[test]
+fn refuses_runs(rt: HostRuntime) {
+    check_table(&rt, rt.alloc(), "lottery 2\n", REFUSED_RUNS);
+}
 
 /// Header lines of a timed input.
 const REFUSED_DURATIONS: &[Refusals<'static>] = &[
@@ -994,6 +949,22 @@ const REFUSED_PHRASES: &[Refusals<'static>] = &[
     },
 ];
 
+#[test]
+fn refuses_phrases(rt: HostRuntime) {
+    let opened = "lottery 3\nfor 5\nmutex m\nscript s\n";
+    check_table(&rt, rt.alloc(), opened, REFUSED_PHRASES);
+}
+
+#[test]
+fn refuses_durations(rt: HostRuntime) {
+    check_table(&rt, rt.alloc(), "lottery 3\n", REFUSED_DURATIONS);
+}
+
+#[test]
+fn refuses_times(rt: HostRuntime) {
+    check_table(&rt, rt.alloc(), "lottery 3\nfor 5\n", REFUSED_TIMES);
+}
+
 /// Lines after one that names a ticket `gift`.
 const REFUSED_NAMES: &[Refusals<'static>] = &[
     Refusals {
@@ -1050,136 +1021,117 @@ const NAMES_OF_OTHERS: &[Refusals<'static>] = &[
     },
 ];
 
-/// Whole inputs.
-const REFUSED_STRICT: &[Refusals<'static>] = &[
-    Refusals {
-        line: 2,
-        refusal: InputRefusal::BadLine,
-        ends: &["lottery 2\nstrict"],
-    },
-    Refusals {
-        line: 3,
-        refusal: InputRefusal::BadLine,
-        ends: &["lottery 3\nfor 5\nstrict 1"],
-    },
-    Refusals {
-        line: 4,
-        refusal: InputRefusal::BadHeader,
-        ends: &[
-            "lottery 3\nstrict\nfor 5\nstrict",
-            "lottery 3\nfor 5\nlstkt\nstrict",
-        ],
-    },
+#[test]
+fn refuses_names_of_tickets(rt: HostRuntime) {
+    let alloc = rt.alloc();
+    let named = "lottery 3\nfor 5\nmktkt 5 base as gift\n";
+    check_table(&rt, alloc, named, REFUSED_NAMES);
+    check_table(&rt, alloc, "lottery 1\n", NAMES_OF_OTHERS);
+    check_table(&rt, alloc, "lottery 2\n", NAMES_OF_OTHERS);
+}
+
+/// Inputs, each with the line that is refused and the refusal.
+const REFUSED_STRICT: &[(&str, u32, InputRefusal)] = &[
+    ("lottery 2\nstrict", 2, InputRefusal::BadLine),
+    ("lottery 3\nfor 5\nstrict 1", 3, InputRefusal::BadLine),
+    (
+        "lottery 3\nstrict\nfor 5\nstrict",
+        4,
+        InputRefusal::BadHeader,
+    ),
+    (
+        "lottery 3\nfor 5\nlstkt\nstrict",
+        4,
+        InputRefusal::BadHeader,
+    ),
 ];
 
-/// Beginnings of inputs, each with the ends with which it is refused.
-static REFUSED: [(&str, &[Refusals<'static>]); 12] = [
-    ("", FIRST_LINES),
-    ("lottery 1\n", REFUSED_HEADERS),
-    ("lottery 1\n", REFUSED_BODIES),
-    (CALL, REFUSED_SCRIPTS),
-    ("lottery 2\n", REFUSED_RUNS),
-    ("lottery 3\nfor 5\nmutex m\nscript s\n", REFUSED_PHRASES),
-    ("lottery 3\n", REFUSED_DURATIONS),
-    ("lottery 3\nfor 5\n", REFUSED_TIMES),
-    ("lottery 3\nfor 5\nmktkt 5 base as gift\n", REFUSED_NAMES),
-    ("lottery 1\n", NAMES_OF_OTHERS),
-    ("lottery 2\n", NAMES_OF_OTHERS),
-    ("", REFUSED_STRICT),
-];
-
-fn check_tables(rt: &impl Abort, alloc: Global, tables: &[(&str, &[Refusals<'_>])]) {
-    for (beginning, table) in tables {
-        check_table(rt, alloc, beginning, table);
+#[test]
+fn refuses_strict(rt: HostRuntime) {
+    for (text, line, refusal) in REFUSED_STRICT {
+        check_refused(&rt, rt.alloc(), text, *line, *refusal);
     }
 }
 
-#[test]
-fn refuses_inputs(rt: HostRuntime) {
-    check_tables(&rt, rt.alloc(), &REFUSED);
-}
-
-/// The refusal of a line that is too long, and of one that says nothing known.
-const LONG_LINE: InputFault = InputFault {
-    line: 2,
-    refusal: InputRefusal::TooLong,
-};
-
-const UNKNOWN_LINE: InputFault = InputFault {
-    line: 2,
-    refusal: InputRefusal::BadLine,
-};
-
-const LONG_SCRIPT: InputFault = InputFault {
-    line: 1027,
-    refusal: InputRefusal::TooLong,
-};
-
-const LONG_PHRASES: InputFault = InputFault {
-    line: 6,
-    refusal: InputRefusal::TooLong,
-};
-
-const TIMED_SCRIPT: &str = "lottery 3\nfor 5\nscript s\n";
-
-/// Inputs at the limits and behind them: lines of 4096 and 4097 bytes, scripts of 1024 and 1025 lines, and scripts of
-/// as many words, with 500 on a line.
-static AT_LIMITS: [(Parts<'static>, Option<InputFault>); 8] = [
-    (&[("lottery 1\n#", 1), ("x", 4095)], None),
-    (&[("lottery 1\n#", 1), ("x", 4096)], Some(LONG_LINE)),
-    (&[("lottery 1\n", 1), ("x", 4096)], Some(UNKNOWN_LINE)),
-    (&[("lottery 1\n", 1), ("x", 4097)], Some(LONG_LINE)),
-    (
-        &[
-            ("lottery 1\nscript s\n", 1),
-            ("compute 1\n", 1024),
-            ("endscript\n", 1),
-        ],
-        None,
-    ),
-    (
-        &[
-            ("lottery 1\nscript s\n", 1),
-            ("compute 1\n", 1025),
-            ("endscript\n", 1),
-        ],
-        Some(LONG_SCRIPT),
-    ),
-    (
-        &[
-            (TIMED_SCRIPT, 1),
-            ("yield ", 499),
-            ("yield\n", 1),
-            ("yield ", 499),
-            ("yield\n", 1),
-            ("yield ", 24),
-            ("endscript\n", 1),
-        ],
-        None,
-    ),
-    (
-        &[
-            (TIMED_SCRIPT, 1),
-            ("yield ", 499),
-            ("yield\n", 1),
-            ("yield ", 499),
-            ("yield\n", 1),
-            ("yield ", 25),
-            ("endscript\n", 1),
-        ],
-        Some(LONG_PHRASES),
-    ),
-];
-
-fn check_faults(rt: &impl Abort, alloc: Global, rows: &[(Parts<'_>, Option<InputFault>)]) {
-    for (parts, wanted) in rows {
-        check_fault(rt, alloc, parts, *wanted);
+/// A first line, and then a line of this many bytes.
+fn long_line(rt: &impl Abort, alloc: Global, first: &str, count: usize) -> String {
+    let mut text = format!(in alloc; "lottery 1\n{first}").expect(rt, "memory");
+    for _ in first.len()..count {
+        text.push('x').expect(rt, "memory");
     }
+    text
+}
+
+/// A script of this many lines.
+fn long_script(rt: &impl Abort, alloc: Global, count: u32) -> String {
+    let mut text = String::from_str(alloc, "lottery 1\nscript s\n").expect(rt, "memory");
+    for _ in 0..count {
+        text.push_str("compute 1\n").expect(rt, "memory");
+    }
+    text.push_str("endscript\n").expect(rt, "memory");
+    text
+}
+
+/// A script of this many words, with 500 on a line.
+fn long_phrases(rt: &impl Abort, alloc: Global, count: u32) -> String {
+    let mut text = String::from_str(alloc, "lottery 3\nfor 5\nscript s\n").expect(rt, "memory");
+    for number in 1..count.saturating_add(1) {
+        let word = if number % 500 == 0 {
+            "yield\n"
+        } else {
+            "yield "
+        };
+        text.push_str(word).expect(rt, "memory");
+    }
+    text.push_str("endscript\n").expect(rt, "memory");
+    text
+}
+
+/// Compares the line and the refusal of a long input, if it is refused, and shows its number of bytes.
+fn check_long(rt: &impl Abort, alloc: Global, text: &str, wanted: Option<(u32, InputRefusal)>) {
+    check_same_at(rt, &text.len(), &refused(rt, alloc, text), &wanted);
+}
+
+fn check_line(
+    rt: &impl Abort,
+    alloc: Global,
+    first: &str,
+    count: usize,
+    wanted: Option<(u32, InputRefusal)>,
+) {
+    let text = long_line(rt, alloc, first, count);
+    check_long(rt, alloc, text.as_str(), wanted);
 }
 
 #[test]
-fn meets_limits(rt: HostRuntime) {
-    check_faults(&rt, rt.alloc(), &AT_LIMITS);
+fn meets_limits_of_lines(rt: HostRuntime) {
+    let alloc = rt.alloc();
+    check_line(&rt, alloc, "#", 4096, None);
+    check_line(&rt, alloc, "#", 4097, Some((2, InputRefusal::TooLong)));
+    check_line(&rt, alloc, "x", 4096, Some((2, InputRefusal::BadLine)));
+    check_line(&rt, alloc, "x", 4097, Some((2, InputRefusal::TooLong)));
+}
+
+fn check_script(rt: &impl Abort, alloc: Global, count: u32, wanted: Option<(u32, InputRefusal)>) {
+    let text = long_script(rt, alloc, count);
+    check_long(rt, alloc, text.as_str(), wanted);
+}
+
+#[test]
+fn meets_limits_of_scripts(rt: HostRuntime) {
+    check_script(&rt, rt.alloc(), 1024, None);
+    check_script(&rt, rt.alloc(), 1025, Some((1027, InputRefusal::TooLong)));
+}
+
+fn check_phrases(rt: &impl Abort, alloc: Global, count: u32, wanted: Option<(u32, InputRefusal)>) {
+    let text = long_phrases(rt, alloc, count);
+    check_long(rt, alloc, text.as_str(), wanted);
+}
+
+#[test]
+fn meets_limits_of_phrases(rt: HostRuntime) {
+    check_phrases(&rt, rt.alloc(), 1024, None);
+    check_phrases(&rt, rt.alloc(), 1025, Some((6, InputRefusal::TooLong)));
 }
 
 fn check_text(rt: &impl Abort, alloc: Global, fault: ParseFault, text: &str) {

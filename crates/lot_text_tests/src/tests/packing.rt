@@ -1,110 +1,151 @@
 //! Commands are kept in little memory, and are the same when they are read.
-use super::same::check_same;
-use super::{Asked, check_commands, command};
-use lot_machine::Kind;
-use lot_text::CommandList;
-use std::alloc::Global;
+use super::name;
+use super::same::{check_same, check_same_at};
+use lot_machine::{Command, CurrencyRef, Kind, Name, TargetRef, ThreadRef};
+use lot_text::{CommandList, Commands};
+use std::alloc::{AllocError, Global};
 use std::process::Abort;
 
-// Two different names of 16 bytes, the longest.
-const LONGEST: &str = "abcdefghijklmnop";
-
-const LONGEST_TOO: &str = "qrstuvwxyz-01234";
+/// Two different names of 16 bytes, the longest.
+const LONGEST: [&str; 2] = ["abcdefghijklmnop", "qrstuvwxyz-01234"];
 
 /// Commands on tickets. A name has 1 or 16 bytes, and each number is the smallest, the largest or between.
-const ABOUT_TICKETS: &[Asked<'static>] = &[
-    Asked::MakeTicket(18446744073709551615, "b"),
-    Asked::MakeTicketIn(0, 4294967295),
-    Asked::RemoveTicket(65535),
-    Asked::Fund(72623859790382856, LONGEST),
-    Asked::FundCurrency(1, 0),
-    Asked::FundThread(2, 16909060),
-    Asked::Unfund(65536),
-    Asked::SetTicket(4294967296, 4294967295),
-];
+fn about_tickets(rt: &impl Abort) -> [Command; 8] {
+    [
+        Command::MakeTicket {
+            amount: 18446744073709551615,
+            currency: CurrencyRef::Named(name(rt, "b")),
+        },
+        Command::MakeTicket {
+            amount: 0,
+            currency: CurrencyRef::Numbered(4294967295),
+        },
+        Command::RemoveTicket { ticket: 65535 },
+        Command::Fund {
+            ticket: 72623859790382856,
+            target: TargetRef::Named(name(rt, LONGEST[0])),
+        },
+        Command::Fund {
+            ticket: 1,
+            target: TargetRef::Currency(0),
+        },
+        Command::Fund {
+            ticket: 2,
+            target: TargetRef::Thread(16909060),
+        },
+        Command::Unfund { ticket: 65536 },
+        Command::SetTicket {
+            ticket: 4294967296,
+            amount: 4294967295,
+        },
+    ]
+}
 
 /// Commands on currencies and listings.
-const ABOUT_CURRENCIES: &[Asked<'static>] = &[
-    Asked::MakeCurrency(LONGEST_TOO),
-    Asked::RemoveCurrency(LONGEST_TOO),
-    Asked::RemoveCurrencyAt(0),
-    Asked::List(Kind::Tickets),
-    Asked::List(Kind::Currencies),
-    Asked::List(Kind::Threads),
-];
+fn about_currencies(rt: &impl Abort) -> [Command; 6] {
+    [
+        Command::MakeCurrency {
+            name: name(rt, LONGEST[1]),
+        },
+        Command::RemoveCurrency {
+            currency: CurrencyRef::Named(name(rt, LONGEST[1])),
+        },
+        Command::RemoveCurrency {
+            currency: CurrencyRef::Numbered(0),
+        },
+        Command::List(Kind::Tickets),
+        Command::List(Kind::Currencies),
+        Command::List(Kind::Threads),
+    ]
+}
 
 /// Commands on threads, which may have no name.
-const ABOUT_THREADS: &[Asked<'static>] = &[
-    Asked::MakeThread("t", 4294967295),
-    Asked::MakeThread("", 0),
-    Asked::RemoveThread(LONGEST),
-    Asked::RemoveThreadAt(1),
-    Asked::Kill("u"),
-    Asked::KillAt(4096),
-    Asked::MakeFunded(18446744073709551614, LONGEST, LONGEST_TOO, 256),
-    Asked::MakeFundedIn(1, 65536, "", 1),
-];
-
-/// Adds a copy of a command, and returns whether memory was enough.
-fn is_added(rt: &impl Abort, list: &mut CommandList, asked: Asked<'_>) -> bool {
-    list.push(command(rt, asked).copied()).is_ok()
+fn about_threads(rt: &impl Abort) -> [Command; 8] {
+    [
+        Command::MakeThread {
+            name: name(rt, "t"),
+            script: 4294967295,
+        },
+        Command::MakeThread {
+            name: name(rt, ""),
+            script: 0,
+        },
+        Command::RemoveThread {
+            thread: ThreadRef::Named(name(rt, LONGEST[0])),
+        },
+        Command::RemoveThread {
+            thread: ThreadRef::Numbered(1),
+        },
+        Command::Kill {
+            thread: ThreadRef::Named(name(rt, "u")),
+        },
+        Command::Kill {
+            thread: ThreadRef::Numbered(4096),
+        },
+        Command::MakeFunded {
+            amount: 18446744073709551614,
+            currency: CurrencyRef::Named(name(rt, LONGEST[0])),
+            name: name(rt, LONGEST[1]),
+            script: 256,
+        },
+        Command::MakeFunded {
+            amount: 1,
+            currency: CurrencyRef::Numbered(65536),
+            name: name(rt, ""),
+            script: 1,
+        },
+    ]
 }
 
 /// A list of these commands.
-fn listed(rt: &impl Abort, alloc: Global, commands: &[Asked<'_>]) -> CommandList {
+fn listed(alloc: Global, commands: &[Command]) -> Result<CommandList, AllocError> {
     let mut list = CommandList::new(alloc);
-    for asked in commands {
-        assert!(rt; is_added(rt, &mut list, *asked));
+    for command in commands {
+        list.push(command.copied())?;
     }
-    list
+    Ok(list)
 }
 
-fn check_packed(rt: &impl Abort, alloc: Global, name: &str, commands: &[Asked<'_>]) {
-    let kept = listed(rt, alloc, commands)
-        .into_commands()
-        .expect(rt, "memory");
-    check_commands(rt, name, &kept, commands);
+/// Compares the commands that are kept with these.
+fn check_kept(rt: &impl Abort, kept: &Commands, wanted: &[Command]) {
+    check_same(rt, &kept.len(), &wanted.len());
+    for index in 0..kept.len() {
+        let command = wanted.get(index).expect(rt, "there are as many");
+        check_same_at(rt, &index, &kept.at(index), command);
+    }
 }
 
-const PACKED: &[(&str, &[Asked<'static>])] = &[
-    ("about tickets", ABOUT_TICKETS),
-    ("about currencies", ABOUT_CURRENCIES),
-    ("about threads", ABOUT_THREADS),
-];
-
-fn check_all_packed(rt: &impl Abort, alloc: Global, rows: &[(&str, &[Asked<'_>])]) {
-    for (name, commands) in rows {
-        check_packed(rt, alloc, name, commands);
-    }
+fn check_packed(rt: &impl Abort, alloc: Global, commands: &[Command]) {
+    let list = listed(alloc, commands).expect(rt, "memory");
+    let kept = list.into_commands().expect(rt, "memory");
+    check_kept(rt, &kept, commands);
 }
 
 #[test]
 fn keeps_each_command(rt: HostRuntime) {
-    check_all_packed(&rt, rt.alloc(), PACKED);
+    check_packed(&rt, rt.alloc(), about_tickets(&rt).as_slice());
+    check_packed(&rt, rt.alloc(), about_currencies(&rt).as_slice());
+    check_packed(&rt, rt.alloc(), about_threads(&rt).as_slice());
 }
 
-/// Adds a command, once more if the first attempt runs out of memory.
-fn add_in_the_end(rt: &impl Abort, list: &mut CommandList, index: usize, asked: Asked<'_>) {
-    if !is_added(rt, list, asked) {
-        check_same(rt, &list.len(), &index);
-        assert!(rt; is_added(rt, list, asked));
-    }
-}
-
-/// Adds each command, once more if the first attempt runs out of memory.
-fn listed_in_the_end(rt: &impl Abort, alloc: Global, commands: &[Asked<'_>]) -> CommandList {
+/// Adds each command, once more if the first attempt lacks memory.
+fn listed_in_the_end(rt: &impl Abort, alloc: Global, commands: &[Command]) -> CommandList {
     let mut list = CommandList::new(alloc);
-    for (index, asked) in commands.iter().enumerate() {
-        add_in_the_end(rt, &mut list, index, *asked);
+    for (index, command) in commands.iter().enumerate() {
+        if list.push(command.copied()).is_err() {
+            check_same(rt, &list.len(), &index);
+            list.push(command.copied()).expect(rt, "memory");
+        }
     }
     list
 }
 
-// For runs in which one allocation is refused: a push that runs out of memory adds no command, and the next push does.
+// For runs in which one allocation is refused: a push that lacks memory adds no command, and the next push does.
 #[test]
 fn keeps_or_lacks_memory(rt: HostRuntime) {
-    let list = listed_in_the_end(&rt, rt.alloc(), ABOUT_THREADS);
+    let commands = about_threads(&rt);
+    let list = listed_in_the_end(&rt, rt.alloc(), commands.as_slice());
     if let Ok(kept) = list.into_commands() {
-        check_commands(&rt, "about threads", &kept, ABOUT_THREADS);
+        check_kept(&rt, &kept, commands.as_slice());
     }
 }

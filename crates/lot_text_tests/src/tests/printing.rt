@@ -1,11 +1,10 @@
 //! The texts of replies, listings, totals, histories and refused inputs. The expected ones are written by hand.
 ghost use Rattle.std.specs.Prelude.{◌≡◌, ◌<◌, ◌^◌, false};
 
-use super::name;
 use super::same::check_same_at;
 use lot_io::{IoFault, Watched};
 use lot_machine::{
-    Action, CurrencyRow, Event, Kind, Limits, Outcome, Refusal, Reply, Sizes, Status, Target,
+    Action, CurrencyRow, Event, Kind, Limits, Name, Outcome, Refusal, Reply, Sizes, Status, Target,
     ThreadRow, TicketRow, TrapRefusal,
 };
 use lot_print::{
@@ -24,113 +23,463 @@ use lot_simulation::{
 use std::alloc::Global;
 use std::process::Abort;
 
-/// What is printed: the arguments of a function of `lot_print`, or some of them where the others are the same in all
-/// rows. Names are texts.
-enum Printed<'a> {
-    /// A turn of this actor, printed with whole values.
-    Turn(u32, Turn),
-    /// A turn of processor 1 at tick 120, printed with its time.
-    Timed(Turn),
-    /// A console's turn without a command.
-    Ended,
-    Fault(InputFault),
-    Header(Columns),
-    History(Format, &'a [u8]),
-    Listing(Kind),
-    /// A ticket's target, whether it is active, and the unit.
-    Ticket(Option<&'a str>, bool, u32),
-    /// The number of a currency, and the unit.
-    Currency(u32, u32),
-    /// A thread with this status.
-    Thread(Status),
-    ThreadRecord,
-    /// The line of a thread in a timed report, and its row in a table.
-    Shares(&'a ThreadShares),
-    SharesRecord(&'a ThreadShares),
-    /// A report of one thread and one processor.
-    SmallReport,
-    TimedProcessor(TimedProcessorTotal),
-    /// The last line of a timed report, with these lives.
-    TimedEnd(PastLives),
-    EarlyEnd(EarlyEnd),
-    Seeds(u32, u32),
-    /// The lines of the thread or the currency with number 2 in a report over several plays, and its row in a table.
-    Figures(Subject, &'a FiguresText<'a>),
-    FiguresRecord(FiguresTable, &'a FiguresText<'a>),
-    ProcessorFigures(ProcessorFigures),
-    /// The last lines of a report over several plays.
-    WholeFigures(WholeFigures),
+fn check_ended(rt: &impl Abort, ended: Result<(), IoFault>, wanted: &str) {
+    assert!(rt; ended.is_ok(), "{wanted}");
 }
 
-/// A turn's event and its reply.
-#[derive(Clone, Copy)]
-enum Turn {
-    /// The reply to an event that isn't a trap or a wake.
-    Gives(Reply),
-    /// A trap of thread 1 after 2 ticks, its outcome, and whether it ends the quantum.
-    Traps(Action, Outcome, bool),
-    /// A trap of thread 3 after 7 ticks.
-    TrapsLater(Action, Outcome),
-    /// The reply to the wake of thread 12.
-    Wakes(Reply),
+/// Checks the text written by a call that returned this.
+fn check(rt: &impl Abort, writer: Watched<Vec<u8>>, ended: Result<(), IoFault>, wanted: &str) {
+    check_ended(rt, ended, wanted);
+    let written = writer.into_inner();
+    check_same_at(rt, &wanted, &written.as_slice(), &wanted.as_bytes());
 }
 
-/// What is printed, and its text.
-type Row<'a> = (Printed<'a>, &'a str);
-
-fn event_of(turn: Turn) -> Event {
-    match turn {
-        Turn::Gives(_) => Event::Draw(1, 0),
-        Turn::Traps(action, _, _) => Event::Trap(1, 1, action),
-        Turn::TrapsLater(action, _) => Event::Trap(1, 6, action),
-        Turn::Wakes(_) => Event::Wake { thread: 12 },
-    }
+fn name(rt: &impl Abort, text: &str) -> Name {
+    Name::new(text).expect(rt, "a name")
 }
 
-fn reply_of(turn: Turn) -> Reply {
-    match turn {
-        Turn::Gives(reply) | Turn::Wakes(reply) => reply,
-        Turn::Traps(_, outcome, ends) => Reply::Trapped {
-            thread: 1,
-            ticks: 2,
-            outcome,
-            ends,
-        },
-        Turn::TrapsLater(_, outcome) => Reply::Trapped {
-            thread: 3,
-            ticks: 7,
-            outcome,
-            ends: false,
-        },
-    }
-}
-
-type Writer = Watched<Vec<u8>>;
-
-fn write_turn(writer: &mut Writer, style: LineStyle, actor: u32, turn: Turn) -> Result<(), IoFault>
-    requires { writer.old.failed ≡ false }
+/// A turn of this actor, printed with whole values.
+fn whole(actor: u32) -> Heading
+    ensures { result.unit ≡ 256 }
 {
-    let heading = Heading {
-        style,
-        unit: 256,
-        actor,
-    };
-    let mut page = Page::new();
-    write_reply(writer, &mut page, heading, &event_of(turn), &reply_of(turn))?;
-    page.write_out(writer)
-}
-
-fn write_ended_turn(writer: &mut Writer) -> Result<(), IoFault>
-    requires { writer.old.failed ≡ false }
-{
-    let heading = Heading {
+    Heading {
         style: LineStyle::Whole,
         unit: 256,
-        actor: 0,
-    };
+        actor,
+    }
+}
+
+/// A turn of processor 1 at tick 120, printed with its time.
+const TIMED: Heading = Heading {
+    style: LineStyle::Timed(120),
+    unit: 256,
+    actor: 1,
+};
+
+fn check_event(
+    rt: &impl Abort,
+    alloc: Global,
+    actor: u32,
+    event: &Event,
+    reply: Reply,
+    wanted: &str,
+) {
+    let mut writer = Watched::new(Vec::new(alloc));
     let mut page = Page::new();
-    write_ended(writer, &mut page, heading)?;
-    page.write_out(writer)
+    let mut ended = write_reply(&mut writer, &mut page, whole(actor), event, &reply);
+    if ended.is_ok() {
+        ended = page.write_out(&mut writer);
+    }
+    check(rt, writer, ended, wanted);
+}
+
+/// Checks the line of a reply to an event that isn't a trap.
+fn check_reply(rt: &impl Abort, alloc: Global, actor: u32, reply: Reply, wanted: &str) {
+    check_event(rt, alloc, actor, &Event::Draw(1, 0), reply, wanted);
+}
+
+/// A reply to an event that isn't a trap, and its line.
+struct PrintedReply<'a> {
+    reply: Reply,
+    line: &'a str,
+}
+
+const REPLIES: &[PrintedReply<'static>] = &[
+    PrintedReply {
+        reply: Reply::Ticket(1),
+        line: "1 ticket 1\n",
+    },
+    PrintedReply {
+        reply: Reply::Currency(2),
+        line: "1 currency 2\n",
+    },
+    PrintedReply {
+        reply: Reply::Thread(1),
+        line: "1 thread 1\n",
+    },
+    PrintedReply {
+        reply: Reply::Funded {
+            ticket: 8,
+            thread: 3,
+        },
+        line: "1 funded 8 3\n",
+    },
+    PrintedReply {
+        reply: Reply::Done,
+        line: "1 done\n",
+    },
+    PrintedReply {
+        reply: Reply::Winner {
+            thread: 1,
+            number: 9,
+            total: 15,
+            delivered: None,
+        },
+        line: "1 draw 9 of 15 thread 1\n",
+    },
+    PrintedReply {
+        reply: Reply::Winner {
+            thread: 1,
+            number: 5,
+            total: 100,
+            delivered: Some(41),
+        },
+        line: "1 draw 5 of 100 thread 1 got 41\n",
+    },
+    PrintedReply {
+        reply: Reply::Idle,
+        line: "1 idle\n",
+    },
+    PrintedReply {
+        reply: Reply::Expired {
+            thread: 1,
+            ticks: 100,
+        },
+        line: "1 thread 1 ticks 100 expire\n",
+    },
+    PrintedReply {
+        reply: Reply::Refused(Refusal::Full),
+        line: "1 refused 13 Full\n",
+    },
+];
+
+#[test]
+fn prints_replies(rt: HostRuntime) {
+    for printed in REPLIES {
+        check_reply(&rt, rt.alloc(), 1, printed.reply, printed.line);
+    }
+}
+
+/// A trap's outcome, whether it ends the quantum, and its line.
+#[derive(Drop)]
+struct PrintedTrap<'a> {
+    action: Action,
+    outcome: Outcome,
+    ends: bool,
+    line: &'a str,
+}
+
+fn check_trap(rt: &impl Abort, alloc: Global, printed: &PrintedTrap<'_>) {
+    let event = Event::Trap(1, 1, printed.action);
+    let reply = Reply::Trapped {
+        thread: 1,
+        ticks: 2,
+        outcome: printed.outcome,
+        ends: printed.ends,
+    };
+    check_event(rt, alloc, 1, &event, reply, printed.line);
+}
+
+const TRAPS: &[PrintedTrap<'static>] = &[
+    PrintedTrap {
+        action: Action::Yield,
+        outcome: Outcome::Yielded,
+        ends: false,
+        line: "1 thread 1 ticks 2 yield\n",
+    },
+    PrintedTrap {
+        action: Action::Call(3, 41),
+        outcome: Outcome::ServedBy(4),
+        ends: false,
+        line: "1 thread 1 ticks 2 call 3 served by 4\n",
+    },
+    PrintedTrap {
+        action: Action::Call(3, 41),
+        outcome: Outcome::Queued,
+        ends: false,
+        line: "1 thread 1 ticks 2 call 3 queued\n",
+    },
+    PrintedTrap {
+        action: Action::Receive(3),
+        outcome: Outcome::Received {
+            client: 5,
+            number: 41,
+        },
+        ends: false,
+        line: "1 thread 1 ticks 2 receive 3 client 5 got 41\n",
+    },
+    PrintedTrap {
+        action: Action::Receive(3),
+        outcome: Outcome::Waits,
+        ends: false,
+        line: "1 thread 1 ticks 2 receive 3 waits\n",
+    },
+    PrintedTrap {
+        action: Action::Reply(42),
+        outcome: Outcome::Replied(5),
+        ends: false,
+        line: "1 thread 1 ticks 2 reply client 5\n",
+    },
+    PrintedTrap {
+        action: Action::Serve(3, 42),
+        outcome: Outcome::RepliedThenReceived {
+            to: 5,
+            client: 6,
+            number: 41,
+        },
+        ends: true,
+        line: "1 thread 1 ticks 2 reply client 5 receive 3 client 6 got 41 ends\n",
+    },
+    PrintedTrap {
+        action: Action::Serve(3, 42),
+        outcome: Outcome::RepliedThenWaits(5),
+        ends: false,
+        line: "1 thread 1 ticks 2 reply client 5 receive 3 waits\n",
+    },
+    PrintedTrap {
+        action: Action::Lock(4),
+        outcome: Outcome::Locked,
+        ends: true,
+        line: "1 thread 1 ticks 2 lock 4 taken ends\n",
+    },
+    PrintedTrap {
+        action: Action::Lock(4),
+        outcome: Outcome::Waits,
+        ends: false,
+        line: "1 thread 1 ticks 2 lock 4 waits\n",
+    },
+    PrintedTrap {
+        action: Action::Unlock(4, 99),
+        outcome: Outcome::Freed,
+        ends: false,
+        line: "1 thread 1 ticks 2 unlock 4 free\n",
+    },
+    PrintedTrap {
+        action: Action::Unlock(4, 99),
+        outcome: Outcome::Passed {
+            to: 6,
+            draw: Some((99, 400)),
+        },
+        ends: false,
+        line: "1 thread 1 ticks 2 unlock 4 to 6 draw 99 of 400\n",
+    },
+    PrintedTrap {
+        action: Action::Unlock(4, 99),
+        outcome: Outcome::Passed { to: 6, draw: None },
+        ends: false,
+        line: "1 thread 1 ticks 2 unlock 4 to 6 oldest\n",
+    },
+    PrintedTrap {
+        action: Action::Exit,
+        outcome: Outcome::Exited,
+        ends: false,
+        line: "1 thread 1 ticks 2 exit\n",
+    },
+    PrintedTrap {
+        action: Action::Sleep,
+        outcome: Outcome::Slept,
+        ends: false,
+        line: "1 thread 1 ticks 2 sleep\n",
+    },
+    PrintedTrap {
+        action: Action::Lock(4),
+        outcome: Outcome::Refused(TrapRefusal::LockCycle),
+        ends: true,
+        line: "1 thread 1 ticks 2 refused 36 LockCycle ends\n",
+    },
+];
+
+#[test]
+fn prints_traps(rt: HostRuntime) {
+    for printed in TRAPS {
+        check_trap(&rt, rt.alloc(), printed);
+    }
+}
+
+const REFUSALS: &[(Refusal, &str)] = &[
+    (Refusal::BadName, "2 refused 1 BadName\n"),
+    (Refusal::NameTaken, "2 refused 2 NameTaken\n"),
+    (Refusal::NoCurrency, "2 refused 3 NoCurrency\n"),
+    (Refusal::NoTicket, "2 refused 4 NoTicket\n"),
+    (Refusal::NoTarget, "2 refused 5 NoTarget\n"),
+    (Refusal::BadAmount, "2 refused 6 BadAmount\n"),
+    (Refusal::InUse, "2 refused 7 InUse\n"),
+    (Refusal::Funding, "2 refused 8 Funding\n"),
+    (Refusal::NotFunding, "2 refused 9 NotFunding\n"),
+    (Refusal::Cycle, "2 refused 10 Cycle\n"),
+    (Refusal::BaseFixed, "2 refused 11 BaseFixed\n"),
+    (Refusal::DeadThread, "2 refused 12 DeadThread\n"),
+    (Refusal::Full, "2 refused 13 Full\n"),
+    (Refusal::NoScript, "2 refused 14 NoScript\n"),
+    (Refusal::NoThread, "2 refused 15 NoThread\n"),
+    (Refusal::Alive, "2 refused 16 Alive\n"),
+    (Refusal::BadProcessor, "2 refused 20 BadProcessor\n"),
+    (Refusal::Busy, "2 refused 21 Busy\n"),
+    (Refusal::NotRunning, "2 refused 22 NotRunning\n"),
+    (Refusal::BadTicks, "2 refused 23 BadTicks\n"),
+    (Refusal::NotAsleep, "2 refused 24 NotAsleep\n"),
+];
+
+#[test]
+fn prints_refusals(rt: HostRuntime) {
+    for (refusal, line) in REFUSALS {
+        check_reply(&rt, rt.alloc(), 2, Reply::Refused(*refusal), line);
+    }
+}
+
+const TRAP_REFUSALS: &[(TrapRefusal, &str)] = &[
+    (
+        TrapRefusal::NoPort,
+        "1 thread 1 ticks 2 refused 30 NoPort\n",
+    ),
+    (
+        TrapRefusal::NothingToReply,
+        "1 thread 1 ticks 2 refused 32 NothingToReply\n",
+    ),
+    (
+        TrapRefusal::NoMutex,
+        "1 thread 1 ticks 2 refused 33 NoMutex\n",
+    ),
+    (
+        TrapRefusal::NotOwner,
+        "1 thread 1 ticks 2 refused 34 NotOwner\n",
+    ),
+    (
+        TrapRefusal::AlreadyOwner,
+        "1 thread 1 ticks 2 refused 35 AlreadyOwner\n",
+    ),
+    (
+        TrapRefusal::LockCycle,
+        "1 thread 1 ticks 2 refused 36 LockCycle\n",
+    ),
+];
+
+fn check_trap_refusal(rt: &impl Abort, alloc: Global, refusal: TrapRefusal, line: &str) {
+    let printed = PrintedTrap {
+        action: Action::Yield,
+        outcome: Outcome::Refused(refusal),
+        ends: false,
+        line,
+    };
+    check_trap(rt, alloc, &printed);
+}
+
+#[test]
+fn prints_trap_refusals(rt: HostRuntime) {
+    for (refusal, line) in TRAP_REFUSALS {
+        check_trap_refusal(&rt, rt.alloc(), *refusal, line);
+    }
+}
+
+/// A refused line, the refusal, and the printed text.
+struct PrintedFault<'a> {
+    line: u32,
+    refusal: InputRefusal,
+    text: &'a str,
+}
+
+fn check_fault(rt: &impl Abort, alloc: Global, printed: &PrintedFault<'_>) {
+    let fault = InputFault {
+        line: printed.line,
+        refusal: printed.refusal,
+    };
+    let mut writer = Watched::new(Vec::new(alloc));
+    let ended = write_fault(&mut writer, fault);
+    check(rt, writer, ended, printed.text);
+}
+
+const FAULTS: &[PrintedFault<'static>] = &[
+    PrintedFault {
+        line: 1,
+        refusal: InputRefusal::BadHeader,
+        text: "refused line 1 50 BadHeader\n",
+    },
+    PrintedFault {
+        line: 2,
+        refusal: InputRefusal::BadLine,
+        text: "refused line 2 51 BadLine\n",
+    },
+    PrintedFault {
+        line: 2,
+        refusal: InputRefusal::BadNumber,
+        text: "refused line 2 52 BadNumber\n",
+    },
+    PrintedFault {
+        line: 3,
+        refusal: InputRefusal::UnknownName,
+        text: "refused line 3 53 UnknownName\n",
+    },
+    PrintedFault {
+        line: 2,
+        refusal: InputRefusal::OpenScript,
+        text: "refused line 2 54 OpenScript\n",
+    },
+    PrintedFault {
+        line: 11,
+        refusal: InputRefusal::TooDeep,
+        text: "refused line 11 55 TooDeep\n",
+    },
+    PrintedFault {
+        line: 2,
+        refusal: InputRefusal::TooLong,
+        text: "refused line 2 56 TooLong\n",
+    },
+    PrintedFault {
+        line: 2,
+        refusal: InputRefusal::BadActor,
+        text: "refused line 2 57 BadActor\n",
+    },
+];
+
+#[test]
+fn prints_faults(rt: HostRuntime) {
+    for printed in FAULTS {
+        check_fault(&rt, rt.alloc(), printed);
+    }
+}
+
+#[test]
+fn prints_ended(rt: HostRuntime) {
+    let mut writer = Watched::new(Vec::new(rt.alloc()));
+    let mut page = Page::new();
+    let mut ended = write_ended(&mut writer, &mut page, whole(0));
+    if ended.is_ok() {
+        ended = page.write_out(&mut writer);
+    }
+    check(&rt, writer, ended, "0 refused 41 Ended\n");
+}
+
+/// Writes a report of one thread and one processor.
+fn write_small_report(
+    writer: &mut Watched<Vec<u8>>,
+    thread: &ThreadRow,
+    processor: ProcessorTotal,
+    total: WholeTotal,
+) -> Result<(), IoFault>
+    requires { writer.old.failed ≡ false }
+{
+    write_report_line(writer)?;
+    write_thread_total(writer, 1, thread)?;
+    write_processor_total(writer, processor)?;
+    write_whole_total(writer, total)
+}
+
+#[test]
+fn prints_totals(rt: HostRuntime) {
+    let row = ThreadRow {
+        name: name(&rt, "a"),
+        status: Status::Ready,
+        value: 0,
+        weight: 0,
+        quanta: 2,
+        ticks: 200,
+    };
+    let processor = ProcessorTotal {
+        processor: 1,
+        quanta: 3,
+        idles: 0,
+        ticks: 300,
+    };
+    let total = WholeTotal {
+        turns: 12,
+        quanta: 3,
+        ticks: 300,
+    };
+    let mut writer = Watched::new(Vec::new(rt.alloc()));
+    let ended = write_small_report(&mut writer, &row, processor, total);
+    let wanted = "report\nthread 1 a quanta 2 ticks 200\nprocessor 1 quanta 3 idle 0 ticks 300\n\
+        total turns 12 quanta 3 ticks 300\n";
+    check(&rt, writer, ended, wanted);
 }
 
 /// The largest limits, with this unit.
@@ -146,19 +495,76 @@ fn limits(rt: &impl Abort, unit: u32) -> Limits {
     limits.expect(rt, "limits")
 }
 
-fn ticket_row(rt: &impl Abort, target: Option<&str>, is_active: bool) -> TicketRow {
-    let (target, funds) = match target {
-        Some(text) => (Some(name(rt, text)), Target::Thread(1)),
-        None => (None, Target::Unfunded),
-    };
+/// A ticket's target, whether it is active, and its line with this unit.
+struct PrintedTicket<'a> {
+    target: Option<&'a str>,
+    is_active: bool,
+    unit: u32,
+    line: &'a str,
+}
+
+fn target_of(rt: &impl Abort, target: Option<&str>) -> Option<Name> {
+    match target {
+        Some(text) => Some(name(rt, text)),
+        None => None,
+    }
+}
+
+fn ticket_row(rt: &impl Abort, printed: &PrintedTicket<'_>) -> TicketRow {
     TicketRow {
         amount: 1000,
         issuer: name(rt, "base"),
-        target,
-        funds,
-        is_active,
+        target: target_of(rt, printed.target),
+        funds: match printed.target {
+            Some(_) => Target::Thread(1),
+            None => Target::Unfunded,
+        },
+        is_active: printed.is_active,
         value: 1000,
     }
+}
+
+fn check_ticket(rt: &impl Abort, alloc: Global, limits: Limits, row: &TicketRow, wanted: &str) {
+    let mut writer = Watched::new(Vec::new(alloc));
+    let ended = write_ticket(&mut writer, LineStyle::Whole, limits, 1, row);
+    check(rt, writer, ended, wanted);
+}
+
+const TICKETS: &[PrintedTicket<'static>] = &[
+    PrintedTicket {
+        target: Some("alice"),
+        is_active: true,
+        unit: 1,
+        line: "ticket 1 amount 1000 in base funds alice active value 1000\n",
+    },
+    PrintedTicket {
+        target: Some("alice"),
+        is_active: true,
+        unit: 256,
+        line: "ticket 1 amount 1000 in base funds alice active value 3\n",
+    },
+    PrintedTicket {
+        target: None,
+        is_active: false,
+        unit: 1,
+        line: "ticket 1 amount 1000 in base funds - inactive value 1000\n",
+    },
+];
+
+#[test]
+fn prints_tickets(rt: HostRuntime) {
+    for printed in TICKETS {
+        let row = ticket_row(&rt, printed);
+        let limits = limits(&rt, printed.unit);
+        check_ticket(&rt, rt.alloc(), limits, &row, printed.line);
+    }
+}
+
+/// The number of a currency, and its line where base is worth this unit.
+struct PrintedCurrency<'a> {
+    number: u32,
+    unit: u32,
+    line: &'a str,
 }
 
 fn currency_row(rt: &impl Abort) -> CurrencyRow {
@@ -171,540 +577,238 @@ fn currency_row(rt: &impl Abort) -> CurrencyRow {
     }
 }
 
-fn thread_row(rt: &impl Abort, text: &str, status: Status, quanta: u64, ticks: u64) -> ThreadRow {
+fn check_currency(
+    rt: &impl Abort,
+    alloc: Global,
+    row: &CurrencyRow,
+    printed: &PrintedCurrency<'_>,
+) {
+    let limits = limits(rt, printed.unit);
+    let mut writer = Watched::new(Vec::new(alloc));
+    let ended = write_currency(&mut writer, LineStyle::Whole, limits, printed.number, row);
+    check(rt, writer, ended, printed.line);
+}
+
+const CURRENCIES: &[PrintedCurrency<'static>] = &[
+    PrintedCurrency {
+        number: 0,
+        unit: 1,
+        line: "currency 0 base backing 0 issued 2 active 3000 value 3000\n",
+    },
+    PrintedCurrency {
+        number: 0,
+        unit: 256,
+        line: "currency 0 base backing 0 issued 2 active 3000 value 3000\n",
+    },
+    PrintedCurrency {
+        number: 1,
+        unit: 256,
+        line: "currency 1 base backing 0 issued 2 active 3000 value 11\n",
+    },
+];
+
+#[test]
+fn prints_currencies(rt: HostRuntime) {
+    let row = currency_row(&rt);
+    for printed in CURRENCIES {
+        check_currency(&rt, rt.alloc(), &row, printed);
+    }
+}
+
+const STATUSES: &[(Status, &str)] = &[
+    (Status::Ready, "ready"),
+    (
+        Status::Running {
+            processor: 2,
+            used: 7,
+        },
+        "running 2 used 7",
+    ),
+    (Status::Receiving(1), "receiving 1"),
+    (Status::Queued(1), "queued 1"),
+    (Status::Served(3), "served 3"),
+    (Status::Waiting(4), "waiting 4"),
+    (Status::Asleep, "asleep"),
+    (Status::Dead, "dead"),
+];
+
+fn thread_row(rt: &impl Abort, status: Status) -> ThreadRow {
     ThreadRow {
-        name: name(rt, text),
+        name: name(rt, "thread2"),
         status,
         value: 400,
         weight: 40000,
-        quanta,
-        ticks,
+        quanta: 5,
+        ticks: 6,
     }
 }
 
-/// A processor's line, and the last line, of a small report.
-const PROCESSOR: ProcessorTotal = ProcessorTotal {
-    processor: 1,
-    quanta: 3,
-    idles: 0,
-    ticks: 300,
-};
-
-const TOTAL: WholeTotal = WholeTotal {
-    turns: 12,
-    quanta: 3,
-    ticks: 300,
-};
-
-/// Writes a report of one thread and one processor.
-fn write_small_report(writer: &mut Writer, thread: &ThreadRow) -> Result<(), IoFault>
-    requires { writer.old.failed ≡ false }
-{
-    write_report_line(writer)?;
-    write_thread_total(writer, 1, thread)?;
-    write_processor_total(writer, PROCESSOR)?;
-    write_whole_total(writer, TOTAL)
-}
-
-/// Ends the test unless the shares are as small as those below.
-fn check_small(rt: &impl Abort, shares: &ThreadShares)
-    ensures live { shares.now.live_time < 2 ^ 57 }
-    ensures due { shares.now.due < 2 ^ 121 }
-    ensures values { shares.now.all_values < 2 ^ 96 }
-{
-    assert!(rt;
-        shares.live_time <= 3 && shares.due <= 1500000000000000000 && shares.all_values <= 8
-    );
-}
-
-/// Writes the line or the row of thread 1 with 4 quanta and 2 ticks, among totals of which it has these shares.
-fn write_shares(
-    rt: &impl Abort,
-    writer: &mut Writer,
-    shares: &ThreadShares,
-    is_record: bool,
-) -> Result<(), IoFault>
-    requires { writer.old.failed ≡ false }
-{
-    check_small(rt, shares);
-    let row = thread_row(rt, "thread2", Status::Ready, 4, 2);
-    if is_record {
-        write_timed_thread_record(writer, 1, &row, *shares)
-    } else {
-        write_timed_thread_total(writer, 1, &row, *shares)
-    }
-}
-
-/// Writes the last line of a timed report with these lives.
-fn write_timed_end(writer: &mut Writer, lives: PastLives) -> Result<(), IoFault>
-    requires { writer.old.failed ≡ false }
-{
-    let total = TimedWholeTotal {
-        turns: 1,
-        quanta: 2,
-        ticks: 3,
-        refused: 4,
-        left: 5,
-        lives,
-    };
-    write_timed_whole_total(writer, total)
-}
-
-/// Writes figures of several plays.
-fn write_plays(rt: &impl Abort, writer: &mut Writer, printed: &Printed<'_>) -> Result<(), IoFault>
-    requires { writer.old.failed ≡ false }
-{
-    match printed {
-        Printed::Figures(subject, figures) => {
-            write_figures(writer, *subject, 2, &figures_of(rt, figures))
-        }
-        Printed::FiguresRecord(table, figures) => {
-            write_figures_record(writer, *table, 2, &figures_of(rt, figures))
-        }
-        Printed::ProcessorFigures(figures) => write_processor_figures(writer, 64, figures),
-        Printed::WholeFigures(figures) => write_whole_figures(writer, figures),
-        Printed::Seeds(first, last) => write_seeds(writer, *first, *last),
-        // All others are written by the callers.
-        _ => Ok(()),
-    }
-}
-
-/// Writes lines and rows of a thread in reports.
-fn write_thread_in_report(
-    rt: &impl Abort,
-    writer: &mut Writer,
-    printed: &Printed<'_>,
-) -> Result<(), IoFault>
-    requires { writer.old.failed ≡ false }
-{
-    match printed {
-        Printed::ThreadRecord => {
-            let row = thread_row(rt, "thread2", Status::Dead, 4, u64::MAX);
-            write_thread_record(writer, 4096, &row)
-        }
-        Printed::SmallReport => {
-            let row = thread_row(rt, "a", Status::Ready, 2, 200);
-            write_small_report(writer, &row)
-        }
-        Printed::Shares(shares) => write_shares(rt, writer, shares, false),
-        Printed::SharesRecord(shares) => write_shares(rt, writer, shares, true),
-        _ => write_plays(rt, writer, printed),
-    }
-}
-
-/// Writes lines of listings, and other lines of reports.
-fn write_line(rt: &impl Abort, writer: &mut Writer, printed: &Printed<'_>) -> Result<(), IoFault>
-    requires { writer.old.failed ≡ false }
-{
-    match printed {
-        Printed::Ticket(target, is_active, unit) => {
-            let row = ticket_row(rt, *target, *is_active);
-            write_ticket(writer, LineStyle::Whole, limits(rt, *unit), 1, &row)
-        }
-        Printed::Currency(number, unit) => {
-            let row = currency_row(rt);
-            write_currency(writer, LineStyle::Whole, limits(rt, *unit), *number, &row)
-        }
-        Printed::Thread(status) => {
-            let row = thread_row(rt, "thread2", *status, 5, 6);
-            write_thread(writer, LineStyle::Whole, limits(rt, 1), 1, &row)
-        }
-        Printed::TimedProcessor(total) => write_timed_processor_total(writer, *total),
-        Printed::TimedEnd(lives) => write_timed_end(writer, *lives),
-        Printed::EarlyEnd(early) => write_early_end(writer, *early),
-        _ => write_thread_in_report(rt, writer, printed),
-    }
-}
-
-fn write_printed(rt: &impl Abort, writer: &mut Writer, printed: &Printed<'_>) -> Result<(), IoFault>
-    requires { writer.old.failed ≡ false }
-{
-    match printed {
-        Printed::Turn(actor, turn) => write_turn(writer, LineStyle::Whole, *actor, *turn),
-        Printed::Timed(turn) => write_turn(writer, LineStyle::Timed(120), 1, *turn),
-        Printed::Ended => write_ended_turn(writer),
-        Printed::Fault(fault) => write_fault(writer, *fault),
-        Printed::Header(columns) => write_header(writer, *columns),
-        Printed::History(format, history) => write_history(writer, *format, history),
-        Printed::Listing(kind) => write_listing_line(writer, LineStyle::Whole, 0, *kind, 8),
-        _ => write_line(rt, writer, printed),
-    }
-}
-
-/// Checks what is printed. A failed comparison shows the text.
-fn check_row(rt: &impl Abort, alloc: Global, (printed, text): &Row<'_>) {
+fn check_thread(rt: &impl Abort, alloc: Global, limits: Limits, row: &ThreadRow, wanted: &str) {
     let mut writer = Watched::new(Vec::new(alloc));
-    let is_ok = write_printed(rt, &mut writer, printed).is_ok();
-    let written = writer.into_inner();
-    check_same_at(
-        rt,
-        text,
-        &(is_ok, written.as_slice()),
-        &(true, text.as_bytes()),
-    );
+    let ended = write_thread(&mut writer, LineStyle::Whole, limits, 1, row);
+    check(rt, writer, ended, wanted);
 }
 
-// Tests hand each table to this function by itself: what a test costs grows faster than the rows that it names, and a
-// loop over a table in the test itself costs more.
-fn check_rows(rt: &impl Abort, alloc: Global, rows: &[Row<'_>]) {
-    for row in rows {
-        check_row(rt, alloc, row);
+/// Checks how a thread's line shows its status.
+fn check_status(rt: &impl Abort, alloc: Global, status: Status, shown: &str) {
+    let row = thread_row(rt, status);
+    let wanted = format!(in alloc;
+        "thread 1 thread2 {shown} value 400 weight 40000 quanta 5 ticks 6\n"
+    );
+    let wanted = wanted.expect(rt, "memory");
+    check_thread(rt, alloc, limits(rt, 1), &row, wanted.as_str());
+}
+
+#[test]
+fn prints_threads(rt: HostRuntime) {
+    for (status, shown) in STATUSES {
+        check_status(&rt, rt.alloc(), *status, shown);
     }
 }
 
-/// Replies to events that are no traps.
-const REPLIES: &[Row<'static>] = &[
-    (
-        Printed::Turn(1, Turn::Gives(Reply::Ticket(1))),
-        "1 ticket 1\n",
-    ),
-    (
-        Printed::Turn(1, Turn::Gives(Reply::Currency(2))),
-        "1 currency 2\n",
-    ),
-    (
-        Printed::Turn(1, Turn::Gives(Reply::Thread(1))),
-        "1 thread 1\n",
-    ),
-    (
-        Printed::Turn(
-            1,
-            Turn::Gives(Reply::Funded {
-                ticket: 8,
-                thread: 3,
-            }),
-        ),
-        "1 funded 8 3\n",
-    ),
-    (Printed::Turn(1, Turn::Gives(Reply::Done)), "1 done\n"),
-    (
-        Printed::Turn(
-            1,
-            Turn::Gives(Reply::Winner {
-                thread: 1,
-                number: 9,
-                total: 15,
-                delivered: None,
-            }),
-        ),
-        "1 draw 9 of 15 thread 1\n",
-    ),
-    (
-        Printed::Turn(
-            1,
-            Turn::Gives(Reply::Winner {
-                thread: 1,
-                number: 5,
-                total: 100,
-                delivered: Some(41),
-            }),
-        ),
-        "1 draw 5 of 100 thread 1 got 41\n",
-    ),
-    (Printed::Turn(1, Turn::Gives(Reply::Idle)), "1 idle\n"),
-    (
-        Printed::Turn(
-            1,
-            Turn::Gives(Reply::Expired {
-                thread: 1,
-                ticks: 100,
-            }),
-        ),
-        "1 thread 1 ticks 100 expire\n",
-    ),
-    (
-        Printed::Turn(1, Turn::Gives(Reply::Refused(Refusal::Full))),
-        "1 refused 13 Full\n",
-    ),
-];
-
-#[test]
-fn prints_replies(rt: HostRuntime) {
-    check_rows(&rt, rt.alloc(), REPLIES);
+fn check_listing_line(rt: &impl Abort, alloc: Global, kind: Kind, wanted: &str) {
+    let mut writer = Watched::new(Vec::new(alloc));
+    let ended = write_listing_line(&mut writer, LineStyle::Whole, 0, kind, 8);
+    check(rt, writer, ended, wanted);
 }
 
-const TRAPS: &[Row<'static>] = &[
-    (
-        Printed::Turn(1, Turn::Traps(Action::Yield, Outcome::Yielded, false)),
-        "1 thread 1 ticks 2 yield\n",
-    ),
-    (
-        Printed::Turn(
-            1,
-            Turn::Traps(Action::Call(3, 41), Outcome::ServedBy(4), false),
-        ),
-        "1 thread 1 ticks 2 call 3 served by 4\n",
-    ),
-    (
-        Printed::Turn(1, Turn::Traps(Action::Call(3, 41), Outcome::Queued, false)),
-        "1 thread 1 ticks 2 call 3 queued\n",
-    ),
-    (
-        Printed::Turn(
-            1,
-            Turn::Traps(
-                Action::Receive(3),
-                Outcome::Received {
-                    client: 5,
-                    number: 41,
-                },
-                false,
-            ),
-        ),
-        "1 thread 1 ticks 2 receive 3 client 5 got 41\n",
-    ),
-    (
-        Printed::Turn(1, Turn::Traps(Action::Receive(3), Outcome::Waits, false)),
-        "1 thread 1 ticks 2 receive 3 waits\n",
-    ),
-    (
-        Printed::Turn(
-            1,
-            Turn::Traps(Action::Reply(42), Outcome::Replied(5), false),
-        ),
-        "1 thread 1 ticks 2 reply client 5\n",
-    ),
-    (
-        Printed::Turn(
-            1,
-            Turn::Traps(
-                Action::Serve(3, 42),
-                Outcome::RepliedThenReceived {
-                    to: 5,
-                    client: 6,
-                    number: 41,
-                },
-                true,
-            ),
-        ),
-        "1 thread 1 ticks 2 reply client 5 receive 3 client 6 got 41 ends\n",
-    ),
-    (
-        Printed::Turn(
-            1,
-            Turn::Traps(Action::Serve(3, 42), Outcome::RepliedThenWaits(5), false),
-        ),
-        "1 thread 1 ticks 2 reply client 5 receive 3 waits\n",
-    ),
-    (
-        Printed::Turn(1, Turn::Traps(Action::Lock(4), Outcome::Locked, true)),
-        "1 thread 1 ticks 2 lock 4 taken ends\n",
-    ),
-    (
-        Printed::Turn(1, Turn::Traps(Action::Lock(4), Outcome::Waits, false)),
-        "1 thread 1 ticks 2 lock 4 waits\n",
-    ),
-    (
-        Printed::Turn(1, Turn::Traps(Action::Unlock(4, 99), Outcome::Freed, false)),
-        "1 thread 1 ticks 2 unlock 4 free\n",
-    ),
-    (
-        Printed::Turn(
-            1,
-            Turn::Traps(
-                Action::Unlock(4, 99),
-                Outcome::Passed {
-                    to: 6,
-                    draw: Some((99, 400)),
-                },
-                false,
-            ),
-        ),
-        "1 thread 1 ticks 2 unlock 4 to 6 draw 99 of 400\n",
-    ),
-    (
-        Printed::Turn(
-            1,
-            Turn::Traps(
-                Action::Unlock(4, 99),
-                Outcome::Passed { to: 6, draw: None },
-                false,
-            ),
-        ),
-        "1 thread 1 ticks 2 unlock 4 to 6 oldest\n",
-    ),
-    (
-        Printed::Turn(1, Turn::Traps(Action::Exit, Outcome::Exited, false)),
-        "1 thread 1 ticks 2 exit\n",
-    ),
-    (
-        Printed::Turn(1, Turn::Traps(Action::Sleep, Outcome::Slept, false)),
-        "1 thread 1 ticks 2 sleep\n",
-    ),
-    (
-        Printed::Turn(
-            1,
-            Turn::Traps(
-                Action::Lock(4),
-                Outcome::Refused(TrapRefusal::LockCycle),
-                true,
-            ),
-        ),
-        "1 thread 1 ticks 2 refused 36 LockCycle ends\n",
-    ),
-];
-
 #[test]
-fn prints_traps(rt: HostRuntime) {
-    check_rows(&rt, rt.alloc(), TRAPS);
+fn prints_listing_lines(rt: HostRuntime) {
+    check_listing_line(&rt, rt.alloc(), Kind::Tickets, "0 lstkt 8\n");
+    check_listing_line(&rt, rt.alloc(), Kind::Currencies, "0 lscur 8\n");
+    check_listing_line(&rt, rt.alloc(), Kind::Threads, "0 lsthr 8\n");
 }
 
-const REFUSALS: &[Row<'static>] = &[
-    (
-        Printed::Turn(2, Turn::Gives(Reply::Refused(Refusal::BadName))),
-        "2 refused 1 BadName\n",
-    ),
-    (
-        Printed::Turn(2, Turn::Gives(Reply::Refused(Refusal::NameTaken))),
-        "2 refused 2 NameTaken\n",
-    ),
-    (
-        Printed::Turn(2, Turn::Gives(Reply::Refused(Refusal::NoCurrency))),
-        "2 refused 3 NoCurrency\n",
-    ),
-    (
-        Printed::Turn(2, Turn::Gives(Reply::Refused(Refusal::NoTicket))),
-        "2 refused 4 NoTicket\n",
-    ),
-    (
-        Printed::Turn(2, Turn::Gives(Reply::Refused(Refusal::NoTarget))),
-        "2 refused 5 NoTarget\n",
-    ),
-    (
-        Printed::Turn(2, Turn::Gives(Reply::Refused(Refusal::BadAmount))),
-        "2 refused 6 BadAmount\n",
-    ),
-    (
-        Printed::Turn(2, Turn::Gives(Reply::Refused(Refusal::InUse))),
-        "2 refused 7 InUse\n",
-    ),
-    (
-        Printed::Turn(2, Turn::Gives(Reply::Refused(Refusal::Funding))),
-        "2 refused 8 Funding\n",
-    ),
-    (
-        Printed::Turn(2, Turn::Gives(Reply::Refused(Refusal::NotFunding))),
-        "2 refused 9 NotFunding\n",
-    ),
-    (
-        Printed::Turn(2, Turn::Gives(Reply::Refused(Refusal::Cycle))),
-        "2 refused 10 Cycle\n",
-    ),
-    (
-        Printed::Turn(2, Turn::Gives(Reply::Refused(Refusal::BaseFixed))),
-        "2 refused 11 BaseFixed\n",
-    ),
-    (
-        Printed::Turn(2, Turn::Gives(Reply::Refused(Refusal::DeadThread))),
-        "2 refused 12 DeadThread\n",
-    ),
-    (
-        Printed::Turn(2, Turn::Gives(Reply::Refused(Refusal::Full))),
-        "2 refused 13 Full\n",
-    ),
-    (
-        Printed::Turn(2, Turn::Gives(Reply::Refused(Refusal::NoScript))),
-        "2 refused 14 NoScript\n",
-    ),
-    (
-        Printed::Turn(2, Turn::Gives(Reply::Refused(Refusal::NoThread))),
-        "2 refused 15 NoThread\n",
-    ),
-    (
-        Printed::Turn(2, Turn::Gives(Reply::Refused(Refusal::Alive))),
-        "2 refused 16 Alive\n",
-    ),
-    (
-        Printed::Turn(2, Turn::Gives(Reply::Refused(Refusal::BadProcessor))),
-        "2 refused 20 BadProcessor\n",
-    ),
-    (
-        Printed::Turn(2, Turn::Gives(Reply::Refused(Refusal::Busy))),
-        "2 refused 21 Busy\n",
-    ),
-    (
-        Printed::Turn(2, Turn::Gives(Reply::Refused(Refusal::NotRunning))),
-        "2 refused 22 NotRunning\n",
-    ),
-    (
-        Printed::Turn(2, Turn::Gives(Reply::Refused(Refusal::BadTicks))),
-        "2 refused 23 BadTicks\n",
-    ),
-    (
-        Printed::Turn(2, Turn::Gives(Reply::Refused(Refusal::NotAsleep))),
-        "2 refused 24 NotAsleep\n",
-    ),
-];
-
-#[test]
-fn prints_refusals(rt: HostRuntime) {
-    check_rows(&rt, rt.alloc(), REFUSALS);
+fn check_history(rt: &impl Abort, alloc: Global, format: Format, history: &[u8], wanted: &str) {
+    let mut writer = Watched::new(Vec::new(alloc));
+    let ended = write_history(&mut writer, format, history);
+    check(rt, writer, ended, wanted);
 }
 
-const TRAP_REFUSALS: &[Row<'static>] = &[
-    (
-        Printed::Turn(
-            1,
-            Turn::Traps(Action::Yield, Outcome::Refused(TrapRefusal::NoPort), false),
-        ),
-        "1 thread 1 ticks 2 refused 30 NoPort\n",
-    ),
-    (
-        Printed::Turn(
-            1,
-            Turn::Traps(
-                Action::Yield,
-                Outcome::Refused(TrapRefusal::NothingToReply),
-                false,
-            ),
-        ),
-        "1 thread 1 ticks 2 refused 32 NothingToReply\n",
-    ),
-    (
-        Printed::Turn(
-            1,
-            Turn::Traps(Action::Yield, Outcome::Refused(TrapRefusal::NoMutex), false),
-        ),
-        "1 thread 1 ticks 2 refused 33 NoMutex\n",
-    ),
-    (
-        Printed::Turn(
-            1,
-            Turn::Traps(
-                Action::Yield,
-                Outcome::Refused(TrapRefusal::NotOwner),
-                false,
-            ),
-        ),
-        "1 thread 1 ticks 2 refused 34 NotOwner\n",
-    ),
-    (
-        Printed::Turn(
-            1,
-            Turn::Traps(
-                Action::Yield,
-                Outcome::Refused(TrapRefusal::AlreadyOwner),
-                false,
-            ),
-        ),
-        "1 thread 1 ticks 2 refused 35 AlreadyOwner\n",
-    ),
-    (
-        Printed::Turn(
-            1,
-            Turn::Traps(
-                Action::Yield,
-                Outcome::Refused(TrapRefusal::LockCycle),
-                false,
-            ),
-        ),
-        "1 thread 1 ticks 2 refused 36 LockCycle\n",
-    ),
-];
+#[test]
+fn prints_histories(rt: HostRuntime) {
+    check_history(&rt, rt.alloc(), Format::V1, &[], "");
+    check_history(&rt, rt.alloc(), Format::V2, &[], "");
+    check_history(
+        &rt,
+        rt.alloc(),
+        Format::V1,
+        &[0, 1, 64],
+        "schedule 0 1 64\n",
+    );
+    check_history(&rt, rt.alloc(), Format::V2, &[1, 1, 1], "runs 1 3\n");
+}
+
+/// 65 turns of processor 1, and one of the console.
+fn long_history() -> [u8; 66] {
+    let mut history = [1; 66];
+    history[65] = 0;
+    history
+}
+
+const LONG_LINES: &str =
+    "schedule 1 1 1 1 1 1 1 1 1 1 1 1 1 1 1 1 1 1 1 1 1 1 1 1 1 1 1 1 1 1 1 1 1 1 1 1 1 1 1 1 1 1 1 1 1 1 1 1 1 1 \
+    1 1 1 1 1 1 1 1 1 1 1 1 1 1\nschedule 1 0\n";
 
 #[test]
-fn prints_trap_refusals(rt: HostRuntime) {
-    check_rows(&rt, rt.alloc(), TRAP_REFUSALS);
+fn prints_long_histories(rt: HostRuntime) {
+    let history = long_history();
+    check_history(&rt, rt.alloc(), Format::V1, &history, LONG_LINES);
+    check_history(&rt, rt.alloc(), Format::V2, &history, "runs 1 65 0 1\n");
+}
+
+/// Processor 64 and the console in turn.
+fn mixed_history() -> [u8; 34] {
+    let mut history = [0; 34];
+    for place in 0..17 {
+        history[2 * place] = 64;
+    }
+    history
+}
+
+const MIXED_LINES: &str =
+    "runs 64 1 0 1 64 1 0 1 64 1 0 1 64 1 0 1 64 1 0 1 64 1 0 1 64 1 0 1 64 1 0 1 64 1 0 1 64 1 0 1 64 1 0 1 64 1 0 1 \
+    64 1 0 1 64 1 0 1 64 1 0 1 64 1 0 1\nruns 64 1 0 1\n";
+
+#[test]
+fn prints_mixed_histories(rt: HostRuntime) {
+    check_history(&rt, rt.alloc(), Format::V2, &mixed_history(), MIXED_LINES);
+}
+
+#[test]
+fn prints_runs(rt: HostRuntime) {
+    check_history(
+        &rt,
+        rt.alloc(),
+        Format::V2,
+        &[2, 2, 2, 0, 2],
+        "runs 2 3 0 1 2 1\n",
+    );
+    check_history(&rt, rt.alloc(), Format::V2, &[1, 1, 0], "runs 1 2 0 1\n");
+}
+
+/// 33 runs of two turns.
+fn history_of_pairs(rt: &impl Abort, alloc: Global) -> Vec<u8> {
+    let mut history = Vec::new(alloc);
+    for run in 0..33u8 {
+        history.push(run).expect(rt, "memory");
+        history.push(run).expect(rt, "memory");
+    }
+    history
+}
+
+const LINES_OF_PAIRS: &str =
+    "runs 0 2 1 2 2 2 3 2 4 2 5 2 6 2 7 2 8 2 9 2 10 2 11 2 12 2 13 2 14 2 15 2 16 2 17 2 18 2 19 2 20 2 21 2 22 2 \
+    23 2 24 2 25 2 26 2 27 2 28 2 29 2 30 2 31 2\nruns 32 2\n";
+
+#[test]
+fn prints_runs_after_a_line(rt: HostRuntime) {
+    let history = history_of_pairs(&rt, rt.alloc());
+    check_history(
+        &rt,
+        rt.alloc(),
+        Format::V2,
+        history.as_slice(),
+        LINES_OF_PAIRS,
+    );
+}
+
+/// Checks the line of a reply, with its time.
+fn check_timed(rt: &impl Abort, alloc: Global, event: &Event, reply: Reply, wanted: &str) {
+    let mut writer = Watched::new(Vec::new(alloc));
+    let mut page = Page::new();
+    let mut ended = write_reply(&mut writer, &mut page, TIMED, event, &reply);
+    if ended.is_ok() {
+        ended = page.write_out(&mut writer);
+    }
+    check(rt, writer, ended, wanted);
+}
+
+/// A draw of this number of this total, which thread 2 won.
+fn check_drawn(rt: &impl Abort, alloc: Global, number: u128, total: u128, wanted: &str) {
+    let reply = Reply::Winner {
+        thread: 2,
+        number,
+        total,
+        delivered: None,
+    };
+    check_timed(rt, alloc, &Event::Draw(1, 0), reply, wanted);
+}
+
+/// A trap of thread 3 after 7 ticks.
+fn check_trapped(rt: &impl Abort, alloc: Global, action: Action, outcome: Outcome, wanted: &str) {
+    let reply = Reply::Trapped {
+        thread: 3,
+        ticks: 7,
+        outcome,
+        ends: false,
+    };
+    check_timed(rt, alloc, &Event::Trap(1, 6, action), reply, wanted);
+}
+
+/// The reply to the wake of thread 12.
+fn check_woken(rt: &impl Abort, alloc: Global, reply: Reply, wanted: &str) {
+    check_timed(rt, alloc, &Event::Wake { thread: 12 }, reply, wanted);
 }
 
 /// The unlock of mutex 4, which passes it to thread 5.
@@ -723,276 +827,41 @@ const RECEIVED: Outcome = Outcome::RepliedThenReceived {
 /// A server's reply to thread 5, after which it waits.
 const WAITS: Outcome = Outcome::RepliedThenWaits(5);
 
-/// A draw of 384 of 2561, which thread 2 won, and one of 64 of 2560.
-const WON: Reply = Reply::Winner {
-    thread: 2,
-    number: 384,
-    total: 2561,
-    delivered: None,
-};
-
-const WON_LESS: Reply = Reply::Winner {
-    thread: 2,
-    number: 64,
-    total: 2560,
-    delivered: None,
-};
-
-// 2561 / 256 is 10.00390625, 384 / 256 is 1.5, and 64 / 256 is 0.25.
-const BEHIND_THE_POINT: &[Row<'static>] = &[
+/// Traps, their outcomes, and their lines.
+const TIMED_TRAPS: &[(Action, Outcome, &str)] = &[
     (
-        Printed::Timed(Turn::Gives(WON)),
-        "120 1 draw 1.5 of 10.003 thread 2\n",
-    ),
-    (
-        Printed::Timed(Turn::Gives(WON_LESS)),
-        "120 1 draw 0.25 of 10 thread 2\n",
-    ),
-    (
-        Printed::Timed(Turn::TrapsLater(Action::Unlock(4, 99), PASSED)),
+        Action::Unlock(4, 99),
+        PASSED,
         "120 1 thread 3 ticks 7 unlock 4 to 5 draw 0.003 of 0.101\n",
     ),
     (
-        Printed::Timed(Turn::TrapsLater(Action::Serve(2, 9), RECEIVED)),
+        Action::Serve(2, 9),
+        RECEIVED,
         "120 1 thread 3 ticks 7 reply client 5 receive 2 client 6 got 41\n",
     ),
     (
-        Printed::Timed(Turn::TrapsLater(Action::Serve(2, 9), WAITS)),
+        Action::Serve(2, 9),
+        WAITS,
         "120 1 thread 3 ticks 7 reply client 5 receive 2 waits\n",
     ),
 ];
 
-const WAKES: &[Row<'static>] = &[
-    (
-        Printed::Timed(Turn::Wakes(Reply::Done)),
-        "120 1 wake thread 12\n",
-    ),
-    (
-        Printed::Timed(Turn::Wakes(Reply::Refused(Refusal::NotAsleep))),
-        "120 1 refused 24 NotAsleep\n",
-    ),
-];
-
+// 2561 / 256 is 10.00390625, 384 / 256 is 1.5, and 64 / 256 is 0.25.
 #[test]
-fn prints_times(rt: HostRuntime) {
-    check_rows(&rt, rt.alloc(), BEHIND_THE_POINT);
-    check_rows(&rt, rt.alloc(), WAKES);
+fn prints_what_is_behind_the_point(rt: HostRuntime) {
+    let alloc = rt.alloc();
+    check_drawn(&rt, alloc, 384, 2561, "120 1 draw 1.5 of 10.003 thread 2\n");
+    check_drawn(&rt, alloc, 64, 2560, "120 1 draw 0.25 of 10 thread 2\n");
+    for (action, outcome, line) in TIMED_TRAPS {
+        check_trapped(&rt, alloc, *action, *outcome, line);
+    }
 }
 
-const ENDED: &[Row<'static>] = &[(Printed::Ended, "0 refused 41 Ended\n")];
-
-const FAULTS: &[Row<'static>] = &[
-    (
-        Printed::Fault(InputFault {
-            line: 1,
-            refusal: InputRefusal::BadHeader,
-        }),
-        "refused line 1 50 BadHeader\n",
-    ),
-    (
-        Printed::Fault(InputFault {
-            line: 2,
-            refusal: InputRefusal::BadLine,
-        }),
-        "refused line 2 51 BadLine\n",
-    ),
-    (
-        Printed::Fault(InputFault {
-            line: 2,
-            refusal: InputRefusal::BadNumber,
-        }),
-        "refused line 2 52 BadNumber\n",
-    ),
-    (
-        Printed::Fault(InputFault {
-            line: 3,
-            refusal: InputRefusal::UnknownName,
-        }),
-        "refused line 3 53 UnknownName\n",
-    ),
-    (
-        Printed::Fault(InputFault {
-            line: 2,
-            refusal: InputRefusal::OpenScript,
-        }),
-        "refused line 2 54 OpenScript\n",
-    ),
-    (
-        Printed::Fault(InputFault {
-            line: 11,
-            refusal: InputRefusal::TooDeep,
-        }),
-        "refused line 11 55 TooDeep\n",
-    ),
-    (
-        Printed::Fault(InputFault {
-            line: 2,
-            refusal: InputRefusal::TooLong,
-        }),
-        "refused line 2 56 TooLong\n",
-    ),
-    (
-        Printed::Fault(InputFault {
-            line: 2,
-            refusal: InputRefusal::BadActor,
-        }),
-        "refused line 2 57 BadActor\n",
-    ),
-];
-
 #[test]
-fn prints_ends_and_faults(rt: HostRuntime) {
-    check_rows(&rt, rt.alloc(), ENDED);
-    check_rows(&rt, rt.alloc(), FAULTS);
-}
-
-/// Lines of tickets, currencies and threads, and of listings.
-const TICKETS: &[Row<'static>] = &[
-    (
-        Printed::Ticket(Some("alice"), true, 1),
-        "ticket 1 amount 1000 in base funds alice active value 1000\n",
-    ),
-    (
-        Printed::Ticket(Some("alice"), true, 256),
-        "ticket 1 amount 1000 in base funds alice active value 3\n",
-    ),
-    (
-        Printed::Ticket(None, false, 1),
-        "ticket 1 amount 1000 in base funds - inactive value 1000\n",
-    ),
-];
-
-const CURRENCIES: &[Row<'static>] = &[
-    (
-        Printed::Currency(0, 1),
-        "currency 0 base backing 0 issued 2 active 3000 value 3000\n",
-    ),
-    (
-        Printed::Currency(0, 256),
-        "currency 0 base backing 0 issued 2 active 3000 value 3000\n",
-    ),
-    (
-        Printed::Currency(1, 256),
-        "currency 1 base backing 0 issued 2 active 3000 value 11\n",
-    ),
-];
-
-const THREADS: &[Row<'static>] = &[
-    (
-        Printed::Thread(Status::Ready),
-        "thread 1 thread2 ready value 400 weight 40000 quanta 5 ticks 6\n",
-    ),
-    (
-        Printed::Thread(Status::Running {
-            processor: 2,
-            used: 7,
-        }),
-        "thread 1 thread2 running 2 used 7 value 400 weight 40000 quanta 5 ticks 6\n",
-    ),
-    (
-        Printed::Thread(Status::Receiving(1)),
-        "thread 1 thread2 receiving 1 value 400 weight 40000 quanta 5 ticks 6\n",
-    ),
-    (
-        Printed::Thread(Status::Queued(1)),
-        "thread 1 thread2 queued 1 value 400 weight 40000 quanta 5 ticks 6\n",
-    ),
-    (
-        Printed::Thread(Status::Served(3)),
-        "thread 1 thread2 served 3 value 400 weight 40000 quanta 5 ticks 6\n",
-    ),
-    (
-        Printed::Thread(Status::Waiting(4)),
-        "thread 1 thread2 waiting 4 value 400 weight 40000 quanta 5 ticks 6\n",
-    ),
-    (
-        Printed::Thread(Status::Asleep),
-        "thread 1 thread2 asleep value 400 weight 40000 quanta 5 ticks 6\n",
-    ),
-    (
-        Printed::Thread(Status::Dead),
-        "thread 1 thread2 dead value 400 weight 40000 quanta 5 ticks 6\n",
-    ),
-];
-
-#[test]
-fn prints_threads(rt: HostRuntime) {
-    check_rows(&rt, rt.alloc(), THREADS);
-}
-
-const LISTINGS: &[Row<'static>] = &[
-    (Printed::Listing(Kind::Tickets), "0 lstkt 8\n"),
-    (Printed::Listing(Kind::Currencies), "0 lscur 8\n"),
-    (Printed::Listing(Kind::Threads), "0 lsthr 8\n"),
-];
-
-#[test]
-fn prints_rows_and_listings(rt: HostRuntime) {
-    check_rows(&rt, rt.alloc(), TICKETS);
-    check_rows(&rt, rt.alloc(), CURRENCIES);
-    check_rows(&rt, rt.alloc(), LISTINGS);
-}
-
-/// 65 turns of processor 1, and one of the console.
-const LONG_HISTORY: &[u8] = &[
-    1, 1, 1, 1, 1, 1, 1, 1, 1, 1, 1, 1, 1, 1, 1, 1, 1, 1, 1, 1, 1, 1, 1, 1, 1, 1, 1, 1, 1, 1, 1, 1,
-    1, 1, 1, 1, 1, 1, 1, 1, 1, 1, 1, 1, 1, 1, 1, 1, 1, 1, 1, 1, 1, 1, 1, 1, 1, 1, 1, 1, 1, 1, 1, 1,
-    1, 0,
-];
-
-const LONG_LINES: &str =
-    "schedule 1 1 1 1 1 1 1 1 1 1 1 1 1 1 1 1 1 1 1 1 1 1 1 1 1 1 1 1 1 1 1 1 1 1 1 1 1 1 1 1 1 1 1 1 1 1 1 1 1 1 \
-    1 1 1 1 1 1 1 1 1 1 1 1 1 1\nschedule 1 0\n";
-
-/// Processor 64 and the console in turn.
-const MIXED_HISTORY: &[u8] = &[
-    64, 0, 64, 0, 64, 0, 64, 0, 64, 0, 64, 0, 64, 0, 64, 0, 64, 0, 64, 0, 64, 0, 64, 0, 64, 0, 64,
-    0, 64, 0, 64, 0, 64, 0,
-];
-
-const MIXED_LINES: &str =
-    "runs 64 1 0 1 64 1 0 1 64 1 0 1 64 1 0 1 64 1 0 1 64 1 0 1 64 1 0 1 64 1 0 1 64 1 0 1 64 1 0 1 64 1 0 1 64 1 0 1 \
-    64 1 0 1 64 1 0 1 64 1 0 1 64 1 0 1\nruns 64 1 0 1\n";
-
-/// 33 runs of two turns.
-const HISTORY_OF_PAIRS: &[u8] = &[
-    0, 0, 1, 1, 2, 2, 3, 3, 4, 4, 5, 5, 6, 6, 7, 7, 8, 8, 9, 9, 10, 10, 11, 11, 12, 12, 13, 13, 14,
-    14, 15, 15, 16, 16, 17, 17, 18, 18, 19, 19, 20, 20, 21, 21, 22, 22, 23, 23, 24, 24, 25, 25, 26,
-    26, 27, 27, 28, 28, 29, 29, 30, 30, 31, 31, 32, 32,
-];
-
-const LINES_OF_PAIRS: &str =
-    "runs 0 2 1 2 2 2 3 2 4 2 5 2 6 2 7 2 8 2 9 2 10 2 11 2 12 2 13 2 14 2 15 2 16 2 17 2 18 2 19 2 20 2 21 2 22 2 \
-    23 2 24 2 25 2 26 2 27 2 28 2 29 2 30 2 31 2\nruns 32 2\n";
-
-const HISTORIES: &[Row<'static>] = &[
-    (Printed::History(Format::V1, &[]), ""),
-    (Printed::History(Format::V2, &[]), ""),
-    (
-        Printed::History(Format::V1, &[0, 1, 64]),
-        "schedule 0 1 64\n",
-    ),
-    (Printed::History(Format::V2, &[1, 1, 1]), "runs 1 3\n"),
-    (
-        Printed::History(Format::V2, &[2, 2, 2, 0, 2]),
-        "runs 2 3 0 1 2 1\n",
-    ),
-    (Printed::History(Format::V2, &[1, 1, 0]), "runs 1 2 0 1\n"),
-    (Printed::History(Format::V1, LONG_HISTORY), LONG_LINES),
-    (
-        Printed::History(Format::V2, LONG_HISTORY),
-        "runs 1 65 0 1\n",
-    ),
-    (Printed::History(Format::V2, MIXED_HISTORY), MIXED_LINES),
-    (
-        Printed::History(Format::V2, HISTORY_OF_PAIRS),
-        LINES_OF_PAIRS,
-    ),
-];
-
-#[test]
-fn prints_histories(rt: HostRuntime) {
-    check_rows(&rt, rt.alloc(), HISTORIES);
+fn prints_wakes(rt: HostRuntime) {
+    let refused = Reply::Refused(Refusal::NotAsleep);
+    check_woken(&rt, rt.alloc(), Reply::Done, "120 1 wake thread 12\n");
+    check_woken(&rt, rt.alloc(), refused, "120 1 refused 24 NotAsleep\n");
 }
 
 /// The largest possible waits.
@@ -1013,145 +882,152 @@ const NO_SPANS: Spans = Spans {
     since: None,
 };
 
-/// 2 of 3 ticks are 66.666%, and 1500000000000000000 is half of 3 * 10^18. 3 waits of 7 ticks in all are 2.333 on
-/// average, and 5 of 12 are 2.4.
-const SOME_SHARES: &ThreadShares = &ThreadShares {
-    all_ticks: 3,
-    due: 1500000000000000000,
-    live_time: 3,
-    live_value: 1,
-    all_values: 8,
-    ready: Spans {
-        count: 3,
-        total: 7,
-        longest: 5,
-        last: None,
-        since: None,
-    },
-    mutexes: Spans {
-        count: 5,
-        total: 12,
-        longest: 4,
-        last: None,
-        since: None,
-    },
-    replies: NO_SPANS,
-    refused_traps: 0,
-    lives: Spans {
-        since: Some(0),
+/// The life of a thread that was made at this time and hasn't ended.
+fn begun(since: u32) -> Spans {
+    Spans {
+        since: Some(since),
         ..NO_SPANS
-    },
-};
-
-/// 18446744073709551615 / 4294967295 is 4294967297.
-const NO_SHARES: &ThreadShares = &ThreadShares {
-    all_ticks: 0,
-    due: 0,
-    live_time: 0,
-    live_value: 0,
-    all_values: 0,
-    ready: LONG,
-    mutexes: NO_SPANS,
-    replies: LONG,
-    refused_traps: 12,
-    lives: Spans {
-        last: Some(Span {
-            from: 7,
-            to: u32::MAX,
-        }),
-        ..NO_SPANS
-    },
-};
-
-/// The thread that had the number before has ended; this one hasn't. 666666666666666666 is a third of 2 * 10^18,
-/// rounded down.
-const SECOND_LIFE: ThreadShares = ThreadShares {
-    all_ticks: 2,
-    due: 666666666666666666,
-    live_time: 2,
-    live_value: 0,
-    all_values: 0,
-    ready: NO_SPANS,
-    mutexes: NO_SPANS,
-    replies: NO_SPANS,
-    refused_traps: 0,
-    lives: Spans {
-        last: Some(Span { from: 0, to: 30 }),
-        since: Some(31),
-        ..NO_SPANS
-    },
-};
-
-const NO_LIFE: ThreadShares = ThreadShares {
-    lives: NO_SPANS,
-    ..SECOND_LIFE
-};
-
-const SHARES: &[Row<'static>] = &[
-    (
-        Printed::Shares(SOME_SHARES),
-        "thread 1 thread2 quanta 4 ticks 2 share 66.666% due 50% value 12.5% \
-        ready waits 3 mean 2.333 longest 5 mutex waits 5 mean 2.4 longest 4\n",
-    ),
-    (
-        Printed::SharesRecord(SOME_SHARES),
-        "1,thread2,4,2,66.666,50,12.5,3,2.333,5,5,2.4,4,0,,,0,0,\n",
-    ),
-    (
-        Printed::Shares(NO_SHARES),
-        "thread 1 thread2 quanta 4 ticks 2 share 0% due 0% value 0% \
-        ready waits 4294967295 mean 4294967297 longest 4294967295 \
-        reply waits 4294967295 mean 4294967297 longest 4294967295 refused 12 made 7 ended 4294967295\n",
-    ),
-    (
-        Printed::SharesRecord(NO_SHARES),
-        "1,thread2,4,2,0,0,0,4294967295,4294967297,4294967295,0,,,\
-        4294967295,4294967297,4294967295,12,7,4294967295\n",
-    ),
-    (
-        Printed::Shares(&SECOND_LIFE),
-        "thread 1 thread2 quanta 4 ticks 2 share 100% due 33.333% value 0% made 31\n",
-    ),
-    (
-        Printed::SharesRecord(&SECOND_LIFE),
-        "1,thread2,4,2,100,33.333,0,0,,,0,,,0,,,0,31,\n",
-    ),
-    (
-        Printed::Shares(&NO_LIFE),
-        "thread 1 thread2 quanta 4 ticks 2 share 100% due 33.333% value 0%\n",
-    ),
-    (
-        Printed::SharesRecord(&NO_LIFE),
-        "1,thread2,4,2,100,33.333,0,0,,,0,,,0,,,0,,\n",
-    ),
-];
-
-#[test]
-fn prints_shares(rt: HostRuntime) {
-    check_rows(&rt, rt.alloc(), SHARES);
+    }
 }
 
-const HEADERS: &[Row<'static>] = &[
+/// The life of a thread that was made and has ended at these times.
+fn lived(from: u32, to: u32) -> Spans {
+    Spans {
+        last: Some(Span { from, to }),
+        ..NO_SPANS
+    }
+}
+
+/// Checks the line and the row of thread 1 with 4 quanta and 2 ticks, among totals of which it has these shares.
+fn check_shares(rt: &impl Abort, alloc: Global, shares: ThreadShares, wanted: &str, fields: &str)
+    requires live { shares.live_time < 2 ^ 57 }
+    requires due { shares.due < 2 ^ 121 }
+    requires values { shares.all_values < 2 ^ 96 }
+{
+    let row = ThreadRow {
+        quanta: 4,
+        ticks: 2,
+        ..thread_row(rt, Status::Ready)
+    };
+    let mut writer = Watched::new(Vec::new(alloc));
+    let ended = write_timed_thread_total(&mut writer, 1, &row, shares);
+    check(rt, writer, ended, wanted);
+    let mut writer = Watched::new(Vec::new(alloc));
+    let ended = write_timed_thread_record(&mut writer, 1, &row, shares);
+    check(rt, writer, ended, fields);
+}
+
+// 2 of 3 ticks are 66.666%, and 1500000000000000000 is half of 3 * 10^18. 3 waits of 7 ticks in all are 2.333 on
+// average, 5 of 12 are 2.4, and 18446744073709551615 / 4294967295 is 4294967297.
+#[test]
+fn prints_timed_totals(rt: HostRuntime) {
+    let shares = ThreadShares {
+        all_ticks: 3,
+        due: 1500000000000000000,
+        live_time: 3,
+        live_value: 1,
+        all_values: 8,
+        ready: Spans {
+            count: 3,
+            total: 7,
+            longest: 5,
+            last: None,
+            since: None,
+        },
+        mutexes: Spans {
+            count: 5,
+            total: 12,
+            longest: 4,
+            last: None,
+            since: None,
+        },
+        replies: NO_SPANS,
+        refused_traps: 0,
+        lives: begun(0),
+    };
+    let wanted = "thread 1 thread2 quanta 4 ticks 2 share 66.666% due 50% value 12.5% \
+        ready waits 3 mean 2.333 longest 5 mutex waits 5 mean 2.4 longest 4\n";
+    let fields = "1,thread2,4,2,66.666,50,12.5,3,2.333,5,5,2.4,4,0,,,0,0,\n";
+    check_shares(&rt, rt.alloc(), shares, wanted, fields);
+    let shares = ThreadShares {
+        all_ticks: 0,
+        due: 0,
+        live_time: 0,
+        live_value: 0,
+        all_values: 0,
+        ready: LONG,
+        mutexes: NO_SPANS,
+        replies: LONG,
+        refused_traps: 12,
+        lives: lived(7, u32::MAX),
+    };
+    let wanted = "thread 1 thread2 quanta 4 ticks 2 share 0% due 0% value 0% \
+        ready waits 4294967295 mean 4294967297 longest 4294967295 \
+        reply waits 4294967295 mean 4294967297 longest 4294967295 refused 12 made 7 ended 4294967295\n";
+    let fields = "1,thread2,4,2,0,0,0,4294967295,4294967297,4294967295,0,,,\
+        4294967295,4294967297,4294967295,12,7,4294967295\n";
+    check_shares(&rt, rt.alloc(), shares, wanted, fields);
+}
+
+// The thread that had the number before has ended; this one hasn't. 666666666666666666 is a third of 2 * 10^18, rounded
+// down.
+#[test]
+fn prints_lives(rt: HostRuntime) {
+    let shares = ThreadShares {
+        all_ticks: 2,
+        due: 666666666666666666,
+        live_time: 2,
+        live_value: 0,
+        all_values: 0,
+        ready: NO_SPANS,
+        mutexes: NO_SPANS,
+        replies: NO_SPANS,
+        refused_traps: 0,
+        lives: Spans {
+            since: Some(31),
+            ..lived(0, 30)
+        },
+    };
+    let wanted = "thread 1 thread2 quanta 4 ticks 2 share 100% due 33.333% value 0% made 31\n";
+    check_shares(
+        &rt,
+        rt.alloc(),
+        shares,
+        wanted,
+        "1,thread2,4,2,100,33.333,0,0,,,0,,,0,,,0,31,\n",
+    );
+    let shares = ThreadShares {
+        lives: NO_SPANS,
+        ..shares
+    };
+    let wanted = "thread 1 thread2 quanta 4 ticks 2 share 100% due 33.333% value 0%\n";
+    check_shares(
+        &rt,
+        rt.alloc(),
+        shares,
+        wanted,
+        "1,thread2,4,2,100,33.333,0,0,,,0,,,0,,,0,,\n",
+    );
+}
+
+const HEADERS: &[(Columns, &str)] = &[
+    (Columns::Totals, "thread,name,quanta,ticks\n"),
     (
-        Printed::Header(Columns::Totals),
-        "thread,name,quanta,ticks\n",
-    ),
-    (
-        Printed::Header(Columns::TimedTotals),
+        Columns::TimedTotals,
         "thread,name,quanta,ticks,share_percent,due_percent,value_percent,ready_waits,ready_mean,ready_longest,\
          mutex_waits,mutex_mean,mutex_longest,reply_waits,reply_mean,reply_longest,refused,made,ended\n",
     ),
     (
-        Printed::Header(Columns::Currencies),
+        Columns::Currencies,
         "currency,name,ticks,share_percent,due_percent\n",
     ),
     (
-        Printed::Header(Columns::Figures(FiguresTable::Schedule)),
+        Columns::Figures(FiguresTable::Schedule),
         "thread,name,plays,quanta_mean,quanta_least,quanta_most,ticks_mean,ticks_least,ticks_most,\
          share_percent_mean,share_percent_least,share_percent_most\n",
     ),
     (
-        Printed::Header(Columns::Figures(FiguresTable::Timed)),
+        Columns::Figures(FiguresTable::Timed),
         "thread,name,plays,quanta_mean,quanta_least,quanta_most,ticks_mean,ticks_least,ticks_most,\
          share_percent_mean,share_percent_least,share_percent_most,\
          due_percent_mean,due_percent_least,due_percent_most,\
@@ -1166,16 +1042,339 @@ const HEADERS: &[Row<'static>] = &[
          ended_mean,ended_least,ended_most\n",
     ),
     (
-        Printed::Header(Columns::Figures(FiguresTable::OfCurrencies)),
+        Columns::Figures(FiguresTable::OfCurrencies),
         "currency,name,plays,ticks_mean,ticks_least,ticks_most,\
          share_percent_mean,share_percent_least,share_percent_most,\
          due_percent_mean,due_percent_least,due_percent_most\n",
     ),
 ];
 
+fn check_header(rt: &impl Abort, alloc: Global, columns: Columns, wanted: &str) {
+    let mut writer = Watched::new(Vec::new(alloc));
+    let ended = write_header(&mut writer, columns);
+    check(rt, writer, ended, wanted);
+}
+
 #[test]
 fn prints_headers(rt: HostRuntime) {
-    check_rows(&rt, rt.alloc(), HEADERS);
+    for (columns, wanted) in HEADERS {
+        check_header(&rt, rt.alloc(), *columns, wanted);
+    }
+}
+
+#[test]
+fn prints_records(rt: HostRuntime) {
+    let row = ThreadRow {
+        quanta: 4,
+        ticks: u64::MAX,
+        ..thread_row(&rt, Status::Dead)
+    };
+    let mut writer = Watched::new(Vec::new(rt.alloc()));
+    let ended = write_thread_record(&mut writer, 4096, &row);
+    check(&rt, writer, ended, "4096,thread2,4,18446744073709551615\n");
+}
+
+/// The spread of a figure that so many plays have.
+fn spread(plays: u64, sum: u128, least: u128, most: u128) -> Spread {
+    Spread {
+        plays,
+        sum,
+        least,
+        most,
+    }
+}
+
+/// A figure that no play has.
+const NO_FIGURE: Spread = Spread {
+    plays: 0,
+    sum: 0,
+    least: 0,
+    most: 0,
+};
+
+/// Waits that a report doesn't tell.
+const UNTOLD: SpanFigures = SpanFigures {
+    count: NO_FIGURE,
+    mean: NO_FIGURE,
+    longest: NO_FIGURE,
+};
+
+/// Three plays without waits, or without threads that have ended.
+fn no_spans() -> SpanFigures {
+    SpanFigures {
+        count: spread(3, 0, 0, 0),
+        mean: NO_FIGURE,
+        longest: NO_FIGURE,
+    }
+}
+
+/// A play without waits, and two with 3 waits of 7 ticks and 4 of 2 ticks, the longest 5 and 1 ticks.
+fn some_waits() -> SpanFigures {
+    SpanFigures {
+        count: spread(3, 7, 0, 4),
+        mean: spread(2, 2833, 500, 2333),
+        longest: spread(2, 6, 1, 5),
+    }
+}
+
+/// Plays with one wait of 0 ticks, with 2 of one tick, and with 2 of 3 ticks, the longest 0, 1 and 2 ticks.
+fn more_waits() -> SpanFigures {
+    SpanFigures {
+        count: spread(3, 5, 1, 2),
+        mean: spread(3, 2000, 0, 1500),
+        longest: spread(3, 3, 0, 2),
+    }
+}
+
+/// The figures of a thread of a schedule. Shares are in thousandths of a percent.
+fn of_schedule(rt: &impl Abort) -> Figures {
+    Figures {
+        name: name(rt, "a"),
+        plays: 3,
+        quanta: spread(3, 10, 3, 4),
+        ticks: spread(3, 90, 0, 90),
+        share: spread(3, 150000, 45500, 54001),
+        due: NO_FIGURE,
+        value: NO_FIGURE,
+        ready: UNTOLD,
+        mutexes: UNTOLD,
+        replies: UNTOLD,
+        refused: NO_FIGURE,
+        made: NO_FIGURE,
+        ended: NO_FIGURE,
+    }
+}
+
+/// Those of a thread of a timed program, which had a trap refused in one play, and ended in one.
+fn of_timed(rt: &impl Abort) -> Figures {
+    let mut figures = of_schedule(rt);
+    figures.due = spread(3, 100000, 33333, 33334);
+    figures.value = spread(3, 0, 0, 0);
+    figures.ready = some_waits();
+    figures.mutexes = no_spans();
+    figures.replies = more_waits();
+    figures.refused = spread(3, 1, 0, 1);
+    figures.made = spread(3, 10, 0, 10);
+    figures.ended = spread(1, 20, 20, 20);
+    figures
+}
+
+/// Those of a thread that waited for mutexes alone, had no trap refused, and never ended.
+fn of_waiting(rt: &impl Abort) -> Figures {
+    let mut figures = of_timed(rt);
+    figures.ready = no_spans();
+    figures.mutexes = some_waits();
+    figures.replies = no_spans();
+    figures.refused = spread(3, 0, 0, 0);
+    figures.ended = NO_FIGURE;
+    figures
+}
+
+/// Those of a currency.
+fn of_currency(rt: &impl Abort) -> Figures {
+    Figures {
+        name: name(rt, "g"),
+        plays: 2,
+        quanta: NO_FIGURE,
+        ticks: spread(2, 3, 1, 2),
+        share: spread(2, 99999, 33333, 66666),
+        due: spread(2, 100000, 50000, 50000),
+        value: NO_FIGURE,
+        ready: UNTOLD,
+        mutexes: UNTOLD,
+        replies: UNTOLD,
+        refused: NO_FIGURE,
+        made: NO_FIGURE,
+        ended: NO_FIGURE,
+    }
+}
+
+/// Checks the lines with these figures, and the row in this table, of the thread or the currency with number 2.
+fn check_figures(
+    rt: &impl Abort,
+    alloc: Global,
+    table: FiguresTable,
+    figures: &Figures,
+    wanted: &str,
+    fields: &str,
+) {
+    let subject = match table {
+        FiguresTable::Schedule | FiguresTable::Timed => Subject::Thread,
+        FiguresTable::OfCurrencies => Subject::Currency,
+    };
+    let mut writer = Watched::new(Vec::new(alloc));
+    let ended = write_figures(&mut writer, subject, 2, figures);
+    check(rt, writer, ended, wanted);
+    let mut writer = Watched::new(Vec::new(alloc));
+    let ended = write_figures_record(&mut writer, table, 2, figures);
+    check(rt, writer, ended, fields);
+}
+
+// Of three plays the draws are 10 in all, 3.333 on average. The line of a schedule has no figures behind the share. Of
+// two plays the currency's share is 99.999% in all, 49.999% on average.
+#[test]
+fn prints_figures(rt: HostRuntime) {
+    let wanted =
+        "thread 2 a plays 3 quanta mean 3.333 least 3 most 4 ticks mean 30 least 0 most 90 \
+        share mean 50% least 45.5% most 54.001%\n";
+    let fields = "2,a,3,3.333,3,4,30,0,90,50,45.5,54.001\n";
+    let figures = of_schedule(&rt);
+    check_figures(
+        &rt,
+        rt.alloc(),
+        FiguresTable::Schedule,
+        &figures,
+        wanted,
+        fields,
+    );
+    let wanted = "currency 2 g plays 2 ticks mean 1.5 least 1 most 2 \
+        share mean 49.999% least 33.333% most 66.666% due mean 50% least 50% most 50%\n";
+    let fields = "2,g,2,1.5,1,2,49.999,33.333,66.666,50,50,50\n";
+    let figures = of_currency(&rt);
+    check_figures(
+        &rt,
+        rt.alloc(),
+        FiguresTable::OfCurrencies,
+        &figures,
+        wanted,
+        fields,
+    );
+}
+
+// 2.333 and 0.5 are 2.833 in all: 1.416 on average over the two plays with such waits. 0, 0.5 and 1.5 are 0.666 on
+// average. There is no line for waits that no play had, for traps if none was refused, or for an end if there was none.
+#[test]
+fn prints_timed_figures(rt: HostRuntime) {
+    let wanted =
+        "thread 2 a plays 3 quanta mean 3.333 least 3 most 4 ticks mean 30 least 0 most 90 \
+        share mean 50% least 45.5% most 54.001% due mean 33.333% least 33.333% most 33.334% \
+        value mean 0% least 0% most 0%\n\
+        thread 2 a ready waits mean 2.333 least 0 most 4 average mean 1.416 least 0.5 most 2.333 \
+        longest mean 3 least 1 most 5\n\
+        thread 2 a reply waits mean 1.666 least 1 most 2 average mean 0.666 least 0 most 1.5 \
+        longest mean 1 least 0 most 2\n\
+        thread 2 a refused mean 0.333 least 0 most 1\n\
+        thread 2 a made mean 3.333 least 0 most 10 ended mean 20 least 20 most 20 in 1 of 3\n";
+    let fields = "2,a,3,3.333,3,4,30,0,90,50,45.5,54.001,33.333,33.333,33.334,0,0,0,\
+        2.333,0,4,1.416,0.5,2.333,3,1,5,0,0,0,,,,,,,1.666,1,2,0.666,0,1.5,1,0,2,\
+        0.333,0,1,3.333,0,10,20,20,20\n";
+    let figures = of_timed(&rt);
+    check_figures(
+        &rt,
+        rt.alloc(),
+        FiguresTable::Timed,
+        &figures,
+        wanted,
+        fields,
+    );
+    let wanted =
+        "thread 2 a plays 3 quanta mean 3.333 least 3 most 4 ticks mean 30 least 0 most 90 \
+        share mean 50% least 45.5% most 54.001% due mean 33.333% least 33.333% most 33.334% \
+        value mean 0% least 0% most 0%\n\
+        thread 2 a mutex waits mean 2.333 least 0 most 4 average mean 1.416 least 0.5 most 2.333 \
+        longest mean 3 least 1 most 5\n";
+    let fields = "2,a,3,3.333,3,4,30,0,90,50,45.5,54.001,33.333,33.333,33.334,0,0,0,\
+        0,0,0,,,,,,,2.333,0,4,1.416,0.5,2.333,3,1,5,0,0,0,,,,,,,\
+        0,0,0,3.333,0,10,,,\n";
+    let figures = of_waiting(&rt);
+    check_figures(
+        &rt,
+        rt.alloc(),
+        FiguresTable::Timed,
+        &figures,
+        wanted,
+        fields,
+    );
+}
+
+#[test]
+fn prints_figures_of_processors(rt: HostRuntime) {
+    let figures = ProcessorFigures {
+        plays: 3,
+        quanta: spread(3, 10, 3, 4),
+        idles: spread(3, 1, 0, 1),
+        ticks: spread(3, 90, 0, 90),
+        unused: spread(3, 6, 2, 2),
+    };
+    let mut writer = Watched::new(Vec::new(rt.alloc()));
+    let ended = write_processor_figures(&mut writer, 64, &figures);
+    let wanted =
+        "processor 64 plays 3 quanta mean 3.333 least 3 most 4 idle mean 0.333 least 0 most 1 \
+        ticks mean 30 least 0 most 90 unused mean 2 least 2 most 2\n";
+    check(&rt, writer, ended, wanted);
+}
+
+const WHOLE_FIGURES: &str =
+    "total plays 3 turns mean 9.666 least 9 most 10 quanta mean 3.333 least 3 most 4 \
+    ticks mean 30 least 0 most 90 refused mean 0.666 least 0 most 1 left mean 0 least 0 most 0\n";
+
+const WHOLE_FIGURES_WITH_LIVES: &str =
+    "total plays 3 turns mean 9.666 least 9 most 10 quanta mean 3.333 least 3 most 4 \
+    ticks mean 30 least 0 most 90 refused mean 0.666 least 0 most 1 left mean 0 least 0 most 0\n\
+    total ended mean 1.666 least 0 most 3 average mean 2.416 least 2.333 most 2.5 \
+    longest mean 4.5 least 4 most 5\n";
+
+fn check_whole_figures(rt: &impl Abort, alloc: Global, lives: SpanFigures, wanted: &str) {
+    let figures = WholeFigures {
+        plays: 3,
+        turns: spread(3, 29, 9, 10),
+        quanta: spread(3, 10, 3, 4),
+        ticks: spread(3, 90, 0, 90),
+        refused: spread(3, 2, 0, 1),
+        left: spread(3, 0, 0, 0),
+        lives,
+    };
+    let mut writer = Watched::new(Vec::new(alloc));
+    let ended = write_whole_figures(&mut writer, &figures);
+    check(rt, writer, ended, wanted);
+}
+
+// In one play no thread has ended; in the others two had lived for 5 ticks, and three for 7: 2.5 and 2.333 on average.
+#[test]
+fn prints_whole_figures(rt: HostRuntime) {
+    let lives = SpanFigures {
+        count: spread(3, 5, 0, 3),
+        mean: spread(2, 4833, 2333, 2500),
+        longest: spread(2, 9, 4, 5),
+    };
+    check_whole_figures(&rt, rt.alloc(), no_spans(), WHOLE_FIGURES);
+    check_whole_figures(&rt, rt.alloc(), lives, WHOLE_FIGURES_WITH_LIVES);
+}
+
+#[test]
+fn prints_seeds(rt: HostRuntime) {
+    let mut writer = Watched::new(Vec::new(rt.alloc()));
+    let ended = write_seeds(&mut writer, 1, 2147483646);
+    check(&rt, writer, ended, "seeds 1 to 2147483646\n");
+}
+
+#[test]
+fn prints_timed_processors(rt: HostRuntime) {
+    let total = TimedProcessorTotal {
+        processor: 2,
+        quanta: 3,
+        idles: 4,
+        ticks: 5,
+        unused: 6,
+    };
+    let mut writer = Watched::new(Vec::new(rt.alloc()));
+    let ended = write_timed_processor_total(&mut writer, total);
+    let wanted = "processor 2 quanta 3 idle 4 ticks 5 unused 6\n";
+    check(&rt, writer, ended, wanted);
+}
+
+fn check_timed_end(rt: &impl Abort, alloc: Global, lives: PastLives, wanted: &str) {
+    let total = TimedWholeTotal {
+        turns: 1,
+        quanta: 2,
+        ticks: 3,
+        refused: 4,
+        left: 5,
+        lives,
+    };
+    let mut writer = Watched::new(Vec::new(alloc));
+    let ended = write_timed_whole_total(&mut writer, total);
+    check(rt, writer, ended, wanted);
 }
 
 /// No thread has ended.
@@ -1192,405 +1391,31 @@ const TWO_LIVES: PastLives = PastLives {
     longest: 4,
 };
 
-const TOTALS: &[Row<'static>] = &[
-    (
-        Printed::SmallReport,
-        "report\nthread 1 a quanta 2 ticks 200\nprocessor 1 quanta 3 idle 0 ticks 300\n\
-        total turns 12 quanta 3 ticks 300\n",
-    ),
-    (
-        Printed::ThreadRecord,
-        "4096,thread2,4,18446744073709551615\n",
-    ),
-    (
-        Printed::TimedProcessor(TimedProcessorTotal {
-            processor: 2,
-            quanta: 3,
-            idles: 4,
-            ticks: 5,
-            unused: 6,
-        }),
-        "processor 2 quanta 3 idle 4 ticks 5 unused 6\n",
-    ),
-    (
-        Printed::TimedEnd(NO_LIVES),
+#[test]
+fn prints_timed_ends(rt: HostRuntime) {
+    check_timed_end(
+        &rt,
+        rt.alloc(),
+        NO_LIVES,
         "total turns 1 quanta 2 ticks 3 refused 4 left 5\n",
-    ),
-    (
-        Printed::TimedEnd(TWO_LIVES),
+    );
+    check_timed_end(
+        &rt,
+        rt.alloc(),
+        TWO_LIVES,
         "total turns 1 quanta 2 ticks 3 refused 4 left 5 ended 2 mean 2.5 longest 4\n",
-    ),
-    (
-        Printed::EarlyEnd(EarlyEnd {
-            time: 1,
-            end: u32::MAX,
-            turns: u64::MAX,
-        }),
-        "ended at 1 of 4294967295: 18446744073709551615 turns made\n",
-    ),
-];
+    );
+}
 
 #[test]
-fn prints_totals(rt: HostRuntime) {
-    check_rows(&rt, rt.alloc(), TOTALS);
-}
-
-/// The figures of a thread or a currency, with its name as a text.
-struct FiguresText<'a> {
-    name: &'a str,
-    plays: u64,
-    quanta: Spread,
-    ticks: Spread,
-    share: Spread,
-    due: Spread,
-    value: Spread,
-    ready: SpanFigures,
-    mutexes: SpanFigures,
-    replies: SpanFigures,
-    refused: Spread,
-    made: Spread,
-    ended: Spread,
-}
-
-fn figures_of(rt: &impl Abort, figures: &FiguresText<'_>) -> Figures {
-    Figures {
-        name: name(rt, figures.name),
-        plays: figures.plays,
-        quanta: figures.quanta,
-        ticks: figures.ticks,
-        share: figures.share,
-        due: figures.due,
-        value: figures.value,
-        ready: figures.ready,
-        mutexes: figures.mutexes,
-        replies: figures.replies,
-        refused: figures.refused,
-        made: figures.made,
-        ended: figures.ended,
-    }
-}
-
-/// A figure that no play has.
-const NO_FIGURE: Spread = Spread {
-    plays: 0,
-    sum: 0,
-    least: 0,
-    most: 0,
-};
-
-/// A figure that is 0 in each of three plays.
-const NOTHING: Spread = Spread {
-    plays: 3,
-    sum: 0,
-    least: 0,
-    most: 0,
-};
-
-/// A figure that is 1 in one of three plays, and 0 in the others.
-const ONE: Spread = Spread {
-    plays: 3,
-    sum: 1,
-    least: 0,
-    most: 1,
-};
-
-/// The draws of three plays: 3, 3 and 4.
-const DRAWS: Spread = Spread {
-    plays: 3,
-    sum: 10,
-    least: 3,
-    most: 4,
-};
-
-/// The ticks of three plays, all of which one play has.
-const TICKS: Spread = Spread {
-    plays: 3,
-    sum: 90,
-    least: 0,
-    most: 90,
-};
-
-/// Waits that a report doesn't tell.
-const UNTOLD: SpanFigures = SpanFigures {
-    count: NO_FIGURE,
-    mean: NO_FIGURE,
-    longest: NO_FIGURE,
-};
-
-/// Three plays without waits, or without threads that have ended.
-const NO_WAITS: SpanFigures = SpanFigures {
-    count: NOTHING,
-    mean: NO_FIGURE,
-    longest: NO_FIGURE,
-};
-
-/// A play without waits, and two with 3 waits of 7 ticks and 4 of 2 ticks, the longest 5 and 1 ticks.
-const SOME_WAITS: SpanFigures = SpanFigures {
-    count: Spread {
-        plays: 3,
-        sum: 7,
-        least: 0,
-        most: 4,
-    },
-    mean: Spread {
-        plays: 2,
-        sum: 2833,
-        least: 500,
-        most: 2333,
-    },
-    longest: Spread {
-        plays: 2,
-        sum: 6,
-        least: 1,
-        most: 5,
-    },
-};
-
-/// Plays with one wait of 0 ticks, with 2 of one tick, and with 2 of 3 ticks, the longest 0, 1 and 2 ticks.
-const MORE_WAITS: SpanFigures = SpanFigures {
-    count: Spread {
-        plays: 3,
-        sum: 5,
-        least: 1,
-        most: 2,
-    },
-    mean: Spread {
-        plays: 3,
-        sum: 2000,
-        least: 0,
-        most: 1500,
-    },
-    longest: Spread {
-        plays: 3,
-        sum: 3,
-        least: 0,
-        most: 2,
-    },
-};
-
-/// The figures of a thread of a schedule. Shares are in thousandths of a percent.
-const OF_SCHEDULE: FiguresText<'static> = FiguresText {
-    name: "a",
-    plays: 3,
-    quanta: DRAWS,
-    ticks: TICKS,
-    share: Spread {
-        plays: 3,
-        sum: 150000,
-        least: 45500,
-        most: 54001,
-    },
-    due: NO_FIGURE,
-    value: NO_FIGURE,
-    ready: UNTOLD,
-    mutexes: UNTOLD,
-    replies: UNTOLD,
-    refused: NO_FIGURE,
-    made: NO_FIGURE,
-    ended: NO_FIGURE,
-};
-
-/// Those of a thread of a timed program, which had a trap refused in one play, and ended in one.
-const OF_TIMED: FiguresText<'static> = FiguresText {
-    due: Spread {
-        plays: 3,
-        sum: 100000,
-        least: 33333,
-        most: 33334,
-    },
-    value: NOTHING,
-    ready: SOME_WAITS,
-    mutexes: NO_WAITS,
-    replies: MORE_WAITS,
-    refused: ONE,
-    made: Spread {
-        plays: 3,
-        sum: 10,
-        least: 0,
-        most: 10,
-    },
-    ended: Spread {
-        plays: 1,
-        sum: 20,
-        least: 20,
-        most: 20,
-    },
-    ..OF_SCHEDULE
-};
-
-/// Those of a thread that waited for mutexes alone, had no trap refused, and never ended.
-const OF_WAITING: FiguresText<'static> = FiguresText {
-    ready: NO_WAITS,
-    mutexes: SOME_WAITS,
-    replies: NO_WAITS,
-    refused: NOTHING,
-    ended: NO_FIGURE,
-    ..OF_TIMED
-};
-
-/// Those of a currency.
-const OF_CURRENCY: FiguresText<'static> = FiguresText {
-    name: "g",
-    plays: 2,
-    quanta: NO_FIGURE,
-    ticks: Spread {
-        plays: 2,
-        sum: 3,
-        least: 1,
-        most: 2,
-    },
-    share: Spread {
-        plays: 2,
-        sum: 99999,
-        least: 33333,
-        most: 66666,
-    },
-    due: Spread {
-        plays: 2,
-        sum: 100000,
-        least: 50000,
-        most: 50000,
-    },
-    ..OF_SCHEDULE
-};
-
-const PROCESSOR_FIGURES: ProcessorFigures = ProcessorFigures {
-    plays: 3,
-    quanta: DRAWS,
-    idles: ONE,
-    ticks: TICKS,
-    unused: Spread {
-        plays: 3,
-        sum: 6,
-        least: 2,
-        most: 2,
-    },
-};
-
-/// Plays in which no thread has ended.
-const WHOLE_FIGURES: WholeFigures = WholeFigures {
-    plays: 3,
-    turns: Spread {
-        plays: 3,
-        sum: 29,
-        least: 9,
-        most: 10,
-    },
-    quanta: DRAWS,
-    ticks: TICKS,
-    refused: Spread {
-        plays: 3,
-        sum: 2,
-        least: 0,
-        most: 1,
-    },
-    left: NOTHING,
-    lives: NO_WAITS,
-};
-
-/// In one play no thread has ended; in the others two had lived for 5 ticks, and three for 7: 2.5 and 2.333 on
-/// average.
-const WHOLE_FIGURES_WITH_LIVES: WholeFigures = WholeFigures {
-    lives: SpanFigures {
-        count: Spread {
-            plays: 3,
-            sum: 5,
-            least: 0,
-            most: 3,
-        },
-        mean: Spread {
-            plays: 2,
-            sum: 4833,
-            least: 2333,
-            most: 2500,
-        },
-        longest: Spread {
-            plays: 2,
-            sum: 9,
-            least: 4,
-            most: 5,
-        },
-    },
-    ..WHOLE_FIGURES
-};
-
-// Of three plays the draws are 10 in all, 3.333 on average. The line of a schedule has no figures behind the share. Of
-// two plays the currency's share is 99.999% in all, 49.999% on average.
-//
-// 2.333 and 0.5 are 2.833 in all: 1.416 on average over the two plays with such waits. 0, 0.5 and 1.5 are 0.666 on
-// average. There is no line for waits that no play had, for traps if none was refused, or for an end if there was none.
-const FIGURES: &[Row<'static>] = &[
-    (
-        Printed::Figures(Subject::Thread, &OF_SCHEDULE),
-        "thread 2 a plays 3 quanta mean 3.333 least 3 most 4 ticks mean 30 least 0 most 90 \
-        share mean 50% least 45.5% most 54.001%\n",
-    ),
-    (
-        Printed::FiguresRecord(FiguresTable::Schedule, &OF_SCHEDULE),
-        "2,a,3,3.333,3,4,30,0,90,50,45.5,54.001\n",
-    ),
-    (
-        Printed::Figures(Subject::Currency, &OF_CURRENCY),
-        "currency 2 g plays 2 ticks mean 1.5 least 1 most 2 \
-        share mean 49.999% least 33.333% most 66.666% due mean 50% least 50% most 50%\n",
-    ),
-    (
-        Printed::FiguresRecord(FiguresTable::OfCurrencies, &OF_CURRENCY),
-        "2,g,2,1.5,1,2,49.999,33.333,66.666,50,50,50\n",
-    ),
-    (
-        Printed::Figures(Subject::Thread, &OF_TIMED),
-        "thread 2 a plays 3 quanta mean 3.333 least 3 most 4 ticks mean 30 least 0 most 90 \
-        share mean 50% least 45.5% most 54.001% due mean 33.333% least 33.333% most 33.334% \
-        value mean 0% least 0% most 0%\n\
-        thread 2 a ready waits mean 2.333 least 0 most 4 average mean 1.416 least 0.5 most 2.333 \
-        longest mean 3 least 1 most 5\n\
-        thread 2 a reply waits mean 1.666 least 1 most 2 average mean 0.666 least 0 most 1.5 \
-        longest mean 1 least 0 most 2\n\
-        thread 2 a refused mean 0.333 least 0 most 1\n\
-        thread 2 a made mean 3.333 least 0 most 10 ended mean 20 least 20 most 20 in 1 of 3\n",
-    ),
-    (
-        Printed::FiguresRecord(FiguresTable::Timed, &OF_TIMED),
-        "2,a,3,3.333,3,4,30,0,90,50,45.5,54.001,33.333,33.333,33.334,0,0,0,\
-        2.333,0,4,1.416,0.5,2.333,3,1,5,0,0,0,,,,,,,1.666,1,2,0.666,0,1.5,1,0,2,\
-        0.333,0,1,3.333,0,10,20,20,20\n",
-    ),
-    (
-        Printed::Figures(Subject::Thread, &OF_WAITING),
-        "thread 2 a plays 3 quanta mean 3.333 least 3 most 4 ticks mean 30 least 0 most 90 \
-        share mean 50% least 45.5% most 54.001% due mean 33.333% least 33.333% most 33.334% \
-        value mean 0% least 0% most 0%\n\
-        thread 2 a mutex waits mean 2.333 least 0 most 4 average mean 1.416 least 0.5 most 2.333 \
-        longest mean 3 least 1 most 5\n",
-    ),
-    (
-        Printed::FiguresRecord(FiguresTable::Timed, &OF_WAITING),
-        "2,a,3,3.333,3,4,30,0,90,50,45.5,54.001,33.333,33.333,33.334,0,0,0,\
-        0,0,0,,,,,,,2.333,0,4,1.416,0.5,2.333,3,1,5,0,0,0,,,,,,,\
-        0,0,0,3.333,0,10,,,\n",
-    ),
-    (
-        Printed::ProcessorFigures(PROCESSOR_FIGURES),
-        "processor 64 plays 3 quanta mean 3.333 least 3 most 4 idle mean 0.333 least 0 most 1 \
-        ticks mean 30 least 0 most 90 unused mean 2 least 2 most 2\n",
-    ),
-    (
-        Printed::WholeFigures(WHOLE_FIGURES),
-        "total plays 3 turns mean 9.666 least 9 most 10 quanta mean 3.333 least 3 most 4 \
-    ticks mean 30 least 0 most 90 refused mean 0.666 least 0 most 1 left mean 0 least 0 most 0\n",
-    ),
-    (
-        Printed::WholeFigures(WHOLE_FIGURES_WITH_LIVES),
-        "total plays 3 turns mean 9.666 least 9 most 10 quanta mean 3.333 least 3 most 4 \
-    ticks mean 30 least 0 most 90 refused mean 0.666 least 0 most 1 left mean 0 least 0 most 0\n\
-    total ended mean 1.666 least 0 most 3 average mean 2.416 least 2.333 most 2.5 \
-    longest mean 4.5 least 4 most 5\n",
-    ),
-    (Printed::Seeds(1, 2147483646), "seeds 1 to 2147483646\n"),
-];
-
-#[test]
-fn prints_figures(rt: HostRuntime) {
-    check_rows(&rt, rt.alloc(), FIGURES);
+fn prints_early_ends(rt: HostRuntime) {
+    let early = EarlyEnd {
+        time: 1,
+        end: u32::MAX,
+        turns: u64::MAX,
+    };
+    let mut writer = Watched::new(Vec::new(rt.alloc()));
+    let ended = write_early_end(&mut writer, early);
+    let wanted = "ended at 1 of 4294967295: 18446744073709551615 turns made\n";
+    check(&rt, writer, ended, wanted);
 }

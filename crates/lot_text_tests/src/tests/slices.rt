@@ -1,9 +1,6 @@
 //! Worked scripts. What is expected follows from their lists, unrolled by hand.
-ghost use Rattle.lot_machine.specs.Bounds.{IsBetween};
-ghost use Rattle.lot_script.specs.Places.{Fits};
-
 use super::same::{check_same, check_same_at};
-use lot_script::{Place, Script, ScriptBuilder, Slice};
+use lot_script::{Place, Script, ScriptBuilder};
 use lot_simulation::{InputRefusal, Line, MutexTrap, PortTrap, ScriptTrap};
 use std::alloc::Global;
 use std::process::Abort;
@@ -59,51 +56,31 @@ fn script_of(rt: &impl Abort, alloc: Global, lines: &[Line]) -> Script {
 /// Of a slice the budget, the ticks, the trap and the accumulator at its end.
 type Sliced = (u32, u32, Option<ScriptTrap>, u32);
 
-/// Ends the test unless a slice with this budget can start at this place.
-fn check_can_slice(rt: &impl Abort, script: &Script, place: &Place, budget: u32)
-    ensures fits { Fits script.now place.now }
-    ensures budget { IsBetween 1 1000 budget }
-{
-    assert!(rt; script.fits(place));
-    assert!(rt; 1 <= budget && budget <= 1000);
-}
-
-/// Compares what a slice of this script did. A failure shows the script's name and the budget.
-fn check_done(rt: &impl Abort, name: &str, slice: &Slice<'_>, sliced: Sliced) {
+/// Checks the slice of the script from this place, and returns its end. A failed comparison shows the budget.
+fn check_slice(rt: &impl Abort, script: &Script, place: Place, sliced: Sliced) -> Place {
     let (budget, ticks, trap, accumulator) = sliced;
-    let found = (slice.ticks(), slice.trap(), slice.end().accumulator());
-    check_same_at(rt, &(name, budget), &found, &(ticks, trap, accumulator));
-}
-
-/// Checks the slice of the script from this place, and returns its end.
-fn check_slice(
-    rt: &impl Abort,
-    name: &str,
-    script: &Script,
-    place: Place,
-    sliced: Sliced,
-) -> Place {
-    check_can_slice(rt, script, &place, sliced.0);
-    let slice = script.slice(place, sliced.0);
-    check_done(rt, name, &slice, sliced);
-    slice.end().copied()
+    assert!(rt; script.fits(&place));
+    assert!(rt; 1 <= budget && budget <= 1000);
+    let slice = script.slice(place, budget);
+    let end = slice.end().copied();
+    let found = (slice.ticks(), slice.trap(), end.accumulator());
+    check_same_at(rt, &budget, &found, &(ticks, trap, accumulator));
+    end
 }
 
 /// Slices of the script in turn, from its beginning.
-fn slices_in_turn(rt: &impl Abort, name: &str, script: &Script, slices: &[Sliced]) {
+fn slices_in_turn(rt: &impl Abort, script: &Script, slices: &[Sliced]) {
     let mut place = script.start();
     for sliced in slices {
-        place = check_slice(rt, name, script, place, *sliced);
+        place = check_slice(rt, script, place, *sliced);
     }
 }
 
-/// A script by its name and its lines, and its slices: those of each row in turn, from its beginning.
-type SlicedScript<'a> = (&'a str, &'a [Line], &'a [&'a [Sliced]]);
-
-fn check_slices(rt: &impl Abort, alloc: Global, (name, lines, rows): &SlicedScript<'_>) {
+/// Checks slices of a script of these lines: those of each row in turn, from its beginning.
+fn check_slices(rt: &impl Abort, alloc: Global, lines: &[Line], rows: &[&[Sliced]]) {
     let script = script_of(rt, alloc, lines);
-    for slices in *rows {
-        slices_in_turn(rt, name, &script, slices);
+    for slices in rows {
+        slices_in_turn(rt, &script, slices);
     }
 }
 
@@ -119,7 +96,18 @@ const EMPTY_LOOP: &[Line] = &[Line::Loop(3), Line::End];
 
 const EMPTY_LOOP_SLICES: &[&[Sliced]] = &[&[(5, 4, EXIT, 0)]];
 
+#[test]
+fn loops(rt: HostRuntime) {
+    check_slices(&rt, rt.alloc(), LOOP, LOOP_SLICES);
+    check_slices(&rt, rt.alloc(), EMPTY_LOOP, EMPTY_LOOP_SLICES);
+}
+
 const NO_LINE_SLICES: &[&[Sliced]] = &[&[(1, 0, EXIT, 0), (1000, 0, EXIT, 0)]];
+
+#[test]
+fn nothing_to_do(rt: HostRuntime) {
+    check_slices(&rt, rt.alloc(), &[], NO_LINE_SLICES);
+}
 
 const YIELDS: &[Line] = &[
     Line::Loop(1),
@@ -154,6 +142,12 @@ const EACH_TRAP_SLICES: &[&[Sliced]] = &[&[
     (1, 0, EXIT, 0),
 ]];
 
+#[test]
+fn traps(rt: HostRuntime) {
+    check_slices(&rt, rt.alloc(), YIELDS, YIELDS_SLICES);
+    check_slices(&rt, rt.alloc(), EACH_TRAP, EACH_TRAP_SLICES);
+}
+
 const ROUND_A_CALL: &[Line] = &[Line::Compute(5), Line::Trap(CALL_3), Line::Compute(1)];
 
 const ROUND_A_CALL_SLICES: &[&[Sliced]] = &[
@@ -161,6 +155,11 @@ const ROUND_A_CALL_SLICES: &[&[Sliced]] = &[
     &[(5, 5, None, 0), (1, 0, Some(CALL_3), 0), (2, 1, EXIT, 0)],
     &[(6, 5, Some(CALL_3), 0), (1000, 1, EXIT, 0)],
 ];
+
+#[test]
+fn budgets_round_a_trap(rt: HostRuntime) {
+    check_slices(&rt, rt.alloc(), ROUND_A_CALL, ROUND_A_CALL_SLICES);
+}
 
 const SUMS: &[Line] = &[
     Line::Set(4294967295),
@@ -181,78 +180,45 @@ const SUMS_SLICES: &[&[Sliced]] = &[&[
     (1000, 1, EXIT, 5),
 ]];
 
-const EIGHT_LOOPS: &[Line] = &[
-    Line::Loop(65535),
-    Line::Loop(65535),
-    Line::Loop(65535),
-    Line::Loop(65535),
-    Line::Loop(65535),
-    Line::Loop(65535),
-    Line::Loop(65535),
-    Line::Loop(65535),
-    Line::Compute(4294967295),
-    Line::End,
-    Line::End,
-    Line::End,
-    Line::End,
-    Line::End,
-    Line::End,
-    Line::End,
-    Line::End,
-];
+#[test]
+fn accumulators(rt: HostRuntime) {
+    check_slices(&rt, rt.alloc(), SUMS, SUMS_SLICES);
+}
 
-const EIGHT_LOOPS_SLICES: &[&[Sliced]] = &[&[
+const EIGHT_LOOPS_SLICES: &[Sliced] = &[
     (8, 8, None, 0),
     (1000, 1000, None, 0),
     (1000, 1000, None, 0),
-]];
-
-const EMPTY_LOOPS: &[Line] = &[
-    Line::Loop(2),
-    Line::Loop(2),
-    Line::Loop(2),
-    Line::Loop(2),
-    Line::Loop(2),
-    Line::Loop(2),
-    Line::Loop(2),
-    Line::Loop(2),
-    Line::End,
-    Line::End,
-    Line::End,
-    Line::End,
-    Line::End,
-    Line::End,
-    Line::End,
-    Line::End,
 ];
 
-// The innermost has 3 marks, and each loop round k marks has 1 + 2 * (k + 1).
-const EMPTY_LOOPS_SLICES: &[&[Sliced]] = &[
-    &[(1000, 765, EXIT, 0)],
-    &[(764, 764, None, 0), (1, 1, None, 0), (1, 0, EXIT, 0)],
-];
-
-const SLICED: &[SlicedScript<'static>] = &[
-    ("a loop", LOOP, LOOP_SLICES),
-    ("an empty loop", EMPTY_LOOP, EMPTY_LOOP_SLICES),
-    ("nothing to do", &[], NO_LINE_SLICES),
-    ("yields", YIELDS, YIELDS_SLICES),
-    ("each trap", EACH_TRAP, EACH_TRAP_SLICES),
-    ("budgets round a trap", ROUND_A_CALL, ROUND_A_CALL_SLICES),
-    ("accumulators", SUMS, SUMS_SLICES),
-    ("eight loops", EIGHT_LOOPS, EIGHT_LOOPS_SLICES),
-    ("ends of eight loops", EMPTY_LOOPS, EMPTY_LOOPS_SLICES),
-];
-
-fn check_all_slices(rt: &impl Abort, alloc: Global, scripts: &[SlicedScript<'_>]) {
-    for sliced in scripts {
-        check_slices(rt, alloc, sliced);
+/// A script of eight loops with these rounds round this line, if there is one.
+fn eight_loops_of(rt: &impl Abort, alloc: Global, rounds: u32, line: Option<Line>) -> Script {
+    let mut builder = ScriptBuilder::new(alloc);
+    add_lines(rt, &mut builder, Line::Loop(rounds), 8);
+    if let Some(line) = line {
+        add_line(rt, &mut builder, line);
     }
+    add_lines(rt, &mut builder, Line::End, 8);
+    finished(rt, builder)
 }
 
 #[test]
-fn slices_of_scripts(rt: HostRuntime) {
-    check_all_slices(&rt, rt.alloc(), SLICED);
+fn eight_loops(rt: HostRuntime) {
+    let line = Some(Line::Compute(4294967295));
+    let script = eight_loops_of(&rt, rt.alloc(), 65535, line);
+    slices_in_turn(&rt, &script, EIGHT_LOOPS_SLICES);
+}
+
+// The innermost has 3 marks, and each loop round k marks has 1 + 2 * (k + 1).
+const WHOLE_LOOPS: &[Sliced] = &[(1000, 765, EXIT, 0)];
+
+const ENDS_OF_LOOPS: &[Sliced] = &[(764, 764, None, 0), (1, 1, None, 0), (1, 0, EXIT, 0)];
+
+#[test]
+fn ends_of_eight_loops(rt: HostRuntime) {
+    let script = eight_loops_of(&rt, rt.alloc(), 2, None);
+    slices_in_turn(&rt, &script, WHOLE_LOOPS);
+    slices_in_turn(&rt, &script, ENDS_OF_LOOPS);
 }
 
 /// Checks that the line can't come next, and why.
@@ -291,49 +257,37 @@ fn refused_lines(rt: HostRuntime) {
     check_full(&rt, &mut builder);
 }
 
+/// Whether the place fits in each of three scripts.
+fn fits(place: &Place, first: &Script, second: &Script, third: &Script) -> [bool; 3] {
+    [first.fits(place), second.fits(place), third.fits(place)]
+}
+
 const THREE_ROUNDS: &[Line] = &[Line::Loop(3), Line::Compute(4), Line::End];
 
 const TWO_ROUNDS: &[Line] = &[Line::Loop(2), Line::Compute(4), Line::End];
 
 const NO_ROUND: &[Line] = &[Line::Trap(YIELD), Line::Compute(4)];
 
-/// A script, and budgets of slices of the script of three rounds, each with whether its end is a place of the script.
-type PlacesRow<'a> = (&'a [Line], &'a [(u32, bool)]);
+/// Budgets of a slice of the script of three rounds, and whether its end is a place of each of the others.
+const BUDGETS: &[(u32, bool, bool)] = &[(2, false, false), (7, true, false), (16, true, false)];
 
-const PLACES: &[PlacesRow<'static>] = &[
-    (THREE_ROUNDS, &[(2, true), (7, true), (16, true)]),
-    (TWO_ROUNDS, &[(2, false), (7, true), (16, true)]),
-    (NO_ROUND, &[(2, false), (7, false), (16, false)]),
-];
-
-/// Compares whether the end of a slice with this budget is a place of the other script.
-fn check_place(rt: &impl Abort, script: &Script, other: &Script, budget: u32, wanted: bool) {
-    let start = script.start();
-    check_can_slice(rt, script, &start, budget);
-    let slice = script.slice(start, budget);
-    let at = (other.lines(), budget);
-    check_same_at(rt, &at, &other.fits(slice.end()), &wanted);
-}
-
-/// Checks that the start of the first script is a place of the other, and compares whether ends of its slices are.
-fn check_places(rt: &impl Abort, script: &Script, other: &Script, budgets: &[(u32, bool)]) {
-    assert!(rt; other.fits(&script.start()));
-    for (budget, wanted) in budgets {
-        check_place(rt, script, other, *budget, *wanted);
-    }
-}
-
-fn check_all_places(rt: &impl Abort, alloc: Global, script: &Script, rows: &[PlacesRow<'_>]) {
-    for (lines, budgets) in rows {
-        let other = script_of(rt, alloc, lines);
-        check_places(rt, script, &other, budgets);
+/// Compares whether the start of the first script and ends of its slices are places of each of three.
+fn check_places(rt: &impl Abort, script: &Script, fewer: &Script, other: &Script) {
+    let found = fits(&script.start(), script, fewer, other);
+    check_same(rt, &found, &[true; 3]);
+    for (budget, in_fewer, in_other) in BUDGETS {
+        let slice = script.slice(script.start(), *budget);
+        let found = fits(slice.end(), script, fewer, other);
+        check_same_at(rt, budget, &found, &[true, *in_fewer, *in_other]);
     }
 }
 
 #[test]
 fn places_in_other_scripts(rt: HostRuntime) {
     let script = script_of(&rt, rt.alloc(), THREE_ROUNDS);
-    check_all_places(&rt, rt.alloc(), &script, PLACES);
+    let fewer = script_of(&rt, rt.alloc(), TWO_ROUNDS);
+    let other = script_of(&rt, rt.alloc(), NO_ROUND);
+    check_places(&rt, &script, &fewer, &other);
 }
 
 /// Of a slice with budget 1: whether it is of this copy of its script, its budget, whether it starts at the beginning,
