@@ -2,15 +2,15 @@
 ghost use Rattle.std.specs.Prelude.{◌≡◌, ◌≢◌, ◌≤◌, false, IfSome};
 ghost use Rattle.lot_command.specs.Statuses as statuses;
 ghost use Rattle.lot_command.specs.Statuses.{HasCome, IsStatusFor};
-ghost use Rattle.lot_command.specs.declared.view.Showing.{Showing};
+ghost use Rattle.lot_command_line.specs.declared.request.Showing.{Showing};
 
-use crate::command_line::{CommandLine, Request, command_line_of};
 use crate::diagnostics::{Diagnostics, say_unread};
 use crate::run::run;
 use crate::source::{Inputs, Source};
 use crate::view::show;
 use clap::Error;
 use clap::error::ErrorKind;
+use lot_command_line::{CommandLine, Request, command_line_of};
 use lot_io::Watched;
 use lot_system::Played;
 use std::alloc::Global;

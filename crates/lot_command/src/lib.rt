@@ -1,15 +1,13 @@
-//! The program as a function of its words, its inputs and its outputs: the command line, the requests, diagnostics in
+//! The program as a function of its words, its inputs and its outputs: the requests of command lines, diagnostics in
 //! words, and the exit status. `main` of `lot_sim` adds the terminal and the files.
 #![tactic(auto)]
 
-mod command_line;
 mod diagnostics;
 mod exit_status;
 pub mod laws;
 mod run;
 mod schedule;
 mod source;
-mod subcommands;
 mod view;
 
 pub use exit_status::{status, unread_status};

@@ -8,50 +8,14 @@ ghost use Rattle.lot_command.specs.Views.{input_ends_refused, text_of, view_ends
 
 use crate::diagnostics::Diagnostics;
 use lot_chart::{chart_program, shares_program};
-use lot_curves::{By, Interval, Measure};
-use lot_explain::{Detail, explain_program};
+use lot_command_line::{Showing, View};
+use lot_explain::explain_program;
 use lot_io::{IoFault, Watched, read_input};
-use lot_play::{Form, Seeds, play_program, report_program, report_seeds};
+use lot_play::{play_program, report_program, report_seeds};
 use lot_system::{Played, Warnings, refuse};
-use lot_text::{ParseFault, Program, Seed, parse_seeded};
+use lot_text::{ParseFault, Program, parse_seeded};
 use std::alloc::Global;
 use std::io::{Read, Write};
-
-/// A view of the turns of an input.
-#[derive(Clone, Copy)]
-pub(crate) enum View {
-    /// A line for each turn, and the report.
-    Play,
-    /// The report alone, in this form; or, with seeds, that over a play with each of them.
-    Report {
-        seeds: Option<Seeds>,
-        form: Form,
-    },
-    /// A line for each turn, after the lots of its lottery if a thread won it, and the report; in so much detail.
-    Explain(Detail),
-    /// A table of this measure of each thread over time, or in an interval of it; with a window, of the shares in the
-    /// last ticks.
-    Shares {
-        measure: Measure,
-        interval: Option<Interval>,
-        window: Option<u32>,
-    },
-    /// A picture of the ticks of each thread over time, or of those of the threads of each currency; or in an interval
-    /// of it; with a window, of the shares of the last ticks.
-    Chart {
-        by: By,
-        interval: Option<Interval>,
-        window: Option<u32>,
-    },
-}
-
-/// A view of an input, and the seed that the input is played with.
-#[derive(Clone, Copy)]
-pub(crate) struct Showing {
-    pub(crate) view: View,
-    /// The seed of processor 1, from which the others' are computed; none for the input's own seeds.
-    pub(crate) seed: Option<Seed>,
-}
 
 /// Reads an input, makes its turns, and writes this view of them, a picture with this title; or one line, if the input
 /// is refused. It stores diagnostics in `diagnostics`, also whether a refusal ended the play.

@@ -1,8 +1,6 @@
 //! The reasons why commands are refused.
 
-use crate::commands::CommandLine;
-use crate::names::Named;
-use crate::nearest::{Nearest, nearest_name};
+use lot_lines::{CommandLine, Named, Nearest, nearest_name};
 use lot_machine::{Refusal, is_good_name};
 use lot_simulation::BodyWord;
 use std::alloc::Global;

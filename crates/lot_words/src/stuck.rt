@@ -1,6 +1,6 @@
 //! Threads that can never make progress again.
 
-use crate::names::{Named, name_numbered};
+use lot_lines::{Named, name_numbered};
 use lot_machine::{Name, Status};
 use lot_play::{Owner, StuckThread};
 use lot_simulation::BodyWord;

@@ -1,10 +1,10 @@
 //! Traps that the kernel refused.
 
-use crate::input::{OpenScript, ends_line, words_of};
-use crate::keywords::{row_of, spelling_of};
-use crate::names::{Named, argument_given, name_given, name_numbered};
-use crate::phrases::after_line;
 use crate::stuck::Called;
+use lot_lines::{
+    Named, OpenScript, after_line, argument_given, ends_line, name_given, name_numbered, row_of,
+    spelling_of, words_of,
+};
 use lot_machine::TrapRefusal;
 use lot_play::RefusedTrap;
 use lot_simulation::{BodyWord, ScriptTrap, ScriptWord};

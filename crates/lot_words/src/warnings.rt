@@ -1,10 +1,9 @@
 //! The warnings of a run, in words.
 
-use crate::commands::CommandLine;
-use crate::line_of_command;
 use crate::reason::Reason;
 use crate::stuck::{Waiting, Weightless};
 use crate::traps::RefusedWords;
+use lot_lines::{CommandLine, line_of_command};
 use lot_play::{FirstFew, RefusedCommand, RefusedTrap, Warnings};
 use lot_simulation::EarlyEnd;
 use std::alloc::Global;

@@ -1,9 +1,8 @@
 //! The problem with one word of a line.
 
 use crate::input::Refused;
-use crate::names::{Named, is_given};
-use crate::nearest::nearest_name;
 use crate::problem::{NameProblem, NumberProblem, Problem};
+use lot_lines::{Named, is_given, nearest_name};
 use lot_machine::is_good_name;
 use lot_simulation::{Argument, Range};
 use std::alloc::Global;

@@ -1,15 +1,17 @@
-//! The forms of lines.
+//! The forms of lines, and the words that stand in their places.
 
-use crate::input::word_at;
 use crate::keywords::{header_word, row_of};
+use crate::line::word_at;
 use lot_simulation::{Argument, BodyWord, Form, HeaderWord};
 use std::fmt;
 
 /// A whole line: its first word, and placeholders for the others.
 #[derive(Clone, Copy, Debug)]
-pub(crate) struct Shape<'a> {
-    pub(crate) word: &'a str,
-    pub(crate) form: Form,
+pub struct Shape<'a> {
+    /// The first word.
+    pub word: &'a str,
+    /// The form of the line.
+    pub form: Form,
 }
 
 impl fmt::Display for Shape<'_> {
@@ -31,21 +33,8 @@ impl fmt::Display for Shape<'_> {
     }
 }
 
-/// A number of words that a line has, with its verb.
-#[derive(Clone, Copy, Debug)]
-pub(crate) struct WordCount(pub(crate) usize);
-
-impl fmt::Display for WordCount {
-    fn fmt<W: fmt::Write>(&self, f: &mut fmt::Formatter<W>) -> fmt::Result {
-        match self.0 {
-            1 => f.write_str("is 1 word"),
-            count => write!(f, "are {count} words"),
-        }
-    }
-}
-
 /// The argument at this index after the first word, from 0. The name of a new ticket is none.
-pub(crate) fn argument_at(form: Form, place: usize) -> Option<Argument> {
+pub fn argument_at(form: Form, place: usize) -> Option<Argument> {
     let arguments = form.arguments();
     match (form, arguments.len()) {
         (_, 0) => None,
@@ -54,8 +43,28 @@ pub(crate) fn argument_at(form: Form, place: usize) -> Option<Argument> {
     }
 }
 
+/// The form in an input that is timed or isn't. Only a timed one has names of tickets.
+pub fn form_in(is_timed: bool, form: Form) -> Form {
+    match form {
+        Form::Naming(arguments) if !is_timed => Form::Command(arguments),
+        _ => form,
+    }
+}
+
+/// Whether a line may have this many words after the first.
+pub fn has_room_for(form: Form, count: usize, processors: u32) -> bool {
+    let len = form.arguments().len();
+    match form {
+        Form::Once(_) | Form::Command(_) => count == len,
+        // With `as` and a name.
+        Form::Naming(_) => count == len || count == len.saturating_add(2),
+        Form::PerProcessor(_) => count == processors as usize,
+        Form::Repeated(_) => count > 0 && len > 0 && count % len == 0,
+    }
+}
+
 /// The two words after the arguments of a line of this form, if it can name a ticket and has them: `as` and the name.
-pub(crate) fn words_at_end(form: Form, line: &[u8]) -> Option<(&str, &str)> {
+pub fn words_at_end(form: Form, line: &[u8]) -> Option<(&str, &str)> {
     let Form::Naming(arguments) = form else {
         return None;
     };
@@ -69,14 +78,6 @@ pub(crate) fn is_command(form: Form) -> bool {
     match form {
         Form::Command(_) | Form::Naming(_) => true,
         _ => false,
-    }
-}
-
-/// The form in an input that is timed or isn't. Only a timed one has names of tickets.
-pub(crate) fn form_in(is_timed: bool, form: Form) -> Form {
-    match form {
-        Form::Naming(arguments) if !is_timed => Form::Command(arguments),
-        _ => form,
     }
 }
 
@@ -97,20 +98,8 @@ pub(crate) fn argument_named<'a>(form: Form, line: &'a [u8], name: &str) -> Opti
     word_at(line, place_of(form, name)?)
 }
 
-/// Whether a line may have this many words after the first.
-pub(crate) fn has_room_for(form: Form, count: usize, processors: u32) -> bool {
-    let len = form.arguments().len();
-    match form {
-        Form::Once(_) | Form::Command(_) => count == len,
-        // With `as` and a name.
-        Form::Naming(_) => count == len || count == len.saturating_add(2),
-        Form::PerProcessor(_) => count == processors as usize,
-        Form::Repeated(_) => count > 0 && len > 0 && count % len == 0,
-    }
-}
-
 /// The form of a line outside scripts that begins with this word.
-pub(crate) fn form_outside(word: &str) -> Option<Form> {
+pub fn form_outside(word: &str) -> Option<Form> {
     match header_word(word) {
         Some(HeaderWord::Lottery) => None,
         Some(_) => Some(row_of::<HeaderWord>(word)?.2),

@@ -1,22 +1,23 @@
 //! The names that an input declares.
 
 use crate::forms::{argument_named, form_outside, words_at_end};
-use crate::input::{ends_line, first_word};
 use crate::keywords::{body_word, spelling_of};
+use crate::line::{ends_line, first_word};
 use lot_simulation::{AS_WORD, BodyWord};
 use std::fmt;
 
 /// A kind of things that have names.
 #[derive(Clone, Copy, Debug)]
-pub(crate) enum Named {
+pub enum Named {
     /// Those whose lines begin with this word.
     ByWord(BodyWord),
+    /// Tickets, whose names `as` gives.
     Ticket,
 }
 
 impl Named {
     /// The name that the line gives to a thing of this kind, if it gives one.
-    pub(crate) fn given_by<'a>(self, line: &'a [u8]) -> Option<&'a str> {
+    pub fn given_by<'a>(self, line: &'a [u8]) -> Option<&'a str> {
         match self {
             Named::ByWord(word) => name_given(&[word], line),
             Named::Ticket => ticket_name_given(line),
@@ -34,16 +35,12 @@ impl fmt::Display for Named {
 }
 
 /// The name that the line gives, if it begins with one of these words: each is a word of lines that give a name.
-pub(crate) fn name_given<'a>(keywords: &[BodyWord], line: &'a [u8]) -> Option<&'a str> {
+pub fn name_given<'a>(keywords: &[BodyWord], line: &'a [u8]) -> Option<&'a str> {
     argument_given(keywords, line, "NAME")
 }
 
 /// The argument with this name that the line gives, if it begins with one of these words.
-pub(crate) fn argument_given<'a>(
-    keywords: &[BodyWord],
-    line: &'a [u8],
-    name: &str,
-) -> Option<&'a str> {
+pub fn argument_given<'a>(keywords: &[BodyWord], line: &'a [u8], name: &str) -> Option<&'a str> {
     let word = first_word(line);
     if is_one_of(keywords, word) {
         argument_named(form_outside(word)?, line, name)
@@ -72,7 +69,7 @@ fn ticket_name_given(line: &[u8]) -> Option<&str> {
 }
 
 /// Whether one of these lines gives this name to a thing of this kind.
-pub(crate) fn is_given(lines: &[u8], kind: Named, name: &str) -> bool {
+pub fn is_given(lines: &[u8], kind: Named, name: &str) -> bool {
     for line in lines.split(ends_line) {
         if kind.given_by(line) == Some(name) {
             return true;
@@ -82,7 +79,7 @@ pub(crate) fn is_given(lines: &[u8], kind: Named, name: &str) -> bool {
 }
 
 /// The name with this number, from 1, among those that these lines give to things of this kind.
-pub(crate) fn name_numbered(lines: &[u8], kind: Named, number: u32) -> Option<&str> {
+pub fn name_numbered(lines: &[u8], kind: Named, number: u32) -> Option<&str> {
     let mut before = 0u32;
     for line in lines.split(ends_line) {
         let name = kind.given_by(line);

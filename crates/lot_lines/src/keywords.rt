@@ -6,12 +6,12 @@ use lot_simulation::{
 use std::str;
 
 /// The word of the header with this spelling, if there is one.
-pub(crate) fn header_word(word: &str) -> Option<HeaderWord> {
+pub fn header_word(word: &str) -> Option<HeaderWord> {
     HeaderWord::of_token(Format::V3, word.as_bytes())
 }
 
 /// The word of the body with this spelling, if there is one.
-pub(crate) fn body_word(word: &str) -> Option<BodyWord> {
+pub fn body_word(word: &str) -> Option<BodyWord> {
     BodyWord::of_token(Format::V3, word.as_bytes())
 }
 
@@ -23,7 +23,7 @@ static BODY_TABLE: [WordRow<BodyWord>; 20] = BODY_WORDS;
 static SCRIPT_TABLE: [WordRow<ScriptWord>; 14] = SCRIPT_WORDS;
 
 /// A word of the header, of the body or of a script.
-pub(crate) trait Keyword: Copy + PartialEq + 'static {
+pub trait Keyword: Copy + PartialEq + 'static {
     /// The rows of all such words.
     fn rows() -> &'static [WordRow<Self>];
 
@@ -62,12 +62,12 @@ impl Keyword for ScriptWord {
 }
 
 /// Whether only timed inputs have this word.
-pub(crate) fn is_only_timed<W: Keyword>(word: &str) -> bool {
+pub fn is_only_timed<W: Keyword>(word: &str) -> bool {
     W::is_read(Format::V3, word.as_bytes()) && !W::is_read(Format::V1, word.as_bytes())
 }
 
 /// The row of the word with this spelling, if there is one.
-pub(crate) fn row_of<W: Keyword>(word: &str) -> Option<WordRow<W>> {
+pub fn row_of<W: Keyword>(word: &str) -> Option<WordRow<W>> {
     for row in W::rows() {
         if row.0 == word.as_bytes() {
             return Some((row.0, row.1, row.2));
@@ -77,7 +77,7 @@ pub(crate) fn row_of<W: Keyword>(word: &str) -> Option<WordRow<W>> {
 }
 
 /// The spelling of a word.
-pub(crate) fn spelling_of<W: Keyword>(word: W) -> &'static str {
+pub fn spelling_of<W: Keyword>(word: W) -> &'static str {
     for (spelling, other, _) in W::rows() {
         if *other == word {
             return text_of(*spelling);
@@ -87,6 +87,6 @@ pub(crate) fn spelling_of<W: Keyword>(word: W) -> &'static str {
 }
 
 /// A spelling as text.
-pub(crate) fn text_of(spelling: &'static [u8]) -> &'static str {
+pub fn text_of(spelling: &'static [u8]) -> &'static str {
     str::from_utf8(spelling).unwrap_or("")
 }

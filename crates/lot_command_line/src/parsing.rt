@@ -1,7 +1,7 @@
-//! The program's command line.
+//! The words of a command line, parsed.
 
+use crate::request::{CommandLine, Request, Showing, View};
 use crate::subcommands::{LINES, OptionRow, Subcommand, SubcommandRow, Value, subcommands};
-use crate::view::{Showing, View};
 use clap::builder::ValueParser;
 use clap::error::ErrorKind;
 use clap::{Arg, ArgAction, ArgMatches, Command, Error};
@@ -39,27 +39,9 @@ const PLAY: CommandLine<'static> = CommandLine {
     file: None,
 };
 
-/// What a command line asks for.
-#[derive(Clone, Copy)]
-pub(crate) struct CommandLine<'a> {
-    pub(crate) request: Request,
-    /// The title of a picture.
-    pub(crate) title: &'a str,
-    /// The name of the file to read the input from, or none for standard input.
-    pub(crate) file: Option<&'a str>,
-}
-
-/// The request of a command line: exactly one subcommand.
-#[derive(Clone, Copy)]
-pub(crate) enum Request {
-    /// A view of the input's turns.
-    Show(Showing),
-    /// A run of the input by threads.
-    Run,
-}
-
-/// Parses the words, the program's own name first.
-pub(crate) fn command_line_of<'a, S: AsStr>(
+/// Parses the words of a call of the program, its own name first. The error is clap's: its kind is `OutOfMemory` if out
+/// of memory. Otherwise its text says what is wrong with the words, or is the help that they ask for.
+pub fn command_line_of<'a, S: AsStr>(
     alloc: Global,
     words: &'a [S],
 ) -> Result<CommandLine<'a>, Error> {

@@ -1,6 +1,6 @@
 //! The lines of a header.
 
-use crate::keywords::{Keyword, text_of};
+use lot_lines::{Keyword, text_of};
 use lot_simulation::{Format, HEADER_WORDS, HeaderWord};
 use std::fmt;
 

@@ -1,20 +1,19 @@
 //! The problem with the refused line, in the order in which the reader finds it: first its bytes, then its first
 //! word, then its number of words, then each of them, and then the limit that it exceeds.
 
-use crate::forms::{
-    Shape, WordCount, argument_at, form_in, form_outside, has_room_for, words_at_end,
-};
 use crate::header::HeaderLines;
-use crate::input::{OpenScript, Refused, count_words, first_word, word_at, words_of};
-use crate::keywords::{Keyword, body_word, header_word, is_only_timed, row_of};
-use crate::names::{Named, name_numbered};
-use crate::nearest::nearest_word;
+use crate::input::Refused;
 use crate::phrases::phrases_problem;
 use crate::problem::{
     ByteProblem, FormProblem, HeaderProblem, KeywordProblem, LateProblem, LimitProblem,
-    NameProblem, NumberProblem, Problem,
+    NameProblem, NumberProblem, Problem, WordCount,
 };
 use crate::word::{new_problem, word_problem};
+use lot_lines::{
+    Keyword, Named, OpenScript, Shape, argument_at, body_word, count_words, first_word, form_in,
+    form_outside, has_room_for, header_word, is_only_timed, name_numbered, nearest_word, row_of,
+    word_at, words_at_end, words_of,
+};
 use lot_machine::is_good_name;
 use lot_simulation::{
     AS_WORD, BodyWord, FIRST_WORD, Form, Format, HeaderWord, InputRefusal, ScriptWord,

@@ -1,31 +1,12 @@
 //! The words of a line inside a script, one or several, each with its argument.
 
 use crate::explain::{loop_problem, no_script_word};
-use crate::forms::{Shape, argument_at};
-use crate::input::{OpenScript, Refused, words_of};
-use crate::keywords::row_of;
+use crate::input::Refused;
 use crate::problem::{FormProblem, Problem};
 use crate::word::word_problem;
+use lot_lines::{OpenScript, Shape, argument_at, row_of, words_of};
 use lot_simulation::ScriptWord;
 use std::alloc::Global;
-
-/// The script after a line inside it that isn't refused, if it is still open.
-pub(crate) fn after_line(script: OpenScript, line: &[u8]) -> Option<OpenScript> {
-    let mut open = script;
-    let mut is_argument = false;
-    for word in words_of(line) {
-        if word.starts_with('#') {
-            return Some(open);
-        }
-        if is_argument {
-            is_argument = false;
-        } else if let Some((_, word, form)) = row_of::<ScriptWord>(word) {
-            open = open.after(word)?;
-            is_argument = !form.arguments().is_empty();
-        }
-    }
-    Some(open)
-}
 
 /// The state before the next word of a line.
 #[derive(Clone, Copy)]

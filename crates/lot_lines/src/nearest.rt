@@ -1,7 +1,7 @@
 //! Suggestions for misspelt words.
 
-use crate::input::ends_line;
 use crate::keywords::{Keyword, text_of};
+use crate::line::ends_line;
 use crate::names::Named;
 use lot_simulation::{Format, WordRow};
 use std::alloc::Global;
@@ -13,7 +13,7 @@ const MOST_EDITS: usize = 2;
 
 /// The text nearest to a misspelt one, if one is near. If it is the same text, nothing is suggested.
 #[derive(Clone, Copy, Debug)]
-pub(crate) struct Nearest<'a> {
+pub struct Nearest<'a> {
     text: Option<&'a str>,
     /// Its edit distance.
     edits: usize,
@@ -21,13 +21,13 @@ pub(crate) struct Nearest<'a> {
 
 impl<'a> Nearest<'a> {
     /// None yet.
-    pub(crate) const NONE: Nearest<'static> = Nearest {
+    pub const NONE: Nearest<'static> = Nearest {
         text: None,
         edits: MOST_EDITS + 1,
     };
 
     /// The nearer of both texts to the misspelt one. If out of memory, nothing is suggested, and no later text either.
-    pub(crate) fn or(self, alloc: Global, misspelt: &str, text: &'a str) -> Nearest<'a> {
+    pub fn or(self, alloc: Global, misspelt: &str, text: &'a str) -> Nearest<'a> {
         match levenshtein(alloc, misspelt, text) {
             Ok(edits) if edits < self.edits && edits < text.len() => Nearest {
                 text: Some(text),
@@ -42,7 +42,7 @@ impl<'a> Nearest<'a> {
     }
 
     /// The text, which is empty if none is near. If out of memory, there is none.
-    pub(crate) fn text(self) -> Option<&'a str> {
+    pub fn text(self) -> Option<&'a str> {
         match self.text {
             Some(text) => Some(text),
             None if self.edits > MOST_EDITS => Some(""),
@@ -63,7 +63,7 @@ impl fmt::Display for Nearest<'_> {
 
 /// The word of this table that is nearest to this one. It looks at words of timed inputs last, and only for such an
 /// input.
-pub(crate) fn nearest_word<W: Keyword>(
+pub fn nearest_word<W: Keyword>(
     alloc: Global,
     table: &[WordRow<W>],
     is_timed: bool,
@@ -74,7 +74,7 @@ pub(crate) fn nearest_word<W: Keyword>(
 
 /// The word of this table that is nearest to the misspelt one, unless this text is as near. It looks at words of timed
 /// inputs last, and only for such an input.
-pub(crate) fn nearer_word<'a, W: Keyword>(
+pub fn nearer_word<'a, W: Keyword>(
     alloc: Global,
     text: Nearest<'a>,
     table: &[WordRow<W>],
@@ -96,7 +96,7 @@ pub(crate) fn nearer_word<'a, W: Keyword>(
 }
 
 /// The name nearest to this one that one of these lines gives, among the names of these kinds.
-pub(crate) fn nearest_name<'a>(
+pub fn nearest_name<'a>(
     alloc: Global,
     lines: &'a [u8],
     kinds: &[Named],

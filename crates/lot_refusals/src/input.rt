@@ -1,19 +1,7 @@
 //! The refused line, and the content of the lines before it.
 
-use crate::keywords::{body_word, header_word};
-use crate::phrases::after_line;
-use lot_simulation::{BodyWord, Format, HeaderWord, ScriptWord, Separators};
-use std::str;
-use std::str::SplitAsciiWhitespace;
-
-/// An open script.
-#[derive(Clone, Copy)]
-pub(crate) struct OpenScript {
-    /// The line that opens it.
-    pub(crate) line: u32,
-    /// The number of its open loops.
-    pub(crate) loops: u32,
-}
+use lot_lines::{OpenScript, after_line, body_word, ends_line, first_word, header_word, word_at};
+use lot_simulation::{BodyWord, Format, HeaderWord, Separators};
 
 /// The refused line, and the content of the lines before it.
 #[derive(Clone, Copy)]
@@ -132,57 +120,4 @@ impl<'a> Refused<'a> {
             _ => {}
         }
     }
-}
-
-impl OpenScript {
-    /// The script that the line with this number opens.
-    pub(crate) fn opened(number: u32) -> OpenScript {
-        OpenScript {
-            line: number,
-            loops: 0,
-        }
-    }
-
-    /// The script after this word of it, if it is still open.
-    pub(crate) fn after(self, word: ScriptWord) -> Option<OpenScript> {
-        let OpenScript { line, loops } = self;
-        match word {
-            ScriptWord::EndScript => None,
-            ScriptWord::Loop => Some(OpenScript {
-                line,
-                loops: loops.saturating_add(1),
-            }),
-            ScriptWord::End => Some(OpenScript {
-                line,
-                loops: loops.saturating_sub(1),
-            }),
-            _ => Some(self),
-        }
-    }
-}
-
-/// The words of a line. A line that isn't text has none.
-pub(crate) fn words_of(line: &[u8]) -> SplitAsciiWhitespace<'_> {
-    str::from_utf8(line).unwrap_or("").split_ascii_whitespace()
-}
-
-/// The first word of a line, or no text if it has none.
-pub(crate) fn first_word(line: &[u8]) -> &str {
-    word_at(line, 0).unwrap_or("")
-}
-
-/// The word of a line with this index, from 0, if it has one.
-pub(crate) fn word_at(line: &[u8], place: usize) -> Option<&str> {
-    words_of(line).nth(place)
-}
-
-/// The number of the words of a line.
-pub(crate) fn count_words(line: &[u8]) -> usize {
-    let mut words = words_of(line);
-    words.count()
-}
-
-/// Whether this byte ends a line.
-pub(crate) fn ends_line(byte: &u8) -> bool {
-    *byte == b'\n'
 }

@@ -1,10 +1,9 @@
 //! Problems of lines.
 
-use crate::forms::{Shape, WordCount};
 use crate::header::HeaderLines;
-use crate::names::Named;
-use crate::nearest::Nearest;
+use lot_lines::{Named, Nearest, Shape};
 use lot_simulation::InputRefusal;
+use std::fmt;
 use thiserror::Error;
 
 /// The problem with a line, and the expectation. Each kind of problem is an enum of its own: proving the text of a
@@ -173,4 +172,17 @@ pub(crate) enum LimitProblem {
     DeepLoop,
     #[error("one {what} too many, at most {most}")]
     TooMany { what: &'static str, most: u32 },
+}
+
+/// A number of words that a line has, with its verb.
+#[derive(Clone, Copy, Debug)]
+pub(crate) struct WordCount(pub(crate) usize);
+
+impl fmt::Display for WordCount {
+    fn fmt<W: fmt::Write>(&self, f: &mut fmt::Formatter<W>) -> fmt::Result {
+        match self.0 {
+            1 => f.write_str("is 1 word"),
+            count => write!(f, "are {count} words"),
+        }
+    }
 }

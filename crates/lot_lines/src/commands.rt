@@ -1,16 +1,16 @@
 //! The lines of an input's commands.
 
 use crate::forms::{argument_named, is_command};
-use crate::input::{OpenScript, ends_line, first_word};
 use crate::keywords::row_of;
-use crate::phrases::after_line;
+use crate::line::{ends_line, first_word};
+use crate::script::{OpenScript, after_line};
 use lot_simulation::{BodyWord, Form};
 
 /// A command of an input that isn't refused.
 #[derive(Clone, Copy)]
-pub(crate) struct CommandLine<'a> {
+pub struct CommandLine<'a> {
     /// The number of its line, from 1.
-    pub(crate) number: u32,
+    pub number: u32,
     line: &'a [u8],
     form: Form,
 }
@@ -20,7 +20,7 @@ impl<'a> CommandLine<'a> {
     ///
     /// It reads the input up to there, and allocates nothing: so nothing about an input needs to be stored before one
     /// of its commands has to be named.
-    pub(crate) fn at(input: &'a [u8], place: usize) -> Option<CommandLine<'a>> {
+    pub fn at(input: &'a [u8], place: usize) -> Option<CommandLine<'a>> {
         let mut script = None;
         let mut number = 0u32;
         let mut before = 0usize;
@@ -43,7 +43,7 @@ impl<'a> CommandLine<'a> {
     }
 
     /// The word of the command that is the argument with this name.
-    pub(crate) fn argument(&self, name: &str) -> Option<&'a str> {
+    pub fn argument(&self, name: &str) -> Option<&'a str> {
         argument_named(self.form, self.line, name)
     }
 }

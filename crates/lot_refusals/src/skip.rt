@@ -1,10 +1,11 @@
 //! Whether a refused line can be skipped, since its fault has no consequences for other lines.
 
-use crate::forms::form_outside;
-use crate::input::{Refused, count_words, first_word, words_of};
-use crate::keywords::{Keyword, body_word, header_word, row_of};
-use crate::nearest::{nearer_word, nearest_word};
+use crate::input::Refused;
 use crate::problem::{ByteProblem, KeywordProblem, Problem};
+use lot_lines::{
+    Keyword, body_word, count_words, first_word, form_outside, header_word, nearer_word,
+    nearest_word, row_of, words_of,
+};
 use lot_simulation::{AS_WORD, BodyWord, Form, HeaderWord, ScriptWord};
 use std::alloc::Global;
 use std::str;

@@ -1,0 +1,22 @@
+//! The lines of an input, read again for diagnostics: their words and names, the scripts and commands that they belong
+//! to, and the texts nearest to a misspelt one.
+//!
+//! The reader of inputs keeps none of this, since few inputs need a diagnostic. The proofs show only that reading is
+//! safe and terminates; the tests of `lot_system_tests` check what the diagnostics make of it.
+#![tactic(auto)]
+
+mod commands;
+mod forms;
+mod keywords;
+mod line;
+mod names;
+mod nearest;
+mod script;
+
+pub use commands::{CommandLine, line_of_command};
+pub use forms::{Shape, argument_at, form_in, form_outside, has_room_for, words_at_end};
+pub use keywords::{Keyword, body_word, header_word, is_only_timed, row_of, spelling_of, text_of};
+pub use line::{count_words, ends_line, first_word, word_at, words_of};
+pub use names::{Named, argument_given, is_given, name_given, name_numbered};
+pub use nearest::{Nearest, nearer_word, nearest_name, nearest_word};
+pub use script::{OpenScript, after_line};
