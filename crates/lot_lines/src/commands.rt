@@ -8,19 +8,19 @@ use lot_simulation::{BodyWord, Form};
 
 /// A command of an input that isn't refused.
 #[derive(Clone, Copy)]
-pub struct CommandLine<'a> {
+pub struct InputCommand<'a> {
     /// The number of its line, from 1.
     pub number: u32,
     line: &'a [u8],
     form: Form,
 }
 
-impl<'a> CommandLine<'a> {
+impl<'a> InputCommand<'a> {
     /// The command with this index, from 0, if there is one.
     ///
     /// It reads the input up to there, and allocates nothing: so nothing about an input needs to be stored before one
     /// of its commands has to be named.
-    pub fn at(input: &'a [u8], place: usize) -> Option<CommandLine<'a>> {
+    pub fn at(input: &'a [u8], place: usize) -> Option<InputCommand<'a>> {
         let mut script = None;
         let mut number = 0u32;
         let mut before = 0usize;
@@ -33,7 +33,7 @@ impl<'a> CommandLine<'a> {
             match row_of(first_word(line)) {
                 Some((_, BodyWord::Script, _)) => script = Some(OpenScript::opened(number)),
                 Some((_, _, form)) if is_command(form) && before == place => {
-                    return Some(CommandLine { number, line, form });
+                    return Some(InputCommand { number, line, form });
                 }
                 Some((_, _, form)) if is_command(form) => before = before.saturating_add(1),
                 _ => {}
@@ -51,5 +51,5 @@ impl<'a> CommandLine<'a> {
 /// The line, from 1, of the command with this index, from 0, in an input that isn't refused, if there is one. It
 /// allocates nothing.
 pub fn line_of_command(input: &[u8], place: usize) -> Option<u32> {
-    Some(CommandLine::at(input, place)?.number)
+    Some(InputCommand::at(input, place)?.number)
 }

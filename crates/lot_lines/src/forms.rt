@@ -1,4 +1,5 @@
 //! The forms of lines, and the words that stand in their places.
+ghost use Rattle.std.specs.Prelude.{◌≡◌, ◌≢◌, IsTrue, IsFalse};
 
 use crate::keywords::{header_word, row_of};
 use crate::line::word_at;
@@ -44,7 +45,12 @@ pub fn argument_at(form: Form, place: usize) -> Option<Argument> {
 }
 
 /// The form in an input that is timed or isn't. Only a timed one has names of tickets.
-pub fn form_in(is_timed: bool, form: Form) -> Form {
+pub fn form_in(is_timed: bool, form: Form) -> Form
+    ensures timed { IsTrue is_timed → result ≡ form }
+    ensures other { ((arguments : _) → form ≢ Form.Naming arguments) → result ≡ form }
+    ensures untimed { (arguments : _) → IsFalse is_timed → form ≡ Form.Naming arguments
+        → result ≡ Form.Command arguments }
+{
     match form {
         Form::Naming(arguments) if !is_timed => Form::Command(arguments),
         _ => form,

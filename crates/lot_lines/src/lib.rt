@@ -1,8 +1,9 @@
 //! The lines of an input, read again for diagnostics: their words and names, the scripts and commands that they belong
 //! to, and the texts nearest to a misspelt one.
 //!
-//! The reader of inputs keeps none of this, since few inputs need a diagnostic. The proofs show only that reading is
-//! safe and terminates; the tests of `lot_system_tests` check what the diagnostics make of it.
+//! The reader of inputs keeps none of this, since few inputs need a diagnostic. Contracts say which form a line has in
+//! an input that isn't timed, and what a word does to an open script. Of everything else the proofs show only that it
+//! is safe and terminates; the tests of `lot_system_tests` check what the diagnostics make of it.
 #![tactic(auto)]
 
 mod commands;
@@ -13,7 +14,7 @@ mod names;
 mod nearest;
 mod script;
 
-pub use commands::{CommandLine, line_of_command};
+pub use commands::{InputCommand, line_of_command};
 pub use forms::{Shape, argument_at, form_in, form_outside, has_room_for, words_at_end};
 pub use keywords::{Keyword, body_word, header_word, is_only_timed, row_of, spelling_of, text_of};
 pub use line::{count_words, ends_line, first_word, word_at, words_of};

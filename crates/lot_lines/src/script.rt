@@ -1,4 +1,5 @@
 //! The script that is open at a line.
+ghost use Rattle.std.specs.Prelude.{◌≡◌, ◌≢◌, ◌↔◌, ◌+◌, ◌-◌, ◌^◌, min, IfSome, IsNone};
 
 use crate::keywords::row_of;
 use crate::line::words_of;
@@ -15,7 +16,10 @@ pub struct OpenScript {
 
 impl OpenScript {
     /// The script that the line with this number opens.
-    pub fn opened(number: u32) -> OpenScript {
+    pub fn opened(number: u32) -> OpenScript
+        ensures line { result.line ≡ number }
+        ensures loops { result.loops ≡ 0 }
+    {
         OpenScript {
             line: number,
             loops: 0,
@@ -23,7 +27,14 @@ impl OpenScript {
     }
 
     /// The script after this word of it, if it is still open.
-    pub fn after(self, word: ScriptWord) -> Option<OpenScript> {
+    pub fn after(self, word: ScriptWord) -> Option<OpenScript>
+        ensures ended { IsNone result ↔ word ≡ ScriptWord.EndScript }
+        ensures line { IfSome result (λ after. after.line ≡ self.line) }
+        ensures deeper { word ≡ ScriptWord.Loop
+            → IfSome result (λ after. after.loops ≡ min (self.loops + 1) (2 ^ 32 - 1)) }
+        ensures back { word ≡ ScriptWord.End → IfSome result (λ after. after.loops ≡ self.loops - 1) }
+        ensures other { word ≢ ScriptWord.Loop → word ≢ ScriptWord.End → IfSome result (λ after. after ≡ self) }
+    {
         let OpenScript { line, loops } = self;
         match word {
             ScriptWord::EndScript => None,

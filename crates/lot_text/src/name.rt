@@ -28,7 +28,7 @@ pub(crate) fn new_name(names: &[Name], token: &[u8]) -> Result<Name, InputRefusa
     Ok(name)
 }
 
-/// The only token as a new name, if there are fewer names than this.
+/// The only token as a new name, if there are fewer names than `most`.
 pub(crate) fn only_new_name(
     names: &[Name],
     most: usize,

@@ -1,6 +1,6 @@
 //! The reasons why commands are refused.
 
-use lot_lines::{CommandLine, Named, Nearest, nearest_name};
+use lot_lines::{InputCommand, Named, Nearest, nearest_name};
 use lot_machine::{Refusal, is_good_name};
 use lot_simulation::BodyWord;
 use std::alloc::Global;
@@ -21,7 +21,7 @@ impl<'a> Reason<'a> {
     pub(crate) fn of(
         alloc: Global,
         input: &'a [u8],
-        command: CommandLine<'a>,
+        command: InputCommand<'a>,
         refusal: Refusal,
     ) -> Reason<'a> {
         let word = match argument_of(refusal) {

@@ -3,7 +3,7 @@
 use crate::reason::Reason;
 use crate::stuck::{Waiting, Weightless};
 use crate::traps::RefusedWords;
-use lot_lines::{CommandLine, line_of_command};
+use lot_lines::{InputCommand, line_of_command};
 use lot_play::{FirstFew, RefusedCommand, RefusedTrap, Warnings};
 use lot_simulation::EarlyEnd;
 use std::alloc::Global;
@@ -49,7 +49,7 @@ fn write_refused<W: Write>(
 ) -> io::Result<()> {
     for command in refused.first() {
         // An input that was played has each command that its run had.
-        if let Some(line) = CommandLine::at(input, command.place) {
+        if let Some(line) = InputCommand::at(input, command.place) {
             let reason = Reason::of(alloc, input, line, command.refusal);
             let number = line.number;
             writeln!(writer, "line {number}: the command was refused: {reason}")?;
