@@ -2,8 +2,8 @@
 //! to, and the texts nearest to a misspelt one.
 //!
 //! The reader of inputs keeps none of this, since few inputs need a diagnostic. Contracts say which form a line has in
-//! an input that isn't timed, and what a word does to an open script. Of everything else the proofs show only that it
-//! is safe and terminates; the tests of `lot_system_tests` check what the diagnostics make of it.
+//! an input that is timed or isn't, and what a word does to an open script. Of everything else the proofs show only
+//! that it is safe and terminates; the tests of `lot_system_tests` check what the diagnostics make of it.
 #![tactic(auto)]
 
 mod commands;

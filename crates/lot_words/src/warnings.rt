@@ -44,18 +44,18 @@ pub fn write_warnings<W: Write>(
 fn write_refused<W: Write>(
     alloc: Global,
     writer: &mut W,
-    refused: &FirstFew<RefusedCommand>,
+    commands: &FirstFew<RefusedCommand>,
     input: &[u8],
 ) -> io::Result<()> {
-    for command in refused.first() {
+    for refused in commands.first() {
         // An input that was played has each command that its run had.
-        if let Some(line) = InputCommand::at(input, command.place) {
-            let reason = Reason::of(alloc, input, line, command.refusal);
-            let number = line.number;
+        if let Some(command) = InputCommand::at(input, refused.place) {
+            let reason = Reason::of(alloc, input, command, refused.refusal);
+            let number = command.number;
             writeln!(writer, "line {number}: the command was refused: {reason}")?;
         }
     }
-    write_others(writer, refused, "commands that were refused")
+    write_others(writer, commands, "commands that were refused")
 }
 
 /// Why commands are left after the last turn.
