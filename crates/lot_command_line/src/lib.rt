@@ -1,6 +1,7 @@
 //! The command line: the words of a call of the program, parsed, and the subcommands with their options.
 //!
-//! The proofs show only that parsing is safe and terminates; the tests of `lot_command_tests` check what words ask for.
+//! A contract says which intervals are empty. Of everything else the proofs show only that it is safe and terminates;
+//! the tests of `lot_command_tests` check what words ask for.
 #![tactic(auto)]
 
 mod parsing;

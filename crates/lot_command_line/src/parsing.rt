@@ -1,4 +1,5 @@
 //! The words of a command line, parsed.
+ghost use Rattle.std.specs.Prelude.{◌≤◌, IsSomeAnd, IsTrue};
 
 use crate::request::{CommandLine, Request, Showing, View};
 use crate::subcommands::{LINES, OptionRow, Subcommand, SubcommandRow, Value, subcommands};
@@ -210,7 +211,10 @@ fn interval_of(given: &ArgMatches<'_>) -> Option<Interval> {
 }
 
 /// Whether this is an interval that ends at its beginning or before.
-fn is_empty(interval: Option<Interval>) -> bool {
+fn is_empty(interval: Option<Interval>) -> bool
+    ensures empty { IsSomeAnd interval (λ it. IsSomeAnd it.to (λ to. to ≤ it.from)) → IsTrue result }
+    ensures no_other { IsTrue result → IsSomeAnd interval (λ it. IsSomeAnd it.to (λ to. to ≤ it.from)) }
+{
     match interval {
         Some(Interval { from, to: Some(to) }) => to <= from,
         _ => false,

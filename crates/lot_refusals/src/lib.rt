@@ -1,8 +1,8 @@
 //! The reasons why inputs are refused, in words for their authors: the line, the word in question and the expectation.
 //!
 //! A refused input produces one line for programs, which has the line's number and a refusal. These words accompany
-//! it, on standard error. The proofs show only that they are safe and terminate; the tests of `lot_system_tests` check
-//! the text.
+//! it, on standard error. Contracts say of some problems that their lines are never skipped. Of everything else the
+//! proofs show only that it is safe and terminates; the tests of `lot_system_tests` check the text.
 #![tactic(auto)]
 
 mod explain;

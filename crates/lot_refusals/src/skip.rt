@@ -1,4 +1,5 @@
 //! Whether a refused line can be skipped, since its fault has no consequences for other lines.
+ghost use Rattle.std.specs.Prelude.{◌≡◌, IsFalse};
 
 use crate::input::Refused;
 use crate::problem::{ByteProblem, KeywordProblem, Problem};
@@ -11,7 +12,13 @@ use std::alloc::Global;
 use std::str;
 
 /// Whether the refused line can be skipped, if this is the problem with it.
-pub(crate) fn can_be_skipped(alloc: Global, refused: &Refused<'_>, problem: Problem<'_>) -> bool {
+pub(crate) fn can_be_skipped(alloc: Global, refused: &Refused<'_>, problem: Problem<'_>) -> bool
+    ensures start { IsFalse refused.entry.now.has_start → IsFalse result }
+    ensures long { (len : _) → problem.entry ≡ Problem.Byte (ByteProblem.LongLine len) → IsFalse result }
+    ensures header { (it : _) → problem.entry ≡ Problem.Header it → IsFalse result }
+    ensures limit { (it : _) → problem.entry ≡ Problem.Limit it → IsFalse result }
+    ensures unclosed { problem.entry ≡ Problem.Unclosed → IsFalse result }
+{
     // The words of a line that isn't text are unknown.
     let is_text = str::from_utf8(refused.line).is_ok();
     if !refused.has_start || !is_text || !is_of_one_line(problem) {
@@ -24,7 +31,12 @@ pub(crate) fn can_be_skipped(alloc: Global, refused: &Refused<'_>, problem: Prob
 }
 
 /// Whether only the line itself can cause this problem.
-fn is_of_one_line(problem: Problem<'_>) -> bool {
+fn is_of_one_line(problem: Problem<'_>) -> bool
+    ensures long { (len : _) → problem.entry ≡ Problem.Byte (ByteProblem.LongLine len) → IsFalse result }
+    ensures header { (it : _) → problem.entry ≡ Problem.Header it → IsFalse result }
+    ensures limit { (it : _) → problem.entry ≡ Problem.Limit it → IsFalse result }
+    ensures unclosed { problem.entry ≡ Problem.Unclosed → IsFalse result }
+{
     match problem {
         Problem::Byte(ByteProblem::LongLine(_)) => false,
         Problem::Keyword(KeywordProblem::NoBodyLine { .. } | KeywordProblem::NoScriptWord { .. }) =>
