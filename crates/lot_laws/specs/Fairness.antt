@@ -1,12 +1,14 @@
 -- Fairness by counting, without probabilities: in how many of all the draws of n lotteries a client wins, and how
 -- often (2.2). A client is given by the test of the numbers with which it wins.
-use Rattle.std.specs.Prelude.{ℕ, zero, suc, ◌+◌, ◌-◌, ◌*◌, ◌==◌, Bool, Option, Some, None, List, [], ◌∷◌, map, flat_map, count_by, sum_by, option_map, if◌then◌else◌}
+use Rattle.std.specs.Prelude.{ℕ, zero, suc, ◌+◌, ◌-◌, ◌*◌, ◌==◌, Bool, Option, Some, None, List, [], ◌∷◌, map, flat_map, count_by, sum_by, option_map, if◌then◌else◌, codes}
 use Rattle.std.specs.List.{range_with_len}
 use Rattle.lot_machine.specs.Numbered.{option_any}
 use Rattle.lot_machine.specs.Lottery.{winner}
 use Rattle.lot_machine.specs.State.{State}
 use Rattle.lot_machine.specs.Step.{draw}
 use Rattle.lot_machine.specs.Facts.{is_won_by}
+use Rattle.lot_machine.specs.Worked.{mkcur, mktkt, fund, fundx, base}
+use Rattle.lot_machine.specs.declared.event.Event.{Event}
 
 -- ---- clients
 
@@ -69,3 +71,20 @@ squared_distance a b = (a - b) * (a - b) + (b - a) * (b - a)
 -- draws of n lotteries.
 abbrev pub squared_distances : (ℕ → Bool) → ℕ → ℕ → ℕ → ℕ
 squared_distances wins total weight n = sum_by (λ draws. squared_distance (win_count wins draws * total) (n * weight)) (all_draws total n)
+
+-- ---- two processors
+
+-- how many of two processors these threads get, if processor 1 draws with d and then processor 2 with e
+abbrev pub processors_won : State → List ℕ → ℕ → ℕ → ℕ
+processors_won s ts d e = count_by (λ t. thread_wins s 1 t d) ts + count_by (λ t. thread_wins (draw s 1 d).state 2 t e) ts
+
+-- the same, summed over all d below m and all e below n
+abbrev pub processors_in_all : State → List ℕ → ℕ → ℕ → ℕ
+processors_in_all s ts m n = sum_by (λ d. sum_by (processors_won s ts d) (range_with_len 0 n)) (range_with_len 0 m)
+
+-- two users with 4 of base each: u has the threads 1 and 2, worth 2 each, and v the threads 3 to 6, worth 1 each
+abbrev pub two_users : List Event
+two_users = mkcur (codes "u") ∷ mkcur (codes "v") ∷ mktkt 4 base ∷ mktkt 4 base ∷ fund 1 (codes "u") ∷ fund 2 (codes "v")
+    ∷ fundx 1 (codes "u") (codes "a") ∷ fundx 1 (codes "u") (codes "b")
+    ∷ fundx 1 (codes "v") (codes "c") ∷ fundx 1 (codes "v") (codes "d")
+    ∷ fundx 1 (codes "v") (codes "e") ∷ fundx 1 (codes "v") (codes "f") ∷ []

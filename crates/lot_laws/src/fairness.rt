@@ -1,6 +1,6 @@
-//! Fairness by counting: over all numbers that n lotteries may draw, a client wins in proportion to its weight, and
-//! its wins have the binomial distribution (2.2). These laws don't claim that the generator spreads its numbers
-//! evenly.
+//! Fairness by counting: over all numbers that n lotteries over the same weights may draw, a client wins in proportion
+//! to its weight, and its wins have the binomial distribution (2.2). These laws don't claim that the generator spreads
+//! its numbers evenly, and say nothing of draws between which weights change.
 ghost use Rattle.std.specs.Prelude.{◌≡◌, ◌+◌, ◌-◌, ◌*◌, ◌^◌, ◌<◌, Some, List, All, ℕ, length, slice_get, sum};
 ghost use Rattle.lot_machine.specs.Equations.{HasEachOnce};
 ghost use Rattle.lot_machine.specs.State.{State, status_of, weight_of};
