@@ -2,7 +2,7 @@
 
 import dataclasses
 from dataclasses import dataclass
-from typing import Any, NamedTuple, Optional
+from typing import TYPE_CHECKING, Any, NamedTuple, Optional
 
 from .numbers import Outcome, Refusal, ReplyKind, TargetKind, ThreadState
 from .ranges import NARROW, checked
@@ -74,6 +74,37 @@ class Reply:
     refusal: Optional[Refusal] = None  # for a refused event or trap
 
     __repr__ = shown
+
+
+# For type checkers: what a method promises of a reply that is no refusal. There is one class alone.
+if TYPE_CHECKING:
+
+    class TicketReply(Reply):
+        ticket: int
+
+    class CurrencyReply(Reply):
+        currency: int
+
+    class ThreadReply(Reply):
+        thread: int
+
+    class FundedReply(Reply):
+        ticket: int
+        thread: int
+
+    class ExpiredReply(Reply):
+        thread: int
+        ticks: int
+
+    class TrappedReply(Reply):
+        thread: int
+        ticks: int
+        outcome: Outcome
+        ends: bool
+        goes_on: bool
+
+else:
+    TicketReply = CurrencyReply = ThreadReply = FundedReply = ExpiredReply = TrappedReply = Reply
 
 
 @dataclass(frozen=True)
