@@ -697,8 +697,8 @@ typedef enum lot_refusal LOT_OF_UINT32 {
     LOT_REFUSAL_CYCLE = 10,      // currencies would fund each other in a cycle
     LOT_REFUSAL_BASE_FIXED = 11, // base can't be removed or funded
     LOT_REFUSAL_DEAD_THREAD = 12,   // the thread to fund or to kill is dead
-    LOT_REFUSAL_FULL = 13,          // as many as `tickets`, `currencies` or `threads` of lot_sizes were made or, with
-                                    // `reuse`, exist: of what the event makes, for LOT_MAKE_FUNDED a ticket or a thread
+    LOT_REFUSAL_FULL = 13,          // `tickets`, `currencies` or `threads` of lot_sizes is reached, whichever the event
+                                    // adds to, by all ever made or, with `reuse`, by what exists
     LOT_REFUSAL_NO_SCRIPT = 14,     // 0 or above the number of scripts
     LOT_REFUSAL_NO_THREAD = 15,     // no thread has the name or the number; a dead one has both until it is removed
     LOT_REFUSAL_ALIVE = 16,         // the thread isn't dead, though it may wait for good

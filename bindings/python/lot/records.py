@@ -25,6 +25,10 @@ class Sizes:
     With `plain_names` a name may have any printable ASCII but the space. Otherwise it is a letter a to z, followed by
     letters a to z, digits, '_' or '-'.
 
+    Values are whole numbers, rounded down: a ticket of a currency is worth 0 if the currency's value times the ticket's
+    amount is below the currency's active amount, and a thread that is worth 0 wins no draw. So give tickets of base
+    amounts of a million: it costs nothing.
+
     Raises `TypeError` or `OverflowError` for a value that is no number of 32 bits. The kernel checks the bounds.
     """
 
