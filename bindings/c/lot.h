@@ -11,14 +11,19 @@
 //
 // STATUS. Each call of the library returns a status, except lot_weight and lot_version, which cannot fail. LOT_DONE
 // means success. Any other status means that the call has changed nothing: neither the kernel nor the memory behind its
-// pointers. (lot_kernel_run is the one exception: it makes the events before the faulty one.)
+// pointers. (lot_kernel_run is the one exception: it makes the events before the faulty one.) The compiler warns of a
+// status that is dropped, except that of lot_kernel_free, which is always LOT_DONE.
 //
 // A REFUSED EVENT has the status LOT_DONE, since the kernel has replied to it. The reply's kind is LOT_REPLY_REFUSED,
 // its reason gives the cause, and nothing has changed.
 //
 // A REFUSED TRAP is an event that has taken place. The reply's kind is LOT_REPLY_TRAPPED, its outcome is
 // LOT_OUTCOME_REFUSED, and its reason gives the cause. The trap costs its ticks, and its thread goes on unless its
-// quantum is used up. Nothing else has changed. So check three things: the status, the kind and the outcome.
+// quantum is used up. Nothing else has changed. So check two things: the status, and lot_refused of the reply.
+//
+// VERSION. Header and library go together if lot_version() and LOT_VERSION have the same major and minor number, so
+// compare `lot_version() >> 8` with `LOT_VERSION >> 8`. Another patch number changes no struct, no number and no call.
+// Another minor number may, as long as the major one is 0. The soname of liblot.so has both numbers: liblot.so.0.3.
 //
 // WHAT THE LIBRARY CHECKS. Struct arguments may have any bytes in any field: a nonexistent kind, a name that is too
 // long or has invalid bytes, sizes out of their bounds, a seed out of its range, and a lot_kernel without a kernel each
@@ -26,7 +31,7 @@
 //
 // WHAT YOU MUST ENSURE, since nothing can check it:
 //   - Each pointer points to a whole struct of its type, or to as many as the count beside it says. It isn't NULL,
-//     unless that count is 0. No two pointers of a call overlap.
+//     unless that count is 0, or the call is lot_kernel_free. No two pointers of a call overlap.
 //   - A pointer is aligned as the compiler aligns its type: to 4 bytes for a lot_sizes, lot_name, lot_runner,
 //     lot_generator or uint32_t, to 8 for any other struct and uint64_t. The library requires no more.
 //   - A lot_kernel starts as LOT_KERNEL_NONE, and only lot_kernel_new and lot_kernel_free change it. After copying it,
@@ -41,7 +46,7 @@
 // nor the kernel's memory. So several threads may make such calls on one kernel at once, while no other call on it
 // runs: order the readers and the other calls by a lock for many readers or one writer, or the like. Three of the calls
 // for rows aren't among them, since they recompute stale values. lot_kernel_settle recomputes all of these, and from
-// then until the next event lot_kernel_settled_thread_row and the other two store the same rows for readers.
+// then at least until the next event lot_kernel_settled_thread_row and the other two store the same rows for readers.
 //
 // SIGNAL HANDLERS. lot_kernel_new and lot_kernel_free call malloc and free, so don't call them from signal handlers,
 // nor in the forked child of a process with threads. The other calls take no memory and no lock, and keep no state
@@ -49,24 +54,38 @@
 // that both may read it: block the signal around the calls on that kernel, or set a flag in the handler and pass the
 // event later.
 //
-// MEMORY. lot_kernel_new allocates all the memory that a kernel will ever use: 11 kilobytes for 16 threads, 4.9
-// megabytes at the largest sizes, and with `reuse` 4 bytes more for each ticket, currency and thread. lot_kernel_bytes
-// gives the number of bytes for any sizes. Events, rows and counts allocate nothing. lot_kernel_free frees the memory.
-// No other call allocates.
+// MEMORY. lot_kernel_new allocates all the memory that a kernel will ever use: 11 kilobytes for 16 threads, 4.3
+// megabytes at the largest sizes, and with `reuse` 4 bytes more for each ticket, currency and thread, 4.6 megabytes at
+// most. lot_kernel_bytes gives the number of bytes for any sizes. Events, rows and counts allocate nothing.
+// lot_kernel_free frees the memory. No other call allocates.
 //
-// STACK. Measured on x86-64 by bindings/c/stack_tests.c: an event takes at most 1.6 kilobytes of stack at any size of
-// the kernel, a row 0.3, lot_kernel_settle and lot_winner 0.2, lot_kernel_new 12.4, lot_kernel_free 5.2. The last two
-// include glibc's malloc, and lot_kernel_new the dynamic linker, which runs at malloc's first call. Without the linker
-// it is 9.8.
+// STACK. Measured on x86-64 and aarch64 by bindings/c/stack_tests.c: an event takes at most 1.7 kilobytes of stack at
+// any size of the kernel, a row 0.6, lot_kernel_settle and lot_winner 0.3, lot_kernel_new 11.5, lot_kernel_free 5.5.
+// The last two include glibc's malloc and free. Where the dynamic linker looks up symbols at their first call, it runs
+// in the first lot_kernel_new, which then takes 14.1 on x86-64, and more on a processor with more registers to save.
+//
+// TIME. Most events take the same time at any size, and a draw one logarithmic in the number of threads. But where a
+// thread of a currency sleeps, wakes, comes or goes, or a ticket gets another amount, the active amount of the currency
+// changes, and with it the value of each of its tickets: the event marks them, and the next draw or row computes each.
+// Tickets of base keep their values. So a draw, a sleep and a wake take half a microsecond among 4095 threads of base,
+// and 210 among 4095 threads of one currency. The longest event took 1.6 milliseconds: a draw that computed 61440
+// tickets. (All measured on one machine, of x86-64.) An event that funds a currency also looks for a cycle, and an
+// unlock at each thread that waits.
 //
 // SYMBOLS. The archive's member lot_c.o calls memcpy and memset, __udivti3 and __umodti3 (divisions of 128 bits, in the
 // compiler's own library), and the three functions at the end of this header. Its member heap.o defines these three,
 // and calls malloc, realloc and free. The archive needs no other symbol. Its code for x86-64 needs a processor of level
-// x86-64-v2, and uses SSE4.1. Its code for aarch64 needs NEON.
+// x86-64-v2, and uses SSE4.1. Its code for aarch64 needs NEON. lot_c.o has no unwind tables: a debugger shows no frame
+// above a call of the library, and no exception of C++ may pass through one, as from a rattle_alloc of your own.
+//
+// WITHOUT AN OPERATING SYSTEM. On x86-64 the library uses the 128 bytes below the stack pointer (the red zone). So an
+// interrupt's handler must not run on the stack of a call: mask interrupts meanwhile, or give handlers a stack of their
+// own (IST). SSE must be on: CR4.OSFXSR set, CR0.EM clear. docs/EMBEDDING.md says what aarch64 needs.
 //
 // NUMBERS. Tickets, threads, processors, ports, mutexes and scripts are numbered from 1. Currencies are numbered from
-// 0, which is base. Numbers follow the order of making. A removed number has no row, and is never used again. So a
-// number is a handle: keep the one in the reply to a making for as long as the made thing exists.
+// 0, which is base. Without `reuse` numbers follow the order of making, and no removed number is used again. A removed
+// number has no row. So a number is a handle: keep the one in the reply to a making for as long as the made thing
+// exists.
 //
 // REUSE. A program that never ends makes more threads than any sizes allow, though few exist at once. Set `reuse` of
 // lot_sizes: then the next ticket, currency or thread gets the number of the last one of its sort that was removed, if
@@ -116,9 +135,16 @@
 // nobody: a thread that exits keeps its mutexes and its clients, and a dead thread can't be killed. To release them,
 // pass LOT_KILL in place of LOT_EXIT.
 //
+// SHARES. Values are whole numbers, rounded down. A ticket of a currency is worth value * amount / active amount, by
+// the value and the active amount of the currency: 0 if value * amount is below the active amount. A thread that is
+// worth 0 wins no draw, and a draw where all ready threads are is LOT_REPLY_IDLE. So give tickets of base amounts of a
+// million: it costs nothing. `unit` 256 makes all values 256 times as large, which does the same for amounts of 4000.
+//
 // A SERVER WITHOUT TICKETS never reaches its first LOT_RECEIVE: nobody lends to it yet, so it weighs nothing, and no
-// draw picks it. Give it a ticket. Once it waits at its port it needs none, since its clients lend it theirs. From then
-// on it replies and takes the next call in one trap, LOT_SERVE.
+// draw picks it. Give it a ticket. Once it waits at its port it needs none, since each client lends to it while it is
+// served. From then on it replies and takes the next call in one trap, LOT_SERVE. But clients in the port's queue lend
+// nothing, so a rich client behind a poor one waits as long as the poor one would. If that matters, leave the server
+// tickets of its own.
 //
 // ENUMS. Fields and return values are uint32_t, which has one size for every compiler, and each has an enum of its
 // values. Switch over the enum without a default: then the compiler names any missing case (-Wswitch, part of -Wall).
@@ -133,8 +159,8 @@
 #include <stddef.h>
 #include <stdint.h>
 
-// Both are only for this header, which undefines them at its end. In C++ the underlying type of each enum is uint32_t,
-// so that any number may be cast to it.
+// These are only for this header, which undefines them at its end. In C++ the underlying type of each enum is uint32_t,
+// so that any number may be cast to it. LOT_NODISCARD has the compiler warn of a caller that drops the status.
 #ifdef __cplusplus
 #define LOT_CAST(type, value) static_cast<type>(value)
 #define LOT_OF_UINT32 : uint32_t
@@ -143,13 +169,20 @@ extern "C" {
 #define LOT_CAST(type, value) ((type)(value))
 #define LOT_OF_UINT32
 #endif
+#if (defined(__cplusplus) && __cplusplus >= 201703L) || (defined(__STDC_VERSION__) && __STDC_VERSION__ >= 202311L)
+#define LOT_NODISCARD [[nodiscard]]
+#elif defined(__GNUC__)
+#define LOT_NODISCARD __attribute__((warn_unused_result))
+#else
+#define LOT_NODISCARD
+#endif
 
 // ---- the version
 
-// The version of this header, 0.3.0: major << 16 | minor << 8 | patch.
+// The version of this header, 0.3.0: major << 16 | minor << 8 | patch. VERSION above says what has to agree.
 #define LOT_VERSION 0x000300u
 
-// Returns the version of the library, to compare with LOT_VERSION.
+// Returns the version of the library.
 uint32_t lot_version(void);
 
 // ---- status
@@ -168,7 +201,7 @@ typedef enum lot_status LOT_OF_UINT32 {
     LOT_BAD_SEED = 10,     // a seed or a generator's value that is 0 or above 2147483646
     LOT_NO_WINNER = 11,    // the weights sum to 0
     LOT_TOO_LARGE = 12,    // the weights sum to 2 ^ 128 or more
-    LOT_NOT_SETTLED = 13   // a value is stale: an event came since lot_kernel_settle
+    LOT_NOT_SETTLED = 13   // a value is stale: an event since lot_kernel_settle may have changed it
 } lot_status;
 
 // Returns the status in words, for printing: a static string, "unknown status" for any other number.
@@ -203,11 +236,11 @@ typedef struct lot_name {
 
 // Stores the name with these bytes, if every kernel takes it: a letter a to z, followed by letters a to z, digits, '_'
 // or '-'. LOT_LONG_NAME, LOT_BAD_NAME.
-uint32_t lot_name_new(const uint8_t *bytes, size_t count, lot_name *name);
+LOT_NODISCARD uint32_t lot_name_new(const uint8_t *bytes, size_t count, lot_name *name);
 
 // Stores the name with these bytes, if a kernel with `plain_names` takes it: 1 to 16 bytes, each 33 to 126.
 // LOT_LONG_NAME, LOT_BAD_NAME.
-uint32_t lot_plain_name_new(const uint8_t *bytes, size_t count, lot_name *name);
+LOT_NODISCARD uint32_t lot_plain_name_new(const uint8_t *bytes, size_t count, lot_name *name);
 
 // Returns the name with the bytes of a string. If it is too long, the call to which you pass it refuses it.
 static inline lot_name lot_name_of(const char *text) {
@@ -269,7 +302,7 @@ typedef struct lot_sizes {
     uint32_t processors; // 1 to 64
     uint32_t scripts;    // at most 256; a thread's script is a number that the kernel keeps for you
     uint32_t quantum;    // in ticks, 1 to 1000
-    uint32_t unit;       // the value of one of base: 1, or 256 for finer shares
+    uint32_t unit;       // the value of one of base: 1 or 256. SHARES above says what for
     uint32_t reuse;      // 0 if each number is given once. Otherwise the numbers of removed tickets, currencies and
                          // threads are given again, the last removed first, and the first three sizes count what
                          // exists at once. The kernel keeps it as 0 or 1
@@ -285,16 +318,23 @@ static inline lot_sizes lot_sizes_small(void) {
 }
 
 // Makes a kernel with base alone, for a lot_kernel that holds none. LOT_KERNEL_THERE, LOT_BAD_LIMITS, LOT_NO_MEMORY.
-uint32_t lot_kernel_new(const lot_sizes *sizes, lot_kernel *kernel);
+LOT_NODISCARD uint32_t lot_kernel_new(const lot_sizes *sizes, lot_kernel *kernel);
 
 // Stores the total of bytes that lot_kernel_new requests from the heap for these sizes. It requests them in at most
 // LOT_KERNEL_BLOCKS blocks, and frees none of them before lot_kernel_free. So `*bytes + 16 * LOT_KERNEL_BLOCKS` bytes
 // are enough for a heap of your own that aligns each block to 16 bytes. LOT_BAD_LIMITS.
-uint32_t lot_kernel_bytes(const lot_sizes *sizes, uint64_t *bytes);
+LOT_NODISCARD uint32_t lot_kernel_bytes(const lot_sizes *sizes, uint64_t *bytes);
 #define LOT_KERNEL_BLOCKS 49
 
-// Frees the kernel, and sets the handle to LOT_KERNEL_NONE. Freeing a handle without a kernel is LOT_DONE too.
-uint32_t lot_kernel_free(lot_kernel *kernel);
+// The symbol lot_kernel_free of the library, which takes no NULL. Only for this header.
+uint32_t lot_kernel_free_held(lot_kernel *kernel) __asm__("lot_kernel_free");
+
+// Frees the kernel, and sets the handle to LOT_KERNEL_NONE. For NULL or a handle without a kernel it does nothing. The
+// status is always LOT_DONE.
+static inline uint32_t lot_kernel_free(lot_kernel *kernel) __asm__("lot_kernel_free_held_or_null");
+static inline uint32_t lot_kernel_free(lot_kernel *kernel) {
+    return kernel ? lot_kernel_free_held(kernel) : LOT_CAST(uint32_t, LOT_DONE);
+}
 
 // ---- events
 
@@ -567,7 +607,7 @@ typedef enum lot_reply_kind LOT_OF_UINT32 {
     LOT_REPLY_LIST_CURRENCIES = 7,
     LOT_REPLY_LIST_THREADS = 8,
     LOT_REPLY_WINNER = 9,   // thread: runs now, goes_on; number, total, has_draw; sent, has_sent: delivered to it
-    LOT_REPLY_IDLE = 10,    // no thread has any weight, and nothing has changed
+    LOT_REPLY_IDLE = 10,    // no ready thread has any weight, perhaps as values round to 0; nothing has changed
     LOT_REPLY_EXPIRED = 11, // thread, ticks: its charge; also the reply to LOT_PREEMPT and LOT_OVERRUN
     LOT_REPLY_TRAPPED = 12, // thread, ticks: its run; outcome; goes_on; ends: it would, but its quantum is used up
     LOT_REPLY_REFUSED = 13  // reason; nothing has changed
@@ -657,7 +697,8 @@ typedef enum lot_refusal LOT_OF_UINT32 {
     LOT_REFUSAL_CYCLE = 10,      // currencies would fund each other in a cycle
     LOT_REFUSAL_BASE_FIXED = 11, // base can't be removed or funded
     LOT_REFUSAL_DEAD_THREAD = 12,   // the thread to fund or to kill is dead
-    LOT_REFUSAL_FULL = 13,          // the limit of lot_sizes is reached, by all ever made or, with `reuse`, at once
+    LOT_REFUSAL_FULL = 13,          // `tickets`, `currencies` or `threads` of lot_sizes is reached, whichever the event
+                                    // adds to, by all ever made or, with `reuse`, by what exists
     LOT_REFUSAL_NO_SCRIPT = 14,     // 0 or above the number of scripts
     LOT_REFUSAL_NO_THREAD = 15,     // no thread has the name or the number; a dead one has both until it is removed
     LOT_REFUSAL_ALIVE = 16,         // the thread isn't dead, though it may wait for good
@@ -738,15 +779,20 @@ static inline bool lot_goes_on(const lot_reply *reply) {
     return reply->kind == LOT_REPLY_TRAPPED && reply->goes_on;
 }
 
+// Returns whether the reply is a refusal, of an event or of a trap. Its `reason` is the cause.
+static inline bool lot_refused(const lot_reply *reply) {
+    return reply->kind == LOT_REPLY_REFUSED || reply->outcome == LOT_OUTCOME_REFUSED;
+}
+
 // Makes one event and stores its reply. LOT_NO_KERNEL, LOT_BAD_KIND, LOT_LONG_NAME, LOT_BAD_NAME: the kernel's sizes
 // say which names it takes. Of two bad names the status is the currency's.
-uint32_t lot_kernel_event(lot_kernel *kernel, const lot_event *event, lot_reply *reply);
+LOT_NODISCARD uint32_t lot_kernel_event(lot_kernel *kernel, const lot_event *event, lot_reply *reply);
 
 // Makes events in order and stores the reply to each at its index, up to the first event with a status other than
 // LOT_DONE: the call returns that status, and stores in `done` how many events it made before. If it made all events,
 // it returns LOT_DONE. LOT_COUNTS_DIFFER and LOT_NO_KERNEL change nothing, `done` included.
-uint32_t lot_kernel_run(lot_kernel *kernel, const lot_event *events, size_t event_count, lot_reply *replies,
-                        size_t reply_count, size_t *done);
+LOT_NODISCARD uint32_t lot_kernel_run(lot_kernel *kernel, const lot_event *events, size_t event_count,
+                                      lot_reply *replies, size_t reply_count, size_t *done);
 
 // ---- rows of listings
 
@@ -807,18 +853,19 @@ typedef struct lot_thread_row {
 // Store the row of the ticket, currency or thread with this number. LOT_NO_KERNEL, LOT_NOT_THERE. They recompute stale
 // values, and count that, so the kernel isn't const and no other call on it may overlap; later replies don't depend on
 // it.
-uint32_t lot_kernel_ticket_row(lot_kernel *kernel, uint32_t ticket, lot_ticket_row *row);
-uint32_t lot_kernel_currency_row(lot_kernel *kernel, uint32_t currency, lot_currency_row *row);
-uint32_t lot_kernel_thread_row(lot_kernel *kernel, uint32_t thread, lot_thread_row *row);
+LOT_NODISCARD uint32_t lot_kernel_ticket_row(lot_kernel *kernel, uint32_t ticket, lot_ticket_row *row);
+LOT_NODISCARD uint32_t lot_kernel_currency_row(lot_kernel *kernel, uint32_t currency, lot_currency_row *row);
+LOT_NODISCARD uint32_t lot_kernel_thread_row(lot_kernel *kernel, uint32_t thread, lot_thread_row *row);
 
 // Recomputes all stale values, and counts that; later replies don't depend on it. LOT_NO_KERNEL.
-uint32_t lot_kernel_settle(lot_kernel *kernel);
+LOT_NODISCARD uint32_t lot_kernel_settle(lot_kernel *kernel);
 
 // Store the same rows, and only read. LOT_NO_KERNEL, LOT_NOT_SETTLED, LOT_NOT_THERE. A kernel is settled after
 // lot_kernel_settle, and stays so at least until an event that isn't refused.
-uint32_t lot_kernel_settled_ticket_row(const lot_kernel *kernel, uint32_t ticket, lot_ticket_row *row);
-uint32_t lot_kernel_settled_currency_row(const lot_kernel *kernel, uint32_t currency, lot_currency_row *row);
-uint32_t lot_kernel_settled_thread_row(const lot_kernel *kernel, uint32_t thread, lot_thread_row *row);
+LOT_NODISCARD uint32_t lot_kernel_settled_ticket_row(const lot_kernel *kernel, uint32_t ticket, lot_ticket_row *row);
+LOT_NODISCARD uint32_t lot_kernel_settled_currency_row(const lot_kernel *kernel, uint32_t currency,
+                                                       lot_currency_row *row);
+LOT_NODISCARD uint32_t lot_kernel_settled_thread_row(const lot_kernel *kernel, uint32_t thread, lot_thread_row *row);
 
 typedef struct lot_runner {
     uint32_t thread;
@@ -826,20 +873,20 @@ typedef struct lot_runner {
 } lot_runner;
 
 // Stores the thread that runs on the processor. LOT_NO_KERNEL, LOT_NOT_THERE: none does.
-uint32_t lot_kernel_runner(const lot_kernel *kernel, uint32_t processor, lot_runner *runner);
+LOT_NODISCARD uint32_t lot_kernel_runner(const lot_kernel *kernel, uint32_t processor, lot_runner *runner);
 
 // Stores the thread's script, which was fixed when it was made. LOT_NO_KERNEL, LOT_NOT_THERE.
-uint32_t lot_kernel_script_of(const lot_kernel *kernel, uint32_t thread, uint32_t *script);
+LOT_NODISCARD uint32_t lot_kernel_script_of(const lot_kernel *kernel, uint32_t thread, uint32_t *script);
 
 // Store the number of tickets or currencies ever made, including removed ones; one that got a number again doesn't
 // count. Ticket numbers go from 1 to this count, currency numbers from 0 to one below it. Thread numbers go from 1 to
 // the greatest in a LOT_REPLY_THREAD or LOT_REPLY_FUNDED so far, which is at most `threads` of lot_sizes. Any of them
 // without a row was removed. LOT_NO_KERNEL.
-uint32_t lot_kernel_ticket_count(const lot_kernel *kernel, uint32_t *count);
-uint32_t lot_kernel_currency_count(const lot_kernel *kernel, uint32_t *count);
+LOT_NODISCARD uint32_t lot_kernel_ticket_count(const lot_kernel *kernel, uint32_t *count);
+LOT_NODISCARD uint32_t lot_kernel_currency_count(const lot_kernel *kernel, uint32_t *count);
 
 // Stores the sizes with which the kernel was made. LOT_NO_KERNEL.
-uint32_t lot_kernel_limits(const lot_kernel *kernel, lot_sizes *sizes);
+LOT_NODISCARD uint32_t lot_kernel_limits(const lot_kernel *kernel, lot_sizes *sizes);
 
 typedef struct lot_meter {
     uint64_t ticket_reads; // the number of tickets, lends and owners read to compute values
@@ -847,7 +894,7 @@ typedef struct lot_meter {
 } lot_meter;
 
 // Stores the kernel's counts of its own work. LOT_NO_KERNEL.
-uint32_t lot_kernel_meter(const lot_kernel *kernel, lot_meter *meter);
+LOT_NODISCARD uint32_t lot_kernel_meter(const lot_kernel *kernel, lot_meter *meter);
 
 // ---- the lottery by itself
 
@@ -858,18 +905,18 @@ typedef struct lot_generator {
 } lot_generator;
 
 // Makes a generator with this seed. LOT_BAD_SEED.
-uint32_t lot_generator_new(uint32_t seed, lot_generator *generator);
+LOT_NODISCARD uint32_t lot_generator_new(uint32_t seed, lot_generator *generator);
 
 // Advances to the next value and stores it. LOT_BAD_SEED: the generator's value is out of its range.
-uint32_t lot_generator_next(lot_generator *generator, uint32_t *value);
+LOT_NODISCARD uint32_t lot_generator_next(lot_generator *generator, uint32_t *value);
 
 // Stores the number drawn from the next two values, 0 to 4611686009837453315, and advances to the second.
 // LOT_BAD_SEED.
-uint32_t lot_generator_number(lot_generator *generator, uint64_t *number);
+LOT_NODISCARD uint32_t lot_generator_number(lot_generator *generator, uint64_t *number);
 
 // Stores the wide number drawn from the next four values, below 2 ^ 124, and advances to the fourth.
 // LOT_BAD_SEED.
-uint32_t lot_generator_wide_number(lot_generator *generator, lot_wide *number);
+LOT_NODISCARD uint32_t lot_generator_wide_number(lot_generator *generator, lot_wide *number);
 
 // Stores the weight of a thread with this value in a draw. `compensation` is 0 for none; or the ticks of its quantum
 // that it had used when it yielded, blocked or went to sleep before the quantum's end; or the sum of the quantum and
@@ -885,7 +932,7 @@ typedef struct lot_drawn {
 
 // Holds a lottery over the weights with this number, any 128 bits, and stores its result. It reads the weights where
 // they are, twice at most, and allocates nothing. LOT_NO_WINNER, LOT_TOO_LARGE.
-uint32_t lot_winner(const lot_wide *weights, size_t count, const lot_wide *number, lot_drawn *drawn);
+LOT_NODISCARD uint32_t lot_winner(const lot_wide *weights, size_t count, const lot_wide *number, lot_drawn *drawn);
 
 // ---- the heap, for a host without malloc
 
@@ -915,6 +962,7 @@ void rattle_dealloc(void *at);
 
 #undef LOT_CAST
 #undef LOT_EVENT
+#undef LOT_NODISCARD
 #undef LOT_OF_UINT32
 
 #endif

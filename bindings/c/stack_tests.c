@@ -24,6 +24,7 @@ static lot_kernel kernel;
 static lot_event event;
 static lot_reply reply;
 static lot_thread_row row;
+static lot_ticket_row ticket_row;
 static lot_wide weights[40];
 static uint32_t status;
 
@@ -54,8 +55,9 @@ static void new_kernel(void) { status = lot_kernel_new(&sizes, &kernel); }
 static void free_kernel(void) { status = lot_kernel_free(&kernel); }
 static void do_event(void) { status = lot_kernel_event(&kernel, &event, &reply); }
 static void read_row(void) { status = lot_kernel_thread_row(&kernel, 1, &row); }
+static void read_ticket_row(void) { status = lot_kernel_ticket_row(&kernel, 1, &ticket_row); }
 static void settle(void) { status = lot_kernel_settle(&kernel); }
-static void read_settled_row(void) { status = lot_kernel_settled_thread_row(&kernel, 1, &row); }
+static void read_settled_row(void) { status = lot_kernel_settled_ticket_row(&kernel, 1, &ticket_row); }
 
 static void hold_lottery(void) {
     lot_wide number = lot_wide_of(7);
@@ -74,8 +76,7 @@ static void must_be_at_most(const char *name, size_t taken, size_t most) {
 static uint64_t below(uint64_t bound) {
     static lot_generator generator = {1};
     uint32_t value = 0;
-    lot_generator_next(&generator, &value);
-    return value % bound;
+    return lot_generator_next(&generator, &value) == LOT_DONE ? value % bound : 0;
 }
 
 // An event that means something more often than not. Ends are rare, so that there is somebody to run.
@@ -150,9 +151,10 @@ int main(void) {
     must_be_at_most("lot_kernel_new, largest", taken_by(new_kernel), 14 * 1024);
     must_be_at_most("lot_kernel_event, largest", taken_by_chain(), 3 * 1024);
     must_be_at_most("lot_kernel_thread_row, largest", taken_by(read_row), 2 * 1024);
+    must_be_at_most("lot_kernel_ticket_row, largest", taken_by(read_ticket_row), 2 * 1024);
     must_be_at_most("lot_kernel_event, a kill", taken_by_kill(), 3 * 1024);
     must_be_at_most("lot_kernel_settle", taken_by(settle), 2 * 1024);
-    must_be_at_most("lot_kernel_settled_thread_row", taken_by(read_settled_row), 2 * 1024);
+    must_be_at_most("lot_kernel_settled_ticket_row", taken_by(read_settled_row), 2 * 1024);
     must_be_at_most("lot_kernel_free, largest", taken_by(free_kernel), 6 * 1024);
     weights[0] = lot_wide_of(1);
     must_be_at_most("lot_winner", taken_by(hold_lottery), 1024);

@@ -48,17 +48,17 @@ static lot_reply drawn(lot_kernel *kernel, uint32_t processor, uint64_t number) 
 }
 
 static bool is_refused(lot_reply reply, uint32_t reason) {
-    return reply.kind == LOT_REPLY_REFUSED && reply.reason == reason;
+    return lot_refused(&reply) && reply.kind == LOT_REPLY_REFUSED && reply.reason == reason;
 }
 
 static bool has_won(lot_reply reply, uint32_t thread, uint64_t number, uint64_t total) {
     return reply.kind == LOT_REPLY_WINNER && reply.thread == thread && reply.has_draw && reply.number.low == number &&
-           reply.number.high == 0 && reply.total.low == total && reply.total.high == 0;
+           reply.number.high == 0 && reply.total.low == total && reply.total.high == 0 && !lot_refused(&reply);
 }
 
 static bool came_to(lot_reply reply, uint32_t thread, uint32_t outcome, uint32_t other) {
     return reply.kind == LOT_REPLY_TRAPPED && reply.thread == thread && reply.outcome == outcome &&
-           reply.other == other;
+           reply.other == other && lot_refused(&reply) == (outcome == LOT_OUTCOME_REFUSED);
 }
 
 static bool has_expired(lot_reply reply, uint32_t thread, uint32_t ticks) {
@@ -1249,6 +1249,10 @@ static void no_kernel(void) {
     CHECK(lot_kernel_new(&SMALL, &kernel) == LOT_KERNEL_THERE && kernel.at == at);
     CHECK(lot_kernel_free(&kernel) == LOT_DONE && kernel.at == NULL);
     CHECK(lot_kernel_free(&kernel) == LOT_DONE && kernel.at == NULL);
+    uint32_t (*volatile freeing)(lot_kernel *) = lot_kernel_free; // not inlined
+    CHECK(lot_kernel_free(NULL) == LOT_DONE && freeing(NULL) == LOT_DONE);
+    kernel = made(&SMALL);
+    CHECK(freeing(&kernel) == LOT_DONE && kernel.at == NULL);
     puts("ok: no kernel");
 }
 
@@ -1461,7 +1465,8 @@ static bool somebody_runs(lot_kernel *kernel, uint32_t processor) {
 }
 
 // A kernel that got events of any bytes lists what one lists that got only those that were not refused. After each
-// trap a thread runs on its processor if and only if lot_goes_on says so.
+// trap a thread runs on its processor if and only if lot_goes_on says so. A reply has a reason if and only if
+// lot_refused says that it is a refusal.
 static void any_bytes(unsigned long count) {
     lot_kernel all = made(&SMALL), some = made(&SMALL);
     unsigned long answered = 0, refused = 0, kept = 0;
@@ -1476,6 +1481,7 @@ static void any_bytes(unsigned long count) {
             continue;
         }
         answered++;
+        CHECK(lot_refused(&reply) == (reply.reason != 0));
         CHECK(!is_trap(event.kind) || lot_goes_on(&reply) == somebody_runs(&all, event.processor));
         bool may_run = reply.kind == LOT_REPLY_WINNER || reply.kind == LOT_REPLY_TRAPPED;
         CHECK(reply.goes_on == (may_run && somebody_runs(&all, event.processor)));

@@ -197,6 +197,7 @@ static void ownership() {
     lot_kernel none = LOT_KERNEL_NONE;
     none = lot_kernel_none();
     CHECK(none.at == nullptr && lot_kernel_free(&none) == LOT_DONE && lot_version() == LOT_VERSION);
+    CHECK(lot_kernel_free(nullptr) == LOT_DONE);
     std::puts("ok: ownership");
 }
 

@@ -881,7 +881,20 @@ class Values(unittest.TestCase):
         for value in [Reply(ReplyKind.DONE), lot.events.expire(1), lot.Runner(1, 2), ThreadStatus(ThreadState.READY)]:
             with self.assertRaises(dataclasses.FrozenInstanceError):
                 value.kind = 5
-        self.assertRaises(TypeError, pickle.dumps, lot.Kernel())
+
+    def test_no_copy_of_a_kernel(self):
+        kernel = lot.Kernel()
+        for again in pickle.dumps, copy.copy, copy.deepcopy:
+            with self.assertRaisesRegex(TypeError, "a Kernel can't be copied or pickled"):
+                again(kernel)
+        self.assertFalse(kernel.closed)
+
+    def test_copies_of_a_generator(self):
+        for again in [lambda it: pickle.loads(pickle.dumps(it)), copy.copy, copy.deepcopy]:
+            first = lot.ParkMiller(1)
+            other = again(first)
+            self.assertEqual([first.next_value(), first.next_value()], [16807, 282475249])
+            self.assertEqual([other.next_value(), other.next_value()], [16807, 282475249])
 
     def test_reprs(self):
         for value, wanted in [

@@ -1,9 +1,10 @@
 # CMake's package of the release. It finds everything from the folder that it lies in, so a clone may lie anywhere:
 #
-#     find_package(lot CONFIG REQUIRED PATHS /the/clone/dist)
+#     find_package(lot 0.3 CONFIG REQUIRED PATHS /the/clone/dist)
 #     target_link_libraries(program PRIVATE lot::lot)
 #
-# The target's processor is CMAKE_SYSTEM_PROCESSOR. Where there is no archive for it, the package isn't found.
+# The target's processor is CMAKE_SYSTEM_PROCESSOR. Where there is no archive for it, the package isn't found. The
+# archives are for Linux, and for a program without an operating system, whose CMAKE_SYSTEM_NAME is Generic.
 get_filename_component(_lot_dist "${CMAKE_CURRENT_LIST_DIR}" DIRECTORY)
 get_filename_component(_lot_top "${_lot_dist}" DIRECTORY)
 
@@ -17,7 +18,7 @@ endif()
 
 set(_lot_archive "${_lot_dist}/${_lot_processor}-linux/liblot.a")
 set(lot_FOUND TRUE)
-if(NOT CMAKE_SYSTEM_NAME STREQUAL "Linux" OR NOT EXISTS "${_lot_archive}")
+if(NOT CMAKE_SYSTEM_NAME MATCHES "^(Linux|Generic)" OR NOT EXISTS "${_lot_archive}")
     set(lot_FOUND FALSE)
     set(lot_NOT_FOUND_MESSAGE "lot has no archive for ${CMAKE_SYSTEM_NAME} on ${_lot_processor}")
 elseif(NOT TARGET lot::lot)

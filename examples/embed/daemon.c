@@ -48,7 +48,7 @@ static void must(uint32_t status) {
 static lot_reply answer(lot_event event) {
     lot_reply reply;
     must(lot_kernel_event(&kernel, &event, &reply));
-    if (reply.kind == LOT_REPLY_REFUSED) {
+    if (lot_refused(&reply)) {
         fprintf(stderr, "%s\n", lot_refusal_text(reply.reason));
         exit(1);
     }

@@ -14,7 +14,7 @@ static const char *const names[3] = {"nobody", "driver", "worker"};
 static lot_reply answer(lot_kernel *kernel, lot_event event) {
     lot_reply reply;
     uint32_t status = lot_kernel_event(kernel, &event, &reply);
-    if (status != LOT_DONE || reply.kind == LOT_REPLY_REFUSED) {
+    if (status != LOT_DONE || lot_refused(&reply)) {
         fprintf(stderr, "%s\n", status != LOT_DONE ? lot_status_text(status) : lot_refusal_text(reply.reason));
         exit(1);
     }

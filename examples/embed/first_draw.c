@@ -8,7 +8,11 @@ int main(void) {
     lot_reply replies[3];
     size_t done = 0;
     lot_kernel kernel = LOT_KERNEL_NONE;
-    lot_kernel_new(&sizes, &kernel);
-    lot_kernel_run(&kernel, events, 3, replies, 3, &done);
-    return done != 3 || printf("thread %u\n", replies[2].thread) < 0 || lot_kernel_free(&kernel) != LOT_DONE;
+    if (lot_kernel_new(&sizes, &kernel) != LOT_DONE ||
+        lot_kernel_run(&kernel, events, 3, replies, 3, &done) != LOT_DONE) {
+        return 1;
+    }
+    printf("thread %u\n", replies[2].thread);
+    lot_kernel_free(&kernel);
+    return 0;
 }

@@ -13,6 +13,12 @@
 #include <thread>
 #include <vector>
 
+static void must(std::uint32_t status) {
+    if (status != LOT_DONE) {
+        throw std::runtime_error(lot_status_text(status));
+    }
+}
+
 // A refused event is an exception as much as a call that has failed.
 class Kernel {
 public:
@@ -31,7 +37,7 @@ public:
         const std::lock_guard<std::mutex> turn(lock);
         lot_reply reply;
         must(lot_kernel_event(&kernel, &event, &reply));
-        if (reply.kind == LOT_REPLY_REFUSED) {
+        if (lot_refused(&reply)) {
             throw std::runtime_error(lot_refusal_text(reply.reason));
         }
         return reply;
@@ -47,24 +53,18 @@ public:
 private:
     lot_kernel kernel = LOT_KERNEL_NONE;
     std::mutex lock;
-
-    static void must(std::uint32_t status) {
-        if (status != LOT_DONE) {
-            throw std::runtime_error(lot_status_text(status));
-        }
-    }
 };
 
 // Numbers of a seed of its own.
 class Numbers {
 public:
     explicit Numbers(std::uint32_t seed) {
-        lot_generator_new(seed, &generator);
+        must(lot_generator_new(seed, &generator));
     }
 
     lot_wide next() {
         std::uint64_t number = 0;
-        lot_generator_number(&generator, &number);
+        must(lot_generator_number(&generator, &number));
         return lot_wide_of(number);
     }
 

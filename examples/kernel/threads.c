@@ -39,8 +39,10 @@ uint64_t time_now(void) { return now + (counter() - started); }
 // ---- the library
 
 static lot_wide drawn_number(void) {
-    lot_wide number = {0, 0};
-    lot_generator_wide_number(&generator, &number);
+    lot_wide number;
+    if (lot_generator_wide_number(&generator, &number) != LOT_DONE) {
+        panic("there is no number");
+    }
     return number;
 }
 
@@ -48,7 +50,7 @@ static lot_wide drawn_number(void) {
 static lot_reply tell(lot_event event) {
     lot_reply reply;
     uint32_t status = lot_kernel_event(&lottery, &event, &reply);
-    if (status != LOT_DONE || reply.kind == LOT_REPLY_REFUSED || reply.outcome == LOT_OUTCOME_REFUSED) {
+    if (status != LOT_DONE || lot_refused(&reply)) {
         panic("event %u: %s", event.kind, status != 0 ? lot_status_text(status) : lot_refusal_text(reply.reason));
     }
     if (reply.has_sent) {
@@ -58,10 +60,9 @@ static lot_reply tell(lot_event event) {
 }
 
 void start_lottery(uint32_t seed) {
-    lot_sizes sizes = lot_sizes_small();
-    sizes.threads = THREADS;
-    sizes.quantum = QUANTUM;
-    sizes.unit = 256;
+    // Threads come and go, so the numbers of buried ones are given again: the sizes count what exists at once.
+    lot_sizes sizes = {.tickets = 64, .currencies = 16, .threads = THREADS, .ports = 1, .mutexes = 1, .processors = 1,
+                       .scripts = 1, .quantum = QUANTUM, .unit = 256, .reuse = 1};
     if (lot_generator_new(seed, &generator) != LOT_DONE || lot_kernel_new(&sizes, &lottery) != LOT_DONE) {
         panic("there is no lottery");
     }
@@ -96,6 +97,7 @@ uint32_t spawn(const char *name, uint32_t tickets, const char *currency, thread_
     lot_reply made = tell(lot_make_funded(tickets, lot_name_of(currency), lot_name_of(name), 1));
     thread *it = &threads[made.thread];
     it->ticket = made.ticket;
+    it->counts = it->charged = 0; // another thread may have had the number
     it->stack[0] = CANARY;
     it->registers.x[0] = argument;
     it->registers.x[30] = (uint64_t)end_thread;

@@ -2,7 +2,7 @@
 
 import threading
 from ctypes import Structure, byref, c_size_t, c_uint32, c_uint64
-from typing import Any, Iterable, List, Optional, Sequence, Union
+from typing import Any, Iterable, List, NoReturn, Optional, Sequence, Union, cast
 
 from . import events, library
 from .errors import Refused, RunError
@@ -10,7 +10,21 @@ from .events import Event
 from .library import calls, must
 from .numbers import Status
 from .ranges import NARROW, checked
-from .records import CurrencyRow, Meter, Reply, Runner, Sizes, ThreadRow, TicketRow
+from .records import (
+    CurrencyReply,
+    CurrencyRow,
+    ExpiredReply,
+    FundedReply,
+    Meter,
+    Reply,
+    Runner,
+    Sizes,
+    ThreadReply,
+    ThreadRow,
+    TicketReply,
+    TicketRow,
+    TrappedReply,
+)
 
 
 class Kernel:
@@ -20,7 +34,8 @@ class Kernel:
     kernel's reply; docs/MACHINE.md of the repository defines the effect of each event.
 
     Refusals: a refused event raises `Refused`, and so does a refused trap. With `check=False`, for the kernel or for
-    one event, the method returns the reply instead.
+    one event, the method returns the reply instead. Then look at its `refusal` first: what a method's type promises,
+    as `make_thread` does a `thread`, a refusal hasn't got.
 
     Names have 1 to 16 bytes: a letter a to z, followed by letters a to z, digits, '_' or '-'; with `plain_names` any
     printable ASCII but the space. Other names raise `LotError`, with `Status.LONG_NAME` or `Status.BAD_NAME`. A thread
@@ -33,7 +48,7 @@ class Kernel:
 
     By name or by number: where a method takes a currency or a thread as `Union[str, int]`, a `str` is its name and an
     `int` its number, with equal effects and refusals. A lookup by number takes constant time; a lookup by name
-    searches.
+    compares the name with the few that are in its bucket of an index.
 
     >>> with Kernel() as kernel:
     ...     alice = kernel.make_currency("alice").currency
@@ -133,6 +148,9 @@ class Kernel:
     def __repr__(self) -> str:
         return f"<lot.Kernel, {'closed' if self.closed else 'open'}>"
 
+    def __reduce__(self) -> NoReturn:
+        raise TypeError("a Kernel can't be copied or pickled, since it owns memory of the library")
+
     # ---- events
 
     def event(self, event: Event, *, check: Optional[bool] = None) -> Reply:
@@ -178,12 +196,12 @@ class Kernel:
 
     def make_ticket(
         self, amount: int, currency: Union[str, int] = "base", *, check: Optional[bool] = None
-    ) -> Reply:
+    ) -> TicketReply:
         """Makes a ticket of this amount, 1 to 4294967295, of the currency. It funds nothing yet. Replies `TICKET`.
 
         Refused: BAD_AMOUNT, NO_CURRENCY, FULL.
         """
-        return self.event(events.make_ticket(amount, currency), check=check)
+        return cast(TicketReply, self.event(events.make_ticket(amount, currency), check=check))
 
     def remove_ticket(self, ticket: int, *, check: Optional[bool] = None) -> Reply:
         """Removes a ticket that funds nothing. Replies `DONE`. Refused: NO_TICKET, FUNDING."""
@@ -196,12 +214,12 @@ class Kernel:
         """
         return self.event(events.set_ticket(ticket, amount), check=check)
 
-    def make_currency(self, name: str, *, check: Optional[bool] = None) -> Reply:
+    def make_currency(self, name: str, *, check: Optional[bool] = None) -> CurrencyReply:
         """Makes a currency, with a name that neither a currency nor a thread has. Replies `CURRENCY`.
 
         Refused: NAME_TAKEN, FULL.
         """
-        return self.event(events.make_currency(name), check=check)
+        return cast(CurrencyReply, self.event(events.make_currency(name), check=check))
 
     def remove_currency(self, currency: Union[str, int], *, check: Optional[bool] = None) -> Reply:
         """Removes a currency that issues no ticket and is funded by none. Replies `DONE`.
@@ -235,12 +253,12 @@ class Kernel:
         """Takes away a ticket's target. Replies `DONE`. Refused: NO_TICKET, NOT_FUNDING."""
         return self.event(events.unfund(ticket), check=check)
 
-    def make_thread(self, name: Optional[str] = None, script: int = 1, *, check: Optional[bool] = None) -> Reply:
+    def make_thread(self, name: Optional[str] = None, script: int = 1, *, check: Optional[bool] = None) -> ThreadReply:
         """Makes an unfunded thread, with this name or none. Replies `THREAD`.
 
         The script is a number that the kernel keeps for its caller. Refused: NAME_TAKEN, NO_SCRIPT, FULL.
         """
-        return self.event(events.make_thread(name, script), check=check)
+        return cast(ThreadReply, self.event(events.make_thread(name, script), check=check))
 
     def remove_thread(self, thread: Union[str, int], *, check: Optional[bool] = None) -> Reply:
         """Removes a dead thread that no ticket funds, and that has no client and owns no mutex.
@@ -286,12 +304,12 @@ class Kernel:
         script: int = 1,
         *,
         check: Optional[bool] = None,
-    ) -> Reply:
+    ) -> FundedReply:
         """Makes a thread, and a ticket of this amount of the currency, which funds the thread. Replies `FUNDED`.
 
         The thread has this name, or none for `None`. Refused: BAD_AMOUNT, NO_CURRENCY, NAME_TAKEN, NO_SCRIPT, FULL.
         """
-        return self.event(events.make_funded(name, amount, currency, script), check=check)
+        return cast(FundedReply, self.event(events.make_funded(name, amount, currency, script), check=check))
 
     def list_tickets(self, *, check: Optional[bool] = None) -> Reply:
         """Replies `LIST_TICKETS`, and is never refused. `ticket_row` reads the rows."""
@@ -312,11 +330,11 @@ class Kernel:
         """
         return self.event(events.draw(processor, number), check=check)
 
-    def expire(self, processor: int, *, check: Optional[bool] = None) -> Reply:
+    def expire(self, processor: int, *, check: Optional[bool] = None) -> ExpiredReply:
         """Ends the running thread's quantum. Replies `EXPIRED`. Refused: BAD_PROCESSOR, NOT_RUNNING."""
-        return self.event(events.expire(processor), check=check)
+        return cast(ExpiredReply, self.event(events.expire(processor), check=check))
 
-    def preempt(self, processor: int, ticks: int = 0, *, check: Optional[bool] = None) -> Reply:
+    def preempt(self, processor: int, ticks: int = 0, *, check: Optional[bool] = None) -> ExpiredReply:
         """Preempts the running thread, after `ticks` ticks of work, before its quantum is over.
 
         The thread becomes ready, is charged these ticks, and isn't compensated. Replies `EXPIRED`. Refused:
@@ -329,9 +347,9 @@ class Kernel:
         Reply(kind=ReplyKind.EXPIRED, thread=1, ticks=30)
         10
         """
-        return self.event(events.preempt(processor, ticks), check=check)
+        return cast(ExpiredReply, self.event(events.preempt(processor, ticks), check=check))
 
-    def overrun(self, processor: int, late: int, *, check: Optional[bool] = None) -> Reply:
+    def overrun(self, processor: int, late: int, *, check: Optional[bool] = None) -> ExpiredReply:
         """Ends the running thread's quantum, `late` ticks late. The late ticks count as used too.
 
         Until it next wins it weighs value * quantum / (quantum + late), rounded down, but at least 1 if its value is.
@@ -345,7 +363,7 @@ class Kernel:
         Reply(kind=ReplyKind.EXPIRED, thread=1, ticks=200)
         5
         """
-        return self.event(events.overrun(processor, late), check=check)
+        return cast(ExpiredReply, self.event(events.overrun(processor, late), check=check))
 
     def wake(self, thread: int, *, check: Optional[bool] = None) -> Reply:
         """Makes the sleeping thread with this number ready, with the compensation from when it went to sleep.
@@ -357,14 +375,14 @@ class Kernel:
     # The traps of the running thread. Each comes after `ticks` ticks of work, and costs one tick more. All are refused
     # as events with BAD_PROCESSOR, NOT_RUNNING, and BAD_TICKS if these ticks are more than the rest of the quantum.
 
-    def yield_(self, processor: int, ticks: int = 0, *, check: Optional[bool] = None) -> Reply:
+    def yield_(self, processor: int, ticks: int = 0, *, check: Optional[bool] = None) -> TrappedReply:
         """The running thread gives up its processor, after `ticks` ticks of work and one tick for the trap.
 
         Replies `TRAPPED` with `YIELDED`. Refused: BAD_PROCESSOR, NOT_RUNNING, BAD_TICKS.
         """
-        return self.event(events.yield_(processor, ticks), check=check)
+        return cast(TrappedReply, self.event(events.yield_(processor, ticks), check=check))
 
-    def sleep(self, processor: int, ticks: int = 0, *, check: Optional[bool] = None) -> Reply:
+    def sleep(self, processor: int, ticks: int = 0, *, check: Optional[bool] = None) -> TrappedReply:
         """The running thread sleeps until `wake`. Its tickets are inactive meanwhile.
 
         It keeps its mutexes and its clients, and is compensated for the rest of its quantum.
@@ -380,61 +398,65 @@ class Kernel:
         Reply(kind=ReplyKind.DONE)
         Reply(kind=ReplyKind.WINNER, thread=1, number=19, total=20)
         """
-        return self.event(events.sleep(processor, ticks), check=check)
+        return cast(TrappedReply, self.event(events.sleep(processor, ticks), check=check))
 
-    def call(self, processor: int, port: int, sent: int, ticks: int = 0, *, check: Optional[bool] = None) -> Reply:
+    def call(
+        self, processor: int, port: int, sent: int, ticks: int = 0, *, check: Optional[bool] = None
+    ) -> TrappedReply:
         """The running thread calls the port with a number, and lends to the thread that serves it until the reply.
 
         Replies `TRAPPED` with `SERVED_BY` or `QUEUED`. Refused: BAD_PROCESSOR, NOT_RUNNING, BAD_TICKS; NO_PORT.
         """
-        return self.event(events.call(processor, port, sent, ticks), check=check)
+        return cast(TrappedReply, self.event(events.call(processor, port, sent, ticks), check=check))
 
-    def receive(self, processor: int, port: int, ticks: int = 0, *, check: Optional[bool] = None) -> Reply:
+    def receive(self, processor: int, port: int, ticks: int = 0, *, check: Optional[bool] = None) -> TrappedReply:
         """The running thread takes the call that has waited longest at the port, or waits for one.
 
         Replies `TRAPPED` with `RECEIVED` or `WAITS`. Refused: BAD_PROCESSOR, NOT_RUNNING, BAD_TICKS; NO_PORT.
         """
-        return self.event(events.receive(processor, port, ticks), check=check)
+        return cast(TrappedReply, self.event(events.receive(processor, port, ticks), check=check))
 
-    def reply(self, processor: int, sent: int, ticks: int = 0, *, check: Optional[bool] = None) -> Reply:
+    def reply(self, processor: int, sent: int, ticks: int = 0, *, check: Optional[bool] = None) -> TrappedReply:
         """The running thread replies with a number to the client that it took first.
 
         Replies `TRAPPED` with `REPLIED`. Refused: BAD_PROCESSOR, NOT_RUNNING, BAD_TICKS; NOTHING_TO_REPLY.
         """
-        return self.event(events.reply(processor, sent, ticks), check=check)
+        return cast(TrappedReply, self.event(events.reply(processor, sent, ticks), check=check))
 
-    def serve(self, processor: int, port: int, sent: int, ticks: int = 0, *, check: Optional[bool] = None) -> Reply:
+    def serve(
+        self, processor: int, port: int, sent: int, ticks: int = 0, *, check: Optional[bool] = None
+    ) -> TrappedReply:
         """The running thread replies, and then receives at the port, in one trap.
 
         Replies `TRAPPED` with `REPLIED_THEN_RECEIVED` or `REPLIED_THEN_WAITS`. Refused: BAD_PROCESSOR, NOT_RUNNING,
         BAD_TICKS; NO_PORT, NOTHING_TO_REPLY.
         """
-        return self.event(events.serve(processor, port, sent, ticks), check=check)
+        return cast(TrappedReply, self.event(events.serve(processor, port, sent, ticks), check=check))
 
-    def lock(self, processor: int, mutex: int, ticks: int = 0, *, check: Optional[bool] = None) -> Reply:
+    def lock(self, processor: int, mutex: int, ticks: int = 0, *, check: Optional[bool] = None) -> TrappedReply:
         """The running thread takes the mutex, or waits for it and lends to its owner.
 
         Replies `TRAPPED` with `LOCKED` or `WAITS`. Refused: BAD_PROCESSOR, NOT_RUNNING, BAD_TICKS; NO_MUTEX,
         ALREADY_OWNER, LOCK_CYCLE.
         """
-        return self.event(events.lock(processor, mutex, ticks), check=check)
+        return cast(TrappedReply, self.event(events.lock(processor, mutex, ticks), check=check))
 
     def unlock(
         self, processor: int, mutex: int, number: int, ticks: int = 0, *, check: Optional[bool] = None
-    ) -> Reply:
+    ) -> TrappedReply:
         """The running thread frees the mutex, or passes it to a waiter drawn with this number, of 128 bits.
 
         Replies `TRAPPED` with `FREED` or `PASSED`. Refused: BAD_PROCESSOR, NOT_RUNNING, BAD_TICKS; NO_MUTEX,
         NOT_OWNER.
         """
-        return self.event(events.unlock(processor, mutex, number, ticks), check=check)
+        return cast(TrappedReply, self.event(events.unlock(processor, mutex, number, ticks), check=check))
 
-    def exit(self, processor: int, ticks: int = 0, *, check: Optional[bool] = None) -> Reply:
+    def exit(self, processor: int, ticks: int = 0, *, check: Optional[bool] = None) -> TrappedReply:
         """The running thread ends, and is dead. Its tickets, mutexes and clients stay unchanged.
 
         Replies `TRAPPED` with `EXITED`. Refused: BAD_PROCESSOR, NOT_RUNNING, BAD_TICKS.
         """
-        return self.event(events.exit(processor, ticks), check=check)
+        return cast(TrappedReply, self.event(events.exit(processor, ticks), check=check))
 
     # ---- rows and counts
 

@@ -2,7 +2,7 @@
 
 import threading
 from ctypes import byref, c_uint32, c_uint64
-from typing import Iterator, Optional, Sequence
+from typing import Iterator, Optional, Sequence, Tuple, Type
 
 from .library import Generator, RawDrawn, Wide, calls, must
 from .numbers import Status
@@ -14,7 +14,7 @@ class ParkMiller:
     """The generator of Park and Miller, which is also an endless iterator over its numbers.
 
     Its values are 1 to 2147483646. Each is 16807 times the one before, modulo 2147483647. Threads may share a
-    generator.
+    generator. A copy of a generator goes on by itself, from the same value; so does an unpickled one.
 
     Raises `LotError` with `Status.BAD_SEED` for a seed that is 0 or above 2147483646.
 
@@ -38,6 +38,10 @@ class ParkMiller:
 
     def __repr__(self) -> str:
         return f"ParkMiller({self._generator.value})"
+
+    def __reduce__(self) -> "Tuple[Type[ParkMiller], Tuple[int]]":
+        with self._lock:
+            return type(self), (self._generator.value,)
 
     def next_value(self) -> int:
         """The next value, 1 to 2147483646."""

@@ -94,7 +94,7 @@ class ReplyKind(Number):
     LIST_CURRENCIES = 7
     LIST_THREADS = 8
     WINNER = 9  # thread: runs now; number, total; sent: the number delivered to it, if any
-    IDLE = 10  # no thread has any weight, and nothing has changed
+    IDLE = 10  # no ready thread has any weight, perhaps as values round to 0 (`Sizes`); nothing has changed
     EXPIRED = 11  # thread, ticks: its charge; also the reply to a preemption and to an overrun
     TRAPPED = 12  # thread, ticks: its run; outcome, with its fields; ends, goes_on
     REFUSED = 13  # refusal
@@ -134,7 +134,7 @@ class Refusal(Number):
     CYCLE = 10  # funding would make a cycle
     BASE_FIXED = 11  # base can't be removed or funded
     DEAD_THREAD = 12  # the thread to fund or to kill is dead
-    FULL = 13  # the limit of `Sizes` is reached
+    FULL = 13  # `tickets`, `currencies` or `threads` of `Sizes` is reached, whichever the event adds to
     NO_SCRIPT = 14  # the script's number is 0 or above the number of scripts
     NO_THREAD = 15  # no thread has the name or the number; a dead one has both until it is removed
     ALIVE = 16  # the thread isn't dead, though it may wait for good

@@ -2,7 +2,7 @@
 
 import dataclasses
 from dataclasses import dataclass
-from typing import Any, NamedTuple, Optional
+from typing import TYPE_CHECKING, Any, NamedTuple, Optional
 
 from .numbers import Outcome, Refusal, ReplyKind, TargetKind, ThreadState
 from .ranges import NARROW, checked
@@ -24,6 +24,10 @@ class Sizes:
 
     With `plain_names` a name may have any printable ASCII but the space. Otherwise it is a letter a to z, followed by
     letters a to z, digits, '_' or '-'.
+
+    Values are whole numbers, rounded down: a ticket of a currency is worth 0 if the currency's value times the ticket's
+    amount is below the currency's active amount, and a thread that is worth 0 wins no draw. So give tickets of base
+    amounts of a million: it costs nothing.
 
     Raises `TypeError` or `OverflowError` for a value that is no number of 32 bits. The kernel checks the bounds.
     """
@@ -74,6 +78,37 @@ class Reply:
     refusal: Optional[Refusal] = None  # for a refused event or trap
 
     __repr__ = shown
+
+
+# For type checkers: what a method promises of a reply that is no refusal. There is one class alone.
+if TYPE_CHECKING:
+
+    class TicketReply(Reply):
+        ticket: int
+
+    class CurrencyReply(Reply):
+        currency: int
+
+    class ThreadReply(Reply):
+        thread: int
+
+    class FundedReply(Reply):
+        ticket: int
+        thread: int
+
+    class ExpiredReply(Reply):
+        thread: int
+        ticks: int
+
+    class TrappedReply(Reply):
+        thread: int
+        ticks: int
+        outcome: Outcome
+        ends: bool
+        goes_on: bool
+
+else:
+    TicketReply = CurrencyReply = ThreadReply = FundedReply = ExpiredReply = TrappedReply = Reply
 
 
 @dataclass(frozen=True)

@@ -166,7 +166,8 @@ numbered! {
         BaseFixed = 11,
         /// The thread to fund or to kill has ended.
         DeadThread = 12,
-        /// The limit of [`Sizes`](crate::Sizes) is reached, counting removed ones and ended threads.
+        /// `tickets`, `currencies` or `threads` of [`Sizes`](crate::Sizes) is reached, whichever the event adds to, by
+        /// all ever made or, with `reuse`, by what exists.
         Full = 13,
         /// The script's number is 0 or above the number of scripts.
         NoScript = 14,

@@ -3,7 +3,7 @@
 use crate::numbers::EventKind;
 use crate::{ffi, Name, Target};
 
-/// A currency, by its name or by its number. A lookup by number takes constant time; a lookup by name searches.
+/// A currency, by its name or by its number. A lookup by number reads one place of a table, one by name an index.
 ///
 /// ```
 /// use lot::{CurrencyRef, Name};
@@ -19,7 +19,7 @@ pub enum CurrencyRef {
     Numbered(u32),
 }
 
-/// A thread, by its name or by its number. A lookup by number takes constant time; a lookup by name searches.
+/// A thread, by its name or by its number. A lookup by number reads one place of a table, one by name an index.
 #[derive(Clone, Copy, Debug, PartialEq, Eq, Hash)]
 pub enum ThreadRef {
     /// The thread with this name.
@@ -28,8 +28,8 @@ pub enum ThreadRef {
     Numbered(u32),
 }
 
-/// The target that a ticket gets, by its name or by its number. A lookup by number takes constant time; a lookup by
-/// name searches.
+/// The target that a ticket gets, by its name or by its number. A lookup by number reads one place of a table, one by
+/// name an index.
 #[derive(Clone, Copy, Debug, PartialEq, Eq, Hash)]
 pub enum TargetRef {
     /// The currency or thread with this name. No two have one name.

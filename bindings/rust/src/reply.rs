@@ -88,7 +88,8 @@ pub enum Reply {
         /// The number sent to the thread while it waited, by a call or a reply.
         delivered: Option<u32>,
     },
-    /// No thread has any weight, and nothing has changed.
+    /// No ready thread has any weight, perhaps as values round to 0 ([`Sizes::unit`](crate::Sizes::unit)), and nothing
+    /// has changed.
     Idle,
     /// A thread's quantum is over, or it was preempted, and it no longer runs.
     Expired {

@@ -32,7 +32,9 @@ pub struct Sizes {
     pub scripts: u32,
     /// The quantum in ticks, 1 to 1000.
     pub quantum: u32,
-    /// The value of one of base: 1, or 256 for finer shares.
+    /// The value of one of base: 1, or 256 for finer shares. Values are whole numbers, rounded down: a ticket of a
+    /// currency is worth 0 if the currency's value times the ticket's amount is below the currency's active amount, and
+    /// a thread that is worth 0 wins no draw. So give tickets of base amounts of a million: it costs nothing.
     pub unit: u32,
     /// 0 if each number is given once. Otherwise the numbers of removed tickets, currencies and threads are given
     /// again, the last removed first, and the first three sizes count what exists at once. The kernel keeps it as 0 or
