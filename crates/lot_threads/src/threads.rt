@@ -374,6 +374,16 @@ impl Threads {
         self.graph.ticket_value(ticket.number)
     }
 
+    /// The value of a ticket (4.4), in base units, if nothing is stale; a ticket that funds nothing is worth nothing.
+    /// It counts no read.
+    pub fn settled_ticket_value(&self, ticket: TicketNumber) -> u64
+        requires settled { self.now.stale ≡ [] }
+        ensures { (t : ATicket) → ticket_at (funding_in self.now) ticket.number ≡ Some t
+            → result ≡ ticket_value self.now.unit (funding_in self.now) (live_in self.now.records) t }
+    {
+        self.graph.settled_ticket_value(ticket.number)
+    }
+
     /// Whether no node is stale.
     pub fn is_settled(&self) -> bool
         ensures { IsTrue result ↔ (self.now.stale ≡ []) }

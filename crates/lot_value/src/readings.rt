@@ -1,4 +1,5 @@
-//! Reads of edges for values. There is no other way to read one, and each read is counted.
+//! Reads of edges for values. An event reads an edge only by `read_share`, which counts it. A row of a settled kernel
+//! takes its ticket's share from `ticket_share`, uncounted.
 ghost use Rattle.std.specs.Prelude.{◌≡◌, ◌^◌, ◌*◌, ◌/◌, ◌<◌, ℕ, Bool, List};
 ghost use Rattle.lot_machine.specs.declared.funding.Node.{Node as ANode};
 ghost use Rattle.lot_machine.specs.declared.funding.Edge.TheVariants.{OfTicket as OfTicketEdge};
@@ -66,7 +67,7 @@ pub(crate) fn read_share(sources: Sources, edge: Edge, reads: &mut ReadCount) ->
 
 /// The share of a ticket that has a target.
 #[inline(always)]
-fn ticket_share(sources: Sources, number: u32) -> u64
+pub(crate) fn ticket_share(sources: Sources, number: u32) -> u64
     requires edge { (to : ANode) × LeadsInto sources.graph.now.funding to (OfTicketEdge number) }
     requires sources { (live : List Bool) × AreSources sources live
         × (share sources.unit sources.graph.now.funding live

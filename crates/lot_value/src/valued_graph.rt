@@ -422,6 +422,17 @@ impl ValuedGraph {
         self.values.ticket_value(&self.graph, &self.active, ticket)
     }
 
+    /// The value of a ticket (4.4), in base units, if nothing is stale; a ticket that funds nothing is worth nothing.
+    /// It counts no read.
+    pub fn settled_ticket_value(&self, ticket: u32) -> u64
+        requires settled { self.now.known.stale ≡ [] }
+        ensures { (t : ATicket) → ticket_at self.now.now.funding ticket ≡ Some t
+            → result ≡ ticket_value self.now.known.unit self.now.now.funding self.now.live t }
+    {
+        self.values
+            .settled_ticket_value(&self.graph, &self.active, ticket)
+    }
+
     /// The number of edges read for values. The count saturates at the largest `u64`.
     pub fn reads(&self) -> u64
         ensures { result ≡ self.now.known.reads }

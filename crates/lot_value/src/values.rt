@@ -18,7 +18,7 @@ ghost use Rattle.lot_value.specs.Caches.{value_in};
 ghost use Rattle.lot_value.specs.Marking.{IsFreshPlace, stale_places};
 
 use crate::marking::{STALE, mark};
-use crate::readings::{Sources, read_share, read_value};
+use crate::readings::{Sources, read_share, read_value, ticket_share};
 use crate::settling::{has_stale_source, raise_fresh};
 use lot_active::Active;
 use lot_graph::{Graph, Layout};
@@ -179,6 +179,28 @@ impl Values {
             unit: self.unit,
         };
         read_share(sources, Edge::OfTicket(ticket), &mut self.reads)
+    }
+
+    /// The value of a ticket (4.4), in base units, if nothing is stale; a ticket that funds nothing is worth nothing.
+    /// It counts no read: rows of a settled kernel are its only callers, and no event reaches it.
+    pub fn settled_ticket_value(&self, graph: &Graph, active: &Active, ticket: u32) -> u64
+        requires right { (live : List Bool) × IsKeptFor active.now graph.now live
+            × IsSmall self.now.unit graph.now live × IsRight graph.now live self.now }
+        requires settled { self.now.stale ≡ [] }
+        ensures { (live : List Bool) → IsKeptFor active.now graph.now live → IsRight graph.now live self.now
+            → (t : ATicket) → ticket_at graph.now.funding ticket ≡ Some t
+            → result ≡ ticket_value self.now.unit graph.now.funding live t }
+    {
+        if !graph.is_funding(ticket) {
+            return 0;
+        }
+        let sources = Sources {
+            graph,
+            active,
+            values: &self.values,
+            unit: self.unit,
+        };
+        ticket_share(sources, ticket)
     }
 
     /// Makes a node, and all nodes that it reaches, stale. It reads each edge from a node that becomes stale once,

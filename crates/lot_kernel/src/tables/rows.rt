@@ -53,7 +53,7 @@ impl Tables {
     }
 
     /// The row of the ticket with this number, or `None` if and only if it doesn't exist, if nothing is stale. It
-    /// divides the issuer's value, and counts nothing.
+    /// counts no read.
     pub(crate) fn settled_ticket_row(&self, ticket: TicketNumber) -> Option<TicketRow>
         requires order { IsInOrder self.now.state }
         requires settled { self.now.stale ≡ [] }
@@ -71,33 +71,8 @@ impl Tables {
             target: self.target_name(found.target),
             funds: found.target,
             is_active: self.threads.is_active(ticket),
-            value: self.ticket_value(ticket),
+            value: self.threads.settled_ticket_value(ticket),
         })
-    }
-
-    /// The value of a ticket if nothing is stale (4.4), or 0 if it doesn't exist.
-    fn ticket_value(&self, ticket: TicketNumber) -> u64
-        requires order { IsInOrder self.now.state }
-        requires settled { self.now.stale ≡ [] }
-        ensures { (t : ATicket) → ticket_in self.now.state.tickets ticket.number ≡ Some t
-            → result ≡ worth.ticket_value self.now.state.limits.unit (funding_of self.now.state)
-            (live_of self.now.state) t }
-    {
-        let Some(found) = self.threads.graph().ticket(ticket.number) else {
-            return 0;
-        };
-        if !self.threads.is_active(ticket) {
-            return 0;
-        }
-        if found.issuer == 0 {
-            return u64::from(found.amount) * u64::from(self.limits.unit);
-        }
-        let issuer = found.issuer;
-        let value = self.threads.value_of(Node::Currency(issuer));
-        let active = self
-            .threads
-            .active_amount(CurrencyNumber { number: issuer });
-        (u128::from(value) * u128::from(found.amount) / u128::from(active)) as u64
     }
 
     /// Recomputes all stale values, and counts that.

@@ -1,0 +1,14 @@
+use Rattle.std.proofs.Common.{◌∙◌, Bool, List, ap}
+use Rattle.lot_machine.specs.Value.{ticket_value}
+use Rattle.lot_machine.specs.State.{live_in}
+use Rattle.lot_graph.specs.Graphs.{LimitedFunding}
+use Rattle.lot_threads.proofs.Together.{graph-is}
+use Rattle.lot_threads.proofs.threads.Threads.settled_ticket_value.Goals as goal
+
+pub returns : goal.returns
+returns c =
+    let i = c.self.inside in
+    let was = graph-is i.graph i.queue i.threads.items i.records.items i.runners.items c.self.invariant.together in
+    rw (← c.self.view_is) (λ t there. c.settled_ticket_value.ensures t there
+    ∙ ap (λ (live : List Bool). ticket_value i.graph.known.unit i.graph.now.funding live t) c.self.invariant.together.live
+    ∙ ap (λ (w : LimitedFunding). ticket_value i.graph.known.unit w.funding (live_in i.records.items) t) was)

@@ -1,0 +1,47 @@
+use Rattle.std.proofs.Common.{◌≡◌, ◌∙◌, ℕ, length, ap, sym, subst, arith}
+use Rattle.std.proofs.lemmas.Bool.{true≢false}
+use Rattle.std.specs.Prelude.{[], Contains, List}
+use Rattle.lot_machine.proofs.EachOnce.{contains-nothing}
+use Rattle.lot_machine.specs.declared.funding.Node.{Node}
+use Rattle.lot_machine.specs.declared.funding.Node.TheVariants.{Currency}
+use Rattle.lot_machine.specs.declared.funding.Edge.TheVariants.{OfTicket}
+use Rattle.lot_graph.specs.Graphs.{IsFunding}
+use Rattle.lot_graph.specs.Places.{layout_of, node_count}
+use Rattle.lot_graph.proofs.EndLemmas.{ends-ticket}
+use Rattle.lot_graph.proofs.FieldLemmas.{funding-ticket}
+use Rattle.lot_value.specs.Caches.{Known, IsStale}
+use Rattle.lot_value.proofs.TicketWorth.{share-at, kept-share, ticket-small, unfunded-nothing}
+use Rattle.lot_value.proofs.values.Values.settled_ticket_value.Goals as goal
+
+none-stale : (k : Known) (c : ℕ) → k.stale ≡ [] → ¬ IsStale k (Currency c)
+none-stale k c settled stale = contains-nothing (Currency c) (subst (λ (nodes : List Node). Contains nodes (Currency c)) settled stale)
+
+pub ticket_share-requires-clause-edge : goal.ticket_share-requires-clause-edge
+ticket_share-requires-clause-edge c =
+    let f = c.args.graph.now.funding in
+    let (t, to, at, leads) = funding-ticket f c.args.ticket (c.is_funding.ensures.0 c.if-not-is_funding.false) in
+    (to, (Currency t.issuer, ends-ticket f c.args.ticket t to at leads))
+
+pub ticket_share-requires-clause-sources : goal.ticket_share-requires-clause-sources
+ticket_share-requires-clause-sources c =
+    let w = c.args.graph.now in
+    let k = c.args.self.now in
+    let (live, kept, small, right) = c.requires.right in
+    let (t, to, at, leads) = funding-ticket w.funding c.args.ticket (c.is_funding.ensures.0 c.if-not-is_funding.false) in
+    let same = share-at c.self.inside.unit k.unit w.funding live (layout_of w) k.layout c.deref.result.now k.values (OfTicket c.args.ticket) (ap (λ (x : Known). x.unit) c.self.view_is) (sym right.layout) (c.deref.ensures.value ∙ ap (λ (x : Known). x.values) c.self.view_is) in
+    let worth = kept-share w live k kept.sound kept.fits right c.args.ticket t at (c.is_funding.ensures.0 c.if-not-is_funding.false) (none-stale k t.issuer c.requires.settled) in
+    let low = ticket-small w live k kept.sound kept.fits right c.args.ticket t at (c.is_funding.ensures.0 c.if-not-is_funding.false) small in
+    (live, record { kept = kept; places = ap length (c.deref.ensures.value ∙ ap (λ (x : Known). x.values) c.self.view_is) ∙ right.places ∙ ap node_count right.layout }, omega (arith, same, worth, low))
+
+pub returns : goal.returns
+returns c live kept right t at =
+    let w = c.args.graph.now in
+    let k = c.args.self.now in
+    let same = share-at c.self.inside.unit k.unit w.funding live (layout_of w) k.layout c.deref.result.now k.values (OfTicket c.args.ticket) (ap (λ (x : Known). x.unit) c.self.view_is) (sym right.layout) (c.deref.ensures.value ∙ ap (λ (x : Known). x.values) c.self.view_is) in
+    c.ticket_share.ensures live (record { kept = kept; places = ap length (c.deref.ensures.value ∙ ap (λ (x : Known). x.values) c.self.view_is) ∙ right.places ∙ ap node_count right.layout }) ∙ same ∙ kept-share w live k kept.sound kept.fits right c.args.ticket t at (c.is_funding.ensures.0 c.if-not-is_funding.false) (none-stale k t.issuer c.requires.settled)
+
+pub returns-then-not-is_funding : goal.returns-then-not-is_funding
+returns-then-not-is_funding c live kept right t at =
+    let f = c.args.graph.now.funding in
+    let off : ¬ IsFunding f c.args.ticket = λ is. true≢false (sym (c.is_funding.ensures.1 is) ∙ c.if-not-is_funding.true) in
+    unfunded-nothing c.args.self.now.unit f live c.args.ticket t at off
