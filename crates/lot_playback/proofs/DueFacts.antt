@@ -6,6 +6,7 @@ use Rattle.std.proofs.lemmas.List.{get_or-set_other, get_or_default, length-set}
 use Rattle.std.proofs.lemmas.Bool.{cases_eq, cases_lt, eq-eqb}
 use Rattle.std.proofs.lemmas.Grind.{get_or-set_at}
 use Rattle.std.proofs.Math.Nat.{div-le_self, mul-add, mul-div-le, mul-le-mul_right}
+use Rattle.lot_machine.specs.declared.record.Record.{Record}
 use Rattle.lot_machine.specs.declared.record.Status.{Status}
 use Rattle.lot_machine.specs.declared.record.Status.TheVariants.{Ready, Running, Receiving, Queued, Served, Waiting, Asleep, Dead}
 use Rattle.lot_machine.specs.declared.event.Event.{Event}
@@ -13,6 +14,7 @@ use Rattle.lot_machine.specs.declared.reply.Reply.{Reply}
 use Rattle.lot_machine.specs.Facts.{IsSound}
 use Rattle.lot_machine.specs.Numbered.{option_any}
 use Rattle.lot_machine.specs.State.{State, is_ready, status_of}
+use Rattle.lot_machine.proofs.RecordsKept.{numbered}
 use Rattle.lot_machine.proofs.Tickets.{some-injective}
 use Rattle.lot_simulation.specs.declared.timed.Spans.{Spans}
 use Rattle.lot_simulation.specs.Timed.{TimedTurn}
@@ -29,7 +31,7 @@ use Rattle.lot_playback.proofs.MadeCurrencies.{count-grows}
 use Rattle.lot_playback.proofs.WorthFacts.{value-none, value-within, whole-small}
 use Rattle.lot_playback.specs.Sharing.{count_in, due_to, makes_one, part_in, shared_ticks, time_shared, value_in, whole_in}
 use Rattle.lot_playback.specs.InTime.{AreFew}
-use Rattle.lot_playback.specs.Owed.{Answers, AreDue, AreOwed, AreReadyFor, AreWaiting, HasFew, HaveQueued, HaveQueuedOne, HaveValues, IsDispatch, IsOwed, IsReadyFor, forgotten, moved_thread, parts_before, state_after, time_after, waits_before}
+use Rattle.lot_playback.specs.Owed.{Answers, AreDue, AreOwed, AreReadyFor, AreWaiting, HasFew, HaveQueued, HaveQueuedOne, HaveValues, IsDispatch, IsOwed, IsReadyFor, NoneWaitsBeyond, forgotten, moved_thread, parts_before, state_after, time_after, waits_before}
 
 -- ---- one turn more
 
@@ -234,6 +236,34 @@ module _ (time : ℕ) (s next : State) (e : Event) (r : Reply) (old new : List S
     where
       each : (place : ℕ) (d : Spans) → place < length old → slice_index_or new place d ≡ queued time (waits_before (Answered e r) (place + 1) (slice_index_or old place d)) (status_of next.records (place + 1))
       each place d below = queues place d (omega (arith, below, count)) ∙ ap (λ w. queued time w (status_of next.records (place + 1))) (forgets place d below)
+
+-- there is no thread beyond their count
+absent : (records : List Record) (place : ℕ) → length records ≤ place → status_of records (place + 1) ≡ None
+absent records place past = by (status_of records (place + 1)) refl
+  where
+    by : (o : Option Status) → status_of records (place + 1) ≡ o → status_of records (place + 1) ≡ None
+    by None is = is
+    by (Some status) is = absurd (omega (arith, past, numbered records (place + 1) status is))
+
+-- the waits of a place beyond the threads stay
+pub beyond-stays : (time : ℕ) (records : List Record) (place : ℕ) (waits : Spans) → length records ≤ place → is_some waits.since ≡ false → queued time waits (status_of records (place + 1)) ≡ waits
+beyond-stays time records place waits past none = ap (queued time waits) (absent records place past) ∙ queued-same time waits None none
+
+-- nobody waits beyond the threads that a turn leaves
+pub none-beyond : (s next : State) (e : Event) (r : Reply) (old mid : List Spans) → Answers s e r next → AreWaiting s old → length mid ≡ length old
+    → ((place : ℕ) (d : Spans) → place < length old → slice_index_or mid place d ≡ waits_before (Answered e r) (place + 1) (slice_index_or old place d))
+    → NoneWaitsBeyond (length next.records) mid
+none-beyond s next e r old mid answers waiting count forgets place d past below = ap (λ (w : Spans). is_some w.since) (forgets place d there) ∙ by (makes (place + 1) (Answered e r))
+  where
+    there : place < length old
+    there = omega (arith, below, count)
+
+    was : is_some (slice_index_or old place d).since ≡ false
+    was = waiting place d there ∙ ap (option_any is_ready) (absent s.records place (omega (arith, past, count-grows s e r next answers Threads)))
+
+    by : (b : Bool) → is_some (if b then no_spans else slice_index_or old place d).since ≡ false
+    by true = refl
+    by false = was
 
 -- room for one more stays if threads' waits are forgotten
 pub few-forgotten : (answer : Answer) (old mid : List Spans) → length mid ≡ length old → ((place : ℕ) (d : Spans) → place < length old → slice_index_or mid place d ≡ waits_before answer (place + 1) (slice_index_or old place d)) → AreFew old → AreFew mid

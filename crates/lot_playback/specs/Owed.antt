@@ -1,5 +1,5 @@
 -- The tables of threads' waits to run, and of what threads and currencies are due, turn by turn.
-use Rattle.std.specs.Prelude.{◌≡◌, ◌⊎◌, ℕ, ◌+◌, ◌-◌, ◌*◌, ◌^◌, ◌<◌, ◌≤◌, ◌==◌, Bool, Option, Some, None, is_some, List, [], ◌∷◌, length, slice_index_or, if◌then◌else◌}
+use Rattle.std.specs.Prelude.{◌≡◌, ◌⊎◌, ℕ, ◌+◌, ◌-◌, ◌*◌, ◌^◌, ◌<◌, ◌≤◌, ◌==◌, Bool, false, Option, Some, None, is_some, List, [], ◌∷◌, length, slice_index_or, if◌then◌else◌}
 use Rattle.lot_machine.specs.declared.event.Event.{Event}
 use Rattle.lot_machine.specs.declared.event.Event.TheVariants as event
 use Rattle.lot_machine.specs.declared.reply.Reply.{Reply}
@@ -55,6 +55,10 @@ is_ready_in s t = option_any is_ready (status_of s.records t)
 -- each thread waits to run if and only if it is Ready in this state
 abbrev pub AreWaiting : State → List Spans → Type 0
 AreWaiting s waits = (place : ℕ) (d : Spans) → place < length waits → is_some (slice_index_or waits place d).since ≡ is_ready_in s (place + 1)
+
+-- nobody beyond so many threads waits to run
+abbrev pub NoneWaitsBeyond : ℕ → List Spans → Type 0
+NoneWaitsBeyond count waits = (place : ℕ) (d : Spans) → count ≤ place → place < length waits → is_some (slice_index_or waits place d).since ≡ false
 
 -- a thread's waits before a turn with this answer: none if it makes the thread
 abbrev pub waits_before : Answer → ℕ → Spans → Spans

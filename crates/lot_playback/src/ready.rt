@@ -8,7 +8,7 @@ ghost use Rattle.lot_engine.specs.Seen.{world_of};
 ghost use Rattle.lot_simulation.specs.TimedReport as dues;
 ghost use Rattle.lot_playback.specs.InTime.{AreFew};
 ghost use Rattle.lot_playback.specs.Owed as owed;
-ghost use Rattle.lot_playback.specs.Owed.{Answers, AreWaiting, HasFew, HaveQueued, HaveQueuedOne};
+ghost use Rattle.lot_playback.specs.Owed.{Answers, AreWaiting, HasFew, HaveQueued, HaveQueuedOne, NoneWaitsBeyond};
 ghost use Rattle.lot_playback.specs.Owed.{waits_before};
 
 use crate::SpanTable;
@@ -51,17 +51,20 @@ impl SpanTable {
         }
     }
 
-    /// Records the statuses of all threads after a turn at this time.
+    /// Records the statuses of all threads after a turn at this time. Places beyond the system's threads stay as they
+    /// are.
     fn queue_all(&mut self, system: &System, time: u32)
         requires count { vec_len self.old.threads ≤ 4096 }
         requires few { AreFew self.old.threads.items }
+        requires beyond { NoneWaitsBeyond (length (world_of system.now).state.records) self.old.threads.items }
         ensures count { length self.new.threads.items ≡ length self.old.threads.items }
         ensures queued { (place : ℕ) (d : SpansRecord) → place < length self.old.threads.items
             → slice_index_or self.new.threads.items place d ≡ dues.queued time
             (slice_index_or self.old.threads.items place d)
             (status_of (world_of system.now).state.records (place + 1)) }
     {
-        for place in 0..self.threads.len() {
+        let count = self.threads.len().min(system.thread_count() as usize);
+        for place in 0..count {
             self.queue_thread(system, time, place as u32 + 1);
         }
     }

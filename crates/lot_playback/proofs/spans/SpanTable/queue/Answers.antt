@@ -1,12 +1,18 @@
 use Rattle.std.proofs.Common.{◌∙◌, sym}
 use Rattle.lot_simulation.specs.World.Answer.{Answered}
 use Rattle.lot_engine.specs.Seen.{world_of}
-use Rattle.lot_playback.proofs.DueFacts.{all-queued, dispatch-none, dispatch-one, few-at, few-forgotten}
+use Rattle.lot_playback.proofs.DueFacts.{all-queued, dispatch-none, dispatch-one, few-at, few-forgotten, none-beyond}
 use Rattle.lot_playback.proofs.spans.SpanTable.queue.Goals as goal
 
 pub queue_all-requires-clause-few : goal.queue_all-requires-clause-few
 queue_all-requires-clause-few c =
     few-forgotten (Answered c.args.event.now c.args.reply) c.args.self.now.threads.items c.forget_new.new.self.threads.items c.forget_new.ensures.count (c.forget_new.ensures.forgets c.args.event.now) c.requires.few
+
+pub queue_all-requires-clause-beyond : goal.queue_all-requires-clause-beyond
+queue_all-requires-clause-beyond c =
+    let next = (world_of c.args.system.now).state in
+    none-beyond c.requires.answers.0 next c.args.event.now c.args.reply c.args.self.now.threads.items c.forget_new.new.self.threads.items
+    c.requires.answers.1 c.requires.answers.2 c.forget_new.ensures.count (c.forget_new.ensures.forgets c.args.event.now)
 
 pub queue_thread-requires : goal.queue_thread-requires
 queue_thread-requires c = few-at c.args.self.now.threads.items c.in-Some.thread c.requires.few

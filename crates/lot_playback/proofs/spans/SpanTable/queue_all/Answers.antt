@@ -1,6 +1,10 @@
-use Rattle.std.proofs.Common.{arith}
+use Rattle.std.proofs.Common.{◌≡◌, ◌⊎◌, ◌+◌, ◌<◌, ◌≤◌, ◌∙◌, inl, inr, length, sym, arith}
+use Rattle.std.specs.Prelude.{slice_index_or}
+use Rattle.std.proofs.lemmas.Bool.{cases_lt}
+use Rattle.lot_machine.specs.State.{status_of}
+use Rattle.lot_simulation.specs.TimedReport.{queued}
 use Rattle.lot_engine.specs.Seen.{world_of}
-use Rattle.lot_playback.proofs.DueFacts.{none-passed, one-passed}
+use Rattle.lot_playback.proofs.DueFacts.{beyond-stays, none-passed, one-passed}
 use Rattle.lot_playback.proofs.spans.SpanTable.queue_all.Goals as goal
 
 pub loop-place-init : goal.loop-place-init
@@ -16,4 +20,13 @@ pub returns-clause-count : goal.returns-clause-count
 returns-clause-count c = c.loop-place.invariant.waits.count
 
 pub returns-clause-queued : goal.returns-clause-queued
-returns-clause-queued c place d below = c.loop-place.invariant.waits.passed place d (omega (arith, below, c.loop-place-test.false, c.len-place-end.ensures)) below
+returns-clause-queued c place d below =
+    let records = (world_of c.args.system.now).state.records in
+    let old = c.args.self.now.threads.items in
+    let waits = c.loop-place.invariant.waits in
+    elim (cases_lt place c.loop-place.place) [
+      | inl passed ↦ waits.passed place d passed below
+      | inr left ↦
+          let past : length records ≤ place = omega (arith, left, below, c.loop-place-test.false, c.thread_count.ensures.count) in
+          waits.left place d left below ∙ sym (beyond-stays c.args.time records place (slice_index_or old place d) past (c.requires.beyond place d past below))
+    ]
