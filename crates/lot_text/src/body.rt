@@ -309,7 +309,7 @@ fn read_actors(alloc: Global, processors: u32, mut tokens: Tokens<'_>) -> Result
     ensures read { MatchResult result (λ actors. each (actor_read processors) tokens.entry ≡ Ok actors.items)
         (λ fault. Fails fault (each (actor_read processors) tokens.entry)) }
 {
-    let mut actors = Vec::new(alloc);
+    let mut actors = Vec::with_capacity(alloc, tokens.most())?;
     while let Some(token) = tokens.next_token() {
         actors.push(actor_below(processors, token)?)?;
     }

@@ -110,6 +110,13 @@ impl<'a> Tokens<'a> {
         Some((first, second))
     }
 
+    /// A number that the tokens don't exceed: each takes a byte, and all but the last a separator.
+    pub(crate) fn most(&self) -> usize
+        ensures { length self.now ≤ result }
+    {
+        self.rest.len().div_ceil(2)
+    }
+
     /// Whether the tokens are pairs, without a rest.
     pub(crate) fn are_pairs(&self) -> bool
         ensures { IsTrue result ↔ (length self.now % 2 ≡ 0) }

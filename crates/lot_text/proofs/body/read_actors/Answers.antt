@@ -10,17 +10,17 @@ returns-clause-read c = c.loop-token.invariant.read [] (rw c.in_default.ensures.
 
 pub loop-token-init : goal.loop-token-init
 loop-token-init c =
-    rw c.new-actors.ensures.items (record { below = All-nil (λ (actor : ℕ). actor ≤ c.args.processors); read = λ others is. is; refused = λ refusal is. is })
+    rw c.in_ok-actors.ensures.items (record { below = All-nil (λ (actor : ℕ). actor ≤ c.args.processors); read = λ others is. is; refused = λ refusal is. is })
 
 pub returns-in_err-actor_below-clause-actors : goal.returns-in_err-actor_below-clause-actors
-returns-in_err-actor_below-clause-actors c = IfOk-from_err c.from_residual.result _ c.from_residual.ensures.0
+returns-in_err-actor_below-clause-actors c = IfOk-from_err c.from_residual-in_err-actor_below.result _ c.from_residual-in_err-actor_below.ensures.0
 
 pub returns-in_err-actor_below-clause-read : goal.returns-in_err-actor_below-clause-read
 returns-in_err-actor_below-clause-read c =
     let refused =
     each-refused (actor_below c.args.processors) c.loop-token.tokens c.next_token.new.self c.in-Some.token.now c.in_err-actor_below.field-0.0
     c.in-Some.ensures.next c.in_err-actor_below.ensures.read in
-    Match-refusal c.from_residual.result _ c.in_err-actor_below.field-0.0 _ c.from_residual.ensures
+    Match-refusal c.from_residual-in_err-actor_below.result _ c.in_err-actor_below.field-0.0 _ c.from_residual-in_err-actor_below.ensures
     (c.loop-token.invariant.refused c.in_err-actor_below.field-0.0 refused)
 
 pub loop-token-smaller : goal.loop-token-smaller
@@ -48,3 +48,9 @@ returns-in_err-push-clause-read c = Match-memory c.from_residual-in_err-push.res
 
 pub returns-clause-actors : goal.returns-clause-actors
 returns-clause-actors c = c.loop-token.invariant.below
+
+pub returns-in_err-actors-clause-actors : goal.returns-in_err-actors-clause-actors
+returns-in_err-actors-clause-actors c = IfOk-from_err c.from_residual.result _ c.from_residual.ensures.0
+
+pub returns-in_err-actors-clause-read : goal.returns-in_err-actors-clause-read
+returns-in_err-actors-clause-read c = Match-memory c.from_residual.result _ _ c.from_residual.ensures
