@@ -25,6 +25,18 @@ pub struct Work {
     pub budget: u32,
 }
 
+impl Work {
+    /// A copy of the work. It allocates no memory.
+    pub fn copied(&self) -> Work
+        ensures { result ≡ self.now }
+    {
+        Work {
+            place: self.place.copied(),
+            ..*self
+        }
+    }
+}
+
 /// The next work of the thread on a processor, with a reference to its place in the system's table.
 #[derive(Drop)]
 pub(crate) struct KeptWork<'a> {

@@ -3,6 +3,7 @@ use Rattle.std.proofs.Common.{◌≡◌, refl, ℕ, ◌+◌, ◌<◌, ◌∷◌,
 use Rattle.lot_simulation.specs.World.{Program}
 use Rattle.lot_script.specs.Slices.{Parts}
 use Rattle.lot_engine.specs.declared.fault.TurnFault.{TurnFault}
+use Rattle.lot_engine.specs.declared.fault.TurnFault.TheVariants.{Stale}
 use Rattle.lot_engine.specs.declared.turn.Answer.{Answer}
 use Rattle.lot_engine.specs.declared.turn.Work.{Work}
 use Rattle.lot_engine.specs.Fitting.{IsStale}
@@ -13,7 +14,8 @@ use Rattle.lot_station.specs.BatonViews.{Extends}
 use Rattle.lot_station.specs.Settings.{IsLegalIn, turns_by}
 use Rattle.lot_station.proofs.BatonShares.{starts_self, starts_more, starts_trans}
 use Rattle.lot_processors.specs.BatonWorkers.{AllMade, Continues, FirstStops, HasMade, HasMadeAll, HasStopped, HasWorked, IsFirstFault, StopsTurn}
-use Rattle.lot_processors.specs.Workers.{EachSeat, turns_for}
+use Rattle.lot_processors.specs.Workers.{EachSeat, IsLastWork, turns_for}
+use Rattle.lot_processors.proofs.SeatWork.{no-work, stale-carries}
 use Rattle.lot_processors.proofs.SeatsWork as seats
 
 begins_trans : (z y x : Seen) → Extends z y → Extends y x → Extends z x
@@ -56,16 +58,20 @@ turned a b given answer same turns =
 pub next_work : (a b : Seat) (given : Option Parts) (answer : Answer) → IsSameSeat a b → Turns a given answer b → IsWorkOf b.seen b.actor answer.next
 next_work a b given answer same turns = subst (λ (y : Seen × ℕ). IsWorkOf y.0 y.1 answer.next) (λ i. (sym turns.ends i, sym same.actor i)) turns.answered.next
 
+-- the work that a refused turn carries is the actor's
+pub later-had : (x : Seen) (actor : ℕ) (given : Option Parts) (fault : TurnFault) (work : Option Work) → fault ≡ Stale work → Faults x actor given fault → IsWorkOf x actor work
+later-had x actor given fault work is faults = (subst (λ f. Faults x actor given f) is faults).0
+
 -- ---- what stops a turn
 
 module _ (program : Program) where
   -- a work that doesn't fit the program at hand
   pub unfit : (s : Seat) (work : Option Work) (fault : TurnFault) → IsLegalIn s.seen → IsWorkOf s.seen s.actor work → IsStale program work fault → StopsTurn program s fault
-  unfit s work fault legal had stale = record { work = work; earlier = s.seen; had = had; legal = legal; begins = (refl, starts_self s.seen.history); since = refl; stops = inl stale }
+  unfit s work fault legal had stale = record { work = work; earlier = s.seen; had = had; legal = legal; begins = (refl, starts_self s.seen.history); since = refl; stops = inl stale; last = stale-carries program work fault stale }
 
   -- a turn with the slice of the work
-  pub refused : (a b : Seat) (work : Option Work) (given : Option Parts) (fault : TurnFault) → IsWorkOf a.seen a.actor work → Matches program work given → IsSameSeat a b → Looks a b → Faults b.seen a.actor given fault → StopsTurn program b fault
-  refused a b work given fault had slice same looks stops =
+  pub refused : (a b : Seat) (work : Option Work) (given : Option Parts) (fault : TurnFault) → IsWorkOf a.seen a.actor work → Matches program work given → IsSameSeat a b → Looks a b → Faults b.seen a.actor given fault → IsLastWork work fault → StopsTurn program b fault
+  refused a b work given fault had slice same looks stops last =
       record {
         work = work;
         earlier = a.seen;
@@ -74,11 +80,13 @@ module _ (program : Program) where
         begins = looks.begins;
         since = subst (λ actor. turns_by actor b.seen.history ≡ turns_by actor a.seen.history) (sym same.actor) looks.turns;
         stops = inr (given, slice, subst (λ actor. Faults b.seen actor given fault) (sym same.actor) stops);
+        last = last;
       }
 
   -- a turn of the console, which never has a work
   pub refused_console : (a b : Seat) (fault : TurnFault) → a.actor ≡ 0 → IsSameSeat a b → Looks a b → Faults b.seen a.actor None fault → StopsTurn program b fault
-  refused_console a b fault console same looks stops = refused a b None None fault (λ some. absurd (omega (arith, some, console))) tt same looks stops
+  refused_console a b fault console same looks stops =
+      refused a b None None fault (λ some. absurd (omega (arith, some, console))) tt same looks stops (λ now is. no-work b.seen a.actor now console (subst (λ f. Faults b.seen a.actor None f) is stops).0)
 
   -- a seat whose turn was stopped before it made n
   pub stopped : (m n : ℕ) (fault : TurnFault) (a b : Seat) → m < n → HasMade m a b → StopsTurn program b fault → HasStopped program n fault a b
@@ -93,7 +101,7 @@ module _ (program : Program) where
   from_freed n a b x m = record { continues = record { station = m.continues.station; actor = m.continues.actor; begins = m.continues.begins }; turns = m.turns }
 
   still_stops : (b : Seat) (y : Option TurnFault) (fault : TurnFault) → StopsTurn program b fault → StopsTurn program (record b { stopped = y }) fault
-  still_stops b y fault f = record { work = f.work; earlier = f.earlier; had = f.had; legal = f.legal; begins = f.begins; since = f.since; stops = f.stops }
+  still_stops b y fault f = record { work = f.work; earlier = f.earlier; had = f.had; legal = f.legal; begins = f.begins; since = f.since; stops = f.stops; last = f.last }
 
   pub stays : (n : ℕ) (fault : TurnFault) (a b : Seat) (y : Option TurnFault) → HasStopped program n fault a b → HasStopped program n fault a (record b { stopped = y })
   stays n fault a b y s = record { made = s.made; fewer = s.fewer; turns = to_kept s.made a b y s.turns; stops = still_stops b y fault s.stops }

@@ -1,12 +1,17 @@
 -- What the seats of a free run say of its history.
-use Rattle.std.proofs.Common.{◌≡◌, ℕ, ◌+◌, ◌<◌, ◌≤◌, ◌==◌, List, [], Some, length, count_by, slice_index_or, sym, ◌∙◌, ap, subst, arith}
+use Rattle.std.proofs.Common.{◌≡◌, ℕ, ◌+◌, ◌<◌, ◌≤◌, ◌==◌, List, [], Option, Some, None, inl, inr, length, count_by, slice_index_or, refl, sym, ◌∙◌, ap, subst, arith}
 use Rattle.std.specs.List.{slice_get}
 use Rattle.std.proofs.lemmas.Option.{get_or_from_slice_get, slice_get-get_or, slice_get_within}
 use Rattle.lot_simulation.specs.World.{Program}
+use Rattle.lot_engine.specs.declared.fault.TurnFault.{TurnFault}
+use Rattle.lot_engine.specs.declared.fault.TurnFault.TheVariants.{Stale}
+use Rattle.lot_engine.specs.declared.turn.Work.{Work}
+use Rattle.lot_engine.specs.Fitting.{FitsIn, IsStale}
 use Rattle.lot_engine.specs.Seen.{Setting, Seen}
+use Rattle.lot_engine.specs.Turns.{Faults, IsWorkOf, Matches}
 use Rattle.lot_station.specs.Holders.{Holder, AreDealt, CountsAgree, InOrder, dealt}
-use Rattle.lot_station.specs.Settings.{IsLegalIn, times_in}
-use Rattle.lot_processors.specs.Workers.{AllMade, HasOthers, free_setting, turns_for}
+use Rattle.lot_station.specs.Settings.{AtSome, IsLegalIn, times_in}
+use Rattle.lot_processors.specs.Workers.{AllMade, FirstStops, HasOthers, IsStopped, StopsTurn, free_setting, turns_for}
 
 -- what is added to nothing
 from_nothing : (m n k : ℕ) → m ≡ n + k → n ≡ 0 → m ≡ k
@@ -29,6 +34,26 @@ module _ (program : Program) (opened closed : Seen) (before after : List Holder)
       let of_old : old.actor ≡ actor = ap (λ (h : Holder). h.actor) was in
       ap (λ a. times_in closed a) (sym its) ∙ sym (agree actor new at_new) ∙ from_nothing new.turns old.turns (turns_for program old.actor) does.made.turns first ∙ ap (λ a. turns_for program a) of_old
 
+-- ---- a worker's own program
+
+module _ (setting : Setting) (program : Program) (actor : ℕ) (fault : TurnFault) (own : setting.program ≡ program) where
+  -- a work of the program fits it
+  fits : (work : Option Work) → AtSome setting (λ x. IsWorkOf x actor work) → ¬ IsStale program work fault
+  fits None had stale = stale
+  fits (Some work) had stale =
+      let is = had.is_so.1 in
+      stale.1 (subst (λ (p : Program). FitsIn p work) own (record { script = is.there; place = is.fits; budget = is.some_left }))
+
+  -- and its slice is refused only for a work that came later
+  never_stale : StopsTurn setting program actor fault → (now : Option Work) → ¬ (fault ≡ Stale now)
+  never_stale stops now is = elim stops.stops.is_so [
+    | inl unfit ↦ fits stops.work stops.had unfit
+    | inr refused ↦
+        let seen : Seen = record { setting = setting; history = stops.stops.history } in
+        let stale = subst (λ f. Faults seen actor refused.0 f) is refused.2 in
+        stale.1 (subst (λ (p : Program). Matches p now refused.0) (sym own) (subst (λ work. Matches program work refused.0) (sym (stops.last now is)) refused.1))
+  ]
+
 -- ---- runs that give no system back
 
 module _ (program : Program) (opened : Seen) (setting : opened.setting ≡ free_setting program) (empty : opened.history ≡ []) (before after : List Holder) (deals : AreDealt opened before) where
@@ -36,6 +61,20 @@ module _ (program : Program) (opened : Seen) (setting : opened.setting ≡ free_
   new_seats =
       let same : opened ≡ record { setting = free_setting program; history = [] } = λ i. record { setting = setting i; history = empty i } in
       subst (λ (x : Seen). AreDealt x before) same deals
+
+  -- the first seat that was stopped
+  pub was_stopped : (station : Setting) (fault : TurnFault) → station ≡ opened.setting → FirstStops station program fault before after → IsStopped program fault
+  was_stopped station fault is stops =
+      let first = subst (λ (s : Setting). FirstStops s program fault before after) (is ∙ setting) stops in
+      let d = dealt opened 0 in
+      let stopped = (first.stopped first.place d first.there refl).0 in
+      record {
+        not_stale = never_stale (free_setting program) program (slice_index_or before first.place d).actor fault refl stopped.stops;
+        before = before;
+        after = after;
+        dealt = new_seats;
+        first = first;
+      }
 
   module _ (station : Setting) (is : station ≡ opened.setting) (made : AllMade station program before after) (as_many : length after ≡ length before) where
     -- the seats are still in order

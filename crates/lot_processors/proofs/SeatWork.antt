@@ -1,20 +1,40 @@
 -- What a seat of a station has made, one call after another.
-use Rattle.std.proofs.Common.{◌≡◌, refl, ℕ, ◌+◌, ◌<◌, ◌∷◌, ◌++◌, [], List, length, slice_index_or, Option, Some, None, inl, inr, sym, ◌∙◌, ap, subst, arith, length-append}
-use Rattle.std.proofs.lemmas.List.Elements.{All-push}
-use Rattle.std.proofs.lemmas.List.Sums.{sum_by_push}
+use Rattle.std.proofs.Common.{◌≡◌, refl, ℕ, ◌+◌, ◌<◌, ◌∷◌, ◌++◌, [], List, length, slice_index_or, Option, Some, None, inl, inr, sym, ◌∙◌, ap, ap₂, subst, arith, All, length-append}
+use Rattle.std.proofs.lemmas.List.Elements.{All-append, All-push}
+use Rattle.std.proofs.lemmas.List.Sums.{sum_by-append, sum_by_push}
 use Rattle.lot_simulation.specs.Report.{quanta_in, ticks_in}
 use Rattle.lot_simulation.specs.World.{Program}
 use Rattle.lot_script.specs.Slices.{Parts}
 use Rattle.lot_engine.specs.declared.fault.TurnFault.{TurnFault}
+use Rattle.lot_engine.specs.declared.fault.TurnFault.TheVariants.{Stale}
 use Rattle.lot_engine.specs.declared.turn.Answer.{Answer}
 use Rattle.lot_engine.specs.declared.turn.Work.{Work}
 use Rattle.lot_engine.specs.Fitting.{IsStale}
-use Rattle.lot_engine.specs.Seen.{Setting}
+use Rattle.lot_engine.specs.Seen.{Seen, Setting}
 use Rattle.lot_engine.specs.Turns.{Answers, Faults, Goes, IsWorkOf, Matches}
 use Rattle.lot_station.specs.Holders.{Holder, with_turn}
 use Rattle.lot_station.specs.Settings.{AtSome}
-use Rattle.lot_processors.specs.Workers.{AllMade, EachSeat, FirstStops, HasMade, HasMadeAll, HasStopped, HasWorked, IsFirstFault, IsReply, StopsTurn, turns_for}
+use Rattle.lot_processors.specs.Workers.{AllMade, EachSeat, FirstStops, HasMade, HasMadeAll, HasStopped, HasWorked, IsFirstFault, IsLastWork, IsReply, StopsTurn, turns_for}
 use Rattle.lot_processors.proofs.SeatsWork as seats
+
+-- a fault carries one work
+stale-same : (work now : Option Work) (fault : TurnFault) → fault ≡ Stale work → fault ≡ Stale now → now ≡ work
+stale-same work now fault one other = cc
+
+-- a work that doesn't fit is carried by the fault
+pub stale-carries : (program : Program) (work : Option Work) (fault : TurnFault) → IsStale program work fault → IsLastWork work fault
+stale-carries program None fault stale now is = absurd stale
+stale-carries program (Some work) fault stale now is = stale-same (Some work) now fault stale.0 is
+
+-- the console has no work
+pub no-work : (x : Seen) (actor : ℕ) (work : Option Work) → actor ≡ 0 → IsWorkOf x actor work → work ≡ None
+no-work x actor None console is = refl
+no-work x actor (Some work) console is = absurd (omega (arith, console, is.0))
+
+pub console-last : (setting : Setting) (actor : ℕ) (fault : TurnFault) → actor ≡ 0 → AtSome setting (λ x. Faults x actor None fault) → IsLastWork None fault
+console-last setting actor fault console stops now is =
+    let seen : Seen = record { setting = setting; history = stops.history } in
+    no-work seen actor now console (subst (λ f. Faults seen actor None f) is stops.is_so).0
 
 module _ (setting : Setting) where
   -- a seat that made nothing
@@ -36,19 +56,37 @@ module _ (setting : Setting) where
         ticks = omega (arith, ap (λ (h : Holder). h.ticks) is, made.ticks, sum_by_push ticks_in made.replies answer.reply);
       }
 
+  -- first n turns, and then m more
+  pub made-then : (n m : ℕ) (a b c : Holder) → HasMade setting n a b → HasMade setting m b c → HasMade setting (n + m) a c
+  made-then n m a b c first then = record {
+    actor = then.actor ∙ first.actor;
+    replies = first.replies ++ then.replies;
+    each = length-append first.replies then.replies ∙ ap₂ (λ (i j : ℕ). i + j) first.each then.each;
+    answered = All-append (IsReply setting a.actor) first.replies then.replies first.answered (subst (λ actor. All (IsReply setting actor) then.replies) first.actor then.answered);
+    turns = omega (arith, first.turns, then.turns);
+    quanta = omega (arith, first.quanta, then.quanta, sum_by-append quanta_in first.replies then.replies);
+    ticks = omega (arith, first.ticks, then.ticks, sum_by-append ticks_in first.replies then.replies);
+  }
+
+  -- the work that a refused turn carries is the actor's
+  pub later-had : (actor : ℕ) (given : Option Parts) (fault : TurnFault) (work : Option Work) → fault ≡ Stale work → AtSome setting (λ x. Faults x actor given fault) → AtSome setting (λ x. IsWorkOf x actor work)
+  later-had actor given fault work is stops =
+      record { history = stops.history; legal = stops.legal; is_so = (subst (λ f. Faults (record { setting = setting; history = stops.history }) actor given f) is stops.is_so).0 }
+
   module _ (program : Program) (actor : ℕ) (fault : TurnFault) where
     -- a work that doesn't fit the program at hand
     pub unfit : (work : Option Work) → AtSome setting (λ x. IsWorkOf x actor work) → IsStale program work fault → StopsTurn setting program actor fault
-    unfit work had stale = record { work = work; had = had; stops = record { history = had.history; legal = had.legal; is_so = inl stale } }
+    unfit work had stale = record { work = work; had = had; stops = record { history = had.history; legal = had.legal; is_so = inl stale }; last = stale-carries program work fault stale }
 
     -- a turn with the slice of the work
-    pub refused : (work : Option Work) (given : Option Parts) → AtSome setting (λ x. IsWorkOf x actor work) → Matches program work given → AtSome setting (λ x. Faults x actor given fault) → StopsTurn setting program actor fault
-    refused work given had slice stops = record { work = work; had = had; stops = record { history = stops.history; legal = stops.legal; is_so = inr (given, slice, stops.is_so) } }
+    pub refused : (work : Option Work) (given : Option Parts) → AtSome setting (λ x. IsWorkOf x actor work) → Matches program work given → AtSome setting (λ x. Faults x actor given fault) → IsLastWork work fault → StopsTurn setting program actor fault
+    refused work given had slice stops last =
+        record { work = work; had = had; stops = record { history = stops.history; legal = stops.legal; is_so = inr (given, slice, stops.is_so) }; last = last }
 
     -- a turn of the console, which never has a work
     pub refused_console : actor ≡ 0 → AtSome setting (λ x. Faults x actor None fault) → StopsTurn setting program actor fault
     refused_console console stops =
-        refused None None (record { history = stops.history; legal = stops.legal; is_so = λ some. absurd (omega (arith, some, console)) }) tt stops
+        refused None None (record { history = stops.history; legal = stops.legal; is_so = λ some. absurd (omega (arith, some, console)) }) tt stops (console-last setting actor fault console stops)
 
   -- a seat whose turn was stopped before it made n
   pub stopped : (program : Program) (m n : ℕ) (fault : TurnFault) (a b c : Holder) → m < n → HasMade setting m a b → c ≡ b → StopsTurn setting program b.actor fault → HasStopped setting program n fault a c

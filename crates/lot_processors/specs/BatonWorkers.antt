@@ -8,7 +8,7 @@ use Rattle.lot_engine.specs.Turns.{IsWorkOf}
 use Rattle.lot_station.specs.BatonSeats.{Seat}
 use Rattle.lot_station.specs.BatonViews.{Extends}
 use Rattle.lot_station.specs.Settings.{IsLegalIn, turns_by}
-use Rattle.lot_processors.specs.Workers.{EachSeat, Stops, turns_for}
+use Rattle.lot_processors.specs.Workers.{EachSeat, IsLastWork, Stops, turns_for}
 
 -- ---- turns
 
@@ -30,7 +30,7 @@ pub record HasMade (n : ℕ) (before after : Seat) : Type 0 where
 -- ---- faults
 
 -- The fault stops a turn of the seat's actor after the legal history that the seat has seen. The work at hand was the
--- actor's after a prefix of it, and the actor has made no turn since.
+-- actor's after a prefix of it, the actor has made no turn since, and it has no later work to try.
 pub record StopsTurn (program : Program) (s : Seat) (fault : TurnFault) : Type 0 where
   pub work : Option Work
   pub earlier : Seen
@@ -39,6 +39,7 @@ pub record StopsTurn (program : Program) (s : Seat) (fault : TurnFault) : Type 0
   pub begins : Extends s.seen earlier
   pub since : turns_by s.actor s.seen.history ≡ turns_by s.actor earlier.history
   pub stops : Stops program s.actor work s.seen fault
+  pub last : IsLastWork work fault
 
 -- the seat has made fewer than n turns, and then the fault stopped its next turn
 pub record HasStopped (program : Program) (n : ℕ) (fault : TurnFault) (before after : Seat) : Type 0 where

@@ -5,6 +5,7 @@ use Rattle.lot_simulation.specs.Report.{quanta_in, ticks_in}
 use Rattle.lot_simulation.specs.World.{Program, IsLegal}
 use Rattle.lot_script.specs.Slices.{Parts}
 use Rattle.lot_engine.specs.declared.fault.TurnFault.{TurnFault}
+use Rattle.lot_engine.specs.declared.fault.TurnFault.TheVariants.{Stale}
 use Rattle.lot_engine.specs.declared.turn.Answer.{Answer}
 use Rattle.lot_engine.specs.declared.turn.Work.{Work}
 use Rattle.lot_engine.specs.Fitting.{IsStale}
@@ -50,12 +51,17 @@ abbrev pub Stops : Program → ℕ → Option Work → Seen → TurnFault → Ty
 Stops program actor work now fault =
     IsStale program work fault ⊎ ((given : Option Parts) × Matches program work given × Faults now actor given fault)
 
+-- no later work is left to try: a fault that says Stale carries the very work whose slice it refused
+abbrev pub IsLastWork : Option Work → TurnFault → Type 0
+IsLastWork work fault = (now : Option Work) → fault ≡ Stale now → now ≡ work
+
 -- The fault stops a turn of the actor in a station of this program and room: the work at hand is the actor's after
--- some legal history, and the turn is stopped after some legal history.
+-- some legal history, the turn is stopped after some legal history, and the actor has no later work to try.
 pub record StopsTurn (setting : Setting) (program : Program) (actor : ℕ) (fault : TurnFault) : Type 0 where
   pub work : Option Work
   pub had : AtSome setting (λ x. IsWorkOf x actor work)
   pub stops : AtSome setting (λ x. Stops program actor work x fault)
+  pub last : IsLastWork work fault
 
 -- the seat has made fewer than n turns, and then the fault stopped its next turn
 pub record HasStopped (setting : Setting) (program : Program) (n : ℕ) (fault : TurnFault) (before after : Holder) : Type 0 where
@@ -121,8 +127,10 @@ pub record IsFreeRun (program : Program) (history : List ℕ) : Type 0 where
   pub legal : IsLegal program (turns_in_all program) history
   pub turns : (actor : ℕ) → actor ≤ program.limits.processors → count_by (λ a. a == actor) history ≡ turns_for program actor
 
--- this is the fault of the first stopped seat in a free run of the program
+-- This is the fault of the first stopped seat in a free run of the program. It isn't Stale: what another actor did to
+-- the work of a processor stops nobody.
 pub record IsStopped (program : Program) (fault : TurnFault) : Type 0 where
+  pub not_stale : (work : Option Work) → ¬ (fault ≡ Stale work)
   pub before : List Holder
   pub after : List Holder
   pub dealt : AreDealt (record { setting = free_setting program; history = [] }) before

@@ -1,11 +1,15 @@
 //! One worker for each seat of a system that its seats pass around as a baton.
-ghost use Rattle.std.specs.Prelude.{◌≡◌, All, IfErr, IfSome, OnOk, None, length};
+ghost use Rattle.std.specs.Prelude.{◌≡◌, All, IfErr, IfOk, IfSome, OnOk, None, length};
+ghost use Rattle.lot_engine.specs.Turns.{IsWorkOf};
 ghost use Rattle.lot_station.specs.BatonSeats.{IsSeatOf};
+ghost use Rattle.lot_station.specs.Settings.{IsLegalIn};
 ghost use Rattle.lot_processors.specs.BatonWorkers.{AllMade, FirstStops, HasMade, HasStopped, HasWorked, IsFirstFault};
+ghost use Rattle.lot_processors.specs.BatonWorkers.{StopsTurn};
 ghost use Rattle.lot_processors.specs.Workers.{fault_in, turns_for};
 
+use crate::later::{copy_of, later_work};
 use crate::{Gate, RunFault};
-use lot_engine::{TurnFault, slice_for};
+use lot_engine::{TurnFault, Work, slice_for};
 use lot_station::{BatonSeat, BatonStation};
 use lot_text::Program;
 use std::sync::Wait;
@@ -115,7 +119,7 @@ fn command_turns(
     Ok(())
 }
 
-/// Makes the turns of a processor, each after passing the gate and with the slice of its work.
+/// Makes the turns of a processor, each after passing the gate.
 fn processor_turns(
     rt: &impl Wait,
     station: &BatonStation,
@@ -130,9 +134,36 @@ fn processor_turns(
 {
     let mut work = station.work(rt, seat);
     for made in 0..program.turns() {
-        let slice = slice_for(program, work)?;
         gate.pass(seat.actor(), made + 1);
-        work = station.turn(rt, seat, slice)?.next;
+        work = turn_with(rt, station, program, seat, work)?;
     }
     Ok(())
+}
+
+/// Makes a turn with the slice of this work, or of a later one if another actor has changed the work meanwhile, as a
+/// kill of the running thread does. Returns the next work.
+fn turn_with(
+    rt: &impl Wait,
+    station: &BatonStation,
+    program: &Program,
+    seat: &mut BatonSeat,
+    work: Option<Work>,
+) -> Result<Option<Work>, TurnFault>
+    requires station { seat.old.station ≡ station.now.id }
+    requires legal { IsLegalIn seat.old.seen }
+    requires work { IsWorkOf seat.old.seen seat.old.actor work }
+    ensures kept { seat.new.stopped ≡ seat.old.stopped }
+    ensures made { OnOk result (HasMade 1 seat.old seat.new) }
+    ensures next { IfOk result (λ next. IsLegalIn seat.new.seen × IsWorkOf seat.new.seen seat.new.actor next) }
+    ensures err { IfErr result (λ fault. HasMade 0 seat.old seat.new × StopsTurn program.now seat.new fault) }
+{
+    let mut work = work;
+    for _ in rt.forever() {
+        let slice = slice_for(program, copy_of(&work))?;
+        match station.turn(rt, seat, slice) {
+            Ok(answer) => return Ok(answer.next),
+            Err(fault) => work = later_work(fault, &work)?,
+        }
+    }
+    unreachable!()
 }

@@ -3,7 +3,7 @@
 /// A gate: the worker of each processor passes it before each of its turns, while it holds nothing that the others
 /// need. The console's worker passes none.
 pub trait Gate {
-    /// The worker of processor `processor` calls this with its slice ready, before it makes its turn number `turn`,
+    /// The worker of processor `processor` calls this with its work at hand, before it makes its turn number `turn`,
     /// which counts from 1.
     fn pass(&self, processor: u32, turn: u32);
 }

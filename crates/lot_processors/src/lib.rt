@@ -5,6 +5,7 @@ mod baton_workers;
 mod fault;
 mod free_runs;
 mod gate;
+mod later;
 mod workers;
 
 pub use baton_workers::run_all_baton;

@@ -1,10 +1,13 @@
 //! One worker for each seat.
-ghost use Rattle.std.specs.Prelude.{◌≡◌, All, IfErr, IfSome, OnOk, None, length};
+ghost use Rattle.std.specs.Prelude.{◌≡◌, All, IfErr, IfOk, IfSome, OnOk, None, length};
+ghost use Rattle.lot_engine.specs.Turns.{IsWorkOf};
+ghost use Rattle.lot_station.specs.Settings.{AtSome};
 ghost use Rattle.lot_processors.specs.Workers.{AllMade, FirstStops, HasMade, HasStopped, HasWorked, IsFirstFault};
-ghost use Rattle.lot_processors.specs.Workers.{fault_in, turns_for};
+ghost use Rattle.lot_processors.specs.Workers.{StopsTurn, fault_in, turns_for};
 
+use crate::later::{copy_of, later_work};
 use crate::{Gate, RunFault};
-use lot_engine::{TurnFault, slice_for};
+use lot_engine::{TurnFault, Work, slice_for};
 use lot_station::{Seat, Station, TurnLedger};
 use lot_text::Program;
 use std::sync::Wait;
@@ -118,7 +121,7 @@ fn command_turns<T: TurnLedger, Q: Ledger, K: Ledger>(
     Ok(())
 }
 
-/// Makes the turns of a processor, each after passing the gate and with the slice of its work.
+/// Makes the turns of a processor, each after passing the gate.
 fn processor_turns<T: TurnLedger, Q: Ledger, K: Ledger>(
     rt: &impl Wait,
     station: &Station<T, Q, K>,
@@ -132,9 +135,35 @@ fn processor_turns<T: TurnLedger, Q: Ledger, K: Ledger>(
 {
     let mut work = station.work(rt, seat);
     for made in 0..program.turns() {
-        let slice = slice_for(program, work)?;
         gate.pass(seat.actor(), made + 1);
-        work = station.turn(rt, seat, slice)?.next;
+        work = turn_with(rt, station, program, seat, work)?;
     }
     Ok(())
+}
+
+/// Makes a turn with the slice of this work, or of a later one if another actor has changed the work meanwhile, as a
+/// kill of the running thread does. Returns the next work.
+fn turn_with<T: TurnLedger, Q: Ledger, K: Ledger>(
+    rt: &impl Wait,
+    station: &Station<T, Q, K>,
+    program: &Program,
+    seat: &mut Seat<T, Q, K>,
+    work: Option<Work>,
+) -> Result<Option<Work>, TurnFault>
+    requires { AtSome station.now (λ x. IsWorkOf x seat.old.actor work) }
+    ensures kept { seat.new.stopped ≡ seat.old.stopped }
+    ensures made { OnOk result (HasMade station.now 1 seat.old seat.new) }
+    ensures next { IfOk result (λ next. AtSome station.now (λ x. IsWorkOf x seat.old.actor next)) }
+    ensures err { IfErr result (λ fault. (seat.new ≡ seat.old)
+        × StopsTurn station.now program.now seat.old.actor fault) }
+{
+    let mut work = work;
+    for _ in rt.forever() {
+        let slice = slice_for(program, copy_of(&work))?;
+        match station.turn(rt, seat, slice) {
+            Ok(answer) => return Ok(answer.next),
+            Err(fault) => work = later_work(fault, &work)?,
+        }
+    }
+    unreachable!()
 }

@@ -7,6 +7,7 @@ mod baton;
 mod full;
 mod gates;
 mod many;
+mod outdated;
 mod racing;
 mod refusing;
 mod replaying;

@@ -3,7 +3,7 @@ use Rattle.std.proofs.Common.{◌≡◌, ◌+◌, ◌∙◌, refl, sym, subst, a
 use Rattle.std.proofs.lemmas.Result.{err_from_is_err_and}
 use Rattle.lot_engine.specs.Turns.{IsWorkOf}
 use Rattle.lot_processors.specs.BatonWorkers.{HasMade}
-use Rattle.lot_processors.proofs.BatonWork.{looked, made_then, next_work, none_made, refused, stopped, turned, unfit}
+use Rattle.lot_processors.proofs.BatonWork.{looked, made_then, none_made, stopped}
 use Rattle.lot_processors.proofs.baton_workers.processor_turns.Goals as goal
 
 pub loop-made-init : goal.loop-made-init
@@ -12,44 +12,24 @@ loop-made-init g c =
     let told = c.work-work.ensures in
     (refl, none_made first, told.seen.legal, subst (λ actor. IsWorkOf first.seen actor c.work-work.result) (sym told.same.actor) told.work)
 
-pub returns-in_err-slice-clause-err : goal.returns-in_err-slice-clause-err
-returns-in_err-slice-clause-err g c =
-    let program = c.args.program.now in
-    let first = c.work-work.new.seat in
-    let before = c.loop-made.seat in
-    let i = c.loop-made.invariant in
-    let p = err_from_is_err_and c.from_residual.result c.from_residual.ensures.1 in
-    rw (p.1, p.2)
-    (stopped program (0 + c.loop-made.made) _ _ c.args.seat.now before (omega (arith, c.loop-made-test.true, c.turns-made-end.ensures.turns))
-    (made_then 0 c.loop-made.made c.args.seat.now first before (looked c.args.seat.now first c.work-work.ensures.same c.work-work.ensures.seen) i.1)
-    (unfit program before c.loop-made.work _ i.2 i.3 c.in_err-slice.ensures.err))
-
 pub returns-in_err-work-clause-err : goal.returns-in_err-work-clause-err
 returns-in_err-work-clause-err g c =
     let program = c.args.program.now in
     let first = c.work-work.new.seat in
     let before = c.loop-made.seat in
-    let after = c.turn.new.seat in
-    let i = c.loop-made.invariant in
+    let after = c.turn_with.new.seat in
     let told = c.in_err-work.ensures in
-    let p = err_from_is_err_and c.from_residual-in_err-work.result c.from_residual-in_err-work.ensures.1 in
+    let p = err_from_is_err_and c.from_residual.result c.from_residual.ensures.1 in
     rw (p.1, p.2)
     (stopped program (0 + (c.loop-made.made + 0)) _ _ c.args.seat.now after (omega (arith, c.loop-made-test.true, c.turns-made-end.ensures.turns))
     (made_then 0 (c.loop-made.made + 0) c.args.seat.now first after (looked c.args.seat.now first c.work-work.ensures.same c.work-work.ensures.seen)
-    (made_then c.loop-made.made 0 first before after i.1 (looked before after told.same told.err.0)))
-    (refused program before after c.loop-made.work _ _ i.3 c.in_ok-slice.ensures.ok told.same told.err.0 told.err.1))
+    (made_then c.loop-made.made 0 first before after c.loop-made.invariant.1 told.err.0)) told.err.1)
 
 pub loop-made-preserved : goal.loop-made-preserved
 loop-made-preserved g c =
-    let before = c.loop-made.seat in
-    let after = c.turn.new.seat in
     let i = c.loop-made.invariant in
-    let told = c.in_ok-work.ensures in (
-      told.same.stopped ∙ i.0,
-      made_then c.loop-made.made 1 c.work-work.new.seat before after i.1 (turned before after _ c.in_ok-work.field-0 told.same told.ok),
-      told.ok.legal,
-      next_work before after _ c.in_ok-work.field-0 told.same told.ok,
-    )
+    let told = c.in_ok-work.ensures in
+    (c.turn_with.ensures.kept ∙ i.0, made_then c.loop-made.made 1 c.work-work.new.seat c.loop-made.seat c.turn_with.new.seat i.1 told.made, told.next.0, told.next.1)
 
 pub returns-clause-ok : goal.returns-clause-ok
 returns-clause-ok g c =

@@ -2,8 +2,8 @@
 use Rattle.std.proofs.Common.{◌≡◌, ◌≤◌, inl, inr, sym, ◌∙◌, ap, subst}
 use Rattle.lot_simulation.specs.World.{IsLegal}
 use Rattle.lot_engine.specs.Seen.{Setting}
-use Rattle.lot_processors.specs.Workers.{AllMade}
-use Rattle.lot_processors.proofs.FreeRuns.{free_turns, has_others, still_in_order}
+use Rattle.lot_processors.specs.Workers.{AllMade, fault_in}
+use Rattle.lot_processors.proofs.FreeRuns.{free_turns, has_others, still_in_order, was_stopped}
 use Rattle.lot_processors.proofs.free_runs.run_system.Goals as goal
 
 pub returns-in-Ok-close-clause-history : goal.returns-in-Ok-close-clause-history
@@ -20,6 +20,12 @@ returns-in-Ok-close-clause-history g c =
           (ap (λ (s : Setting). s.program.limits.processors) (sym opened)) c.in-Ok.ensures.seats made c.in-Ok-close.ensures.order c.in-Ok-close.ensures.counts actor
           (subst (λ p. actor ≤ p) last there);
     }
+
+pub returns-in-Err-clause-fault : goal.returns-in-Err-clause-fault
+returns-in-Err-clause-fault g c =
+    let opened = c.in-Ok.ensures.station in
+    was_stopped c.args.program.now c.args.system c.requires.setting c.requires.empty c.in-Ok.seats.items c.run_all_of.new.seats.items c.in-Ok.ensures.seats
+    c.in-Ok.station (fault_in c.in-Err.fault) opened c.in-Err.ensures.err
 
 pub returns-clause-fault : goal.returns-clause-fault
 returns-clause-fault g c =
