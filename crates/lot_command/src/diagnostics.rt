@@ -1,21 +1,27 @@
 //! Diagnostics in words on standard error.
 ghost use Rattle.std.specs.Prelude.{◌≡◌, IfOk, false};
 
+use crate::run::InputRunFault;
 use crate::schedule::without_schedule;
-use lot_io::Watched;
+use lot_io::{IoFault, Watched};
 use lot_simulation::InputFault;
 use lot_system::Warnings;
 use lot_text::{ParseFault, parse};
-use lot_words::{line_to_skip, write_warnings, write_words};
+use lot_words::{
+    Asked, Place, line_to_skip, write_no_thread, write_notes, write_warnings, write_words,
+};
 use std::alloc::{AllocError, Global};
-use std::io;
-use std::io::Write;
+use std::io::{ErrorKind, Write};
+use std::{fmt, io};
 
 /// The largest number of faults that are reported of an input.
 const MOST_FAULTS: u32 = 10;
 
-/// The line after them, if the input has more.
-const MORE_FAULTS: &str = "there are more faults\n";
+/// What is said after them, if the input has more.
+const MORE_FAULTS: &str = "there are more faults";
+
+/// What is said if there is no memory to say more.
+const NO_MEMORY: &str = "out of memory\n";
 
 /// The diagnostics for standard error. The output doesn't depend on them, and of the status only whether a refusal
 /// ended a strict play.
@@ -49,20 +55,28 @@ impl Diagnostics {
         self.input.shrink_to_fit();
     }
 
-    /// Writes the faults of the refused input, a line for each: the first, and up to nine others that aren't its
-    /// consequences. It turns the faulty lines into comments. If out of memory, or if the errors fail, it reports no
-    /// more faults.
-    pub(crate) fn say_why<E: Write>(&mut self, alloc: Global, errors: &mut Watched<E>) {
+    /// Writes the faults of the refused input, that of the file with this name or of standard input, a line for each:
+    /// the first, and up to nine others that aren't its consequences. It turns the faulty lines into comments. If out
+    /// of memory, or if the errors fail, it reports no more faults.
+    pub(crate) fn say_why<E: Write>(
+        &mut self,
+        alloc: Global,
+        file: Option<&str>,
+        errors: &mut Watched<E>,
+    ) {
         for _ in 0..MOST_FAULTS {
             let Some(fault) = self.fault(alloc) else {
                 return;
             };
-            if self.say_fault(alloc, fault, errors).is_err() || !self.skip(alloc, fault) {
+            if self.say_fault(alloc, file, fault, errors).is_err() || !self.skip(alloc, fault) {
                 return;
             }
         }
         if self.fault(alloc).is_some() {
-            let _ = errors.write_all(MORE_FAULTS.as_bytes());
+            let place = Place { file, line: None };
+            let mut words = Vec::new(alloc);
+            let made = writeln!(words, "{place}{MORE_FAULTS}");
+            say(errors, made, &words);
         }
     }
 
@@ -78,11 +92,12 @@ impl Diagnostics {
     fn say_fault<E: Write>(
         &self,
         alloc: Global,
+        file: Option<&str>,
         fault: InputFault,
         errors: &mut Watched<E>,
     ) -> io::Result<()> {
         let mut words = Vec::new(alloc);
-        write_words(alloc, &mut words, self.input.as_slice(), fault)?;
+        write_words(alloc, &mut words, self.input.as_slice(), file, fault)?;
         errors.write_all(words.as_slice())
     }
 
@@ -100,23 +115,104 @@ impl Diagnostics {
         }
     }
 
-    /// Writes the warnings of the run. If out of memory, or if the errors fail, it reports nothing.
-    pub(crate) fn say_warnings<E: Write>(&self, alloc: Global, errors: &mut Watched<E>) {
+    /// Writes the warnings of the run, and why it may show little. If out of memory, or if the errors fail, it reports
+    /// nothing.
+    pub(crate) fn say_warnings<E: Write>(
+        &self,
+        alloc: Global,
+        asked: Asked,
+        file: Option<&str>,
+        errors: &mut Watched<E>,
+    ) {
         let mut words = Vec::new(alloc);
-        let made = write_warnings(&mut words, &self.warnings, self.input.as_slice());
+        let made = self.write_warnings(&mut words, asked, file);
         say(errors, made, &words);
+    }
+
+    /// Writes the warnings of the run, and why it may show little: that it has no thread if there is no warning.
+    fn write_warnings(
+        &self,
+        words: &mut Vec<u8>,
+        asked: Asked,
+        file: Option<&str>,
+    ) -> io::Result<()> {
+        let input = self.input.as_slice();
+        write_warnings(words, &self.warnings, input, file)?;
+        if words.is_empty() {
+            write_no_thread(words, input, file)?;
+        }
+        write_notes(words, asked, input, file)
     }
 }
 
-/// Writes why the file with this name can't be read. If out of memory, or if the errors fail, it reports nothing.
-pub(crate) fn say_unread<E: Write>(
+/// Writes why a request on the file with this name, or on standard input, has failed, where the reader or the writer
+/// gave this reason if one has. A closed pipe is no failure to be told, since its reader wants no more. If the errors
+/// fail, it reports nothing.
+pub(crate) fn say_failure<E: Write>(
     alloc: Global,
-    (name, reason): (&str, io::Error),
+    file: Option<&str>,
+    fault: &InputRunFault,
+    reason: Option<io::Error>,
     errors: &mut Watched<E>,
 ) {
+    if is_closed_pipe(reason) {
+        return;
+    }
     let mut words = Vec::new(alloc);
-    let made = writeln!(words, "error: can't read '{name}': {reason}");
-    say(errors, made, &words);
+    match write_failure(
+        &mut words,
+        Place { file, line: None },
+        fault,
+        Because(reason),
+    ) {
+        Ok(()) => say(errors, Ok(()), &words),
+        Err(_) => say_no_memory(errors),
+    }
+}
+
+/// Writes that there is no memory, which takes none. If the errors fail, it reports nothing.
+pub(crate) fn say_no_memory<E: Write>(errors: &mut Watched<E>) {
+    let _ = errors.write_all(NO_MEMORY.as_bytes());
+}
+
+/// Whether a write failed for this reason since its reader has closed the pipe.
+fn is_closed_pipe(reason: Option<io::Error>) -> bool {
+    match reason {
+        Some(error) => error.kind() == ErrorKind::BrokenPipe,
+        None => false,
+    }
+}
+
+/// Writes why a request has failed.
+fn write_failure<W: Write>(
+    words: &mut W,
+    place: Place<'_>,
+    fault: &InputRunFault,
+    because: Because,
+) -> io::Result<()> {
+    match fault {
+        InputRunFault::Play(IoFault::Memory) => writeln!(words, "{place}out of memory"),
+        InputRunFault::Play(IoFault::Read) => {
+            writeln!(words, "{place}cannot read the input{because}")
+        }
+        InputRunFault::Play(IoFault::Write) => {
+            writeln!(words, "{place}cannot write the output{because}")
+        }
+        InputRunFault::Workers(fault) => writeln!(words, "{place}the run failed: {fault}"),
+    }
+}
+
+/// The reason of a failure, if it is known.
+#[derive(Clone, Copy)]
+struct Because(Option<io::Error>);
+
+impl fmt::Display for Because {
+    fn fmt<W: fmt::Write>(&self, f: &mut fmt::Formatter<W>) -> fmt::Result {
+        match &self.0 {
+            Some(reason) => write!(f, ": {reason}"),
+            None => Ok(()),
+        }
+    }
 }
 
 /// Writes these words to the errors at once, unless out of memory.

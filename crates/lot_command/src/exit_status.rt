@@ -1,18 +1,20 @@
 //! The exit status for the words, the input and the outputs.
-ghost use Rattle.std.specs.Prelude.{◌≡◌, ◌≢◌, ◌≤◌, false, IfSome};
+ghost use Rattle.std.specs.Prelude.{◌≡◌, ◌≢◌, ◌≤◌, false, IfOk};
+ghost use Rattle.std.specs.Result.{result_ok};
 ghost use Rattle.lot_command.specs.Statuses as statuses;
 ghost use Rattle.lot_command.specs.Statuses.{HasCome, IsStatusFor};
 ghost use Rattle.lot_command_line.specs.declared.request.Showing.{Showing};
 
-use crate::diagnostics::{Diagnostics, say_unread};
-use crate::run::run;
-use crate::source::{Inputs, Source};
-use crate::view::show;
+use crate::diagnostics::{Diagnostics, say_failure, say_no_memory};
+use crate::run::{InputRunFault, run};
+use crate::source::{Inputs, Recorded};
+use crate::view::shown;
 use clap::Error;
 use clap::error::ErrorKind;
-use lot_command_line::{CommandLine, Request, command_line_of};
-use lot_io::Watched;
+use lot_command_line::{CommandLine, Request, View, command_line_of};
+use lot_io::{IoFault, Watched};
 use lot_system::Played;
+use lot_words::Asked;
 use std::alloc::Global;
 use std::convert::AsStr;
 use std::io;
@@ -80,18 +82,19 @@ pub fn status<H: Threads + Wait + Sync, S: AsStr, I: Inputs, W: Write + Drop, E:
     let errors = Watched::new(errors);
     let status = match command_line_of(alloc, words) {
         Ok(line) => line_status(rt, alloc, &line, inputs, output, errors),
-        Err(error) => say_error(&error, output, errors),
+        Err(error) => say_error(alloc, &error, output, errors),
     };
     status.code()
 }
 
 /// The exit status if the words can't be read. A word that isn't UTF-8 is a refused command line: status 2, with a
-/// text on `errors`, or 3 if that fails. Out of memory is 3, without a text.
+/// text on `errors`, or 3 if that fails. Out of memory is 3, with a text too.
 pub fn unread_status<E: Write + Drop>(error: &io::Error, errors: E) -> u8 {
+    let mut errors = Watched::new(errors);
     if error.kind() == io::ErrorKind::OutOfMemory {
+        say_no_memory(&mut errors);
         return ExitStatus::Failed.code();
     }
-    let mut errors = Watched::new(errors);
     if errors.write_all(NOT_UTF8.as_bytes()).is_err() || errors.flush().is_err() {
         return ExitStatus::Failed.code();
     }
@@ -109,62 +112,62 @@ fn line_status<H: Threads + Wait + Sync, I: Inputs, W: Write + Drop, E: Write + 
 ) -> ExitStatus
     ensures { result ≢ ExitStatus.CommandLine }
 {
-    let request = &line.request;
-    let title = line.title;
     let Some(name) = line.file else {
-        let source = Source::standard(inputs.standard());
-        return request_status(rt, alloc, request, title, source, output, errors);
+        return request_status(rt, alloc, line, inputs.standard(), output, errors);
     };
     match inputs.open(name) {
-        Ok(file) => {
-            let source = Source::file(name, file);
-            request_status(rt, alloc, request, title, source, output, errors)
-        }
+        Ok(file) => request_status(rt, alloc, line, file, output, errors),
         Err(reason) => {
-            say_unread(alloc, (name, reason), &mut errors);
+            let fault = InputRunFault::Play(IoFault::Read);
+            say_failure(alloc, line.file, &fault, Some(reason), &mut errors);
             ExitStatus::Failed
         }
     }
 }
 
-/// The exit status of the request on this input, a picture with this title.
+/// The exit status of the command line, whose input this reader reads.
 fn request_status<H: Threads + Wait + Sync, R: Read + Drop, W: Write + Drop, E: Write + Drop>(
     rt: &H,
     alloc: Global,
-    request: &Request,
-    title: &str,
-    source: Source<'_, R>,
+    line: &CommandLine<'_>,
+    reader: R,
     output: Watched<W>,
     mut errors: Watched<E>,
 ) -> ExitStatus
     ensures request { result ≢ ExitStatus.CommandLine }
-    ensures shown { (showing : Showing) → request.now ≡ Request.Show showing
-        → IsStatusFor showing.view showing.seed (R.remaining source.entry.reader) result }
+    ensures shown { (showing : Showing) → line.now.request ≡ Request.Show showing
+        → IsStatusFor showing.view showing.seed (R.remaining reader.entry) result }
 {
     let Ok(buffered) = BufWriter::with_capacity(alloc, BUFFER, output) else {
+        say_no_memory(&mut errors);
         return ExitStatus::Failed;
     };
+    let source = Recorded::new(reader);
+    let sink = Recorded::new(buffered);
     let mut reader = Watched::new(source);
-    let mut writer = Watched::new(buffered);
+    let mut writer = Watched::new(sink);
     let Ok(mut diagnostics) = Diagnostics::nothing(alloc) else {
+        say_no_memory(&mut errors);
         return ExitStatus::Failed;
     };
     let came = answer(
         rt,
         alloc,
-        request,
-        title,
+        &line.request,
+        line.title,
         &mut diagnostics,
         &mut reader,
         &mut writer,
     );
-    let status = status_of(came, diagnostics.warnings.stopped);
-    say_outcome(alloc, came, &mut diagnostics, reader, &mut errors);
+    let status = status_of(&came, diagnostics.warnings.stopped);
+    let unread = reader.into_inner().into_failure();
+    let reason = unread.or(writer.into_inner().into_failure());
+    say_outcome(alloc, line, came, reason, &mut diagnostics, &mut errors);
     status
 }
 
 /// Writes the output of the request on the input of this reader, a picture with this title. It returns what came of
-/// the input, or none if the request failed, and stores diagnostics in `diagnostics`.
+/// the input, or why the request failed, and stores diagnostics in `diagnostics`.
 fn answer<H: Threads + Wait + Sync, R: Read, W: Write>(
     rt: &H,
     alloc: Global,
@@ -173,79 +176,118 @@ fn answer<H: Threads + Wait + Sync, R: Read, W: Write>(
     diagnostics: &mut Diagnostics,
     reader: &mut Watched<R>,
     writer: &mut Watched<W>,
-) -> Option<Played>
+) -> Result<Played, InputRunFault>
     requires { (reader.old.failed ≡ false) × (writer.old.failed ≡ false) }
     ensures { (showing : Showing) → request.now ≡ Request.Show showing
-        → IfSome result (HasCome showing.view showing.seed
+        → IfOk result (HasCome showing.view showing.seed
         (R.remaining reader.old.inner) (R.remaining reader.new.inner)
         diagnostics.old.warnings.stopped diagnostics.new.warnings.stopped) }
 {
     match request {
-        Request::Show(showing) => show(alloc, showing, title, diagnostics, reader, writer).ok(),
-        Request::Run => run(rt, alloc, diagnostics, reader, writer).ok(),
+        Request::Show(showing) => shown(alloc, showing, title, diagnostics, reader, writer),
+        Request::Run => run(rt, alloc, diagnostics, reader, writer),
     }
 }
 
 /// The exit status after a request, given what came of its input, if the request didn't fail, and whether a refusal
 /// ended its play.
-fn status_of(came: Option<Played>, stopped: bool) -> ExitStatus
-    ensures status { result ≡ statuses.status_of came stopped }
+fn status_of(came: &Result<Played, InputRunFault>, stopped: bool) -> ExitStatus
+    ensures status { result ≡ statuses.status_of (result_ok came.now) stopped }
     ensures request { result ≢ ExitStatus.CommandLine }
 {
     match came {
-        Some(Played::Done) => {
+        Ok(Played::Done) => {
             if stopped {
                 ExitStatus::Refused
             } else {
                 ExitStatus::Done
             }
         }
-        Some(Played::Refused) => ExitStatus::Refused,
-        None => ExitStatus::Failed,
+        Ok(Played::Refused) => ExitStatus::Refused,
+        Err(_) => ExitStatus::Failed,
     }
 }
 
-/// Writes the diagnostics of a request: the warnings of a run, why an input was refused, or why a file can't be read.
-fn say_outcome<R: Drop, E: Write>(
+/// Writes the diagnostics of a request: the warnings of a run, why an input was refused, or why the request failed,
+/// with the reason that the reader or the writer gave if one has.
+fn say_outcome<E: Write>(
     alloc: Global,
-    came: Option<Played>,
+    line: &CommandLine<'_>,
+    came: Result<Played, InputRunFault>,
+    reason: Option<io::Error>,
     diagnostics: &mut Diagnostics,
-    reader: Watched<Source<'_, R>>,
     errors: &mut Watched<E>,
 ) {
     match came {
-        Some(Played::Done) => diagnostics.say_warnings(alloc, errors),
-        Some(Played::Refused) => diagnostics.say_why(alloc, errors),
-        None => {
-            if let Some(unread) = reader.into_inner().unread_file() {
-                say_unread(alloc, unread, errors);
-            }
+        Ok(Played::Done) => {
+            let asked = asked_of(&line.request, diagnostics);
+            diagnostics.say_warnings(alloc, asked, line.file, errors);
         }
+        Ok(Played::Refused) => diagnostics.say_why(alloc, line.file, errors),
+        Err(fault) => say_failure(alloc, line.file, &fault, reason, errors),
+    }
+}
+
+/// What the request asks of an input that wasn't refused, whose run has left these diagnostics.
+fn asked_of(request: &Request, diagnostics: &Diagnostics) -> Asked {
+    match request {
+        Request::Run => Asked::Run,
+        Request::Show(showing) => Asked::Play {
+            ended: match diagnostics.warnings.early {
+                Some(early) => Some(early.time),
+                None => None,
+            },
+            from: beginning_of(&showing.view),
+        },
+    }
+}
+
+/// The time from which on the view shows a play, if it doesn't show all of it.
+fn beginning_of(view: &View) -> Option<u64> {
+    match view {
+        View::Shares {
+            interval: Some(interval),
+            ..
+        }
+        | View::Chart {
+            interval: Some(interval),
+            ..
+        } => Some(interval.from),
+        _ => None,
     }
 }
 
 /// Writes the text of a refused command line to the errors, or the requested help to the output.
 fn say_error<W: Write + Drop, E: Write + Drop>(
+    alloc: Global,
     error: &Error,
     output: Watched<W>,
-    errors: Watched<E>,
+    mut errors: Watched<E>,
 ) -> ExitStatus {
     if error.kind() == ErrorKind::OutOfMemory {
+        say_no_memory(&mut errors);
         return ExitStatus::Failed;
     }
-    let (written, status) = if error.use_stderr() {
-        (write_text(error, errors), ExitStatus::CommandLine)
-    } else {
-        (write_text(error, output), ExitStatus::Done)
-    };
-    match written {
-        Ok(()) => status,
-        Err(_) => ExitStatus::Failed,
+    if error.use_stderr() {
+        return match write_text(error, &mut errors) {
+            Ok(()) => ExitStatus::CommandLine,
+            Err(_) => ExitStatus::Failed,
+        };
+    }
+    let mut output = Watched::new(Recorded::new(output.into_inner()));
+    match write_text(error, &mut output) {
+        Ok(()) => ExitStatus::Done,
+        Err(_) => {
+            let fault = InputRunFault::Play(IoFault::Write);
+            let reason = output.into_inner().into_failure();
+            say_failure(alloc, None, &fault, reason, &mut errors);
+            ExitStatus::Failed
+        }
     }
 }
 
 /// Writes the text, and flushes.
-fn write_text<W: Write + Drop>(text: &Error, mut to: Watched<W>) -> io::Result<()> {
+fn write_text<W: Write>(text: &Error, to: &mut W) -> io::Result<()> {
     write!(to, "{text}")?;
     to.flush()
 }

@@ -1,10 +1,10 @@
-//! Where an input comes from: standard input, or a file.
-ghost use Rattle.std.specs.Prelude.{◌≡◌, IfErr, IfSome, OnOk, Some};
-ghost use Rattle.std.specs.Io.{ReadsAtMost};
-ghost use Rattle.std.specs.Io.KnownBytes.{ReadConsumes};
+//! Where an input comes from: standard input, or a file. And why a reader or a writer has failed.
+ghost use Rattle.std.specs.Prelude.{◌≡◌, IfErr, None, OnOk, Some};
+ghost use Rattle.std.specs.Io.{ReadsAtMost, WritesAtMost};
+ghost use Rattle.std.specs.Io.KnownBytes.{Keeps, ReadConsumes, WriteAppends};
 
 use std::io;
-use std::io::Read;
+use std::io::{Read, Write};
 
 /// The inputs that a command line can name. One of them is taken.
 pub trait Inputs: Drop {
@@ -24,57 +24,73 @@ pub trait Inputs: Drop {
         Self: Sized;
 }
 
-/// The reader of an input. It keeps the reason of a failed read, which `Watched` doesn't.
+/// A reader or a writer that records the reason of its last failure, which `Watched` doesn't.
 #[derive(Drop)]
-pub(crate) struct Source<'a, R> {
-    reader: R,
-    /// The name of the file, or none if it is standard input.
-    name: Option<&'a str>,
+pub(crate) struct Recorded<T> {
+    inner: T,
     failure: Option<io::Error>,
 }
 
-impl<'a, R> Source<'a, R> {
-    /// Standard input by this reader.
-    pub(crate) fn standard(reader: R) -> Self {
-        Source {
-            reader,
-            name: None,
-            failure: None,
-        }
-    }
-
-    /// The file with this name by this reader.
-    pub(crate) fn file(name: &'a str, reader: R) -> Self {
-        Source {
-            reader,
-            name: Some(name),
-            failure: None,
-        }
-    }
-
-    /// The name of the file and the reason why it couldn't be read, unless no read has failed.
-    pub(crate) fn unread_file(&self) -> Option<(&'a str, io::Error)>
-        ensures file { IfSome result (λ unread. self.now.name ≡ Some unread.0) }
-        ensures reason { IfSome result (λ unread. self.now.failure ≡ Some unread.1) }
+impl<T> Recorded<T> {
+    /// This reader or writer, which hasn't failed yet.
+    pub(crate) fn new(inner: T) -> Self
+        ensures { result ≡ record { inner = inner; failure = None } }
     {
-        match (self.name, self.failure) {
-            (Some(name), Some(failure)) => Some((name, failure)),
-            _ => None,
+        Recorded {
+            inner,
+            failure: None,
         }
     }
 }
 
-impl<R: Read> Read for Source<'_, R> {
-    ghost remaining = { λ source. R.remaining source.reader };
+impl<T: Drop> Recorded<T> {
+    /// The reason of the last failure, if it has failed.
+    pub(crate) fn into_failure(self) -> Option<io::Error>
+        ensures { result ≡ self.failure }
+    {
+        self.failure
+    }
+}
+
+impl<R: Read> Read for Recorded<R> {
+    ghost remaining = { λ recorded. R.remaining recorded.inner };
 
     fn read(&mut self, buf: &mut [u8]) -> io::Result<usize>
         ensures bound { ReadsAtMost result buf.new }
-        ensures bytes { ReadConsumes (R.remaining self.old.reader) (R.remaining self.new.reader) result buf.new }
+        ensures bytes { ReadConsumes (R.remaining self.old.inner) (R.remaining self.new.inner) result buf.new }
         ensures failed { IfErr result (λ error. self.new.failure ≡ Some error) }
         ensures read { OnOk result (self.new.failure ≡ self.old.failure) }
-        ensures name { self.new.name ≡ self.old.name }
     {
-        let result = self.reader.read(buf);
+        let result = self.inner.read(buf);
+        if let Err(error) = &result {
+            self.failure = Some(*error);
+        }
+        result
+    }
+}
+
+impl<W: Write> Write for Recorded<W> {
+    ghost contents = { λ recorded. W.contents recorded.inner };
+
+    fn write(&mut self, buf: &[u8]) -> io::Result<usize>
+        ensures bound { WritesAtMost result buf.now }
+        ensures bytes { WriteAppends (W.contents self.old.inner) (W.contents self.new.inner) result buf.now }
+        ensures failed { IfErr result (λ error. self.new.failure ≡ Some error) }
+        ensures written { OnOk result (self.new.failure ≡ self.old.failure) }
+    {
+        let result = self.inner.write(buf);
+        if let Err(error) = &result {
+            self.failure = Some(*error);
+        }
+        result
+    }
+
+    fn flush(&mut self) -> io::Result<()>
+        ensures bytes { Keeps (W.contents self.old.inner) (W.contents self.new.inner) }
+        ensures failed { IfErr result (λ error. self.new.failure ≡ Some error) }
+        ensures flushed { OnOk result (self.new.failure ≡ self.old.failure) }
+    {
+        let result = self.inner.flush();
         if let Err(error) = &result {
             self.failure = Some(*error);
         }

@@ -7,6 +7,7 @@ ghost use Rattle.lot_command.specs.Statuses.{HasCome};
 ghost use Rattle.lot_command.specs.Views.{input_ends_refused, text_of, view_ends_refused, view_of};
 
 use crate::diagnostics::Diagnostics;
+use crate::run::InputRunFault;
 use lot_chart::{chart_program, shares_program};
 use lot_command_line::{Showing, View};
 use lot_explain::explain_program;
@@ -17,9 +18,30 @@ use lot_text::{ParseFault, Program, parse_seeded};
 use std::alloc::Global;
 use std::io::{Read, Write};
 
+/// Writes this view of the input of this reader, a picture with this title. It returns what came of the input, or why
+/// it failed, and stores diagnostics in `diagnostics`.
+pub(crate) fn shown<R: Read, W: Write>(
+    alloc: Global,
+    showing: &Showing,
+    title: &str,
+    diagnostics: &mut Diagnostics,
+    reader: &mut Watched<R>,
+    writer: &mut Watched<W>,
+) -> Result<Played, InputRunFault>
+    requires { (reader.old.failed ≡ false) × (writer.old.failed ≡ false) }
+    ensures { IfOk result (HasCome showing.now.view showing.now.seed
+        (R.remaining reader.old.inner) (R.remaining reader.new.inner)
+        diagnostics.old.warnings.stopped diagnostics.new.warnings.stopped) }
+{
+    match show(alloc, showing, title, diagnostics, reader, writer) {
+        Ok(came) => Ok(came),
+        Err(fault) => Err(InputRunFault::Play(fault)),
+    }
+}
+
 /// Reads an input, makes its turns, and writes this view of them, a picture with this title; or one line, if the input
 /// is refused. It stores diagnostics in `diagnostics`, also whether a refusal ended the play.
-pub(crate) fn show<R: Read, W: Write>(
+fn show<R: Read, W: Write>(
     alloc: Global,
     showing: &Showing,
     title: &str,

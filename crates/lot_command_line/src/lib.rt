@@ -7,6 +7,7 @@
 mod parsing;
 mod request;
 mod subcommands;
+mod tips;
 
 pub use parsing::command_line_of;
 pub use request::{CommandLine, Request, Showing, View};

@@ -3,6 +3,7 @@ ghost use Rattle.std.specs.Prelude.{◌≤◌, IsSomeAnd, IsTrue};
 
 use crate::request::{CommandLine, Request, Showing, View};
 use crate::subcommands::{LINES, OptionRow, Subcommand, SubcommandRow, Value, subcommands};
+use crate::tips::clearer;
 use clap::builder::ValueParser;
 use clap::error::ErrorKind;
 use clap::{Arg, ArgAction, ArgMatches, Command, Error};
@@ -21,6 +22,9 @@ const CURRENCIES_TITLE: &str = "Who has run how long";
 
 /// The text for an interval that is empty.
 const EMPTY_INTERVAL: &str = "the interval is empty: '--from <A>' has to be less than '--to <B>'";
+
+/// The version of the program, which is that of the library.
+const VERSION: &str = "0.3.0";
 
 /// The text for seeds that aren't from one to another.
 const WRONG_SEEDS: &str =
@@ -47,7 +51,10 @@ pub fn command_line_of<'a, S: AsStr>(
     words: &'a [S],
 ) -> Result<CommandLine<'a>, Error> {
     let mut command = program_command(alloc)?;
-    parse(&mut command, words)
+    match parse(&mut command, words) {
+        Ok(line) => Ok(line),
+        Err(error) => Err(clearer(alloc, &mut command, words, error)?),
+    }
 }
 
 /// Parses the words by this command. Only the matches are alive here, and only the command in the caller: each way out
@@ -88,6 +95,7 @@ fn subcommand_named(name: &str) -> Subcommand {
 fn program_command<'a>(alloc: Global) -> Result<Command<'a>, AllocError> {
     let mut command = Command::new(alloc, "lot_sim")
         .about("A lottery scheduler with ticket currencies, simulated")
+        .version(VERSION)
         .subcommand_required(true);
     for row in subcommands() {
         command = command.subcommand(subcommand_of(alloc, row)?)?;
@@ -96,7 +104,7 @@ fn program_command<'a>(alloc: Global) -> Result<Command<'a>, AllocError> {
 }
 
 /// The command of a subcommand, with the name of its input's file and its options.
-fn subcommand_of<'a>(
+pub(crate) fn subcommand_of<'a>(
     alloc: Global,
     row: &'static SubcommandRow,
 ) -> Result<Command<'a>, AllocError> {

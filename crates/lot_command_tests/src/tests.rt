@@ -752,16 +752,72 @@ fn command_lines(rt: HostRuntime) {
     check_words(&rt, rt.alloc(), &["lot_sim", "--help"], 0, true);
 }
 
+#[test]
+fn version(rt: HostRuntime) {
+    let ended = ended_on(&rt, rt.alloc(), &["lot_sim", "--version"], "");
+    check_same(&rt, &ended.found("lot_sim 0.3.0\n"), &(0, true, false));
+}
+
+/// Words that are refused, and what is told of them up to the line that says how to get help.
+const TOLD_OF_WORDS: &[(&[&str], &str)] = &[
+    (
+        &["lot_sim", "x.lot"],
+        "error: unrecognized subcommand 'x.lot'
+
+  tip: 'lot_sim play x.lot' plays a file of this name
+
+Usage: lot_sim <COMMAND>
+",
+    ),
+    (
+        &["lot_sim", "play", "--csv"],
+        "error: unexpected argument '--csv' found
+
+  tip: 'report' has it: 'lot_sim report --csv'
+
+Usage: lot_sim play [OPTIONS] [FILE]
+",
+    ),
+    (
+        &["lot_sim", "shares", "x.lot", "--by=currency"],
+        "error: unexpected argument '--by' found
+
+  tip: 'chart' has it: 'lot_sim chart --by'
+
+Usage: lot_sim shares [OPTIONS] [FILE]
+",
+    ),
+    (
+        &["lot_sim", "chart", "-o", "x.svg"],
+        "error: unexpected argument '-o' found
+
+Usage: lot_sim chart [OPTIONS] [FILE]
+",
+    ),
+];
+
+#[test]
+fn told_of_words(rt: HostRuntime) {
+    for (words, text) in TOLD_OF_WORDS {
+        let ended = ended_on(&rt, rt.alloc(), words, "");
+        let help = "\nFor more information, try '--help'.\n";
+        let expected = joined(&rt, rt.alloc(), text, help);
+        check_same_at(
+            &rt,
+            words,
+            &(ended.code, ended.told()),
+            &(2, expected.as_str()),
+        );
+    }
+}
+
 /// A word that isn't UTF-8 ends with 2, as a wrong word does, and out of memory with 3.
 #[test]
 fn unread_command_lines(rt: HostRuntime) {
-    for (kind, code, is_told) in [
-        (ErrorKind::InvalidData, 2, true),
-        (ErrorKind::OutOfMemory, 3, false),
-    ] {
+    for (kind, code) in [(ErrorKind::InvalidData, 2), (ErrorKind::OutOfMemory, 3)] {
         let mut errors = Vec::new(rt.alloc());
         let ended = unread_status(&io::Error::from(kind), &mut errors);
-        check_same(&rt, &(ended, !errors.is_empty()), &(code, is_told));
+        check_same(&rt, &(ended, !errors.is_empty()), &(code, true));
     }
     let failing = Failing {
         given: false,
@@ -799,37 +855,63 @@ impl Write for Failing {
     }
 }
 
-/// Plays what a reader gives before it fails, and returns the exit status and whether nothing was written.
-fn ended_by_reader<H: Threads + Wait + Sync>(rt: &H, alloc: Global, kind: ErrorKind) -> (u8, bool) {
+/// Plays what a reader gives before it fails in this way, and compares what is told.
+fn check_reader<H: Abort + Threads + Wait + Sync>(
+    rt: &H,
+    alloc: Global,
+    kind: ErrorKind,
+    told: &str,
+) {
     let inputs = on_standard(Failing { given: false, kind });
-    let mut output = Vec::new(alloc);
-    let mut errors = Vec::new(alloc);
-    let words = ["lot_sim", "play"];
-    let code = status(rt, alloc, &words, inputs, &mut output, &mut errors);
-    (code, output.is_empty() && errors.is_empty())
+    let ended = ended_of(rt, alloc, &["lot_sim", "play"], inputs);
+    let found = (ended.code, ended.output.is_empty(), ended.told());
+    check_same_at(rt, &told, &found, &(3, true, told));
 }
 
-/// Plays to a writer that fails, and returns the exit status and whether nothing was told.
-fn ended_by_writer<H: Threads + Wait + Sync>(rt: &H, alloc: Global) -> (u8, bool) {
+/// Has the program write with these words to a writer that fails in this way, and compares what is told.
+fn check_writer<H: Abort + Threads + Wait + Sync>(
+    rt: &H,
+    alloc: Global,
+    words: &[&str],
+    kind: ErrorKind,
+    told: &str,
+) {
     let inputs = on_standard("lottery 1".as_bytes());
-    let writer = Failing {
-        given: false,
-        kind: ErrorKind::Other,
-    };
+    let writer = Failing { given: false, kind };
     let mut errors = Vec::new(alloc);
-    let words = ["lot_sim", "play"];
-    let code = status(rt, alloc, &words, inputs, writer, &mut errors);
-    (code, errors.is_empty())
+    let code = status(rt, alloc, words, inputs, writer, &mut errors);
+    let found = str::from_utf8(errors.as_slice()).unwrap_or("?");
+    check_same_at(rt, &words, &(code, found), &(3, told));
 }
+
+/// Ways in which a reader fails, and what is told.
+const UNREAD: &[(ErrorKind, &str)] = &[
+    (ErrorKind::Other, "cannot read the input: other error\n"),
+    (
+        ErrorKind::Interrupted,
+        "cannot read the input: operation interrupted\n",
+    ),
+];
+
+/// Ways in which a writer fails, and what is told. Whoever closes a pipe wants no more.
+const UNWRITTEN: &[(ErrorKind, &str)] = &[
+    (
+        ErrorKind::StorageFull,
+        "cannot write the output: no storage space\n",
+    ),
+    (ErrorKind::BrokenPipe, ""),
+];
 
 #[test]
 fn failures(rt: HostRuntime) {
-    for kind in [ErrorKind::Other, ErrorKind::Interrupted] {
-        let ended = ended_by_reader(&rt, rt.alloc(), kind);
-        check_same_at(&rt, &"reading", &ended, &(3, true));
+    for (kind, told) in UNREAD {
+        check_reader(&rt, rt.alloc(), *kind, told);
     }
-    let ended = ended_by_writer(&rt, rt.alloc());
-    check_same_at(&rt, &"writing", &ended, &(3, true));
+    for (kind, told) in UNWRITTEN {
+        for word in ["play", "run", "--help"] {
+            check_writer(&rt, rt.alloc(), &["lot_sim", word], *kind, told);
+        }
+    }
 }
 
 /// A writer that keeps what it takes and whether all of that was flushed, and whose call of this number fails: with

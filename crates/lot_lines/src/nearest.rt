@@ -1,43 +1,56 @@
 //! Suggestions for misspelt words.
+ghost use Rattle.std.specs.Prelude.{◌≡◌, ◌≢◌, ◌<◌};
 
 use crate::keywords::{Keyword, text_of};
 use crate::line::ends_line;
 use crate::names::Named;
 use lot_simulation::{Format, WordRow};
-use std::alloc::Global;
+use std::alloc::{AllocError, Global};
 use std::fmt;
-use strsim::levenshtein;
+use strsim::osa_distance;
 
-/// The largest number of wrong, missing or extra letters.
+/// The largest number of wrong, missing or extra letters. Two neighbours in each other's place are one, and a capital
+/// is none.
 const MOST_EDITS: usize = 2;
 
 /// The text nearest to a misspelt one, if one is near. If it is the same text, nothing is suggested.
 #[derive(Clone, Copy, Debug)]
 pub struct Nearest<'a> {
     text: Option<&'a str>,
-    /// Its edit distance.
-    edits: usize,
+    /// How far it is, 0 if it is the same text.
+    distance: usize,
 }
+
+/// Farther than any text that is near.
+const FAR: usize = 2 * MOST_EDITS + 3;
 
 impl<'a> Nearest<'a> {
     /// None yet.
     pub const NONE: Nearest<'static> = Nearest {
         text: None,
-        edits: MOST_EDITS + 1,
+        distance: FAR,
     };
 
     /// The nearer of both texts to the misspelt one. If out of memory, nothing is suggested, and no later text either.
     pub fn or(self, alloc: Global, misspelt: &str, text: &'a str) -> Nearest<'a> {
-        match levenshtein(alloc, misspelt, text) {
-            Ok(edits) if edits < self.edits && edits < text.len() => Nearest {
-                text: Some(text),
-                edits,
-            },
-            Ok(_) => self,
+        match edits_between(alloc, misspelt, text) {
+            Ok(edits) => self.or_at(distance_of(misspelt, text, edits), edits, text),
             Err(_) => Nearest {
                 text: None,
-                edits: 0,
+                distance: 0,
             },
+        }
+    }
+
+    /// The nearer of both texts, where the other is as far as this, by so many edits. Not all its letters are wrong.
+    fn or_at(self, distance: usize, edits: usize, text: &'a str) -> Nearest<'a> {
+        if distance < self.distance && edits < text.len() {
+            Nearest {
+                text: Some(text),
+                distance,
+            }
+        } else {
+            self
         }
     }
 
@@ -45,17 +58,38 @@ impl<'a> Nearest<'a> {
     pub fn text(self) -> Option<&'a str> {
         match self.text {
             Some(text) => Some(text),
-            None if self.edits > MOST_EDITS => Some(""),
+            None if self.distance == FAR => Some(""),
             None => None,
         }
     }
 }
 
+/// The number of edits between two texts. Capitals are none.
+fn edits_between(alloc: Global, misspelt: &str, text: &str) -> Result<usize, AllocError> {
+    let misspelt = misspelt.to_ascii_lowercase(alloc)?;
+    osa_distance(alloc, misspelt.as_str(), text)
+}
+
+/// How far a text is from a misspelt one by so many edits: of equals one of the same length is nearer.
+fn distance_of(misspelt: &str, text: &str, edits: usize) -> usize
+    ensures same { misspelt.now ≡ text.now → result ≡ 0 }
+    ensures other { misspelt.now ≢ text.now → 0 < result }
+{
+    if misspelt == text {
+        return 0;
+    }
+    let other_length = usize::from(misspelt.len() != text.len());
+    edits
+        .saturating_mul(2)
+        .saturating_add(other_length)
+        .saturating_add(1)
+}
+
 impl fmt::Display for Nearest<'_> {
     fn fmt<W: fmt::Write>(&self, f: &mut fmt::Formatter<W>) -> fmt::Result {
         match self.text {
-            Some(text) if self.edits > 0 => write!(f, "; did you mean '{text}'?"),
-            // A text without an edit isn't misspelt.
+            Some(text) if self.distance > 0 => write!(f, "; did you mean '{text}'?"),
+            // The same text isn't misspelt.
             _ => Ok(()),
         }
     }

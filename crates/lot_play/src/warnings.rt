@@ -5,6 +5,7 @@ ghost use Rattle.lot_play.specs.Kept.{none_kept};
 ghost use Rattle.lot_play.specs.Leaving.{command_noted, noted};
 ghost use Rattle.lot_engine.specs.Seen.{world_of};
 
+use crate::lack::{Lack, lack_of};
 use crate::refused_traps::{is_refused_trap, note_new_thread, note_trap};
 use crate::{FirstFew, RefusedTrap};
 use lot_engine::System;
@@ -33,6 +34,8 @@ pub struct StuckThread {
     pub server: Option<Name>,
     /// The owner of the mutex that it waits for, if it does.
     pub owner: Option<Owner>,
+    /// Why it weighs nothing, if it is Ready.
+    pub lack: Option<Lack>,
 }
 
 /// A thread that owns a mutex.
@@ -180,20 +183,42 @@ impl Warnings {
             weight,
             ..
         } = row;
-        let server = server_name(system, status);
-        let owner = owner_of(system, status);
-        let thread = StuckThread {
+        if status == Status::Ready && weight == 0 {
+            self.note_weightless(system, number, name);
+        } else if is_stuck(system, status, is_over) {
+            let server = server_name(system, status);
+            let owner = owner_of(system, status);
+            self.waiting.add(StuckThread {
+                number,
+                name,
+                status,
+                server,
+                owner,
+                lack: None,
+            });
+        }
+    }
+
+    /// Records the warning about the Ready thread with this number and this name, which weighs nothing.
+    fn note_weightless(&mut self, system: &mut System, number: u32, name: Name)
+        ensures kept { (self.new.made ≡ self.old.made) × (self.new.refused ≡ self.old.refused)
+            × (self.new.refused_traps ≡ self.old.refused_traps) × (self.new.unmade ≡ self.old.unmade)
+            × (self.new.stopped ≡ self.old.stopped) }
+        ensures same { system.new ≡ system.old }
+    {
+        if !self.weightless.has_room() {
+            self.weightless.add_unlisted();
+            return;
+        }
+        let lack = Some(lack_of(system, &name));
+        self.weightless.add(StuckThread {
             number,
             name,
-            status,
-            server,
-            owner,
-        };
-        if status == Status::Ready && weight == 0 {
-            self.weightless.add(thread);
-        } else if is_stuck(system, status, is_over) {
-            self.waiting.add(thread);
-        }
+            status: Status::Ready,
+            server: None,
+            owner: None,
+            lack,
+        });
     }
 }
 
@@ -236,14 +261,15 @@ fn can_run(row: &ThreadRow) -> bool {
     }
 }
 
-/// Whether a thread with this status waits for good: for the reply of a server that has ended, or, if no thread can
-/// run, for a mutex or a reply. A server that waits for calls doesn't count.
+/// Whether a thread with this status waits for good: for the reply of a server that has ended or the mutex of a thread
+/// that has, or, if no thread can run, for a mutex or a reply. A server that waits for calls doesn't count.
 fn is_stuck(system: &mut System, status: Status, is_over: bool) -> bool
     ensures { system.new ≡ system.old }
 {
     match status {
         Status::Served(server) => is_over || has_ended(system, server),
-        Status::Queued(_) | Status::Waiting(_) => is_over,
+        Status::Waiting(mutex) => is_over || has_dead_owner(system, mutex),
+        Status::Queued(_) => is_over,
         _ => false,
     }
 }
@@ -254,6 +280,16 @@ fn has_ended(system: &mut System, thread: u32) -> bool
 {
     match system.thread_row(thread) {
         Some(row) => row.status == Status::Dead,
+        None => false,
+    }
+}
+
+/// Whether the thread that owns the mutex has ended.
+fn has_dead_owner(system: &mut System, mutex: u32) -> bool
+    ensures { system.new ≡ system.old }
+{
+    match system.owner(mutex) {
+        Some(owner) => has_ended(system, owner),
         None => false,
     }
 }

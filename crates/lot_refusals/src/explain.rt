@@ -2,6 +2,7 @@
 //! word, then its number of words, then each of them, and then the limit that it exceeds.
 
 use crate::header::HeaderLines;
+use crate::hint::{Hint, Words};
 use crate::input::Refused;
 use crate::phrases::phrases_problem;
 use crate::problem::{
@@ -11,8 +12,8 @@ use crate::problem::{
 use crate::word::{new_problem, word_problem};
 use lot_lines::{
     Keyword, Named, OpenScript, Shape, argument_at, body_word, count_words, first_word, form_in,
-    form_outside, has_room_for, header_word, is_only_timed, name_numbered, nearest_word, row_of,
-    word_at, words_at_end, words_of,
+    form_outside, has_header_line, has_room_for, header_word, is_only_timed, name_numbered,
+    nearest_word, row_of, word_at, words_at_end, words_of,
 };
 use lot_machine::is_good_name;
 use lot_simulation::{
@@ -36,7 +37,7 @@ pub(crate) fn problem_of<'a>(
         InputRefusal::BadHeader if is_timed_start(refused.line) => {
             Problem::Header(HeaderProblem::NoDuration)
         }
-        InputRefusal::BadHeader => Problem::Header(HeaderProblem::NoStart),
+        InputRefusal::BadHeader => Problem::Header(start_problem(word)),
         InputRefusal::TooLong if is_long_input(refused) => Problem::Limit(LimitProblem::LongInput),
         _ => line_problem(alloc, refused, word).unwrap_or(too_many(refused, word, refusal)),
     }
@@ -53,6 +54,15 @@ fn is_timed_start(line: &[u8]) -> bool {
     match Format::of_word(word_at(line, 1).unwrap_or("").as_bytes()) {
         Some(format) => is_start && format.is_timed(),
         None => false,
+    }
+}
+
+/// The problem with a first line that begins with this word, and isn't that of an input.
+fn start_problem(word: &str) -> HeaderProblem<'_> {
+    if word.as_bytes() != FIRST_WORD && word.as_bytes().eq_ignore_ascii_case(FIRST_WORD) {
+        HeaderProblem::CapitalStart
+    } else {
+        HeaderProblem::NoStart
     }
 }
 
@@ -73,18 +83,46 @@ fn timed_header_problem<'a>(refused: &Refused<'a>, word: &'a str) -> HeaderProbl
     if refused.in_body {
         return HeaderProblem::LateTimed(LateProblem::AfterBody(word));
     }
-    if refused.has_header_line(header) {
+    if has_header_line(refused.before, header) {
         return HeaderProblem::LateTimed(LateProblem::GivenBefore(word));
     }
-    if header == HeaderWord::Processors && refused.has_header_line(HeaderWord::Seed) {
+    if header == HeaderWord::Processors && has_header_line(refused.before, HeaderWord::Seed) {
         return HeaderProblem::LateTimed(LateProblem::AfterSeed);
     }
     HeaderProblem::NoDuration
 }
 
-/// The problem with the line's bytes: too many, or the first that is neither a separator nor printable ASCII.
+/// The problem with a byte order mark at the beginning of the input, if there is one.
+fn mark_problem(refused: &Refused<'_>) -> Option<ByteProblem> {
+    if !refused.before.is_empty() {
+        return None;
+    }
+    if refused.line.starts_with(MARK) {
+        Some(ByteProblem::Mark)
+    } else if refused.line.starts_with(LITTLE_MARK) || refused.line.starts_with(BIG_MARK) {
+        Some(ByteProblem::Wide)
+    } else {
+        None
+    }
+}
+
+/// The byte order mark of UTF-8.
+const MARK: &[u8] = b"\xef\xbb\xbf";
+
+/// That of UTF-16 with the low byte first.
+const LITTLE_MARK: &[u8] = b"\xff\xfe";
+
+/// That of UTF-16 with the high byte first.
+const BIG_MARK: &[u8] = b"\xfe\xff";
+
+/// The problem with the line's bytes: a byte order mark, too many, or the first that is neither a separator nor
+/// printable ASCII.
 fn byte_problem(refused: &Refused<'_>) -> Option<ByteProblem> {
     let line = refused.line;
+    let problem = mark_problem(refused);
+    if problem.is_some() {
+        return problem;
+    }
     if 4096 < line.len() {
         return Some(ByteProblem::LongLine(line.len()));
     }
@@ -94,6 +132,9 @@ fn byte_problem(refused: &Refused<'_>) -> Option<ByteProblem> {
     })?;
     match line[place] {
         b'\t' => Some(ByteProblem::Tab),
+        b'\r' if !refused.has_start && first_word(line).is_empty() => Some(
+            ByteProblem::EarlyReturn,
+        ),
         b'\r' => Some(ByteProblem::CarriageReturn),
         byte => Some(ByteProblem::BadByte {
             byte,
@@ -160,10 +201,10 @@ pub(crate) fn no_script_word<'a>(
             opened: script.line,
         };
     }
-    KeywordProblem::NoScriptWord {
-        word,
-        nearest: nearest_word(alloc, ScriptWord::rows(), refused.is_timed(), word),
-    }
+    let nearest = nearest_word(alloc, ScriptWord::rows(), refused.is_timed(), word);
+    let words = words_told(word, Words::OfScript(refused.format.unwrap_or(Format::V1)));
+    let hint = Hint { nearest, words };
+    KeywordProblem::NoScriptWord { word, hint }
 }
 
 /// The problem with a line outside scripts.
@@ -181,7 +222,17 @@ fn body_problem<'a>(alloc: Global, refused: &Refused<'a>, word: &'a str) -> Opti
         return Some(Problem::Keyword(KeywordProblem::OutsideScript(word)));
     }
     let nearest = nearest_word(alloc, BodyWord::rows(), refused.is_timed(), word);
-    Some(Problem::Keyword(KeywordProblem::NoBodyLine { word, nearest }))
+    let words = words_told(word, Words::OfBody(refused.format.unwrap_or(Format::V1)));
+    let hint = Hint { nearest, words };
+    Some(Problem::Keyword(KeywordProblem::NoBodyLine { word, hint }))
+}
+
+/// The words to be told of one that is none: these, if it begins with a letter as words do.
+fn words_told(word: &str, words: Words) -> Words {
+    match word.as_bytes().first() {
+        Some(byte) if byte.is_ascii_alphabetic() => words,
+        _ => Words::Untold,
+    }
 }
 
 /// The problem with a line outside scripts that begins with this word, in an input of this format.
@@ -260,7 +311,9 @@ fn argument_problem<'a>(
 /// of a ticket, tells that the arguments may be in a wrong order.
 fn in_line<'a>(problem: Problem<'a>, shape: Shape<'a>) -> Problem<'a> {
     match problem {
-        Problem::Number(NumberProblem::NoNumber(name)) if is_good_name(name.as_bytes()) => {
+        Problem::Number(NumberProblem::NoNumber(numeral))
+            if is_good_name(numeral.word().as_bytes()) => {
+            let name = numeral.word();
             Problem::Number(NumberProblem::NameForNumber { name, shape })
         }
         Problem::Name(
@@ -281,9 +334,10 @@ fn count_problem<'a>(refused: &Refused<'a>, shape: Shape<'a>, count: usize) -> F
     if has_comment(refused.line) {
         return FormProblem::TrailingComment(shape);
     }
-    FormProblem::WrongCount {
-        shape,
-        count: WordCount(count.saturating_add(1)),
+    let count = WordCount(count.saturating_add(1));
+    match body_word(shape.word) {
+        Some(BodyWord::Script) if 1 < count.0 => FormProblem::ScriptOnOneLine { shape, count },
+        _ => FormProblem::WrongCount { shape, count },
     }
 }
 

@@ -71,16 +71,6 @@ impl<'a> Refused<'a> {
         }
     }
 
-    /// Whether one of the lines before it begins with this word of the header.
-    pub(crate) fn has_header_line(&self, word: HeaderWord) -> bool {
-        for line in self.before.split(ends_line) {
-            if header_word(first_word(line)) == Some(word) {
-                return true;
-            }
-        }
-        false
-    }
-
     /// Records the content of the line with this number.
     fn pass(&mut self, number: u32, line: &[u8]) {
         let word = first_word(line);

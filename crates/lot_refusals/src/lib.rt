@@ -7,7 +7,9 @@
 
 mod explain;
 mod header;
+mod hint;
 mod input;
+mod number;
 mod phrases;
 mod problem;
 mod skip;
@@ -16,22 +18,25 @@ mod word;
 use crate::explain::problem_of;
 use crate::input::Refused;
 use crate::skip::can_be_skipped;
+use lot_lines::Place;
 use lot_simulation::InputFault;
 use std::alloc::Global;
 use std::io;
 use std::io::Write;
 
-/// Writes the reason why this input is refused with this fault, as one line. It fails if the writer does. If out of
-/// memory, it leaves out the suggestion of a nearby word.
+/// Writes the reason why this input, that of the file with this name or of standard input, is refused with this fault,
+/// as one line. It fails if the writer does. If out of memory, it leaves out the suggestion of a nearby word.
 pub fn write_words<W: Write>(
     alloc: Global,
     writer: &mut W,
     input: &[u8],
+    file: Option<&str>,
     fault: InputFault,
 ) -> io::Result<()> {
     let refused = Refused::of(input, fault.line);
     let problem = problem_of(alloc, &refused, fault.refusal);
-    writeln!(writer, "line {}: {problem}", fault.line)
+    let line = Some(fault.line);
+    writeln!(writer, "{}{problem}", Place { file, line })
 }
 
 /// The index in the input of the first byte of the line refused with this fault, if the line can be skipped: its fault

@@ -42,8 +42,7 @@ impl<'a> Before<'a> {
     /// Takes the next word, and returns the problem with it, if there is one.
     fn pass(&mut self, alloc: Global, refused: &Refused<'a>, word: &'a str) -> Option<Problem<'a>> {
         if let Some(shape) = self.unfinished.take() {
-            let argument = argument_at(shape.form, 0)?;
-            return word_problem(alloc, refused, word, argument);
+            return argument_problem(alloc, refused, word, shape);
         }
         let Some(script) = self.script else {
             return Some(Problem::Form(FormProblem::BehindEnd(word)));
@@ -60,5 +59,20 @@ impl<'a> Before<'a> {
             self.unfinished = Some(Shape { word, form });
         }
         loop_problem(script, keyword)
+    }
+}
+
+/// The problem with a word that must be the argument of the one before it, which has this shape. A word of a script in
+/// its place tells that the argument is missing.
+fn argument_problem<'a>(
+    alloc: Global,
+    refused: &Refused<'a>,
+    word: &'a str,
+    shape: Shape<'a>,
+) -> Option<Problem<'a>> {
+    let problem = word_problem(alloc, refused, word, argument_at(shape.form, 0)?)?;
+    match row_of::<ScriptWord>(word) {
+        Some(_) => Some(Problem::Form(FormProblem::Missing { word, shape })),
+        None => Some(problem),
     }
 }

@@ -1,6 +1,8 @@
 //! Problems of lines.
 
 use crate::header::HeaderLines;
+use crate::hint::Hint;
+use crate::number::Numeral;
 use lot_lines::{Named, Nearest, Shape};
 use lot_simulation::InputRefusal;
 use std::fmt;
@@ -35,10 +37,17 @@ pub(crate) enum Problem<'a> {
 pub(crate) enum ByteProblem {
     #[error("{0} bytes, at most 4096")]
     LongLine(usize),
+    #[error("the file begins with a byte order mark: save it as ASCII, or as UTF-8 without a byte order mark")]
+    Mark,
+    #[error("the file is in UTF-16: save it as ASCII, or as UTF-8 without a byte order mark")]
+    Wide,
     #[error("a tab: put spaces between words")]
     Tab,
     #[error("a carriage return: save the file with line feeds alone as line ends")]
     CarriageReturn,
+    #[error("a carriage return before the line 'lottery 3': put that line first, \
+        or save the file with line feeds alone as line ends")]
+    EarlyReturn,
     #[error("byte {byte} in column {column}: outside comments only ASCII is read")]
     BadByte { byte: u8, column: usize },
 }
@@ -48,6 +57,8 @@ pub(crate) enum ByteProblem {
 pub(crate) enum HeaderProblem<'a> {
     #[error("an input begins with 'lottery 1', 'lottery 2' or 'lottery 3'")]
     NoStart,
+    #[error("an input begins with 'lottery 1', 'lottery 2' or 'lottery 3', in lower case")]
+    CapitalStart,
     #[error("'{word}' comes too late: the header has {lines}, \
         each at most once, in this order and before all else")]
     LateHeader { word: &'a str, lines: HeaderLines },
@@ -71,13 +82,13 @@ pub(crate) enum LateProblem<'a> {
 /// The problem with the word that begins a line.
 #[derive(Clone, Copy, Debug, Error)]
 pub(crate) enum KeywordProblem<'a> {
-    #[error("'{word}' is no body line{nearest}")]
-    NoBodyLine { word: &'a str, nearest: Nearest<'a> },
-    #[error("'{word}' is no word of a script{nearest}")]
-    NoScriptWord { word: &'a str, nearest: Nearest<'a> },
+    #[error("'{word}' is no body line{hint}")]
+    NoBodyLine { word: &'a str, hint: Hint<'a> },
+    #[error("'{word}' is no word of a script{hint}")]
+    NoScriptWord { word: &'a str, hint: Hint<'a> },
     #[error("'{0}' is a word of a script, and no script is open: 'script NAME' opens one")]
     OutsideScript(&'a str),
-    #[error("'{word}' is no word of a script, and the one that line {opened} opens isn't closed: \
+    #[error("'{word}' stands outside scripts, and the one that line {opened} opens isn't closed: \
         'endscript' closes it")]
     InsideScript { word: &'a str, opened: u32 },
     #[error("'runs' is for 'lottery 2': in 'lottery 1' write 'schedule ACTOR ..'")]
@@ -98,10 +109,14 @@ pub(crate) enum FormProblem<'a> {
     LateComment,
     #[error("a word is missing at the end: '{0}'")]
     Unfinished(Shape<'a>),
+    #[error("a word is missing before '{word}': '{shape}'")]
+    Missing { word: &'a str, shape: Shape<'a> },
     #[error("'{0}' stands behind 'endscript', which ends its line")]
     BehindEnd(&'a str),
     #[error("this line is written '{shape}', and here {count}")]
     WrongCount { shape: Shape<'a>, count: WordCount },
+    #[error("this line is written '{shape}', and here {count}: the words of the script begin on the next line")]
+    ScriptOnOneLine { shape: Shape<'a>, count: WordCount },
     #[error("'{word}' stands in the place of 'as': this line is written '{shape}'")]
     NoAs { word: &'a str, shape: Shape<'a> },
     #[error("'end' closes a loop, and none is open")]
@@ -113,24 +128,17 @@ pub(crate) enum FormProblem<'a> {
 /// The problem with a word that must be a number.
 #[derive(Clone, Copy, Debug, Error)]
 pub(crate) enum NumberProblem<'a> {
-    #[error("'{0}' is no number: digits, without a 0 before others, at most 18446744073709551615")]
-    NoNumber(&'a str),
+    /// It is none, where only the kernel or the number of processors limits numbers.
+    #[error(transparent)]
+    NoNumber(Numeral<'a>),
     #[error("'{name}' is no number; this line is written '{shape}'")]
-    NameForNumber {
-        name: &'a str,
-        shape: Shape<'a>,
-    },
-    #[error("'{word}' is no number from {first} to {last}")]
-    NotBetween {
-        word: &'a str,
-        first: u32,
-        last: u32,
-    },
+    NameForNumber { name: &'a str, shape: Shape<'a> },
+    #[error(transparent)]
+    NotBetween(Numeral<'a>),
+    #[error("'{word}' comes after {before}, the time of an earlier 'at': times never fall")]
+    Earlier { word: &'a str, before: u32 },
     #[error("'{word}': the last processor is {processors}, and 0 is the console")]
-    NoActor {
-        word: &'a str,
-        processors: u32,
-    },
+    NoActor { word: &'a str, processors: u32 },
 }
 
 /// The problem with a word that must be a name.
@@ -154,6 +162,8 @@ pub(crate) enum NameProblem<'a> {
         kind: Named,
         nearest: Nearest<'a>,
     },
+    #[error("'{0}' is no mechanism that can be left out: write 'compensation' or 'lending', and a line for each")]
+    NoMechanism(&'a str),
     #[error("'{0}' is no ticket: it has a number, or a name that 'as' gave it")]
     NoTicket(&'a str),
     #[error("'{word}' is no ticket of an earlier line; this line is written '{shape}'")]

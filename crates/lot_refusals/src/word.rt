@@ -1,11 +1,18 @@
 //! The problem with one word of a line.
 
 use crate::input::Refused;
+use crate::number::{Numeral, number_of};
 use crate::problem::{NameProblem, NumberProblem, Problem};
 use lot_lines::{Named, is_given, nearest_name};
 use lot_machine::is_good_name;
-use lot_simulation::{Argument, Range};
+use lot_simulation::{Argument, COMPENSATION_WORD, LENDING_WORD, Range, ranges};
 use std::alloc::Global;
+
+/// The amounts that the kernel takes.
+const AMOUNTS: Range = Range {
+    first: 1,
+    last: u32::MAX,
+};
 
 /// The problem with a word of the refused line that must be this argument.
 pub(crate) fn word_problem<'a>(
@@ -15,7 +22,7 @@ pub(crate) fn word_problem<'a>(
     argument: Argument,
 ) -> Option<Problem<'a>> {
     match argument {
-        Argument::AnyNumber => number_problem(word),
+        Argument::AnyNumber => number_problem(word, AMOUNTS),
         Argument::Number(range) => range_problem(word, range),
         Argument::AnyName => long_name(word),
         Argument::Ticket => ticket_problem(alloc, refused, word),
@@ -24,27 +31,17 @@ pub(crate) fn word_problem<'a>(
             known_problem(alloc, refused, word, Named::ByWord(keyword))
         }
         Argument::Actor => actor_problem(refused, word),
-        Argument::Time(range) => {
-            let first = refused.now;
-            range_problem(word, Range { first, ..range })
-        }
-        Argument::Version | Argument::Mechanism => None,
+        Argument::Time(range) => range_problem(word, range).or(early_problem(refused, word)),
+        Argument::Mechanism => mechanism_problem(word),
+        Argument::Version => None,
     }
 }
 
-/// The word as a number: digits, without a leading 0, of at most 64 bits.
-fn number_of(word: &str) -> Option<u64> {
-    let is_plain = word.bytes().all(|byte| byte.is_ascii_digit());
-    if !is_plain || (word.len() > 1 && word.starts_with('0')) {
-        return None;
-    }
-    word.parse::<u64>().ok()
-}
-
-fn number_problem(word: &str) -> Option<Problem<'_>> {
+/// The problem with a word that must be a number, which only the kernel checks further: it takes those in this range.
+fn number_problem(word: &str, range: Range) -> Option<Problem<'_>> {
     match number_of(word) {
         Some(_) => None,
-        None => Some(Problem::Number(NumberProblem::NoNumber(word))),
+        None => Some(Problem::Number(NumberProblem::NoNumber(Numeral::outside(word, range)))),
     }
 }
 
@@ -52,16 +49,38 @@ fn range_problem(word: &str, range: Range) -> Option<Problem<'_>> {
     let Range { first, last } = range;
     match number_of(word) {
         Some(number) if u64::from(first) <= number && number <= u64::from(last) => None,
-        _ => Some(Problem::Number(NumberProblem::NotBetween { word, first, last })),
+        _ => Some(Problem::Number(NumberProblem::NotBetween(Numeral::outside(word, range)))),
+    }
+}
+
+/// The problem with a time that is earlier than that of an earlier line.
+fn early_problem<'a>(refused: &Refused<'a>, word: &'a str) -> Option<Problem<'a>> {
+    let before = refused.now;
+    if number_of(word)? < u64::from(before) {
+        Some(Problem::Number(NumberProblem::Earlier { word, before }))
+    } else {
+        None
     }
 }
 
 fn actor_problem<'a>(refused: &Refused<'a>, word: &'a str) -> Option<Problem<'a>> {
     let processors = refused.processors;
+    let range = Range {
+        first: 0,
+        last: processors,
+    };
     match number_of(word) {
         Some(number) if number <= u64::from(processors) => None,
         Some(_) => Some(Problem::Number(NumberProblem::NoActor { word, processors })),
-        None => Some(Problem::Number(NumberProblem::NoNumber(word))),
+        None => number_problem(word, range),
+    }
+}
+
+fn mechanism_problem(word: &str) -> Option<Problem<'_>> {
+    if word.as_bytes() == COMPENSATION_WORD || word.as_bytes() == LENDING_WORD {
+        None
+    } else {
+        Some(Problem::Name(NameProblem::NoMechanism(word)))
     }
 }
 
@@ -77,7 +96,7 @@ fn long_name(word: &str) -> Option<Problem<'_>> {
 /// The problem with a word that must be a ticket: its number, or in a timed input a name that an earlier line gave.
 fn ticket_problem<'a>(alloc: Global, refused: &Refused<'a>, word: &'a str) -> Option<Problem<'a>> {
     if !refused.is_timed() || begins_with_digit(word) {
-        return number_problem(word);
+        return number_problem(word, ranges::TICKETS);
     }
     if !is_good_name(word.as_bytes()) {
         return Some(Problem::Name(NameProblem::NoTicket(word)));

@@ -10,9 +10,6 @@ use std::io::StdinLock;
 use std::process::ExitCode;
 use std::{env, fs, io};
 
-/// The exit status if out of memory before the words are read.
-const NO_MEMORY: u8 = 3;
-
 /// The inputs that the system has.
 #[derive(Drop)]
 struct SystemInputs<'a> {
@@ -44,7 +41,7 @@ fn main(rt: HostRuntime) -> ExitCode {
                 io::writer(&rt),
                 rt.stderr(),
             ),
-            Err(_) => NO_MEMORY,
+            Err(error) => unread_status(&io::Error::from(error), rt.stderr()),
         },
         Err(error) => unread_status(&error, rt.stderr()),
     };

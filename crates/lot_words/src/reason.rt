@@ -1,7 +1,9 @@
 //! The reasons why commands are refused.
 
+use crate::limit::UsedUp;
 use lot_lines::{InputCommand, Named, Nearest, nearest_name};
 use lot_machine::{Refusal, is_good_name};
+use lot_play::RefusedCommand;
 use lot_simulation::BodyWord;
 use std::alloc::Global;
 use std::fmt;
@@ -14,24 +16,32 @@ pub(crate) struct Reason<'a> {
     word: &'a str,
     /// The name nearest to it, if it is the name of nothing.
     nearest: Nearest<'a>,
+    /// The limit that is used up, if one is.
+    used_up: Option<UsedUp>,
 }
 
 impl<'a> Reason<'a> {
-    /// The reason for the refusal of this command of the input.
+    /// The reason for the refusal of this command of the input, among these refusals.
     pub(crate) fn of(
         alloc: Global,
         input: &'a [u8],
         command: InputCommand<'a>,
         refusal: Refusal,
+        refused: &[RefusedCommand],
     ) -> Reason<'a> {
         let word = match argument_of(refusal) {
             Some(name) => command.argument(name).unwrap_or(""),
             None => "",
         };
+        let used_up = match refusal {
+            Refusal::Full => Some(UsedUp::of(input, command, refused)),
+            _ => None,
+        };
         Reason {
             refusal,
             word,
             nearest: nearest_made(alloc, input, refusal, word),
+            used_up,
         }
     }
 }
@@ -42,7 +52,11 @@ impl fmt::Display for Reason<'_> {
             refusal,
             word,
             nearest,
+            used_up,
         } = *self;
+        if let Some(used_up) = used_up {
+            return write!(f, "{used_up}");
+        }
         if refusal == Refusal::NoTicket && is_good_name(word.as_bytes()) {
             return write!(f, "no ticket has the name '{word}' now");
         }

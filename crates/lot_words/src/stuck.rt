@@ -2,7 +2,7 @@
 
 use lot_lines::{Named, name_numbered};
 use lot_machine::{Name, Status};
-use lot_play::{Owner, StuckThread};
+use lot_play::{Lack, Owner, StuckThread};
 use lot_simulation::BodyWord;
 use std::{fmt, str};
 
@@ -54,10 +54,18 @@ pub(crate) struct Weightless<'a>(pub(crate) &'a StuckThread);
 impl fmt::Display for Weightless<'_> {
     fn fmt<W: fmt::Write>(&self, f: &mut fmt::Formatter<W>) -> fmt::Result {
         let thread = Called::thread(Some(&self.0.name), self.0.number);
-        write!(
-            f,
-            "{thread} is ready at the end and weighs nothing: it wins no draw before something funds it"
-        )
+        write!(f, "{thread} is ready at the end and weighs nothing: ")?;
+        match &self.0.lack {
+            Some(Lack::Funding(currency)) => {
+                let name = str::from_utf8(currency.as_bytes()).unwrap_or("");
+                write!(
+                    f,
+                    "it wins no draw before something funds its currency '{name}'"
+                )
+            }
+            Some(Lack::Value) => f.write_str("it is funded, but its value rounds to 0"),
+            _ => f.write_str("it wins no draw before something funds it"),
+        }
     }
 }
 

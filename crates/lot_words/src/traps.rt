@@ -2,8 +2,8 @@
 
 use crate::stuck::Called;
 use lot_lines::{
-    Named, OpenScript, after_line, argument_given, ends_line, name_given, name_numbered, row_of,
-    spelling_of, words_of,
+    Named, OpenScript, Place, after_line, argument_given, ends_line, name_given, name_numbered,
+    row_of, spelling_of, words_of,
 };
 use lot_machine::TrapRefusal;
 use lot_play::RefusedTrap;
@@ -138,6 +138,8 @@ const MAKERS: &[BodyWord] = &[BodyWord::MakeThread, BodyWord::MakeFunded];
 /// Traps of a thread with the same words that were refused for the same reason.
 #[derive(Clone, Copy)]
 pub(crate) struct RefusedWords<'a> {
+    /// The name of the file, or none for standard input.
+    file: Option<&'a str>,
     traps: &'a RefusedTrap,
     words: TrapWords<'a>,
     /// Their lines, if the input tells the thread's script.
@@ -146,9 +148,14 @@ pub(crate) struct RefusedWords<'a> {
 
 impl<'a> RefusedWords<'a> {
     /// These traps of an input that was played.
-    pub(crate) fn of(input: &'a [u8], traps: &'a RefusedTrap) -> RefusedWords<'a> {
+    pub(crate) fn of(
+        input: &'a [u8],
+        file: Option<&'a str>,
+        traps: &'a RefusedTrap,
+    ) -> RefusedWords<'a> {
         let words = TrapWords::of(input, traps.trap);
         RefusedWords {
+            file,
             traps,
             words,
             lines: lines_of(input, traps, words),
@@ -177,11 +184,12 @@ fn thread_name(traps: &RefusedTrap) -> Option<&str> {
 impl fmt::Display for RefusedWords<'_> {
     fn fmt<W: fmt::Write>(&self, f: &mut fmt::Formatter<W>) -> fmt::Result {
         let RefusedWords {
+            file,
             traps,
             words,
             lines,
         } = *self;
-        write_trap_words(f, words, lines)?;
+        write_trap_words(f, file, words, lines)?;
         let thread = Called::thread(traps.name.as_ref(), traps.thread);
         let reason = reason_of(traps.refusal);
         write!(
@@ -195,22 +203,20 @@ impl fmt::Display for RefusedWords<'_> {
 /// Writes the words of a trap, and their lines if they are known.
 fn write_trap_words<W: fmt::Write>(
     f: &mut fmt::Formatter<W>,
+    file: Option<&str>,
     words: TrapWords<'_>,
     lines: Option<TrapLines<'_>>,
 ) -> fmt::Result {
+    let line = match lines {
+        Some(lines) => Some(lines.first),
+        None => None,
+    };
+    write!(f, "{}'{words}'", Place { file, line })?;
     match lines {
-        Some(
-            TrapLines {
-                script,
-                first,
-                others,
-            },
-        ) => write!(
-            f,
-            "line {first}: '{words}' in script '{script}'{}",
-            Others(others)
-        ),
-        None => write!(f, "'{words}'"),
+        Some(TrapLines { script, others, .. }) => {
+            write!(f, " in script '{script}'{}", Others(others))
+        }
+        None => Ok(()),
     }
 }
 

@@ -209,19 +209,19 @@ const UNREAD: &[Unread] = &[
         "y.lot",
         true,
         ErrorKind::IsADirectory,
-        "error: can't read 'y.lot': no such file\n",
+        "y.lot: cannot read the input: no such file\n",
     ),
     (
         "x.lot",
         true,
         ErrorKind::IsADirectory,
-        "error: can't read 'x.lot': is a directory\n",
+        "x.lot: cannot read the input: is a directory\n",
     ),
     (
         "x.lot",
         false,
         ErrorKind::Interrupted,
-        "error: can't read 'x.lot': operation interrupted\n",
+        "x.lot: cannot read the input: operation interrupted\n",
     ),
 ];
 
@@ -245,14 +245,72 @@ fn unread_files(rt: HostRuntime) {
     }
 }
 
-// The input of the file is refused as one of standard input.
+// The input of the file is refused as one of standard input, and each line that is told begins with the file's name.
 #[test]
 fn refused_file(rt: HostRuntime) {
     let file = "lottery 1\nmktk 5 base\n".as_bytes();
     let ended = ended_with(&rt, rt.alloc(), &["lot_sim", "play", "x.lot"], file);
     let (code, is_written, _) = ended.found("refused line 2 51 BadLine\n");
-    let expected = "line 2: 'mktk' is no body line; did you mean 'mktkt'?\n";
+    let expected = "x.lot:2: 'mktk' is no body line; did you mean 'mktkt'?\n";
     check_same(&rt, &(code, is_written, ended.told()), &(1, true, expected));
+}
+
+/// An input with eleven faults.
+const ELEVEN: &str = "lottery 1
+lsthr 1
+lsthr 1
+lsthr 1
+lsthr 1
+lsthr 1
+lsthr 1
+lsthr 1
+lsthr 1
+lsthr 1
+lsthr 1
+lsthr 1
+";
+
+#[test]
+fn more_faults_of_a_file(rt: HostRuntime) {
+    let file = ELEVEN.as_bytes();
+    let ended = ended_with(&rt, rt.alloc(), &["lot_sim", "play", "x.lot"], file);
+    let first = "x.lot:2: this line is written 'lsthr', and here are 2 words\n";
+    let last =
+        "x.lot:11: this line is written 'lsthr', and here are 2 words\nx.lot: there are more faults\n";
+    let told = ended.told();
+    check_same(
+        &rt,
+        &(told.starts_with(first), told.ends_with(last)),
+        &(true, true),
+    );
+}
+
+/// A refused command, an unlock of a mutex that isn't owned, a thread that weighs nothing and a command that is too
+/// late.
+const WARNED: &str = "lottery 3
+for 20
+quantum 10
+mutex m
+script s
+unlock m compute 90 endscript
+mkthr a s
+rmtkt 7
+fundx 1 base b s
+at 21
+mkcur c
+";
+
+const WARNINGS: &str = "x.lot:8: the command was refused: no ticket has the number 7
+x.lot:11: this command was never made: tick 21 is after the end of the run at 20
+x.lot:6: 'unlock m' in script 's' was refused to thread 'b' once: the thread doesn't own the mutex
+x.lot: thread 'a' is ready at the end and weighs nothing: it wins no draw before something funds it
+";
+
+#[test]
+fn warnings_of_a_file(rt: HostRuntime) {
+    let words = ["lot_sim", "play", "x.lot"];
+    let ended = ended_with(&rt, rt.alloc(), &words, WARNED.as_bytes());
+    check_same(&rt, &(ended.code, ended.told()), &(0, WARNINGS));
 }
 
 /// Plays the file of this name, of which there is only a directory `x.lot`, with an output for diagnostics that fails.

@@ -66,7 +66,7 @@ fn output_fails<H: Abort + Threads + Wait + Sync>(
     let has_failed = ended == 3;
     let code = if has_failed { 3 } else { asked.code };
     let found = (ended, is_taken, is_told);
-    check_same_at(rt, &asked.input, &found, &(code, true, code == 1));
+    check_same_at(rt, &asked.input, &found, &(code, true, code != 0));
     has_failed
 }
 
@@ -155,8 +155,8 @@ fn ended_with<H: Abort + Threads + Wait + Sync>(
     let mut errors = FailingCall::new(alloc, fails_at, kind);
     let inputs = on_standard("".as_bytes());
     let ended = status(rt, alloc, words, inputs, &mut output, &mut errors);
-    assert!(rt; output.calls == 0 || errors.calls == 0, "{words:?}");
-    if errors.calls == 0 {
+    // That help couldn't be written is told, too.
+    if output.calls > 0 {
         (ended, output)
     } else {
         (ended, errors)
@@ -209,6 +209,7 @@ fn has_begun<H: Abort + Threads + Wait + Sync>(
 /// Words that have a text written, and the exit status.
 const TEXTS: &[(&[&str], u8)] = &[
     (&["lot_sim", "--help"], 0),
+    (&["lot_sim", "--version"], 0),
     (&["lot_sim", "play", "--help"], 0),
     (&["lot_sim"], 2),
     (&["lot_sim", "replay"], 2),

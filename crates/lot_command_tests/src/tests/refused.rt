@@ -43,7 +43,8 @@ mktkt 05 base
 runs 0 6 1
 runs 0 0
 ",
-    "line 3: '05' is no number: digits, without a 0 before others, at most 18446744073709551615
+    "line 3: '05' is no number from 1 to 4294967295: a number has digits alone, no sign, no fraction and no 0 before \
+     others
 line 5: 'a_name_of_17_bytes' has 18 bytes, and a name at most 16
 line 7: this line is written 'runs ACTOR TURNS ..', and here are 4 words
 line 8: '0' is no number from 1 to 1000000
@@ -67,7 +68,7 @@ settkt 1
     "line 5: 'n' is no mutex of an earlier line
 line 6: '0' is no number from 1 to 4294967295
 line 9: this line is written 'fundx AMOUNT CURRENCY NAME SCRIPT [as NAME]', and here are 4 words
-line 10: '3' is no number from 9 to 4294967295
+line 10: '3' comes after 9, the time of an earlier 'at': times never fall
 line 11: this line is written 'settkt TICKET AMOUNT', and here are 2 words
 ",
 );
@@ -113,7 +114,8 @@ const WITHOUT_DURATION: (&str, &str) = (
     "lottery 3
 nonsense
 ",
-    "line 2: 'nonsense' is no body line
+    "line 2: 'nonsense' is no body line; these begin with at, settkt, rmthr, kill, port, mutex, script, mktkt, rmtkt, \
+     mkcur, rmcur, fund, unfund, mkthr, fundx, lstkt, lscur, lsthr
 line 2: the header doesn't say how long the input runs: 'for TICKS' comes before the first body line
 ",
 );
@@ -259,13 +261,13 @@ fn are_first(lines: &str, others: &str) -> bool {
     true
 }
 
-// If an allocation fails, the program fails without a word, or it reports the faults that it has memory for.
+// If an allocation fails, the program says so and fails, or it reports the faults that it has memory for.
 #[test]
 fn tells_or_lacks_memory(rt: HostRuntime) {
     let (input, expected) = OF_FIRST;
     let ended = ended_on(&rt, rt.alloc(), &["lot_sim", "play"], input);
     let told = ended.told();
     let is_refused = ended.code == 1 && are_first(told, expected);
-    let is_failed = ended.code == 3 && told.is_empty();
+    let is_failed = ended.code == 3 && told == "out of memory\n";
     assert!(rt; is_refused || is_failed, "{told}");
 }

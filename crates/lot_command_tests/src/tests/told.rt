@@ -98,8 +98,7 @@ schedule 0 0
     let expected =
         "line 7: the command was refused: an amount is a number from 1 to 4294967295, and not 0
 line 11: the command was refused: no script of an earlier line has the name 'u'
-line 12: this command and those after it, 2 in all, were never made: each 0 in a schedule makes one, and lottery 3 \
-makes those up to its end
+line 12: this command and those after it, 2 in all, were never made: each 0 in a schedule makes one
 ";
     check_told(&rt, rt.alloc(), "play", input, 0, expected);
     check_told(&rt, rt.alloc(), "explain", input, 0, expected);
@@ -108,7 +107,7 @@ makes those up to its end
 #[test]
 fn removals(rt: HostRuntime) {
     let input = "lottery 3
-quantum 10
+quantum 8
 for 8
 script s
 compute 4
@@ -131,7 +130,7 @@ line 13: the command was refused: no thread has the name 'a'
 #[test]
 fn kills(rt: HostRuntime) {
     let input = "lottery 3
-quantum 10
+quantum 8
 for 8
 script s
 compute 40
@@ -157,8 +156,7 @@ fn one_command_never_made(rt: HostRuntime) {
         "play",
         input,
         0,
-        "line 3: this command was never made: each 0 in a schedule makes one, and lottery 3 makes those up to its \
-         end\n",
+        "line 3: this command was never made: each 0 in a schedule makes one\n",
     );
 }
 
@@ -362,16 +360,20 @@ script s
 compute 16000000
 endscript
 fundx 1 base a s
+at 8000000
+mkcur c
 ";
     let report = "
 report
 thread 1 a quanta 8000000 ticks 7999999 share 100% due 100% value 100% ready waits 8000000 mean 0 longest 0
 processor 1 quanta 8000000 idle 0 ticks 7999999 unused 0
-total turns 16000000 quanta 8000000 ticks 7999999 refused 0 left 0
+total turns 16000000 quanta 8000000 ticks 7999999 refused 0 left 1
 ended at 7999999 of 9000000: 16000000 turns made
 ";
     let words =
-        "the run was cut at tick 7999999 of 9000000: it made 16000000 turns, and a run makes no more\n";
+        "the run was cut at tick 7999999 of 9000000: it made 16000000 turns, and a run makes no more
+line 9: this command was never made: the run was cut before
+";
     let (code, is_reported, errors) = played_to_the_end(&rt, rt.alloc(), input, report);
     let told = str::from_utf8(errors.as_slice()).unwrap_or("");
     check_same(&rt, &(code, is_reported, told), &(0, true, words));
@@ -482,4 +484,112 @@ fn refused_commands_of_tables(rt: HostRuntime) {
         let ended = ended_with(&rt, rt.alloc(), word, input, (shown, told));
         check_same_at(&rt, &word, &ended, &(0, true, true));
     }
+}
+
+/// Inputs of standard input, and what a play of each tells besides its output.
+const SHOW_LITTLE: &[(&str, &str)] = &[
+    (
+        "lottery 3\nfor 300\n",
+        "nothing runs: no line makes a thread, as 'fundx AMOUNT CURRENCY NAME SCRIPT' does\n",
+    ),
+    (
+        "lottery 3\nfor 300\nscript s\nendscript\nmkcur c\nat 5\nlscur\n",
+        "nothing runs: no line makes a thread, as 'fundx AMOUNT CURRENCY NAME SCRIPT' does\n",
+    ),
+    (
+        "lottery 3\nfor 50\nscript s\ncompute 90 endscript\nfundx 1 base a s\n",
+        "the run of 50 ticks is shorter than a quantum of 100, whose ticks count when it is over\n",
+    ),
+    (
+        "lottery 3\nquantum 9\nfor 8\nscript s\ncompute 90 endscript\nfundx 1 base a s\n",
+        "the run of 8 ticks is shorter than a quantum of 9, whose ticks count when it is over\n",
+    ),
+    (
+        "lottery 3\nquantum 8\nfor 8\nscript s\ncompute 90 endscript\nfundx 1 base a s\n",
+        "",
+    ),
+    ("lottery 1\nmkcur c\nschedule 0 1\n", ""),
+];
+
+#[test]
+fn runs_that_show_little(rt: HostRuntime) {
+    for (input, expected) in SHOW_LITTLE {
+        check_told(&rt, rt.alloc(), "play", input, 0, expected);
+    }
+}
+
+/// A thread that computes for 300 ticks.
+const SPINS: &str = "lottery 3
+for 300
+script s
+compute 900 endscript
+fundx 1 base a s
+";
+
+const NO_TURNS: &str =
+    "the processors make no turns: the header has no 'turns T', how many each makes in a run\n";
+
+// A run has no time, so it is never shorter than a quantum.
+#[test]
+fn runs_without_turns(rt: HostRuntime) {
+    let alloc = rt.alloc();
+    check_told(&rt, alloc, "run", SPINS, 0, NO_TURNS);
+    check_told(
+        &rt,
+        alloc,
+        "run",
+        "lottery 3\nturns 0\nfor 1\nmkcur c\n",
+        0,
+        NO_THREAD,
+    );
+    check_told(&rt, alloc, "play", SPINS, 0, "");
+}
+
+const NO_THREAD: &str =
+    "nothing runs: no line makes a thread, as 'fundx AMOUNT CURRENCY NAME SCRIPT' does\n";
+
+/// The beginnings of what is shown, and what is told.
+const BEGINNINGS: &[(&str, &str)] = &[
+    ("299", ""),
+    (
+        "300",
+        "nothing is left to show: '--from 300' isn't before the end of the run at 300\n",
+    ),
+    (
+        "9000",
+        "nothing is left to show: '--from 9000' isn't before the end of the run at 300\n",
+    ),
+];
+
+#[test]
+fn beginnings_after_the_end(rt: HostRuntime) {
+    for (from, expected) in BEGINNINGS {
+        for word in ["shares", "chart"] {
+            let ended = ended_on(&rt, rt.alloc(), &["lot_sim", word, "--from", *from], SPINS);
+            check_same_at(&rt, &word, &(ended.code, ended.told()), &(0, *expected));
+        }
+    }
+}
+
+/// The thread that wins the first draw is the only one that runs. Thread `a` unlocks a mutex that it doesn't own.
+const STRICT: &str = "lottery 3
+for 10
+quantum 10
+strict
+mutex m
+script bad
+unlock m endscript
+script good
+compute 90 endscript
+fundx 1 base a bad
+fundx 1 base b good
+";
+
+// The drawn number, modulo the 512 units that both weigh, is 265 with the seed 1, and 11 with the seed 2.
+#[test]
+fn a_refusal_of_another_play(rt: HostRuntime) {
+    let words = ["lot_sim", "report", "--seeds", "1..2"];
+    let ended = ended_on(&rt, rt.alloc(), &words, STRICT);
+    let told = "a refusal ended a play with another seed than the first: the input is strict\n";
+    check_same(&rt, &(ended.code, ended.told()), &(1, told));
 }

@@ -158,7 +158,7 @@ fn warned(alloc: Global, input: &str) -> Option<Warnings> {
 /// The words of the warnings.
 fn words_of(alloc: Global, warnings: &Warnings, input: &str) -> Option<Vec<u8>> {
     let mut words = Vec::new(alloc);
-    let written = write_warnings(&mut words, warnings, input.as_bytes());
+    let written = write_warnings(&mut words, warnings, input.as_bytes(), None);
     written.is_ok().then_some(words)
 }
 

@@ -1,8 +1,15 @@
-use Rattle.lot_command.proofs.Statuses.{status-for}
+use Rattle.std.proofs.Common.{refl}
+use Rattle.std.specs.Result.{result_ok}
+use Rattle.lot_command.specs.Statuses.{HasCome}
+use Rattle.lot_command.proofs.Statuses.{if-ok, status-for}
 use Rattle.lot_command.proofs.exit_status.request_status.Goals as goal
 
 pub returns-clause-shown : goal.returns-clause-shown
 returns-clause-shown g c showing is =
-    let told = status-for showing.view showing.seed (g.R.Read.remaining c.new-reader.result.inner.reader) (g.R.Read.remaining c.answer-came.new.reader.inner.reader) c.in-Ok-nothing.diagnostics.warnings.stopped c.answer-came.new.diagnostics.warnings.stopped c.answer-came.result c.status_of-status.result
-    c.in-Ok-nothing.ensures (c.answer-came.ensures showing is) c.status_of-status.ensures.status in
-    rw c.new-reader.ensures at told
+    let left = g.R.Read.remaining c.new-reader.result.inner.inner in
+    let rest = g.R.Read.remaining c.answer-came.new.reader.inner.inner in
+    let before = c.in-Ok-nothing.diagnostics.warnings.stopped in
+    let after = c.answer-came.new.diagnostics.warnings.stopped in
+    let came = if-ok (HasCome showing.view showing.seed left rest before after) c.answer-came.result (result_ok c.answer-came.result) refl (c.answer-came.ensures showing is) in
+    let told = status-for showing.view showing.seed left rest before after (result_ok c.answer-came.result) c.status_of-status.result c.in-Ok-nothing.ensures came c.status_of-status.ensures.status in
+    rw (c.new-reader.ensures, c.new-source.ensures) at told

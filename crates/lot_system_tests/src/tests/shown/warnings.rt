@@ -170,6 +170,111 @@ fn words_that_are_the_cause(rt: HostRuntime) {
     check_commands(&rt, rt.alloc(), WORDS_THAT_ARE_THE_CAUSE)
 }
 
+const THREADS_THAT_WEIGH_NOTHING: &[Row] = &[
+    (
+        "mkthr a spin\n",
+        "thread 'a' is ready at the end and weighs nothing: it wins no draw before something funds it\n",
+    ),
+    (
+        "mkcur x\nfundx 5 x a spin\n",
+        "thread 'a' is ready at the end and weighs nothing: it wins no draw before something funds its currency 'x'\n",
+    ),
+    (
+        "mkcur x\nmkcur y\nmktkt 5 x\nfund 1 y\nfundx 5 y a spin\n",
+        "thread 'a' is ready at the end and weighs nothing: it wins no draw before something funds its currency 'x'\n",
+    ),
+    (
+        "mkcur x\nmktkt 1 base\nfund 1 x\nfundx 5 x a spin\nunfund 1\n",
+        "thread 'a' is ready at the end and weighs nothing: it wins no draw before something funds its currency 'x'\n",
+    ),
+    (
+        "mkcur x\nmktkt 1 base\nfund 1 x\nfundx 1 x a spin\nfundx 4294967295 x b spin\n",
+        "thread 'a' is ready at the end and weighs nothing: it is funded, but its value rounds to 0\n",
+    ),
+];
+
+// Base's ticket of 1 has 256 units of value, of which a's part is 256 / 4294967296.
+#[test]
+fn threads_that_weigh_nothing(rt: HostRuntime) {
+    check_commands(&rt, rt.alloc(), THREADS_THAT_WEIGH_NOTHING)
+}
+
+/// Ticket 1 of `base` is worth 1, and each thread has half of it.
+const ROUNDED: Row = (
+    "lottery 1
+script s
+compute 5
+endscript
+mkcur x
+mktkt 1 base
+fund 1 x
+fundx 1000 x a s
+fundx 1000 x b s
+schedule 0 0 0 0 0
+",
+    "thread 'a' is ready at the end and weighs nothing: it is funded, but its value rounds to 0
+thread 'b' is ready at the end and weighs nothing: it is funded, but its value rounds to 0
+",
+);
+
+#[test]
+fn rounded_values(rt: HostRuntime) {
+    check_all(&rt, rt.alloc(), &[ROUNDED])
+}
+
+const TIMES_AFTER_THE_END: &[Row] = &[
+    (
+        "fundx 1 base a spin\nat 9\nmkcur b\nat 10\nmkcur c\n",
+        "line 11: this command was never made: tick 10 is after the end of the run at 9\n",
+    ),
+    (
+        "fundx 1 base a spin\nat 5000\nmkcur c\nat 6000\nmkcur d\n",
+        "line 9: this command and those after it, 2 in all, were never made: tick 5000 is after the end of the run \
+         at 9\n",
+    ),
+];
+
+// A command at the end of the run is made, and none after it.
+#[test]
+fn times_after_the_end(rt: HostRuntime) {
+    check_commands(&rt, rt.alloc(), TIMES_AFTER_THE_END)
+}
+
+const LIMITS: &[Row] = &[
+    (
+        "lottery 1\nlimits 2 1 1\nmkcur a\nmkcur b\nschedule 0 0\n",
+        "line 4: the command was refused: there are as many currencies as CURRENCIES allows in the header's 'limits \
+         TICKETS CURRENCIES THREADS', 1\n",
+    ),
+    (
+        "lottery 2\nlimits 2 1 1\nmktkt 1 base\nmktkt 1 base\nmktkt 1 base\nschedule 0 0 0\n",
+        "line 5: the command was refused: there are as many tickets as TICKETS allows in the header's 'limits TICKETS \
+         CURRENCIES THREADS', 2\n",
+    ),
+    (
+        "lottery 3\nfor 300\nlimits 5 1 1\nscript s\nendscript\nfundx 1 base a s\nfundx 1 base b s\n",
+        "line 7: the command was refused: there are as many threads as THREADS allows in the header's 'limits TICKETS \
+         CURRENCIES THREADS', 1; removed ones count too, unless the header has 'reuse'\n",
+    ),
+    (
+        "lottery 3\nfor 300\nlimits 1 1 5\nscript s\nendscript\nfundx 0 base a s\nfundx 1 base a s\nfundx 1 base b s\n",
+        "line 6: the command was refused: an amount is a number from 1 to 4294967295, and not 0
+line 8: the command was refused: there are as many tickets as TICKETS allows in the header's 'limits TICKETS \
+         CURRENCIES THREADS', 1; removed ones count too, unless the header has 'reuse'\n",
+    ),
+    (
+        "lottery 3\nfor 300\nreuse\nlimits 5 1 1\nscript s\nendscript\nfundx 1 base a s\nat 9\nunfund 1\nrmthr a\n\
+         fundx 1 base b s\nfundx 1 base c s\n",
+        "line 12: the command was refused: there are as many threads as THREADS allows in the header's 'limits TICKETS \
+         CURRENCIES THREADS', 1\n",
+    ),
+];
+
+#[test]
+fn limits(rt: HostRuntime) {
+    check_all(&rt, rt.alloc(), LIMITS)
+}
+
 const TICKETS_BY_NAME: &[Row] = &[
     (
         "mktkt 5 base as gift\nrmtkt gift\nrmtkt gift\n",
@@ -211,6 +316,30 @@ unlock m yield endscript
 fundx 5 base a unlocks
 ";
 
+/// The last turn is refused, and the command after it comes after the end.
+const STRICT_AND_LATE: &str = "lottery 3
+for 5
+strict
+script s
+compute 900 endscript
+fundx 1 base a s
+at 3
+rmcur base
+at 6
+lstkt
+";
+
+/// After the refusal come a command up to the end of the run and two after it.
+const STRICT_AND_BOTH: &str = "lottery 3
+for 9
+strict
+rmtkt 1
+mkcur a
+at 10
+mkcur b
+mkcur c
+";
+
 const STRICT_INPUTS: &[Row] = &[
     (
         STRICT,
@@ -223,6 +352,20 @@ line 6: this command was never made: the refusal ended the run
         STRICT_TRAP,
         "the run ended at tick 1 of 9: the input is strict, and turn 3 was refused
 line 6: 'unlock m' in script 'unlocks' was refused to thread 'a' once: the thread doesn't own the mutex
+",
+    ),
+    (
+        STRICT_AND_LATE,
+        "line 8: the command was refused: base can't be removed, and nothing can fund it
+line 10: this command was never made: tick 6 is after the end of the run at 5
+",
+    ),
+    (
+        STRICT_AND_BOTH,
+        "the run ended at tick 0 of 9: the input is strict, and turn 1 was refused
+line 4: the command was refused: no ticket has the number 1
+line 5: this command was never made: the refusal ended the run
+line 7: this command and those after it, 2 in all, were never made: tick 10 is after the end of the run at 9
 ",
     ),
 ];
@@ -339,7 +482,28 @@ rmthr a
 fundx 1 base a twice
 ";
 
+/// Thread `own` has ended with mutex `m`, for which `guest` waits, while `spin` runs.
+const WAITING_BESIDE_A_SPINNER: &str = "lottery 3
+for 300
+quantum 10
+mutex m
+script o
+lock m endscript
+script g
+lock m compute 900 endscript
+script s
+compute 900 endscript
+fundx 9 base own o
+at 3
+fundx 1 base guest g
+fundx 1 base spin s
+";
+
 const WAITS_AND_REFUSED_TRAPS: &[Row] = &[
+    (
+        WAITING_BESIDE_A_SPINNER,
+        "thread 'guest' waits for good for mutex 'm', whose owner, thread 'own', has ended\n",
+    ),
     (
         WAITING,
         "thread 'ask' waits for good for a reply of thread 'own'

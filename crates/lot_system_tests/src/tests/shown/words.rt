@@ -10,7 +10,7 @@ use std::process::Abort;
 fn diagnostic(rt: &impl Abort, alloc: Global, input: &[u8]) -> Vec<u8> {
     let fault = fault_of(rt, alloc, input);
     let mut words = Vec::new(alloc);
-    let is_written = write_words(alloc, &mut words, input, fault).is_ok();
+    let is_written = write_words(alloc, &mut words, input, None, fault).is_ok();
     check_same(rt, &is_written, &true);
     words
 }
@@ -46,6 +46,10 @@ const FIRST_LINES: &[Row] = &[
     ("lottery 9\n", START),
     ("script s\n", START),
     (
+        "Lottery 3\n",
+        "line 1: an input begins with 'lottery 1', 'lottery 2' or 'lottery 3', in lower case\n",
+    ),
+    (
         "lottery 1\nquantum 5\nprocessors 2\n",
         "line 3: 'processors' comes too late: the header has 'lottery', 'processors', 'quantum', 'turns', 'seed' and \
          'limits', each at most once, in this order and before all else\n",
@@ -64,7 +68,35 @@ const MISSPELT_WORDS: &[Row] = &[
     ),
     (
         "lottery 1\nnonsense\n",
-        "line 2: 'nonsense' is no body line\n",
+        "line 2: 'nonsense' is no body line; these begin with port, mutex, script, mktkt, rmtkt, mkcur, rmcur, fund, \
+         unfund, mkthr, fundx, lstkt, lscur, lsthr, schedule\n",
+    ),
+    (
+        "lottery 2\nstart a\n",
+        "line 2: 'start' is no body line; these begin with port, mutex, script, mktkt, rmtkt, mkcur, rmcur, fund, \
+         unfund, mkthr, fundx, lstkt, lscur, lsthr, schedule, runs\n",
+    ),
+    (
+        "lottery 3\nfor 5\nstart a\n",
+        "line 3: 'start' is no body line; these begin with at, settkt, rmthr, kill, port, mutex, script, mktkt, rmtkt, \
+         mkcur, rmcur, fund, unfund, mkthr, fundx, lstkt, lscur, lsthr\n",
+    ),
+    (
+        "lottery 1\nscript s\nexit\n",
+        "line 3: 'exit' is no word of a script; its words are compute, set, add, loop, end, yield, reply, call, \
+         receive, lock, unlock, endscript\n",
+    ),
+    (
+        "lottery 3\nfor 5\nfundX 5 base a s\n",
+        "line 3: 'fundX' is no body line; did you mean 'fundx'?\n",
+    ),
+    (
+        "lottery 1\nKMTKT 5 base\n",
+        "line 2: 'KMTKT' is no body line; did you mean 'mktkt'?\n",
+    ),
+    (
+        "lottery 1\nmutex m\nscript s\nlokc m\n",
+        "line 4: 'lokc' is no word of a script; did you mean 'lock'?\n",
     ),
     (
         "lottery 1\nscript s\ncomptue 4\n",
@@ -72,7 +104,8 @@ const MISSPELT_WORDS: &[Row] = &[
     ),
     (
         "lottery 1\nscript s\nserve_\n",
-        "line 3: 'serve_' is no word of a script\n",
+        "line 3: 'serve_' is no word of a script; its words are compute, set, add, loop, end, yield, reply, call, \
+         receive, lock, unlock, endscript\n",
     ),
     (
         "lottery 3\nfor 5\nscript s\nserve_\n",
@@ -96,7 +129,7 @@ const PLACES_OF_LINES: &[Row] = &[
     ),
     (
         "lottery 1\nscript s\nmktkt 5 base\n",
-        "line 3: 'mktkt' is no word of a script, and the one that line 2 opens isn't closed: 'endscript' closes it\n",
+        "line 3: 'mktkt' stands outside scripts, and the one that line 2 opens isn't closed: 'endscript' closes it\n",
     ),
     (
         "lottery 1\nscript s\nyield\n",
@@ -125,6 +158,10 @@ fn places_of_lines(rt: HostRuntime) {
     check_all(&rt, rt.alloc(), PLACES_OF_LINES)
 }
 
+const EARLY_RETURN: &str =
+    "line 2: a carriage return before the line 'lottery 3': put that line first, or save the file with line feeds \
+     alone as line ends\n";
+
 const BYTES: &[Row] = &[
     (
         "lottery 1\nmktkt\t5 base\n",
@@ -133,6 +170,16 @@ const BYTES: &[Row] = &[
     (
         "lottery 1\r\n",
         "line 1: a carriage return: save the file with line feeds alone as line ends\n",
+    ),
+    ("# a comment\r\n\r\nlottery 3\r\nfor 5\r\n", EARLY_RETURN),
+    ("# a comment\n \r\n", EARLY_RETURN),
+    (
+        "\u{feff}lottery 3\nfor 5\n",
+        "line 1: the file begins with a byte order mark: save it as ASCII, or as UTF-8 without a byte order mark\n",
+    ),
+    (
+        "lottery 1\n\u{feff}mkcur a\n",
+        "line 2: byte 239 in column 1: outside comments only ASCII is read\n",
     ),
     (
         "lottery 1\nmkcur \u{e9}\n",
@@ -145,9 +192,20 @@ const BYTES: &[Row] = &[
     ),
 ];
 
+/// The beginnings of files in UTF-16, with the low byte first and with the high byte first.
+const WIDE: &[&[u8]] = &[
+    b"\xff\xfel\x00o\x00t\x00\n\x00",
+    b"\xfe\xff\x00l\x00o\x00t\x00\n",
+];
+
 #[test]
 fn bytes(rt: HostRuntime) {
-    check_all(&rt, rt.alloc(), BYTES)
+    check_all(&rt, rt.alloc(), BYTES);
+    let expected =
+        "line 1: the file is in UTF-16: save it as ASCII, or as UTF-8 without a byte order mark\n";
+    for input in WIDE {
+        check(&rt, rt.alloc(), input, expected);
+    }
 }
 
 #[test]
@@ -174,6 +232,15 @@ const COUNTS_OF_WORDS: &[Row] = &[
         "lottery 2\nruns 0 6 1\n",
         "line 2: this line is written 'runs ACTOR TURNS ..', and here are 4 words\n",
     ),
+    (
+        "lottery 3\nfor 5\nscript s compute 5 endscript\n",
+        "line 3: this line is written 'script NAME', and here are 5 words: the words of the script begin on the next \
+         line\n",
+    ),
+    (
+        "lottery 1\nscript\n",
+        "line 2: this line is written 'script NAME', and here is 1 word\n",
+    ),
 ];
 
 #[test]
@@ -184,7 +251,36 @@ fn counts_of_words(rt: HostRuntime) {
 const NUMBERS: &[Row] = &[
     (
         "lottery 1\nmktkt 05 base\n",
-        "line 2: '05' is no number: digits, without a 0 before others, at most 18446744073709551615\n",
+        "line 2: '05' is no number from 1 to 4294967295: a number has digits alone, no sign, no fraction and no 0 \
+         before others\n",
+    ),
+    (
+        "lottery 1\nmktkt 1.5 base\n",
+        "line 2: '1.5' is no number from 1 to 4294967295: a number has digits alone, no sign, no fraction and no 0 \
+         before others\n",
+    ),
+    (
+        "lottery 2\nfundx -10 base a s\n",
+        "line 2: '-10' is no number from 1 to 4294967295: a number has digits alone, no sign, no fraction and no 0 \
+         before others\n",
+    ),
+    (
+        "lottery 3\nfor 10,\n",
+        "line 2: '10,' is no number from 1 to 4294967295: a number has digits alone, no sign, no fraction and no 0 \
+         before others\n",
+    ),
+    (
+        "lottery 1\nmktkt 18446744073709551616 base\n",
+        "line 2: '18446744073709551616' is no number from 1 to 4294967295\n",
+    ),
+    (
+        "lottery 1\nprocessors two\n",
+        "line 2: 'two' is no number from 1 to 64\n",
+    ),
+    (
+        "lottery 1\nprocessors 2\nschedule 0 +1\n",
+        "line 3: '+1' is no number from 0 to 2: a number has digits alone, no sign, no fraction and no 0 before \
+         others\n",
     ),
     (
         "lottery 1\nprocessors 65\n",
@@ -220,7 +316,8 @@ const NAMES_FOR_NUMBERS: &[Row] = &[
     ),
     (
         "fund -1 alice",
-        "line 2: '-1' is no number: digits, without a 0 before others, at most 18446744073709551615\n",
+        "line 2: '-1' is no number from 1 to 65535: a number has digits alone, no sign, no fraction and no 0 before \
+         others\n",
     ),
 ];
 
@@ -301,7 +398,11 @@ const TURNS_IN_TIME: &[Row] = &[
     ),
     (
         "lottery 3\nfor 5\nat 3\nat 2\n",
-        "line 4: '2' is no number from 3 to 4294967295\n",
+        "line 4: '2' comes after 3, the time of an earlier 'at': times never fall\n",
+    ),
+    (
+        "lottery 3\nfor 5\nat 500\nat 4294967296\n",
+        "line 4: '4294967296' is no number from 0 to 4294967295\n",
     ),
     (
         "lottery 2\nat 5\n",
@@ -362,7 +463,7 @@ const NUMBERS_GIVEN_AGAIN: &[Row] = &[
     ),
     (
         "lottery 3\nfor 5\nscript s\nreuse\n",
-        "line 4: 'reuse' is no word of a script, and the one that line 3 opens isn't closed: 'endscript' closes \
+        "line 4: 'reuse' stands outside scripts, and the one that line 3 opens isn't closed: 'endscript' closes \
          it\n",
     ),
     (
@@ -374,6 +475,26 @@ const NUMBERS_GIVEN_AGAIN: &[Row] = &[
 #[test]
 fn numbers_given_again(rt: HostRuntime) {
     check_all(&rt, rt.alloc(), NUMBERS_GIVEN_AGAIN)
+}
+
+const MECHANISMS: &[Row] = &[
+    (
+        "lottery 3\nwithout both\n",
+        "line 2: 'both' is no mechanism that can be left out: write 'compensation' or 'lending', and a line for each\n",
+    ),
+    (
+        "lottery 3\nfor 5\nwithout\n",
+        "line 3: this line is written 'without MECHANISM', and here is 1 word\n",
+    ),
+    (
+        "lottery 3\nfor 5\nwithout lending compensation\n",
+        "line 3: this line is written 'without MECHANISM', and here are 3 words\n",
+    ),
+];
+
+#[test]
+fn mechanisms(rt: HostRuntime) {
+    check_all(&rt, rt.alloc(), MECHANISMS)
 }
 
 const STRICT_INPUTS: &[Row] = &[
@@ -418,7 +539,8 @@ const TICKETS_BY_NAME: &[Row] = &[
     ),
     (
         "settkt 007 5",
-        "line 4: '007' is no number: digits, without a 0 before others, at most 18446744073709551615\n",
+        "line 4: '007' is no number from 1 to 65535: a number has digits alone, no sign, no fraction and no 0 before \
+         others\n",
     ),
     (
         "settkt gift five",
@@ -547,7 +669,11 @@ static COMMANDS_OF_ONE_FORMAT: [Row; 16] = [
         "lottery 2\nkill a\n",
         "line 2: 'kill' is for 'lottery 3', whose turns come in the order of time\n",
     ),
-    ("lottery 1\nkil a\n", "line 2: 'kil' is no body line\n"),
+    (
+        "lottery 1\nkil a\n",
+        "line 2: 'kil' is no body line; these begin with port, mutex, script, mktkt, rmtkt, mkcur, rmcur, fund, \
+         unfund, mkthr, fundx, lstkt, lscur, lsthr, schedule\n",
+    ),
     (
         "lottery 3\nfor 5\nkil a\n",
         "line 3: 'kil' is no body line; did you mean 'kill'?\n",
@@ -639,7 +765,7 @@ const SEVERAL_WORDS: &[Row] = &[
     ),
     (
         "yield\nmktkt 5 base",
-        "line 6: 'mktkt' is no word of a script, and the one that line 4 opens isn't closed: 'endscript' closes \
+        "line 6: 'mktkt' stands outside scripts, and the one that line 4 opens isn't closed: 'endscript' closes \
          it\n",
     ),
     (
@@ -648,7 +774,20 @@ const SEVERAL_WORDS: &[Row] = &[
     ),
     (
         "# endscript\nnonsense",
-        "line 6: 'nonsense' is no word of a script\n",
+        "line 6: 'nonsense' is no word of a script; its words are sleep, serve, compute, set, add, loop, end, yield, \
+         reply, call, receive, lock, unlock, endscript\n",
+    ),
+    (
+        "loop compute 5 end",
+        "line 5: a word is missing before 'compute': 'loop TIMES'\n",
+    ),
+    (
+        "sleep yield",
+        "line 5: a word is missing before 'yield': 'sleep TICKS'\n",
+    ),
+    (
+        "unlock endscript",
+        "line 5: a word is missing before 'endscript': 'unlock MUTEX'\n",
     ),
 ];
 

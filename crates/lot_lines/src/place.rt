@@ -1,0 +1,23 @@
+//! Where a message points to.
+
+use std::fmt;
+
+/// Where a message points to, which begins it as compilers' messages do: a file by its name, and a line.
+#[derive(Clone, Copy, Debug)]
+pub struct Place<'a> {
+    /// The name of the file, or none for standard input.
+    pub file: Option<&'a str>,
+    /// The line, from 1, or none for the whole input.
+    pub line: Option<u32>,
+}
+
+impl fmt::Display for Place<'_> {
+    fn fmt<W: fmt::Write>(&self, f: &mut fmt::Formatter<W>) -> fmt::Result {
+        match (self.file, self.line) {
+            (Some(file), Some(line)) => write!(f, "{file}:{line}: "),
+            (Some(file), None) => write!(f, "{file}: "),
+            (None, Some(line)) => write!(f, "line {line}: "),
+            (None, None) => Ok(()),
+        }
+    }
+}
