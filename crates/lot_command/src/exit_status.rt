@@ -136,7 +136,7 @@ fn request_status<H: Threads + Wait + Sync, R: Read + Drop, W: Write + Drop, E: 
 ) -> ExitStatus
     ensures request { result ≢ ExitStatus.CommandLine }
     ensures shown { (showing : Showing) → line.now.request ≡ Request.Show showing
-        → IsStatusFor showing.view showing.seed (R.remaining reader.entry) result }
+        → IsStatusFor showing.view showing.seed (R.remaining reader) result }
 {
     let Ok(buffered) = BufWriter::with_capacity(alloc, BUFFER, output) else {
         say_no_memory(&mut errors);
