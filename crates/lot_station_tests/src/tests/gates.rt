@@ -87,7 +87,7 @@ fn three_workers_run_at_once(rt: HostRuntime) {
 }
 
 /// `run_all_baton` over the seats of a vector.
-fn run_seats<G: Gate + Sync, R: Threads + Wait + Sync>(
+pub(super) fn run_seats<G: Gate + Sync, R: Threads + Wait + Sync>(
     rt: &R,
     station: &BatonStation,
     program: &Program,

@@ -1,11 +1,12 @@
 //! A kill that outdates the work with which a worker waits at its gate.
-ghost use Rattle.std.specs.Prelude.{◌≡◌, ◌+◌, All, false};
+ghost use Rattle.std.specs.Prelude.{◌≡◌, ◌+◌, All, IfSome, false};
 ghost use Rattle.lot_station.specs.BatonSeats.{IsSeatOf};
 
+use crate::tests::gates::run_seats;
 use crate::tests::same::check_same;
 use crate::tests::turnstile::TRIES;
 use lot_engine::System;
-use lot_processors::{Gate, run_all, run_all_baton};
+use lot_processors::{Gate, run_all};
 use lot_station::{BatonSeat, BatonStation, Seat, Station, TurnLedger};
 use lot_text::{Program, parse};
 use std::alloc::Global;
@@ -143,14 +144,15 @@ fn outdated_in<
 /// `outdated_in` over a station which has ledgers of its own.
 fn outdated<R: Threads + Wait + Abort + Sync>(rt: &R, alloc: Global) -> (bool, bool) {
     let (program, system) = opened(rt, alloc);
+    let parts = u64::from(system.processors()) + 1;
     outdated_in::<Brand, Brand, Brand, R>(
         rt,
         alloc,
         &program,
         system,
-        Blank::new(2),
-        Blank::new(2),
-        Blank::new(2),
+        Blank::new(parts),
+        Blank::new(parts),
+        Blank::new(parts),
     )
 }
 
@@ -160,15 +162,16 @@ fn a_kill_outdates_a_work(rt: HostRuntime) {
     check_same(&rt, &outdated(&rt, rt.alloc()), &(true, true));
 }
 
-/// Makes a turn of the console, whose seat comes first; whether it was made.
-fn baton_command(rt: &impl Wait, station: &BatonStation, seats: &mut [BatonSeat]) -> bool
-    requires { All (IsSeatOf station.now) seats.old }
-    ensures { All (IsSeatOf station.now) seats.new }
+/// The console's seat, and those of the processors.
+fn parted(_station: &BatonStation, mut seats: Vec<BatonSeat>) -> Option<(BatonSeat, Vec<BatonSeat>)>
+    requires { All (IsSeatOf _station.now) seats.items }
+    ensures { IfSome result (λ r. IsSeatOf _station.now r.0 × All (IsSeatOf _station.now) r.1.items) }
 {
-    match seats.first_mut() {
-        Some(console) => station.turn(rt, console, None).is_ok(),
-        None => false,
+    if seats.is_empty() {
+        return None;
     }
+    let console = seats.remove(0);
+    Some((console, seats))
 }
 
 /// Makes a turn of the console once the worker is held, and lets the worker go on; whether the turn was made.
@@ -176,29 +179,45 @@ fn baton_kill(
     rt: &impl Wait,
     station: &BatonStation,
     gate: &Killing,
-    console: &mut [BatonSeat],
+    console: &mut BatonSeat,
 ) -> bool
-    requires { All (IsSeatOf station.now) console.old }
+    requires { console.old.station ≡ station.now.id }
 {
-    let is_made = has_come(&gate.is_here) && baton_command(rt, station, console);
+    let is_made = has_come(&gate.is_here) && station.turn(rt, console, None).is_ok();
     gate.has_killed.store(true, Ordering::SeqCst);
     is_made
+}
+
+/// Whether the thread was killed while the worker was held, and the worker made all its turns.
+fn baton_race<R: Threads + Wait + Sync>(
+    rt: &R,
+    station: &BatonStation,
+    program: &Program,
+    console: &mut BatonSeat,
+    workers: &mut Vec<BatonSeat>,
+) -> (bool, bool)
+    requires console { console.old.station ≡ station.now.id }
+    requires workers { All (IsSeatOf station.now) workers.old.items }
+{
+    let gate = Killing::new();
+    thread::join(
+        rt,
+        ||
+            requires { console.now.station ≡ station.now.id }
+        { baton_kill(rt, station, &gate, console) },
+        ||
+            requires { All (IsSeatOf station.now) workers.now.items }
+        { run_seats(rt, station, program, &gate, workers).is_ok() },
+    )
 }
 
 /// As `outdated`, over a baton station.
 fn baton_outdated<R: Threads + Wait + Abort + Sync>(rt: &R, alloc: Global) -> (bool, bool) {
     let (program, system) = opened(rt, alloc);
-    let (station, mut seats) = BatonStation::open(alloc, system).expect(rt, "memory");
-    let is_funded = baton_command(rt, &station, &mut seats);
-    let Some((console, workers)) = seats.as_mut_slice().split_at_mut_checked(1) else {
-        return (false, false);
-    };
-    let gate = Killing::new();
-    let (is_killed, has_run) = thread::join(
-        rt,
-        || baton_kill(rt, &station, &gate, console),
-        || run_all_baton(rt, &station, &program, &gate, workers).is_ok(),
-    );
+    let (station, seats) = BatonStation::open(alloc, system).expect(rt, "memory");
+    let (mut console, mut workers) = parted(&station, seats).expect(rt, "a seat");
+    let is_funded = station.turn(rt, &mut console, None).is_ok();
+    let (is_killed, has_run) = baton_race(rt, &station, &program, &mut console, &mut workers);
     (is_funded && is_killed, has_run)
 }
 
