@@ -33,10 +33,6 @@ impl<'a> Nearest<'a> {
 
     /// The nearer of both texts to the misspelt one. If out of memory, nothing is suggested, and no later text either.
     pub fn or(self, alloc: Global, misspelt: &str, text: &'a str) -> Nearest<'a> {
-        // Texts whose lengths differ by more aren't near, which takes no memory to see.
-        if misspelt.len().abs_diff(text.len()) > MOST_EDITS {
-            return self;
-        }
         match edits_between(alloc, misspelt, text) {
             Ok(edits) => self.or_at(distance_of(misspelt, text, edits), edits, text),
             Err(_) => Nearest {
