@@ -53,6 +53,13 @@ impl Above {
         Lists::bytes(1, layout.node_count())
     }
 
+    /// The bytes that it has room for: those that `new` requested, whatever has happened since.
+    pub fn held(&self) -> u64
+        ensures { result ≡ 12 * node_count self.now.layout + 8 }
+    {
+        self.found.held()
+    }
+
     /// Finds the nodes from which a path of edges, perhaps empty, leads to this one, in place of those found before. It
     /// reads each edge into them once.
     pub fn find(&mut self, graph: &Graph, node: Node)

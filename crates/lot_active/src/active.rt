@@ -70,6 +70,13 @@ impl Active {
         Marks::bytes(layout.node_count())
     }
 
+    /// The bytes that it has room for: those that `new` requested, whatever has happened since.
+    pub fn held(&self) -> u64
+        ensures { result ≡ 21 * length self.now.amounts + 24 }
+    {
+        self.marks.held()
+    }
+
     /// Whether a ticket with this target is active, in each graph for which this activity is kept.
     pub fn is_active(&self, target: Target) -> bool
         requires target { (w : LimitedFunding) × (live : List Bool) × (ticket : ℕ) × IsKeptFor self.now w live

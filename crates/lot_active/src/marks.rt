@@ -10,6 +10,7 @@ ghost use Rattle.lot_active.specs.Spread.{Spreading, Crossing};
 
 use crate::edge_ends::source_of_edge;
 use lot_graph::Graph;
+use lot_kept::Kept;
 use lot_lists::{Lists, Nodes};
 use std::alloc::{AllocError, Global};
 use std::marker::Model;
@@ -28,8 +29,8 @@ const MARK_BYTES: u64 = size_of::<bool>() as u64 + size_of::<u64>() as u64;
 
 #[derive(Drop)]
 pub(crate) struct Marks {
-    awake: Vec<bool>,
-    amounts: Vec<u64>,
+    awake: Kept<bool>,
+    amounts: Kept<u64>,
     lists: Lists,
     // The number of edges passed on, for tests. No clause mentions it.
     passed: u64,
@@ -52,8 +53,8 @@ impl Marks {
         ensures sized { IfOk result IsSized }
     {
         Ok(Marks {
-            awake: vec![in alloc; false; nodes]?,
-            amounts: vec![in alloc; 0; nodes]?,
+            awake: Kept::filled(alloc, false, nodes)?,
+            amounts: Kept::filled(alloc, 0, nodes)?,
             lists: Lists::new(alloc, 3, nodes)?,
             passed: 0,
         })
@@ -65,6 +66,15 @@ impl Marks {
         ensures { result ≡ 21 * nodes + 24 }
     {
         MARK_BYTES * nodes as u64 + Lists::bytes(3, nodes)
+    }
+
+    /// The bytes that it has room for: those that `new` requested.
+    pub(crate) fn held(&self) -> u64
+        ensures { result ≡ 21 * length self.now.amounts + 24 }
+    {
+        size_of::<bool>() as u64 * self.awake.room() as u64
+            + size_of::<u64>() as u64 * self.amounts.room() as u64
+            + self.lists.held()
     }
 
     pub(crate) fn is_on(&self, node: usize) -> bool

@@ -16,6 +16,7 @@ ghost use Rattle.lot_draw.specs.Queued.{AreWeights, CompetesIn, IsChanged, IsPla
 
 use crate::competing::{Competitor, Winner};
 use crate::lottery::{reduced, weight};
+use lot_kept::Kept;
 use lot_lists::Lists;
 use lot_machine::{Limits, Node, index_of};
 use lot_tree::SumTree;
@@ -37,7 +38,7 @@ const COMPETITOR_BYTES: u64 = size_of::<Option<Competitor>>() as u64;
 pub struct RunQueue {
     tree: SumTree,
     changed: Lists,
-    competitors: Vec<Option<Competitor>>,
+    competitors: Kept<Option<Competitor>>,
     quantum: u32,
     visits: u64,
 }
@@ -89,7 +90,7 @@ impl RunQueue {
         Ok(RunQueue {
             tree: SumTree::new(alloc, threads)?,
             changed: Lists::new(alloc, 1, threads)?,
-            competitors: vec![in alloc; None; threads]?,
+            competitors: Kept::filled(alloc, None, threads)?,
             quantum: limits.quantum,
             visits: 0,
         })
@@ -101,6 +102,13 @@ impl RunQueue {
     {
         let threads = limits.threads as usize;
         SumTree::bytes(threads) + Lists::bytes(1, threads) + COMPETITOR_BYTES * threads as u64
+    }
+
+    /// The bytes that it has room for: those that `new` requested, whatever has happened since.
+    pub fn held(&self) -> u64
+        ensures { result ≡ 56 * length self.now.competitors + 8 }
+    {
+        self.tree.held() + self.changed.held() + COMPETITOR_BYTES * self.competitors.room() as u64
     }
 
     /// The quantum, in ticks.

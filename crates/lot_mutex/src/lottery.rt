@@ -1,6 +1,6 @@
 //! The lottery over the values of the waiters for a mutex (6.1).
 ghost use Rattle.std.specs.Prelude.{◌≡◌, ◌≢◌, ◌*◌, ◌<◌, ◌≤◌, ◌^◌, ◌↔◌, [], All, IfOk, IfSome, IsTrue, length, map};
-ghost use Rattle.std.specs.Prelude.{option_map, slice_index, unwrap_or, vec_capacity};
+ghost use Rattle.std.specs.Prelude.{option_map, slice_index, unwrap_or};
 ghost use Rattle.lot_machine.specs.declared.record.Status.TheVariants as status;
 ghost use Rattle.lot_machine.specs.Lottery as lottery;
 ghost use Rattle.lot_machine.specs.Mutexes.{mutex_at};
@@ -10,6 +10,7 @@ ghost use Rattle.lot_queues.specs.QueueLists.{IsThere};
 ghost use Rattle.lot_threads.specs.Threaded.{IsThreadOf, funding_in, worth_in};
 
 use lot_draw::winner;
+use lot_kept::Stack;
 use lot_machine::{Drawn, Node, ThreadNumber};
 use lot_queues::Queues;
 use lot_threads::Threads;
@@ -24,8 +25,8 @@ const WAITER_BYTES: u64 = size_of::<u32>() as u64 + size_of::<u128>() as u64;
 pub struct Lottery {
     /// The largest number of waiters.
     room: u32,
-    waiters: Vec<u32>,
-    worths: Vec<u128>,
+    waiters: Stack<u32>,
+    worths: Stack<u128>,
 }
 
 impl Drop for Lottery {
@@ -40,7 +41,7 @@ impl Drop for Lottery {
 }
 
 impl Model for Lottery {
-    ghost use Rattle.std.specs.Prelude.{◌≤◌, vec_len, vec_capacity};
+    ghost use Rattle.std.specs.Prelude.{◌≡◌, ◌≤◌, length};
     ghost use Rattle.lot_mutex.specs.Listed.{Listed};
 
     ghost Value = { Listed };
@@ -48,9 +49,9 @@ impl Model for Lottery {
     ghost view = { λ l. record { room = l.room; waiters = l.waiters.items } };
 
     ghost invariant = { λ l. record {
-      waiters_room : l.room ≤ vec_capacity l.waiters;
-      worths_room : l.room ≤ vec_capacity l.worths;
-      few : vec_len l.waiters ≤ l.room;
+      waiters_room : l.waiters.room ≡ l.room;
+      worths_room : l.worths.room ≡ l.room;
+      few : length l.waiters.items ≤ l.room;
     } };
 }
 
@@ -61,8 +62,8 @@ impl Lottery {
     {
         Ok(Lottery {
             room: threads,
-            waiters: Vec::with_capacity(alloc, threads as usize)?,
-            worths: Vec::with_capacity(alloc, threads as usize)?,
+            waiters: Stack::new(alloc, threads as usize)?,
+            worths: Stack::new(alloc, threads as usize)?,
         })
     }
 
@@ -71,6 +72,16 @@ impl Lottery {
         ensures { result ≡ 20 * threads }
     {
         WAITER_BYTES * threads as u64
+    }
+
+    /// The bytes that it has room for: those that `new` requested, whatever has happened since.
+    pub fn held(&self) -> u64
+        ensures { result ≡ 20 * self.now.room }
+    {
+        // It fits 32 bits, so the sum fits.
+        let _room = self.room;
+        size_of::<u32>() as u64 * self.waiters.room() as u64
+            + size_of::<u128>() as u64 * self.worths.room() as u64
     }
 
     /// The largest number of waiters.
@@ -127,16 +138,16 @@ impl Lottery {
 }
 
 /// Lists the values of these threads, none of which is stale.
-fn list_worths(threads: &Threads, waiters: &[u32], worths: &mut Vec<u128>)
+fn list_worths(threads: &Threads, waiters: &[u32], worths: &mut Stack<u128>)
     requires settled { threads.now.stale ≡ [] }
     requires there { All (IsThreadOf threads.now) waiters.now }
-    requires room { length waiters.now ≤ vec_capacity worths.old }
+    requires room { length waiters.now ≤ worths.old.room }
     ensures worths { worths.new.items ≡ map (worth_in threads.now) waiters.now }
-    ensures room { vec_capacity worths.new ≡ vec_capacity worths.old }
+    ensures room { worths.new.room ≡ worths.old.room }
 {
     worths.clear();
     for thread in waiters {
         let worth = threads.worth_of(ThreadNumber { number: *thread });
-        worths.push_reserved(u128::from(worth));
+        worths.push(u128::from(worth));
     }
 }

@@ -1,6 +1,6 @@
 //! The queues.
 ghost use Rattle.std.specs.Prelude.{◌≡◌, ◌↔◌, ◌<◌, ◌≤◌, ◌^◌, ◌++◌, ◌∷◌, [], ℕ, IfNone, IfOk, IfSome, IsTrue, drop};
-ghost use Rattle.std.specs.Prelude.{◌+◌, ◌*◌, length, map, remove, option_map, slice_get, vec_len, vec_capacity};
+ghost use Rattle.std.specs.Prelude.{◌+◌, ◌*◌, length, map, remove, option_map, slice_get};
 ghost use Rattle.lot_machine.specs.Numbered.{set_number};
 ghost use Rattle.lot_machine.specs.Ports as machine;
 ghost use Rattle.lot_machine.specs.Ports.{port_at, clients_of, with_client};
@@ -13,6 +13,7 @@ ghost use Rattle.lot_queues.specs.Calls.{queued_call};
 ghost use Rattle.lot_queues.specs.Fields.{relisted, threads_in, call_of};
 
 use crate::layout::{Layout, node_of};
+use lot_kept::{Kept, Stack};
 use lot_lists::Lists;
 use lot_machine::index_of;
 use std::alloc::{AllocError, Global};
@@ -36,8 +37,8 @@ pub struct TakenCall {
 pub struct Queues {
     lists: Lists,
     // The number that each thread sent with its last queued call.
-    sent: Vec<u32>,
-    owners: Vec<Option<u32>>,
+    sent: Kept<u32>,
+    owners: Kept<Option<u32>>,
     threads: u32,
     layout: Layout,
 }
@@ -93,8 +94,8 @@ impl Queues {
         };
         Ok(Queues {
             lists: Lists::new(alloc, layout.list_count(), threads as usize)?,
-            sent: vec![in alloc; 0; threads as usize]?,
-            owners: vec![in alloc; None; mutexes as usize]?,
+            sent: Kept::filled(alloc, 0, threads as usize)?,
+            owners: Kept::filled(alloc, None, mutexes as usize)?,
             threads: 0,
             layout,
         })
@@ -112,6 +113,15 @@ impl Queues {
         Lists::bytes(layout.list_count(), threads as usize)
             + SENT_BYTES * threads as u64
             + OWNER_BYTES * mutexes as u64
+    }
+
+    /// The bytes that it has room for: those that `new` requested, whatever has happened since.
+    pub fn held(&self) -> u64
+        ensures { result ≡ 16 * length self.now.ports + 16 * length self.now.mutexes + 24 * self.now.room }
+    {
+        self.lists.held()
+            + SENT_BYTES * self.sent.room() as u64
+            + OWNER_BYTES * self.owners.room() as u64
     }
 
     /// The largest number of threads.
@@ -329,12 +339,12 @@ impl Queues {
 
     /// Stores in `out` the threads that wait for a mutex, the one that has waited longest first. It allocates
     /// nothing.
-    pub fn list_waiters(&self, mutex: u32, out: &mut Vec<u32>)
+    pub fn list_waiters(&self, mutex: u32, out: &mut Stack<u32>)
         requires mutex_there { IsThere self.now.mutexes mutex }
-        requires room { self.now.room ≤ vec_capacity out.old }
+        requires room { self.now.room ≤ out.old.room }
         ensures waiters { out.new.items ≡ (mutex_at self.now.mutexes mutex).waiters }
-        ensures few { vec_len out.new ≤ self.now.room }
-        ensures room { vec_capacity out.new ≡ vec_capacity out.old }
+        ensures few { length out.new.items ≤ self.now.room }
+        ensures room { out.new.room ≡ out.old.room }
     {
         list_threads(&self.lists, self.layout.waiters(mutex), out);
     }
@@ -391,15 +401,15 @@ fn taken_call(sent: &[u32], node: Option<usize>) -> Option<TakenCall>
 }
 
 /// Stores the threads of a list in `out`.
-fn list_threads(lists: &Lists, list: usize, out: &mut Vec<u32>)
+fn list_threads(lists: &Lists, list: usize, out: &mut Stack<u32>)
     requires list { list < length lists.now.lists }
-    requires room { lists.now.nodes ≤ vec_capacity out.old }
+    requires room { lists.now.nodes ≤ out.old.room }
     ensures threads { out.new.items ≡ threads_in lists.now list }
-    ensures few { vec_len out.new ≤ lists.now.nodes }
-    ensures room { vec_capacity out.new ≡ vec_capacity out.old }
+    ensures few { length out.new.items ≤ lists.now.nodes }
+    ensures room { out.new.room ≡ out.old.room }
 {
     out.clear();
     for node in lists.iter(list) {
-        out.push_reserved(node as u32 + 1);
+        out.push(node as u32 + 1);
     }
 }

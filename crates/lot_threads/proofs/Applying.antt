@@ -36,8 +36,8 @@ module _ {without : Bool} (v new : Valued) (q : Queued) (threads : List (Option 
   together-then = graph-of v new q threads records runners is (ap (λ (x : Valued). x.now.funding.lends) done ∙ lends-stay v.now.funding.lends c leaves) limit live-then (ap (λ (x : Valued). x.known) done) stale.kept
 
   -- there is room for as many threads as there was
-  pub room-then : (room : ℕ) → v.now.thread_limit ≤ room → new.now.thread_limit ≤ room
-  room-then room fits = subst (λ n. n ≤ room) (sym limit) fits
+  pub room-then : (room : ℕ) → room ≡ v.now.thread_limit → room ≡ new.now.thread_limit
+  room-then room fits = subst (λ n. room ≡ n) (sym limit) fits
 
   -- what the change made stale, by what the records lend and who of them is live
   pub reached-then : (x : Node) → IsStale new.known x

@@ -4,6 +4,7 @@ ghost use Rattle.lot_machine.specs.Bounds.{IsBetween};
 ghost use Rattle.lot_machine.specs.declared.record.Status.TheVariants.{Running};
 ghost use Rattle.lot_threads.specs.Runners.{runner_at, with_runner, without_runner};
 
+use lot_kept::Kept;
 use lot_machine::{Status, ThreadNumber, index_of};
 
 /// A thread that runs on a processor, and the ticks of its quantum that it has used there.
@@ -15,7 +16,7 @@ pub struct Runner {
 }
 
 /// Moves a thread from the processor on which it ran, if any, to the one on which it runs now, if any.
-pub(crate) fn move_runner(runners: &mut Vec<Option<u32>>, thread: u32, before: Status, now: Status)
+pub(crate) fn move_runner(runners: &mut Kept<Option<u32>>, thread: u32, before: Status, now: Status)
     requires before { (p used : ℕ) → before ≡ Running p used → IsBetween 1 (length runners.old.items) p }
     requires now { (p used : ℕ) → now ≡ Running p used → IsBetween 1 (length runners.old.items) p }
     ensures table { runners.new.items ≡ with_runner thread now (without_runner before runners.old.items) }

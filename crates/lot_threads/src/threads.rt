@@ -1,7 +1,6 @@
 //! The threads, and everything that follows from their records.
 ghost use Rattle.std.specs.Prelude.{◌≡◌, ◌+◌, ◌<◌, ◌≤◌, ◌++◌, ◌∷◌, ◌≢◌, true, false, [], Some, None, IfOk, IfSome};
-ghost use Rattle.std.specs.Prelude.{◌*◌, ◌↔◌, IsTrue, MatchOption, length, replicate};
-ghost use Rattle.std.specs.Prelude.{vec_capacity};
+ghost use Rattle.std.specs.Prelude.{◌*◌, ◌^◌, ◌↔◌, IsTrue, MatchOption, length, replicate};
 ghost use Rattle.lot_machine.specs.declared.funding.Node.{Node as ANode};
 ghost use Rattle.lot_machine.specs.declared.funding.Node.TheVariants.{Currency as CurrencyNode, Thread as ThreadNode};
 ghost use Rattle.lot_machine.specs.declared.record.Status.TheVariants.{Ready};
@@ -31,6 +30,7 @@ use crate::following::{
 use crate::runners::{Runner, move_runner, runner_on};
 use lot_draw::{RunQueue, Winner};
 use lot_graph::Graph;
+use lot_kept::{Kept, Stack};
 use lot_machine::{
     CurrencyNumber, Limits, Node, Processor, Record, Status, Target, Thread, ThreadNumber,
     TicketNumber, index_of,
@@ -59,10 +59,10 @@ pub struct Threads {
     graph: ValuedGraph,
     queue: RunQueue,
     /// `None` for a removed thread.
-    threads: Vec<Option<Thread>>,
-    records: Vec<Record>,
+    threads: Stack<Option<Thread>>,
+    records: Stack<Record>,
     /// By processor, processor 1 first.
-    runners: Vec<Option<u32>>,
+    runners: Kept<Option<u32>>,
     /// Whether blocked threads lend to nobody.
     without_lending: bool,
 }
@@ -82,7 +82,7 @@ impl Drop for Threads {
 }
 
 impl Model for Threads {
-    ghost use Rattle.std.specs.Prelude.{◌≤◌, length, vec_capacity};
+    ghost use Rattle.std.specs.Prelude.{◌≡◌, length};
     ghost use Rattle.lot_threads.specs.Threaded.{Threaded, AreOf};
 
     ghost Value = { Threaded };
@@ -106,8 +106,8 @@ impl Model for Threads {
 
     ghost invariant = { λ s. record {
       together : AreOf s.without_lending s.graph s.queue s.threads.items s.records.items s.runners.items;
-      thread_room : s.graph.now.thread_limit ≤ vec_capacity s.threads;
-      record_room : s.graph.now.thread_limit ≤ vec_capacity s.records;
+      thread_room : s.threads.room ≡ s.graph.now.thread_limit;
+      record_room : s.records.room ≡ s.graph.now.thread_limit;
     } };
 }
 
@@ -159,6 +159,21 @@ impl Threads {
             + RUNNER_BYTES * limits.processors as u64
     }
 
+    /// The bytes that it has room for: those that `new` requested, whatever has happened since.
+    pub fn held(&self) -> u64
+        requires few { self.now.processors < 2 ^ 32 }
+        ensures { result ≡ 40 * self.now.ticket_limit + 70 * self.now.currency_limit + 225 * self.now.thread_limit
+            + 81 * length self.now.owners + 8 * self.now.processors + 118 }
+    {
+        // Its numbers are below 2^32, so the sum fits.
+        let _layout = self.graph.graph().layout();
+        self.graph.held()
+            + self.queue.held()
+            + size_of::<Option<Thread>>() as u64 * self.threads.room() as u64
+            + size_of::<Record>() as u64 * self.records.room() as u64
+            + RUNNER_BYTES * self.runners.room() as u64
+    }
+
     /// Makes a thread, which is Ready and has no compensation, and returns its number, one more than the last.
     /// Computes no value.
     pub fn add_thread(&mut self, thread: Thread) -> ThreadNumber
@@ -173,8 +188,8 @@ impl Threads {
         let number = self.graph.graph().threads();
         self.graph.set_live(number, true);
         self.queue.set_competitor(number, competitor_of(NEWBORN));
-        self.threads.push_reserved(Some(thread));
-        self.records.push_reserved(NEWBORN);
+        self.threads.push(Some(thread));
+        self.records.push(NEWBORN);
         ThreadNumber { number }
     }
 
@@ -472,15 +487,15 @@ fn opening_tables(
     alloc: Global,
     threads: usize,
     processors: usize,
-) -> Result<(Vec<Option<Thread>>, Vec<Record>, Vec<Option<u32>>), AllocError>
+) -> Result<(Stack<Option<Thread>>, Stack<Record>, Kept<Option<u32>>), AllocError>
     ensures no_threads { IfOk result (λ made. made.0.items ≡ []) }
-    ensures thread_room { IfOk result (λ made. threads ≤ vec_capacity made.0) }
+    ensures thread_room { IfOk result (λ made. made.0.room ≡ threads) }
     ensures no_records { IfOk result (λ made. made.1.items ≡ []) }
-    ensures record_room { IfOk result (λ made. threads ≤ vec_capacity made.1) }
+    ensures record_room { IfOk result (λ made. made.1.room ≡ threads) }
     ensures free { IfOk result (λ made. made.2.items ≡ replicate processors None) }
 {
-    let names = Vec::with_capacity(alloc, threads)?;
-    let records = Vec::with_capacity(alloc, threads)?;
-    let runners = vec![in alloc; None; processors]?;
+    let names = Stack::new(alloc, threads)?;
+    let records = Stack::new(alloc, threads)?;
+    let runners = Kept::filled(alloc, None, processors)?;
     Ok((names, records, runners))
 }

@@ -15,6 +15,7 @@ ghost use Rattle.lot_tree.specs.Visits.{CountsReads};
 
 mod partial_sums;
 
+use lot_kept::Kept;
 use partial_sums::{PartialSums, binary_digits};
 use std::alloc::{AllocError, Global};
 use std::marker::Model;
@@ -26,7 +27,7 @@ const WEIGHT_BYTES: u64 = size_of::<u128>() as u64;
 /// Weights at the places from 0 on, each with the partial sums that `find` reads.
 #[derive(Debug, Drop)]
 pub struct SumTree {
-    weights: Vec<u128>,
+    weights: Kept<u128>,
     sums: PartialSums,
     total: u128,
 }
@@ -45,7 +46,7 @@ impl SumTree {
     pub fn new(alloc: Global, n: usize) -> Result<SumTree, AllocError>
         ensures { IfOk result (λ tree. tree ≡ replicate n 0) }
     {
-        let weights = vec![in alloc; 0; n]?;
+        let weights = Kept::filled(alloc, 0, n)?;
         let sums = PartialSums::new(alloc, n)?;
         Ok(SumTree {
             weights,
@@ -60,6 +61,14 @@ impl SumTree {
         ensures { result ≡ 32 * n }
     {
         WEIGHT_BYTES * n as u64 + PartialSums::bytes(n)
+    }
+
+    /// The bytes that it has room for: those that `new` requested, whatever has happened since.
+    pub fn held(&self) -> u64
+        requires few { length self.now < 2 ^ 40 }
+        ensures { result ≡ 32 * length self.now }
+    {
+        WEIGHT_BYTES * self.weights.room() as u64 + self.sums.held()
     }
 
     /// The number of places.

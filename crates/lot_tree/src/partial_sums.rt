@@ -3,6 +3,7 @@ ghost use Rattle.std.specs.Prelude.{◌≡◌, ℕ, ◌+◌, ◌-◌, ◌*◌, �
 ghost use Rattle.std.specs.Prelude.{IfOk, replicate};
 ghost use Rattle.lot_tree.specs.Sums.{AreKept, ArePartialSumsAt};
 
+use lot_kept::Kept;
 use std::alloc::{AllocError, Global};
 use std::marker::Model;
 use std::mem::size_of;
@@ -15,7 +16,7 @@ const SUM_BYTES: u64 = size_of::<u128>() as u64;
 /// module, `read` is the only way to a partial sum.
 #[derive(Debug, Drop)]
 pub(crate) struct PartialSums {
-    sums: Vec<u128>,
+    sums: Kept<u128>,
     height: u32,
 }
 
@@ -32,7 +33,7 @@ impl PartialSums {
     pub(crate) fn new(alloc: Global, n: usize) -> Result<PartialSums, AllocError>
         ensures { IfOk result (λ made. made ≡ record { sums = replicate n 0; height = min n 1 }) }
     {
-        let sums = vec![in alloc; 0; n]?;
+        let sums = Kept::filled(alloc, 0, n)?;
         Ok(PartialSums {
             sums,
             height: n.min(1) as u32,
@@ -47,9 +48,18 @@ impl PartialSums {
         SUM_BYTES * n as u64
     }
 
+    /// The number of bytes that it has room for: those that `new` requested.
+    pub(crate) fn held(&self) -> u64
+        requires few { length self.now.sums < 2 ^ 40 }
+        ensures { result ≡ 16 * length self.now.sums }
+    {
+        SUM_BYTES * self.sums.room() as u64
+    }
+
     /// The number of places.
     pub(crate) fn len(&self) -> usize
-        ensures { result ≡ length self.now.sums }
+        ensures value { result ≡ length self.now.sums }
+        ensures few { result < 2 ^ 63 }
     {
         self.sums.len()
     }

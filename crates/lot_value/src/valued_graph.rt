@@ -102,6 +102,16 @@ impl ValuedGraph {
         Graph::bytes(limits) + Active::bytes(layout) + Values::bytes(layout)
     }
 
+    /// The bytes that it has room for: those that `new` requested, whatever has happened since.
+    pub fn held(&self) -> u64
+        ensures { result ≡ 40 * self.now.now.ticket_limit + 70 * self.now.now.currency_limit
+            + 81 * self.now.now.thread_limit + 81 * length self.now.now.funding.owners + 110 }
+    {
+        // Its numbers are below 2^32, so the sum fits.
+        let _layout = self.graph.layout();
+        self.graph.held() + self.active.held() + self.values.held()
+    }
+
     /// Makes one change, and makes stale the nodes that depend on it. It computes no value.
     #[inline(always)]
     pub fn apply(&mut self, change: Change)

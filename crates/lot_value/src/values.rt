@@ -22,6 +22,7 @@ use crate::readings::{Sources, read_share, read_value, ticket_share};
 use crate::settling::{has_stale_source, raise_fresh};
 use lot_active::Active;
 use lot_graph::{Graph, Layout};
+use lot_kept::Kept;
 use lot_lists::Lists;
 use lot_machine::{Edge, Node};
 use std::alloc::{AllocError, Global};
@@ -57,7 +58,7 @@ impl ReadCount {
 /// for values.
 #[derive(Drop)]
 pub struct Values {
-    values: Vec<u64>,
+    values: Kept<u64>,
     // One list, of the places of the stale nodes.
     stale: Lists,
     // The place of a node that `raise_fresh` turned over, until it is settled.
@@ -103,7 +104,7 @@ impl Values {
         let layout = graph.layout();
         let nodes = layout.node_count();
         Ok(Values {
-            values: vec![in alloc; 0; nodes]?,
+            values: Kept::filled(alloc, 0, nodes)?,
             stale: Lists::new(alloc, 1, nodes)?,
             turned: None,
             layout,
@@ -118,6 +119,13 @@ impl Values {
     {
         let nodes = layout.node_count();
         VALUE_BYTES * nodes as u64 + Lists::bytes(1, nodes)
+    }
+
+    /// The bytes that it has room for: those that `new` requested, whatever has happened since.
+    pub fn held(&self) -> u64
+        ensures { result ≡ 20 * places.node_count self.now.layout + 8 }
+    {
+        VALUE_BYTES * self.values.room() as u64 + self.stale.held()
     }
 
     /// The number of edges read for values. The count saturates at the largest `u64`.

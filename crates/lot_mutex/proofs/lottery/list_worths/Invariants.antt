@@ -1,11 +1,11 @@
 -- What those are worth who came before.
-use Rattle.std.proofs.Common.{◌≡◌, ◌≤◌, map, take, vec_len, vec_capacity}
+use Rattle.std.proofs.Common.{◌≡◌, ◌≤◌, map, take, length}
 use Rattle.lot_threads.specs.Threaded.{worth_in}
 use Rattle.lot_mutex.proofs.lottery.list_worths.Given as goal
 
 abbrev pub invariant-loop-thread : goal.invariant-loop-thread
 invariant-loop-thread l = record {
   worths : l.worths.items ≡ map (worth_in l.threads) (take l.thread-index l.waiters);
-  few : vec_len l.worths ≤ l.thread-index;
-  room : vec_capacity l.worths ≡ vec_capacity l.initial.worths;
+  few : length l.worths.items ≤ l.thread-index;
+  room : l.worths.room ≡ l.initial.worths.room;
 }

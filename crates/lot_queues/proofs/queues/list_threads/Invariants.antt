@@ -1,4 +1,4 @@
-use Rattle.std.proofs.Common.{◌≡◌, ◌+◌, ◌++◌, map, vec_capacity}
+use Rattle.std.proofs.Common.{◌≡◌, ◌+◌, ◌++◌, map}
 use Rattle.lot_lists.specs.NodeLists.{nodes_of}
 use Rattle.lot_queues.proofs.queues.list_threads.Given as goal
 
@@ -7,5 +7,5 @@ abbrev pub invariant-loop-node : goal.invariant-loop-node
 invariant-loop-node l = record {
   split : nodes_of l.lists l.list ≡ l.yielded ++ l.node-iterator;
   listed : l.out.items ≡ map (λ n. n + 1) l.yielded;
-  room : vec_capacity l.out ≡ vec_capacity l.initial.out;
+  room : l.out.room ≡ l.initial.out.room;
 }

@@ -25,7 +25,7 @@ read-requires-clause-within g c =
       | then-is_whole-via-then-is_whole w ↦ whole-half _ c.self.inside.sums.sums _ _ level (level - 1) block _ (omega arith) c.loop-level.invariant.narrowed c.len-n.result _ w.if-is_whole.true c.binary_digits.ensures.needed
       | then-is_whole-via-else-is_whole+then-block-n w ↦ whole-block c.len-n.result (level - 1) (block * 2) w.if-block-n.true
     ] in
-    omega (arith, whole, pow_pos (level - 1), c.len-n.ensures)
+    omega (arith, whole, pow_pos (level - 1), c.len-n.ensures.value)
 
 pub fitted-left-requires : goal.fitted-left-requires
 fitted-left-requires g c =
@@ -41,7 +41,7 @@ fitted-left-requires g c =
     let fits : (block * 2 + 1) * 2 ^ (level - 1) % 2 ^ 64 ≡ (block * 2 + 1) * 2 ^ (level - 1) = omega (arith, whole) in
     let is_left = rw fits at c.read.ensures.value in
     let within = left-within ws sums c.args.d c.height-height.result level (level - 1) block c.loop-level.rest (omega arith) c.loop-level.invariant.narrowed
-    (held.partial (level - 1) (omega (arith, c.loop-level.auto.level, c.height-height.ensures))) (omega (arith, whole, c.len-n.ensures, held.same_length))
+    (held.partial (level - 1) (omega (arith, c.loop-level.auto.level, c.height-height.ensures))) (omega (arith, whole, c.len-n.ensures.value, held.same_length))
     c.read.result is_left in
     record { narrow = λ yes. let narrow = rw (← c.self.view_is) at (c.requires.narrow yes) in omega (arith, narrow, within) }
 
@@ -63,7 +63,7 @@ loop-level-preserved-in-loop-level g c =
     ] in
     let fits : (block * 2 + 1) * 2 ^ (level - 1) % 2 ^ 64 ≡ (block * 2 + 1) * 2 ^ (level - 1) = omega (arith, whole) in
     let is_left = rw fits at c.read.ensures.value in
-    let all : (block * 2 + 1) * 2 ^ (level - 1) ≤ length ws = omega (arith, whole, c.len-n.ensures, same_length) in
+    let all : (block * 2 + 1) * 2 ^ (level - 1) ≤ length ws = omega (arith, whole, c.len-n.ensures.value, same_length) in
     record {
       narrowed = elim c.if-is_past.branch [
         | then-is_past w ↦
@@ -89,7 +89,7 @@ loop-level-preserved g c =
     let before = c.loop-level.invariant in
     let held = c.self.invariant.held in
     let short : length ws < (block * 2 + 1) * 2 ^ (level - 1) =
-    omega (arith, short-block c.len-n.result (level - 1) (block * 2) c.if-block-n.false, c.len-n.ensures, held.same_length) in
+    omega (arith, short-block c.len-n.result (level - 1) (block * 2) c.if-block-n.false, c.len-n.ensures.value, held.same_length) in
     record {
       narrowed = IsNarrowed_short ws c.self.inside.sums.sums c.args.d height level (level - 1) block c.loop-level.rest (omega arith) before.narrowed short;
       counted = inr (IsCounted_short height level (level - 1) block c.loop-level.reads (omega arith) before.counted (length ws) (rw c.height-height.ensures held.fits) short);

@@ -1,6 +1,5 @@
-use Rattle.std.proofs.Common.{◌≡◌, ◌∙◌, ◌≤◌, ℕ, Bool, List, Option, Some, option_map, ap, sym, subst, length, arith, Contains}
+use Rattle.std.proofs.Common.{◌≡◌, ◌∙◌, ℕ, Bool, List, Option, Some, option_map, ap, sym, subst, length, arith, Contains}
 use Rattle.std.proofs.lemmas.List.{length-map}
-use Rattle.std.specs.Vec.{vec_capacity}
 use Rattle.lot_machine.specs.declared.record.Record.{Record}
 use Rattle.lot_machine.specs.declared.funding.Lend.{Lend}
 use Rattle.lot_machine.specs.declared.record.Status.TheVariants.{Running}
@@ -76,8 +75,8 @@ invariant_of-self c =
     let together = kept-after (goal.at.invariant_of-self c).After-set_competitor in
     record {
       together = rw c.index_of-place.ensures (subst (λ (rs : List (Option ℕ)). AreOf i.without_lending c.follow_status.new.graph c.set_competitor.new.self i.threads.items (set_number i.records.items c.args.thread.number c.args.next) rs) (sym c.move_runner.ensures.table) together);
-      thread_room = subst (λ (w : LimitedFunding). w.thread_limit ≤ vec_capacity i.threads) (sym now) c.self.invariant.thread_room;
-      record_room = subst (λ (w : LimitedFunding). w.thread_limit ≤ vec_capacity i.records) (sym now) c.self.invariant.record_room;
+      thread_room = subst (λ (w : LimitedFunding). i.threads.room ≡ w.thread_limit) (sym now) c.self.invariant.thread_room;
+      record_room = subst (λ (w : LimitedFunding). i.records.room ≡ w.thread_limit) (sym now) c.self.invariant.record_room;
     }
 
 pub returns-clause-stale : goal.returns-clause-stale

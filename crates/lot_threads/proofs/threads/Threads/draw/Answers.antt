@@ -1,5 +1,4 @@
-use Rattle.std.proofs.Common.{◌∙◌, ◌≤◌, Bool, List, ap, sym, subst}
-use Rattle.std.specs.Vec.{vec_capacity}
+use Rattle.std.proofs.Common.{◌≡◌, ◌∙◌, Bool, List, ap, sym, subst}
 use Rattle.lot_machine.specs.State.{live_in}
 use Rattle.lot_machine.specs.Value.{thread_value}
 use Rattle.lot_graph.specs.Changes.{with_lends}
@@ -16,8 +15,8 @@ pub invariant_of-self : goal.invariant_of-self
 invariant_of-self c =
     let i = c.self.inside in record {
       together = drawn-of i.graph c.draw.new.graph i.queue c.draw.new.self i.threads.items i.records.items i.runners.items c.self.invariant.together c.draw.ensures.now c.draw.ensures.live c.draw.ensures.queue c.draw.ensures.weights;
-      thread_room = subst (λ (w : LimitedFunding). w.thread_limit ≤ vec_capacity i.threads) (sym c.draw.ensures.now) c.self.invariant.thread_room;
-      record_room = subst (λ (w : LimitedFunding). w.thread_limit ≤ vec_capacity i.records) (sym c.draw.ensures.now) c.self.invariant.record_room;
+      thread_room = subst (λ (w : LimitedFunding). i.threads.room ≡ w.thread_limit) (sym c.draw.ensures.now) c.self.invariant.thread_room;
+      record_room = subst (λ (w : LimitedFunding). i.records.room ≡ w.thread_limit) (sym c.draw.ensures.now) c.self.invariant.record_room;
     }
 
 pub returns-clause-winner : goal.returns-clause-winner

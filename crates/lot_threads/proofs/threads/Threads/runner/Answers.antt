@@ -16,7 +16,7 @@ index-requires c =
     let i = c.self.inside in
     let at : Some c.in-Some.number ≡ runner_at i.runners.items c.args.processor.number = c.in-Some.ensures ∙ ap (λ rs. runner_at rs c.args.processor.number) c.deref.ensures.value in
     let found = runner-found i.records.items i.runners.items c.args.processor.number c.in-Some.number c.self.invariant.together.runs at in
-    omega (arith, found.0.0, found.0.1, i.records.ok)
+    omega (arith, found.0.0, found.0.1)
 
 pub unreachable-requires : goal.unreachable-requires
 unreachable-requires c =

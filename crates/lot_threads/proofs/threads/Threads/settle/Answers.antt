@@ -1,5 +1,4 @@
-use Rattle.std.proofs.Common.{◌≤◌, sym, subst}
-use Rattle.std.specs.Vec.{vec_capacity}
+use Rattle.std.proofs.Common.{◌≡◌, sym, subst}
 use Rattle.lot_graph.specs.Graphs.{LimitedFunding}
 use Rattle.lot_threads.proofs.Together.{settled-of}
 use Rattle.lot_threads.proofs.threads.Threads.settle.Goals as goal
@@ -16,6 +15,6 @@ invariant_of-self c =
     let settled = c.settle.ensures in
     record {
       together = settled-of i.graph c.settle.new.graph i.queue c.settle.new.self i.threads.items i.records.items i.runners.items c.self.invariant.together settled.queue settled.weights settled.now settled.live;
-      thread_room = subst (λ (w : LimitedFunding). w.thread_limit ≤ vec_capacity i.threads) (sym settled.now) c.self.invariant.thread_room;
-      record_room = subst (λ (w : LimitedFunding). w.thread_limit ≤ vec_capacity i.records) (sym settled.now) c.self.invariant.record_room;
+      thread_room = subst (λ (w : LimitedFunding). i.threads.room ≡ w.thread_limit) (sym settled.now) c.self.invariant.thread_room;
+      record_room = subst (λ (w : LimitedFunding). i.records.room ≡ w.thread_limit) (sym settled.now) c.self.invariant.record_room;
     }

@@ -1,5 +1,4 @@
-use Rattle.std.proofs.Common.{◌≡◌, ◌∙◌, ◌≤◌, ℕ, Bool, true, false, List, ap, refl, sym, subst}
-use Rattle.std.specs.Vec.{vec_capacity}
+use Rattle.std.proofs.Common.{◌≡◌, ◌∙◌, ℕ, Bool, true, false, List, ap, refl, sym, subst}
 use Rattle.lot_machine.specs.Commands.{is_funding}
 use Rattle.lot_machine.specs.Funding.{ticket_at}
 use Rattle.lot_machine.specs.Numbered.{option_any}
@@ -39,8 +38,8 @@ invariant_of-self c =
         timely = of.timely;
         runs = of.runs;
       });
-      thread_room = subst (λ (v : Valued). v.now.thread_limit ≤ vec_capacity i.threads) (sym same) c.self.invariant.thread_room;
-      record_room = subst (λ (v : Valued). v.now.thread_limit ≤ vec_capacity i.records) (sym same) c.self.invariant.record_room;
+      thread_room = subst (λ (v : Valued). i.threads.room ≡ v.now.thread_limit) (sym same) c.self.invariant.thread_room;
+      record_room = subst (λ (v : Valued). i.records.room ≡ v.now.thread_limit) (sym same) c.self.invariant.record_room;
     }
 
 pub returns-clause-worth : goal.returns-clause-worth

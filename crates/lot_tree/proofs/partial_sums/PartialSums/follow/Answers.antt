@@ -1,6 +1,6 @@
 -- The levels that the place needs are taken up one by one.
 use Rattle.std.proofs.Common.{◌≡◌, ◌∙◌, ◌+◌, ◌-◌, ◌^◌, ◌≤◌, ℕ, List, length, set, get_or, ap, sym, subst, refl, arith}
-use Rattle.std.proofs.lemmas.List.{with_items_is}
+use Rattle.lot_kept.proofs.Rewritten.{rewritten_is}
 use Rattle.std.proofs.lemmas.Nat.{one_shl}
 use Rattle.std.proofs.Math.Nat.{pow-le-pow_right}
 use Rattle.lot_tree.specs.Sums.{AreKept, Kept}
@@ -42,4 +42,4 @@ returns c =
     let same : length sums ≡ length i.sums.items = omega (arith, c.set_partial_sums.auto.sums, ap (length {A = ℕ}) c.deref_mut.ensures.value) in
     let others : (place : ℕ) → 2 ^ i.height ≤ place → get_or sums place 0 ≡ get_or i.sums.items place 0 = λ place past. c.set_partial_sums.ensures.others place past ∙ ap (λ (xs : List ℕ). get_or xs place 0) c.deref_mut.ensures.value in
     let written = AreKept-written c.args.weights.now sums kept c.args.i c.args.w c.loop-level.invariant.kept c.requires.within (omega (arith, c.binary_digits-level-end.ensures.enough, more)) same c.set_partial_sums.ensures.partial others in
-    record { kept = subst (λ (xs : List ℕ). AreKept (set c.args.weights.now c.args.i c.args.w) (record { sums = xs; height = i.height })) (sym (with_items_is i.sums sums (omega (arith, c.set_partial_sums.auto.sums, c.deref_mut.ensures.len)))) written }
+    record { kept = subst (λ (xs : List ℕ). AreKept (set c.args.weights.now c.args.i c.args.w) (record { sums = xs; height = i.height })) (sym (rewritten_is i.sums.items sums (omega (arith, c.set_partial_sums.auto.sums, c.deref_mut.ensures.len)))) written }
