@@ -1,10 +1,11 @@
 //! Counters of turns.
-ghost use Rattle.std.specs.Prelude.{◌≡◌, ◌+◌, ◌<◌, ◌++◌, [], ◌∷◌, ℕ, List, IfOk, vec_len};
+ghost use Rattle.std.specs.Prelude.{◌≡◌, ◌+◌, ◌<◌, ◌++◌, [], ◌∷◌, ℕ, List, IfOk, length};
 ghost use Rattle.lot_machine.specs.declared.event.Event.{Event as EventRecord};
 ghost use Rattle.lot_simulation.specs.Report.{ActorTurn};
 ghost use Rattle.lot_simulation.specs.World.Answer.{Answered};
 ghost use Rattle.lot_engine.specs.Counted.{AreCounts, IsSmall, counted_with};
 
+use lot_kept::Kept;
 use lot_machine::Reply;
 use std::alloc::{AllocError, Global};
 
@@ -79,22 +80,22 @@ impl Counts {
 }
 
 /// The counters of this many actors without turns.
-pub(crate) fn no_counts(alloc: Global, actors: usize) -> Result<Vec<Counts>, AllocError>
+pub(crate) fn no_counts(alloc: Global, actors: usize) -> Result<Kept<Counts>, AllocError>
     ensures none { IfOk result (λ counts. AreCounts [] 0 counts.items) }
-    ensures count { IfOk result (λ counts. vec_len counts ≡ actors) }
+    ensures count { IfOk result (λ counts. length counts.items ≡ actors) }
 {
-    vec![in alloc; Counts::NONE; actors]
+    Kept::filled(alloc, Counts::NONE, actors)
 }
 
 /// Counts an actor's turn that got this reply, among the actor's turns and in the total.
 #[inline(always)]
-pub(crate) fn count_turn(counts: &mut Vec<Counts>, total: &mut Counts, actor: u32, reply: Reply)
-    requires there { actor < vec_len counts.old }
+pub(crate) fn count_turn(counts: &mut Kept<Counts>, total: &mut Counts, actor: u32, reply: Reply)
+    requires there { actor < length counts.old.items }
     requires bounded { (turns : List ActorTurn) × (n : ℕ) × (n < 4294967295) × AreCounts turns n counts.old.items }
     requires total { (n : ℕ) × (n < 4294967295) × IsSmall n total.old }
     ensures exact { (turns : List ActorTurn) (n : ℕ) (e : EventRecord) → AreCounts turns n counts.old.items
         → AreCounts (turns ++ record { actor = actor; answer = Answered e reply } ∷ []) (n + 1) counts.new.items }
-    ensures count { vec_len counts.new ≡ vec_len counts.old }
+    ensures count { length counts.new.items ≡ length counts.old.items }
     ensures total { total.new ≡ counted_with total.old reply }
     ensures total_small { (n : ℕ) → IsSmall n total.old → IsSmall (n + 1) total.new }
 {

@@ -1,5 +1,5 @@
 //! The processors' generators.
-ghost use Rattle.std.specs.Prelude.{◌≡◌, IfOk, length, unwrap_or, vec_len, if◌then◌else◌};
+ghost use Rattle.std.specs.Prelude.{◌≡◌, IfOk, length, unwrap_or, if◌then◌else◌};
 ghost use Rattle.lot_machine.specs.Bounds.{IsBetween};
 ghost use Rattle.lot_machine.specs.Numbered.{at_number, set_number};
 ghost use Rattle.lot_simulation.specs.World as world;
@@ -8,18 +8,23 @@ ghost use Rattle.lot_engine.specs.Steps.{event_done};
 
 use crate::turn::{Done, needs_number, put_event};
 use lot_draw::ParkMiller;
+use lot_kept::Stack;
 use lot_machine::Event;
 use lot_text::Program;
 use std::alloc::{AllocError, Global};
 
 /// A generator for each processor.
-pub(crate) fn generators_of(alloc: Global, program: &Program) -> Result<Vec<ParkMiller>, AllocError>
+pub(crate) fn generators_of(
+    alloc: Global,
+    program: &Program,
+) -> Result<Stack<ParkMiller>, AllocError>
     ensures seeds { IfOk result (λ generators. generators.items ≡ program.now.seeds) }
-    ensures count { IfOk result (λ generators. vec_len generators ≡ program.now.limits.processors) }
+    ensures count { IfOk result (λ generators. length generators.items ≡ program.now.limits.processors) }
 {
-    let mut generators = Vec::new(alloc);
-    for seed in program.seeds() {
-        generators.push(ParkMiller::new(*seed).unwrap())?;
+    let seeds = program.seeds();
+    let mut generators = Stack::new(alloc, seeds.len())?;
+    for seed in seeds {
+        generators.push(ParkMiller::new(*seed).unwrap());
     }
     Ok(generators)
 }
@@ -51,20 +56,20 @@ fn next_number(generators: &[ParkMiller], processor: u32, is_wide: bool) -> Next
 /// turn that consumes a number advances the processor's generator.
 #[inline(always)]
 pub(crate) fn next_event(
-    generators: &mut Vec<ParkMiller>,
+    generators: &mut Stack<ParkMiller>,
     processor: u32,
     is_wide: bool,
     done: Option<Done>,
     event: &mut Event,
 )
-    requires processor { IsBetween 1 (vec_len generators.old) processor }
+    requires processor { IsBetween 1 (length generators.old.items) processor }
     ensures event { event.new ≡ event_done processor (number_from is_wide
         (unwrap_or (at_number generators.old.items processor) 0)) done }
     ensures values { generators.new.items
         ≡ (if world.takes_number event.new
         then set_number generators.old.items processor (seed_from is_wide
         (unwrap_or (at_number generators.old.items processor) 0)) else generators.old.items) }
-    ensures count { vec_len generators.new ≡ vec_len generators.old }
+    ensures count { length generators.new.items ≡ length generators.old.items }
 {
     if !needs_number(done) {
         put_event(processor, done, 0, event);

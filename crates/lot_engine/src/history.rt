@@ -2,6 +2,7 @@
 ghost use Rattle.std.specs.Prelude.{◌≡◌, ◌+◌, ◌<◌, ◌≤◌, [], ◌∷◌, ◌++◌, IfOk, IsTrue, length, map, min};
 ghost use Rattle.lot_engine.specs.Histories.{HasOpened, woken_in};
 
+use lot_kept::Stack;
 use std::alloc::{AllocError, Global};
 use std::marker::Model;
 
@@ -10,20 +11,19 @@ use std::marker::Model;
 pub(crate) struct History {
     processors: u32,
     // The actor of each turn; the number after those of the processors for the timer.
-    actors: Vec<u8>,
+    actors: Stack<u8>,
     // The threads that the timer's turns woke, in the order of these turns.
-    woken: Vec<u16>,
+    woken: Stack<u16>,
 }
 
 impl Model for History {
-    ghost use Rattle.std.specs.Prelude.{vec_capacity};
     ghost use Rattle.lot_engine.specs.Histories.{KeptHistory, actors_from, IsKept};
 
     ghost Value = { KeptHistory };
 
     ghost view = { λ h. record {
       items = actors_from h.processors h.actors.items h.woken.items;
-      size = record { processors = h.processors; turns = vec_capacity h.actors; wakes = vec_capacity h.woken };
+      size = record { processors = h.processors; turns = h.actors.room; wakes = h.woken.room };
     } };
 
     ghost invariant = { λ h. IsKept h.processors h.actors.items h.woken.items };
@@ -43,8 +43,8 @@ impl History {
         let wakes = if has_timer { room } else { 0 };
         Ok(History {
             processors,
-            actors: Vec::with_capacity(alloc, room as usize)?,
-            woken: Vec::with_capacity(alloc, wakes as usize)?,
+            actors: Stack::new(alloc, room as usize)?,
+            woken: Stack::new(alloc, wakes as usize)?,
         })
     }
 
@@ -56,7 +56,7 @@ impl History {
         ensures items { self.new.items ≡ self.old.items ++ actor ∷ [] }
         ensures size { self.new.size ≡ self.old.size }
     {
-        self.actors.push_reserved(actor as u8);
+        self.actors.push(actor as u8);
     }
 
     /// Adds a turn of the timer in which it woke this thread.
@@ -68,8 +68,8 @@ impl History {
         ensures items { self.new.items ≡ self.old.items ++ (self.old.size.processors + thread) ∷ [] }
         ensures size { self.new.size ≡ self.old.size }
     {
-        self.actors.push_reserved((self.processors + 1) as u8);
-        self.woken.push_reserved(thread as u16);
+        self.actors.push((self.processors + 1) as u8);
+        self.woken.push(thread as u16);
     }
 
     /// The number of turns.

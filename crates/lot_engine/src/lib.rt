@@ -17,6 +17,7 @@ mod turn;
 
 pub use counts::Counts;
 pub use fault::TurnFault;
+pub use lot_kept::Stack;
 pub use slices::{slice_for, slice_in};
 pub use system::System;
 pub use turn::{Answer, Work};

@@ -1,5 +1,5 @@
 //! The parts of a new system, made in two groups: at each failure to allocate, little is then left to drop.
-ghost use Rattle.std.specs.Prelude.{◌≡◌, ◌+◌, ◌≤◌, [], IfOk, replicate, vec_len, vec_capacity};
+ghost use Rattle.std.specs.Prelude.{◌≡◌, ◌+◌, ◌≤◌, [], IfOk, length, replicate};
 ghost use Rattle.lot_engine.specs.Counted.{AreCounts};
 ghost use Rattle.lot_engine.specs.Histories.{HasOpened};
 
@@ -9,6 +9,7 @@ use crate::history::History;
 use crate::places::places_for;
 use crate::tickets::NamedTickets;
 use lot_draw::ParkMiller;
+use lot_kept::{Kept, Stack};
 use lot_script::Place;
 use lot_text::Program;
 use std::alloc::{AllocError, Global};
@@ -17,11 +18,11 @@ use std::alloc::{AllocError, Global};
 pub(crate) fn programmed(
     alloc: Global,
     program: &Program,
-) -> Result<(Program, NamedTickets, Vec<ParkMiller>), AllocError>
+) -> Result<(Program, NamedTickets, Stack<ParkMiller>), AllocError>
     ensures program { IfOk result (λ r. r.0 ≡ program.now) }
     ensures tickets { IfOk result (λ r. r.1 ≡ replicate program.now.ticket_names 0) }
     ensures seeds { IfOk result (λ r. r.2.items ≡ program.now.seeds) }
-    ensures count { IfOk result (λ r. vec_len r.2 ≡ program.now.limits.processors) }
+    ensures count { IfOk result (λ r. length r.2.items ≡ program.now.limits.processors) }
 {
     let copy = program.copied(alloc)?;
     let tickets = NamedTickets::new(alloc, program.ticket_names())?;
@@ -35,12 +36,12 @@ pub(crate) fn recorded(
     program: &Program,
     room: u32,
     has_timer: bool,
-) -> Result<(Vec<Place>, History, Vec<Counts>), AllocError>
+) -> Result<(Stack<Place>, History, Kept<Counts>), AllocError>
     ensures places { IfOk result (λ r. r.0.items ≡ []) }
-    ensures threads { IfOk result (λ r. program.now.limits.threads ≤ vec_capacity r.0) }
+    ensures threads { IfOk result (λ r. program.now.limits.threads ≤ r.0.room) }
     ensures history { IfOk result (λ r. HasOpened program.now.limits.processors room has_timer r.1) }
     ensures none { IfOk result (λ r. AreCounts [] 0 r.2.items) }
-    ensures count { IfOk result (λ r. vec_len r.2 ≡ program.now.limits.processors + 1) }
+    ensures count { IfOk result (λ r. length r.2.items ≡ program.now.limits.processors + 1) }
 {
     let limits = program.limits();
     let places = places_for(alloc, limits.threads)?;

@@ -1,5 +1,5 @@
 //! The threads' places in their scripts.
-ghost use Rattle.std.specs.Prelude.{◌≡◌, ◌+◌, ◌≤◌, ℕ, List, [], Some, None, IfOk, length, vec_capacity};
+ghost use Rattle.std.specs.Prelude.{◌≡◌, ◌+◌, ◌≤◌, ℕ, List, [], Some, None, IfOk, length};
 ghost use Rattle.lot_machine.specs.declared.record.Thread.{Thread};
 ghost use Rattle.lot_machine.specs.Bounds.{IsBetween};
 ghost use Rattle.lot_machine.specs.Named as named;
@@ -16,6 +16,7 @@ ghost use Rattle.lot_engine.specs.Steps.{delivered_to_place, place_of};
 ghost use Rattle.lot_engine.specs.Steps.{places_after, places_received, slice_between};
 
 use crate::turn::Done;
+use lot_kept::Stack;
 use lot_kernel::Kernel;
 use lot_machine::{Outcome, Reply, ThreadNumber};
 use lot_script::{Place, Script, Slice};
@@ -23,16 +24,16 @@ use lot_text::Program;
 use std::alloc::{AllocError, Global};
 
 /// Room for the places of this many threads.
-pub(crate) fn places_for(alloc: Global, threads: u32) -> Result<Vec<Place>, AllocError>
+pub(crate) fn places_for(alloc: Global, threads: u32) -> Result<Stack<Place>, AllocError>
     ensures none { IfOk result (λ places. places.items ≡ []) }
-    ensures room { IfOk result (λ places. threads ≤ vec_capacity places) }
+    ensures room { IfOk result (λ places. threads ≤ places.room) }
 {
-    Vec::with_capacity(alloc, threads as usize)
+    Stack::new(alloc, threads as usize)
 }
 
 /// Updates the places after a command: a new thread begins its script.
 pub(crate) fn follow_command(
-    places: &mut Vec<Place>,
+    places: &mut Stack<Place>,
     program: &Program,
     kernel: &Kernel,
     reply: Reply,
@@ -40,12 +41,12 @@ pub(crate) fn follow_command(
     requires made { (s : State) × (before : List Context) × MakesThread s kernel.now.state reply
         × AreAt program.now s.threads places.old.items before × (s.limits.scripts ≡ length program.now.scripts)
         × (length s.threads ≤ s.limits.threads) }
-    requires room { kernel.now.state.limits.threads ≤ vec_capacity places.old }
+    requires room { kernel.now.state.limits.threads ≤ places.old.room }
     ensures at { (s : State) (before : List Context) → MakesThread s kernel.now.state reply
         → AreAt program.now s.threads places.old.items before
         → AreAt program.now kernel.now.state.threads places.new.items
         (contexts_with program.now s kernel.now.state before (named.thread_given reply)) }
-    ensures room { vec_capacity places.new ≡ vec_capacity places.old }
+    ensures room { places.new.room ≡ places.old.room }
 {
     if let Some(thread) = thread_given(reply) {
         let script = kernel.script_of(ThreadNumber { number: thread }).unwrap();
@@ -54,18 +55,18 @@ pub(crate) fn follow_command(
 }
 
 /// Puts a new thread's place where its number says: at the end, or in the place of a removed thread.
-fn put_place(places: &mut Vec<Place>, thread: u32, place: Place)
+fn put_place(places: &mut Stack<Place>, thread: u32, place: Place)
     requires next { IsBetween 1 (length places.old.items + 1) thread }
-    requires room { thread ≤ vec_capacity places.old }
+    requires room { thread ≤ places.old.room }
     ensures put { (free : List ℕ) → IsNext places.old.items free thread
         → places.new.items ≡ placed places.old.items free place }
-    ensures room { vec_capacity places.new ≡ vec_capacity places.old }
+    ensures room { places.new.room ≡ places.old.room }
 {
     let index = thread as usize - 1;
     if index < places.len() {
         places[index] = place;
     } else {
-        places.push_reserved(place);
+        places.push(place);
     }
 }
 
@@ -90,10 +91,10 @@ fn begin(program: &Program, script: u32) -> Place
 /// Updates the places after a processor's turn: a winner gets the number delivered to it, and the thread that ran is
 /// at its slice's end, with the number that it received.
 #[inline(always)]
-pub(crate) fn follow_turn(places: &mut Vec<Place>, slice: &Option<Slice>, reply: Reply)
+pub(crate) fn follow_turn(places: &mut Stack<Place>, slice: &Option<Slice>, reply: Reply)
     requires { (t : ℕ) × OfGiven (length places.old.items) t slice.now reply }
     ensures follows { places.new.items ≡ places_after places.old.items slice.now reply }
-    ensures room { vec_capacity places.new ≡ vec_capacity places.old }
+    ensures room { places.new.room ≡ places.old.room }
 {
     match slice {
         None => follow_draw(places, reply),
@@ -103,10 +104,10 @@ pub(crate) fn follow_turn(places: &mut Vec<Place>, slice: &Option<Slice>, reply:
 
 /// Gives a winner the number delivered to it.
 #[inline(always)]
-fn follow_draw(places: &mut Vec<Place>, reply: Reply)
+fn follow_draw(places: &mut Stack<Place>, reply: Reply)
     requires { OfDraw (length places.old.items) reply }
     ensures follows { places.new.items ≡ places_after places.old.items None reply }
-    ensures room { vec_capacity places.new ≡ vec_capacity places.old }
+    ensures room { places.new.room ≡ places.old.room }
 {
     if let Reply::Winner {
         thread,
@@ -120,10 +121,10 @@ fn follow_draw(places: &mut Vec<Place>, reply: Reply)
 
 /// Moves the thread that ran to its slice's end, and gives it the number that it received.
 #[inline(always)]
-fn follow_slice(places: &mut Vec<Place>, slice: &Slice, reply: Reply)
+fn follow_slice(places: &mut Stack<Place>, slice: &Slice, reply: Reply)
     requires { (t : ℕ) × (IsBetween 1 (length places.old.items) t × OfRun t reply) }
     ensures follows { places.new.items ≡ places_after places.old.items (Some slice.now) reply }
-    ensures room { vec_capacity places.new ≡ vec_capacity places.old }
+    ensures room { places.new.room ≡ places.old.room }
 {
     match reply {
         Reply::Expired { thread, .. } => places[thread as usize - 1] = slice.end().copied(),
@@ -142,7 +143,12 @@ fn follow_slice(places: &mut Vec<Place>, slice: &Slice, reply: Reply)
 /// Advances the thread's place, in the system's own table, by a slice of its script with this budget. Returns the
 /// slice's result.
 #[inline(always)]
-pub(crate) fn pass_slice(places: &mut Vec<Place>, script: &Script, thread: u32, budget: u32) -> Done
+pub(crate) fn pass_slice(
+    places: &mut Stack<Place>,
+    script: &Script,
+    thread: u32,
+    budget: u32,
+) -> Done
     requires there { IsBetween 1 (length places.old.items) thread }
     requires fits { Fits script.now (place_of places.old.items thread) }
     requires budget { IsBetween 1 1000 budget }
@@ -150,7 +156,7 @@ pub(crate) fn pass_slice(places: &mut Vec<Place>, script: &Script, thread: u32, 
         (place_of places.new.items thread)) }
     ensures places { places.new.items ≡ set_number places.old.items thread (place_of places.new.items thread) }
     ensures accumulator { result.accumulator ≡ (place_of places.new.items thread).accumulator }
-    ensures room { vec_capacity places.new ≡ vec_capacity places.old }
+    ensures room { places.new.room ≡ places.old.room }
 {
     let place = &mut places[thread as usize - 1];
     let done = script.pass_slice(place, budget);
@@ -163,10 +169,10 @@ pub(crate) fn pass_slice(places: &mut Vec<Place>, script: &Script, thread: u32, 
 
 /// Gives the thread that ran, which is at its slice's end, the number that it received.
 #[inline(always)]
-pub(crate) fn receive(places: &mut Vec<Place>, reply: Reply)
+pub(crate) fn receive(places: &mut Stack<Place>, reply: Reply)
     requires { (t : ℕ) × (IsBetween 1 (length places.old.items) t × OfRun t reply) }
     ensures received { places.new.items ≡ places_received places.old.items reply }
-    ensures room { vec_capacity places.new ≡ vec_capacity places.old }
+    ensures room { places.new.room ≡ places.old.room }
 {
     if let Reply::Trapped {
         thread,
@@ -192,11 +198,11 @@ fn number_delivered(outcome: Outcome) -> Option<u32>
 
 /// Sets the thread's accumulator to the delivered number, if there is one.
 #[inline(always)]
-fn deliver(places: &mut Vec<Place>, thread: u32, number: Option<u32>)
+fn deliver(places: &mut Stack<Place>, thread: u32, number: Option<u32>)
     requires { IsBetween 1 (length places.old.items) thread }
     ensures delivered { places.new.items
         ≡ set_number places.old.items thread (delivered_to_place number (place_of places.old.items thread)) }
-    ensures room { vec_capacity places.new ≡ vec_capacity places.old }
+    ensures room { places.new.room ≡ places.old.room }
 {
     if let Some(number) = number {
         places[thread as usize - 1].set_accumulator(number);

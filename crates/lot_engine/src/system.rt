@@ -1,7 +1,7 @@
 //! The system.
 ghost use Rattle.std.specs.Prelude.{◌≡◌, ◌↔◌, ◌<◌, ◌≤◌, ◌+◌, ◌*◌, ◌^◌, [], ◌∷◌, ◌++◌, All, IfOk, IfErr};
 ghost use Rattle.std.specs.Prelude.{IsFalse, IsTrue, Some, None, false, true, length, option_and_then};
-ghost use Rattle.std.specs.Prelude.{vec_len, vec_capacity, if◌then◌else◌};
+ghost use Rattle.std.specs.Prelude.{if◌then◌else◌};
 ghost use Rattle.lot_machine.specs.Bounds.{IsBetween};
 ghost use Rattle.lot_machine.specs.Commands as commands;
 ghost use Rattle.lot_machine.specs.Facts.{base_value};
@@ -37,6 +37,7 @@ use crate::turn::{
     Answer, KeptWork, Running, TurnFaultKind, Work, done_in, matches_work, sleeper_by,
 };
 use lot_draw::ParkMiller;
+use lot_kept::{Kept, Stack};
 use lot_kernel::{Above, Kernel};
 use lot_machine::{
     CurrencyNumber, CurrencyRow, Event, Kind, Limits, MutexNumber, Name, Processor, Reply, Status,
@@ -60,14 +61,14 @@ pub struct System {
     /// The tickets that have names.
     tickets: NamedTickets,
     /// Each processor's generator.
-    generators: Vec<ParkMiller>,
+    generators: Stack<ParkMiller>,
     /// Whether it gives wide numbers, which the program's format determines; kept here since each draw needs it.
     is_wide: bool,
     /// Each thread's place in its script.
-    places: Vec<Place>,
+    places: Stack<Place>,
     history: History,
     /// The counters of each actor, the console first.
-    counts: Vec<Counts>,
+    counts: Kept<Counts>,
     /// The counters over all actors.
     total: Counts,
     room: u32,
@@ -97,7 +98,6 @@ impl Drop for System {
 
 impl Model for System {
     ghost use Rattle.std.specs.Prelude.{◌≡◌, ◌==◌, ◌+◌, ◌≤◌, false, true, All, count_by, is_some, length};
-    ghost use Rattle.std.specs.Prelude.{vec_len, vec_capacity};
     ghost use Rattle.lot_simulation.specs.Report.{turns_made};
     ghost use Rattle.lot_simulation.specs.World.{IsLegal, IsLegalInTime, system_run};
     ghost use Rattle.lot_text.specs.Programs.{IsProgram};
@@ -118,14 +118,14 @@ impl Model for System {
       in_time : IsLegalInTime s.program s.room s.history.items;
       held : IsHeld s.program
           (system_run s.program s.history.items) s.kernel.state s.places.items s.generators.items s.tickets s.spent;
-      generators : vec_len s.generators ≡ s.program.limits.processors;
+      generators : length s.generators.items ≡ s.program.limits.processors;
       wide : s.is_wide ≡ is_some s.program.duration;
       past : (system_run s.program s.history.items).history ≡ s.history.items;
       spent : s.spent ≡ count_by (λ actor. actor == 0) s.history.items;
-      counts : vec_len s.counts ≡ s.program.limits.processors + 1;
+      counts : length s.counts.items ≡ s.program.limits.processors + 1;
       each_counted : AreCounts (turns_made s.program s.history.items) (length s.history.items) s.counts.items;
       total_counted : IsCount (turns_made s.program s.history.items) (length s.history.items) s.total;
-      threads : s.program.limits.threads ≤ vec_capacity s.places;
+      threads : s.program.limits.threads ≤ s.places.room;
       wakes : s.has_timer ≡ true → s.room ≤ s.history.size.wakes;
       processors : s.history.size.processors ≡ s.program.limits.processors;
       room : s.room ≤ s.history.size.turns;
@@ -559,13 +559,13 @@ impl System {
     /// Stores in `out` the threads that wait for the mutex, the one that has waited longest first; none if there is
     /// no such mutex. Each has a row, since a waiting thread can't have been removed. It allocates no memory, since
     /// `out` has room for all threads.
-    pub fn list_waiters(&self, mutex: u32, out: &mut Vec<u32>)
-        requires { self.now.setting.program.limits.threads ≤ vec_capacity out.old }
+    pub fn list_waiters(&self, mutex: u32, out: &mut Stack<u32>)
+        requires { self.now.setting.program.limits.threads ≤ out.old.room }
         ensures waiters { out.new.items ≡ (mutex_at (world_of self.now).state.mutexes mutex).waiters }
         ensures there { All (IsBetween 1 (length (world_of self.now).state.records)) out.new.items }
         ensures shown { All (HasRow (world_of self.now).state) out.new.items }
-        ensures few { vec_len out.new ≤ self.now.setting.program.limits.threads }
-        ensures room { vec_capacity out.new ≡ vec_capacity out.old }
+        ensures few { length out.new.items ≤ self.now.setting.program.limits.threads }
+        ensures room { out.new.room ≡ out.old.room }
     {
         self.kernel.list_waiters(MutexNumber { number: mutex }, out);
     }

@@ -6,6 +6,7 @@ ghost use Rattle.lot_machine.specs.declared.reply.Reply.TheVariants as reply_kin
 ghost use Rattle.lot_machine.specs.Numbered.{set_number};
 ghost use Rattle.lot_simulation.specs.World as world;
 
+use lot_kept::Kept;
 use lot_machine::{Command, Event, Reply};
 use std::alloc::{AllocError, Global};
 use std::marker::Model;
@@ -14,7 +15,7 @@ use std::marker::Model;
 #[derive(Drop)]
 pub(crate) struct NamedTickets {
     /// The tickets' numbers; 0 for a name that no ticket has.
-    numbers: Vec<u32>,
+    numbers: Kept<u32>,
 }
 
 impl Model for NamedTickets {
@@ -31,7 +32,7 @@ impl NamedTickets {
         ensures { IfOk result (λ named. named ≡ replicate names 0) }
     {
         Ok(NamedTickets {
-            numbers: vec![in alloc; 0; names as usize]?,
+            numbers: Kept::filled(alloc, 0, names as usize)?,
         })
     }
 
@@ -79,8 +80,9 @@ impl NamedTickets {
     fn give(&mut self, name: u16, ticket: u32)
         ensures { self.new ≡ set_number self.old name ticket }
     {
-        if let Some(number) = self.numbers.get_mut(usize::from(name).saturating_sub(1)) {
-            *number = ticket;
+        let place = usize::from(name).saturating_sub(1);
+        if place < self.numbers.len() {
+            self.numbers[place] = ticket;
         }
     }
 

@@ -20,6 +20,7 @@ use Rattle.lot_queues.specs.QueueLists.{QueueLists, IsThere, IsNowhere, waiters_
 use Rattle.lot_threads.specs.Threaded.{Threaded, IsThreadOf, MakesStaleIn, with_records}
 use Rattle.lot_threads.proofs.TwoChanges.{makes-each}
 use Rattle.lot_mutex.specs.Listed.{next_from, owners_of, passed_from}
+use Rattle.lot_kernel.specs.Memory.{AreSized}
 use Rattle.lot_kernel.specs.Snapshots.{held}
 use Rattle.lot_kernel.proofs.Holding.{IsHeld}
 
@@ -82,6 +83,16 @@ records-same s q t order clients mutexes =
 -- the queues after all
 abbrev pub queues_killed : QueueLists → ℕ → QueueLists
 queues_killed q t = record q { clients = set_number (map (without t) q.clients) t []; ports = map (port_without t) q.ports; mutexes = map (passed_from t) (waiters_without q.mutexes t) }
+
+-- a death leaves how many ports and mutexes there are
+pub killed-sized : (sizes : Sizes) (q : QueueLists) (t : ℕ) (left : QueueLists) → left ≡ queues_killed q t → AreSized sizes q → AreSized sizes left
+killed-sized sizes q t left is has =
+    subst (AreSized sizes) (sym is)
+    (record {
+      room = has.room;
+      ports = length-map q.ports (port_without t) ∙ has.ports;
+      mutexes = length-map (waiters_without q.mutexes t) (passed_from t) ∙ length-map q.mutexes _ ∙ has.mutexes;
+    })
 
 module _ (sizes : Sizes) (freed : Freed) (names : List (Option (List ℕ))) (v : Threaded) (q : QueueLists) (t : ℕ) (was : IsHeld sizes freed names v q) (new : Threaded) (left : QueueLists)
     (threads : new ≡ record (with_records v (records_killed q v.records t) new.stale) { owners = owners_of (map (passed_from t) (waiters_without q.mutexes t)) }) (queues : left ≡ queues_killed q t) where

@@ -17,6 +17,7 @@ pub mod Killing
 pub mod Freeing
 pub mod Stacks
 pub mod Reusing
+pub mod Rooms
 pub mod ThreadsAgain
 pub mod TicketsAgain
 pub mod Refusing

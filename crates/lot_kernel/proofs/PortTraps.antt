@@ -12,6 +12,7 @@ use Rattle.lot_ports.specs.Traps.{with_ports}
 use Rattle.lot_queues.specs.QueueLists.{QueueLists, IsNowhere}
 use Rattle.lot_threads.specs.Threaded.{MakesStaleIn, Threaded, with_records}
 use Rattle.lot_kernel.specs.Counted.{KeepsStale}
+use Rattle.lot_kernel.specs.Memory.{AreSized}
 use Rattle.lot_kernel.specs.Snapshots.{MakesStale, Snapshot, held}
 use Rattle.lot_kernel.specs.Trapped.{IsRunning}
 use Rattle.lot_kernel.proofs.Holding.{IsHeld, makes-held, snapshot_of}
@@ -32,11 +33,15 @@ module _ (sizes : Sizes) (freed : Freed) (names : List (Option (List ℕ))) (v :
   runner-nowhere now t view order runs =
       running-nowhere sizes freed names v q t (subst (λ (s : Snapshot). IsInOrder s.state) (sym view) order) (subst (λ (s : Snapshot). IsRunning s.state.records t) (sym view) runs)
 
-  -- a trap leaves the threads those of the state, and as many records and clients as before
-  pub port-leaves : (new : Threaded) (left : QueueLists) (trap : PortTrap) → IsHeld sizes freed names v q → Keeps v.records q.clients trap → new ≡ with_records v trap.records new.stale → left ≡ with_ports q trap
-      → IsHeld sizes freed names new left × (length new.records ≡ length v.records) × (length left.clients ≡ length q.clients)
-  port-leaves new left trap was keeps is left_is =
-      (ports-held sizes freed names v new q left was trap is left_is, ap (λ (w : Threaded). length w.records) is ∙ keeps.records, ap (λ (l : QueueLists). length l.clients) left_is ∙ keeps.clients)
+  -- a trap leaves the threads those of the state, as many records and clients as before, and queues of the same sizes
+  pub port-leaves : (new : Threaded) (left : QueueLists) (trap : PortTrap) → IsHeld sizes freed names v q → Keeps v.records q.clients q.ports trap → new ≡ with_records v trap.records new.stale → left ≡ with_ports q trap
+      → IsHeld sizes freed names new left × (length new.records ≡ length v.records) × (length left.clients ≡ length q.clients) × (AreSized sizes q → AreSized sizes left)
+  port-leaves new left trap was keeps is left_is = (
+    ports-held sizes freed names v new q left was trap is left_is,
+    ap (λ (w : Threaded). length w.records) is ∙ keeps.records,
+    ap (λ (l : QueueLists). length l.clients) left_is ∙ keeps.clients,
+    λ has. subst (AreSized sizes) (sym left_is) (record { room = has.room; ports = keeps.ports ∙ has.ports; mutexes = has.mutexes }),
+  )
 
   -- a trap that isn't refused shows its effect
   pub port-shows : (new : Threaded) (left : QueueLists) (trap : PortTrap) (effect : Effect) (said : Outcome) (then : After) → IsHeld sizes freed names v q → effect ≡ of_ports (held sizes freed names v q) trap → said ≡ trap.outcome → then ≡ trap.after

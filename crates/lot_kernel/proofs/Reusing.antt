@@ -210,14 +210,21 @@ next-within s order count = by (free_threads s) refl
 -- ---- the stacks then
 
 module _ (sizes : Sizes) (old : Stacks) (room : HasRoomFor sizes old) where
+  -- if numbers are given again, there is room for each place
+  pub room-on : sizes.reuse ≡ true → (old.tickets.room ≡ sizes.tickets) × ((old.currencies.room ≡ sizes.currencies + 1) × (old.threads.room ≡ sizes.threads))
+  room-on on = (
+    room.tickets ∙ ap (λ b. cond {A = ℕ} b sizes.tickets 0) on,
+    (room.currencies ∙ ap (λ b. cond {A = ℕ} b (sizes.currencies + 1) 0) on, room.threads ∙ ap (λ b. cond {A = ℕ} b sizes.threads 0) on),
+  )
+
   pub room-tickets : (new : FreeStack) → new.room ≡ old.tickets.room → HasRoomFor sizes (record old { tickets = new })
-  room-tickets new same on = let was = room on in record { tickets = omega (arith, was.tickets, same); currencies = was.currencies; threads = was.threads }
+  room-tickets new same = record { tickets = same ∙ room.tickets; currencies = room.currencies; threads = room.threads }
 
   pub room-currencies : (new : FreeStack) → new.room ≡ old.currencies.room → HasRoomFor sizes (record old { currencies = new })
-  room-currencies new same on = let was = room on in record { tickets = was.tickets; currencies = omega (arith, was.currencies, same); threads = was.threads }
+  room-currencies new same = record { tickets = room.tickets; currencies = same ∙ room.currencies; threads = room.threads }
 
   pub room-threads : (new : FreeStack) → new.room ≡ old.threads.room → HasRoomFor sizes (record old { threads = new })
-  room-threads new same on = let was = room on in record { tickets = was.tickets; currencies = was.currencies; threads = omega (arith, was.threads, same) }
+  room-threads new same = record { tickets = room.tickets; currencies = room.currencies; threads = same ∙ room.threads }
 
 -- nothing is free if numbers are given once, whatever would be left or taken otherwise
 module _ (reuse : Bool) (old : Stacks) (none : reuse ≡ false → freed_in old ≡ none_free) where

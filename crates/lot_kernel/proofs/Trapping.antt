@@ -33,6 +33,7 @@ use Rattle.lot_threads.proofs.Leads.{reaches-leads}
 use Rattle.lot_ports.specs.Traps.{with_ports}
 use Rattle.lot_value.specs.declared.meter.Meter.{Meter}
 use Rattle.lot_mutex.specs.Listed.{with_mutexes}
+use Rattle.lot_kernel.specs.Memory.{AreSized}
 use Rattle.lot_kernel.specs.Snapshots.{held}
 use Rattle.lot_kernel.specs.Trapped.{IsRunning, effect_of}
 use Rattle.lot_kernel.proofs.Holding.{IsHeld, held-records}
@@ -118,36 +119,37 @@ change-count change records t = by (at_number records t) refl
     by None is = rw is refl
     by (Some r) is = rw is (length-set records (t - 1) (change r))
 
--- the trap leaves how many records and clients there are
-pub record Keeps (rs : List Record) (cs : List (List ℕ)) (trap : PortTrap) : Type 0 where
+-- the trap leaves how many records, clients and ports there are
+pub record Keeps (rs : List Record) (cs : List (List ℕ)) (ps : List Port) (trap : PortTrap) : Type 0 where
   pub records : length trap.records ≡ length rs
   pub clients : length trap.clients ≡ length cs
+  pub ports : length trap.ports ≡ length ps
 
 module _ (rs : List Record) (cs : List (List ℕ)) (ports : List Port) (t : ℕ) where
-  pub call-keeps : (p number : ℕ) → Keeps rs cs (call rs cs ports t p number)
+  pub call-keeps : (p number : ℕ) → Keeps rs cs ports (call rs cs ports t p number)
   call-keeps p number = by (port_at ports p).receivers refl
     where
-      by : (o : List ℕ) → (port_at ports p).receivers ≡ o → Keeps rs cs (call rs cs ports t p number)
-      by [] is = rw is (record { records = refl; clients = refl })
-      by (server ∷ others) is = rw is (record { records = change-count _ rs server; clients = length-set cs (server - 1) _ })
+      by : (o : List ℕ) → (port_at ports p).receivers ≡ o → Keeps rs cs ports (call rs cs ports t p number)
+      by [] is = rw is (record { records = refl; clients = refl; ports = length-set ports (p - 1) _ })
+      by (server ∷ others) is = rw is (record { records = change-count _ rs server; clients = length-set cs (server - 1) _; ports = length-set ports (p - 1) _ })
 
-  pub receive-keeps : (p : ℕ) → Keeps rs cs (receive rs cs ports t p)
+  pub receive-keeps : (p : ℕ) → Keeps rs cs ports (receive rs cs ports t p)
   receive-keeps p = by (port_at ports p).calls refl
     where
-      by : (o : List QueuedCall) → (port_at ports p).calls ≡ o → Keeps rs cs (receive rs cs ports t p)
-      by [] is = rw is (record { records = refl; clients = refl })
-      by (first ∷ others) is = rw is (record { records = change-count _ rs first.caller; clients = length-set cs (t - 1) _ })
+      by : (o : List QueuedCall) → (port_at ports p).calls ≡ o → Keeps rs cs ports (receive rs cs ports t p)
+      by [] is = rw is (record { records = refl; clients = refl; ports = length-set ports (p - 1) _ })
+      by (first ∷ others) is = rw is (record { records = change-count _ rs first.caller; clients = length-set cs (t - 1) _; ports = length-set ports (p - 1) _ })
 
-  pub reply-keeps : (number : ℕ) → Keeps rs cs (reply rs cs ports t number)
-  reply-keeps number = record { records = change-count _ rs (unwrap_or (first_client cs t) 0); clients = length-set cs (t - 1) _ }
+  pub reply-keeps : (number : ℕ) → Keeps rs cs ports (reply rs cs ports t number)
+  reply-keeps number = record { records = change-count _ rs (unwrap_or (first_client cs t) 0); clients = length-set cs (t - 1) _; ports = refl }
 
 -- a reply, and then a receipt
-pub serve-keeps : (rs : List Record) (cs : List (List ℕ)) (ports : List Port) (t p number : ℕ) → Keeps rs cs (serve rs cs ports t p number)
+pub serve-keeps : (rs : List Record) (cs : List (List ℕ)) (ports : List Port) (t p number : ℕ) → Keeps rs cs ports (serve rs cs ports t p number)
 serve-keeps rs cs ports t p number =
     let first = reply rs cs ports t number in
     let one = reply-keeps rs cs ports t number in
     let two = receive-keeps first.records first.clients first.ports t p in
-    record { records = two.records ∙ one.records; clients = two.clients ∙ one.clients }
+    record { records = two.records ∙ one.records; clients = two.clients ∙ one.clients; ports = two.ports ∙ one.ports }
 
 -- locks and unlocks leave how many records there are
 pub lock-count : (records : List Record) (mutexes : List Mutex) (t m : ℕ) → length (lock records mutexes t m).records ≡ length records
@@ -163,6 +165,25 @@ unlock-count records mutexes value m d = by (mutex_at mutexes m).waiters refl
     by : (o : List ℕ) → (mutex_at mutexes m).waiters ≡ o → length (unlock records mutexes value m d).records ≡ length records
     by [] is = rw is refl
     by (w ∷ ws) is = rw is (change-count _ records _)
+
+-- and how many mutexes
+pub lock-mutexes : (records : List Record) (mutexes : List Mutex) (t m : ℕ) → length (lock records mutexes t m).mutexes ≡ length mutexes
+lock-mutexes records mutexes t m = by (mutex_at mutexes m).owner refl
+  where
+    by : (o : Option ℕ) → (mutex_at mutexes m).owner ≡ o → length (lock records mutexes t m).mutexes ≡ length mutexes
+    by None is = rw is (length-set mutexes (m - 1) _)
+    by (Some owner) is = rw is (length-set mutexes (m - 1) _)
+
+pub unlock-mutexes : (records : List Record) (mutexes : List Mutex) (value : ℕ → ℕ) (m d : ℕ) → length (unlock records mutexes value m d).mutexes ≡ length mutexes
+unlock-mutexes records mutexes value m d = by (mutex_at mutexes m).waiters refl
+  where
+    by : (o : List ℕ) → (mutex_at mutexes m).waiters ≡ o → length (unlock records mutexes value m d).mutexes ≡ length mutexes
+    by [] is = rw is (length-set mutexes (m - 1) _)
+    by (w ∷ ws) is = rw is (length-set mutexes (m - 1) _)
+
+-- queues with as many mutexes as before have the same sizes
+pub mutexes-sized : (sizes : Sizes) (q left : QueueLists) (mutexes : List Mutex) → left ≡ record q { mutexes = mutexes } → length mutexes ≡ length q.mutexes → AreSized sizes q → AreSized sizes left
+mutexes-sized sizes q left mutexes is same has = subst (AreSized sizes) (sym is) (record { room = has.room; ports = has.ports; mutexes = same ∙ has.mutexes })
 
 module _ (sizes : Sizes) (freed : Freed) (names : List (Option (List ℕ))) (v new : Threaded) (q left : QueueLists) (was : IsHeld sizes freed names v q) where
   pub ports-held : (trap : PortTrap) → new ≡ with_records v trap.records new.stale → left ≡ with_ports q trap → IsHeld sizes freed names new left

@@ -1,5 +1,5 @@
 -- The free places that the kernel keeps for numbers that are given again.
-use Rattle.std.specs.Prelude.{◌≡◌, ℕ, ◌+◌, ◌≤◌, true, Some, None, [], slice_get}
+use Rattle.std.specs.Prelude.{◌≡◌, ℕ, ◌+◌, Some, None, [], if◌then◌else◌, slice_get}
 use Rattle.lot_machine.specs.declared.sizes.Sizes.{Sizes}
 use Rattle.lot_machine.specs.State.{State, Freed, free_threads}
 use Rattle.lot_kernel.specs.declared.freed.Freed.{Freed as Stacks}
@@ -12,15 +12,15 @@ none_free = record { tickets = []; currencies = []; threads = [] }
 abbrev pub freed_in : Stacks → Freed
 freed_in s = record { tickets = s.tickets.places; currencies = s.currencies.places; threads = s.threads.places }
 
--- there is room for each place within the limits
-pub record HasRoom (sizes : Sizes) (s : Stacks) : Type 0 where
-  pub tickets : sizes.tickets ≤ s.tickets.room
-  pub currencies : sizes.currencies + 1 ≤ s.currencies.room
-  pub threads : sizes.threads ≤ s.threads.room
+-- the room for this many places: for each of them if numbers are given again, and otherwise for none
+abbrev pub room_for : Sizes → ℕ → ℕ
+room_for sizes places = if sizes.reuse then places else 0
 
--- if numbers are given again, there is room for each place within the limits
-abbrev pub HasRoomFor : Sizes → Stacks → Type 0
-HasRoomFor sizes s = sizes.reuse ≡ true → HasRoom sizes s
+-- if numbers are given again, there is room for each place within the limits; there is no other room
+pub record HasRoomFor (sizes : Sizes) (s : Stacks) : Type 0 where
+  pub tickets : s.tickets.room ≡ room_for sizes sizes.tickets
+  pub currencies : s.currencies.room ≡ room_for sizes (sizes.currencies + 1)
+  pub threads : s.threads.room ≡ room_for sizes sizes.threads
 
 -- the first free place of threads, if there is one, is a gap, and no thread is served there
 abbrev pub HasIdlePlace : State → Type 0

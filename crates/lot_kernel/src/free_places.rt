@@ -2,33 +2,41 @@
 ghost use Rattle.std.specs.Prelude.{◌≡◌, ◌<◌, ◌≤◌, ◌∷◌, [], true, IfNone, IfOk, length, drop, slice_get, if◌then◌else◌};
 ghost use Rattle.lot_machine.specs.Places.{is_none_free};
 
+use lot_kept::Stack;
 use std::alloc::{AllocError, Global};
 use std::marker::Model;
 
 /// The free places of one table, in a stack: the one left last comes first.
 #[derive(Drop)]
 pub(crate) struct FreePlaces {
-    places: Vec<u32>,
+    places: Stack<u32>,
 }
 
 impl Model for FreePlaces {
-    ghost use Rattle.std.specs.Prelude.{reverse, vec_capacity};
+    ghost use Rattle.std.specs.Prelude.{reverse};
     ghost use Rattle.lot_kernel.specs.FreeStacks.{FreeStack};
 
     ghost Value = { FreeStack };
 
-    ghost view = { λ s. record { places = reverse s.places.items; room = vec_capacity s.places } };
+    ghost view = { λ s. record { places = reverse s.places.items; room = s.places.room } };
 }
 
 impl FreePlaces {
     /// No free place yet, and room for this many.
     pub(crate) fn new(alloc: Global, room: u32) -> Result<Self, AllocError>
         ensures empty { IfOk result (λ made. made.places ≡ []) }
-        ensures room { IfOk result (λ made. room ≤ made.room) }
+        ensures room { IfOk result (λ made. made.room ≡ room) }
     {
         Ok(FreePlaces {
-            places: Vec::with_capacity(alloc, room as usize)?,
+            places: Stack::new(alloc, room as usize)?,
         })
+    }
+
+    /// The number of places that there is room for.
+    pub(crate) fn room(&self) -> usize
+        ensures { result ≡ self.now.room }
+    {
+        self.places.room()
     }
 
     /// Whether no place is free.
@@ -43,7 +51,7 @@ impl FreePlaces {
         requires room { length self.old.places < self.old.room }
         ensures { self.new ≡ record self.old { places = place ∷ self.old.places } }
     {
-        self.places.push_reserved(place);
+        self.places.push(place);
     }
 
     /// Leaves a place, if places are given again.

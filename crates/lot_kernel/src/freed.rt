@@ -1,5 +1,5 @@
 //! The free places of the tables, which the next tickets, currencies and threads get if numbers are given again.
-ghost use Rattle.std.specs.Prelude.{◌≡◌, ◌≤◌, ◌+◌, ◌*◌, IfOk, if◌then◌else◌};
+ghost use Rattle.std.specs.Prelude.{◌≡◌, ◌≤◌, ◌<◌, ◌+◌, ◌*◌, ◌^◌, IfOk, if◌then◌else◌};
 ghost use Rattle.lot_machine.specs.State.{sizes_of};
 ghost use Rattle.lot_kernel.specs.FreePlaces.{none_free, freed_in, HasRoomFor};
 
@@ -52,6 +52,17 @@ impl Freed {
             return 0;
         }
         PLACE_BYTES * (limits.tickets as u64 + limits.currencies as u64 + limits.threads as u64 + 1)
+    }
+
+    /// The bytes that it has room for: those that `new` requested.
+    pub(crate) fn held(&self) -> u64
+        requires few { self.now.tickets.room + self.now.currencies.room + self.now.threads.room < 2 ^ 40 }
+        ensures { result ≡ 4 * (self.now.tickets.room + self.now.currencies.room + self.now.threads.room) }
+    {
+        PLACE_BYTES
+            * (self.tickets.room() as u64
+                + self.currencies.room() as u64
+                + self.threads.room() as u64)
     }
 }
 

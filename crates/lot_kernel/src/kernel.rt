@@ -1,7 +1,7 @@
 //! The kernel and its events.
 ghost use Rattle.std.specs.Prelude.{◌≡◌, ◌↔◌, ◌<◌, ◌≤◌, ◌+◌, ◌^◌, [], All, None, Some, IfNone, IfOk, IfSome, IsTrue};
-ghost use Rattle.std.specs.Prelude.{MatchOption, false, length, option_and_then, option_map, true, vec_len};
-ghost use Rattle.std.specs.Prelude.{vec_capacity, if◌then◌else◌};
+ghost use Rattle.std.specs.Prelude.{MatchOption, false, length, option_and_then, option_map, true};
+ghost use Rattle.std.specs.Prelude.{if◌then◌else◌};
 ghost use Rattle.lot_machine.specs.Bounds.{IsBetween};
 ghost use Rattle.lot_machine.specs.Commands as commands;
 ghost use Rattle.lot_machine.specs.Mutexes.{mutex_at};
@@ -23,6 +23,7 @@ ghost use Rattle.lot_kernel.specs.Snapshots.{MakesStale, starting};
 
 use crate::tables::Tables;
 use lot_above::Above;
+use lot_kept::Stack;
 use lot_machine::{
     CurrencyNumber, CurrencyRow, Event, Limits, MutexNumber, Name, Processor, Reply, Status,
     ThreadNumber, ThreadRef, ThreadRow, TicketNumber, TicketRow,
@@ -77,6 +78,14 @@ impl Kernel {
         ensures few { result < 2 ^ 32 }
     {
         Tables::bytes(limits)
+    }
+
+    /// The bytes that the kernel's tables have room for: after each event those that `new` requested, none more and
+    /// none fewer.
+    pub fn held(&self) -> u64
+        ensures { result ≡ bytes_of self.now.state.limits }
+    {
+        self.tables.held()
     }
 
     /// The limits that the kernel was made with.
@@ -260,12 +269,12 @@ impl Kernel {
 
     /// Stores in `out` the threads that wait for the mutex, the one that has waited longest first; none if there is
     /// no such mutex. It allocates nothing, since `out` has room for all threads.
-    pub fn list_waiters(&self, mutex: MutexNumber, out: &mut Vec<u32>)
-        requires { self.now.state.limits.threads ≤ vec_capacity out.old }
+    pub fn list_waiters(&self, mutex: MutexNumber, out: &mut Stack<u32>)
+        requires { self.now.state.limits.threads ≤ out.old.room }
         ensures waiters { out.new.items ≡ (mutex_at self.now.state.mutexes mutex.number).waiters }
         ensures there { All (IsBetween 1 (length self.now.state.records)) out.new.items }
-        ensures few { vec_len out.new ≤ self.now.state.limits.threads }
-        ensures room { vec_capacity out.new ≡ vec_capacity out.old }
+        ensures few { length out.new.items ≤ self.now.state.limits.threads }
+        ensures room { out.new.room ≡ out.old.room }
     {
         self.tables.list_waiters(mutex, out);
     }

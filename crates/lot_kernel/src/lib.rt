@@ -12,6 +12,7 @@ mod tables;
 
 pub use kernel::Kernel;
 pub use lot_above::Above;
+pub use lot_kept::Stack;
 pub use lot_machine::{
     Action, Command, CurrencyNumber, CurrencyRef, CurrencyRow, Event, Kind, Limits, MutexNumber,
     Name, Outcome, Processor, Refusal, Reply, Sizes, Status, Target, TargetRef, ThreadNumber,

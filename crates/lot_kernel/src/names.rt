@@ -103,7 +103,7 @@ impl Model for NameIndex {
 
     ghost view = { λ s. s.lists };
 
-    ghost invariant = { λ s. record { some : 0 < s.buckets; lists : s.buckets ≡ length s.lists.lists } };
+    ghost invariant = { λ s. record { some : 0 < s.buckets; lists : s.buckets ≡ length s.lists.lists; places : s.buckets ≡ s.lists.nodes } };
 }
 
 impl NameIndex {
@@ -124,6 +124,13 @@ impl NameIndex {
         ensures { result ≡ 20 * places }
     {
         Lists::bytes(places as usize, places as usize)
+    }
+
+    /// The bytes that it has room for: those that `new` requested.
+    pub(crate) fn held(&self) -> u64
+        ensures { result ≡ 20 * self.now.nodes }
+    {
+        self.lists.held()
     }
 
     /// Adds the name of the table's next place, or of one whose name was removed. It isn't added if it has no bytes.

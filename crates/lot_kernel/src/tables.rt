@@ -1,5 +1,5 @@
 //! The kernel's tables, which hold the machine's state.
-ghost use Rattle.std.specs.Prelude.{◌≡◌, ◌<◌, ◌≤◌, ◌+◌, ◌^◌, ◌∷◌, [], IfOk, Some, codes, length, vec_len, vec_capacity};
+ghost use Rattle.std.specs.Prelude.{◌≡◌, ◌<◌, ◌≤◌, ◌+◌, ◌^◌, ◌∷◌, [], IfOk, Some, codes, length};
 ghost use Rattle.lot_machine.specs.Mutexes.{mutex_at};
 ghost use Rattle.lot_machine.specs.Order.{IsInOrder};
 ghost use Rattle.lot_machine.specs.State.{opening, sizes_of};
@@ -20,6 +20,7 @@ mod traps;
 
 use crate::freed::Freed;
 use crate::names::{Hashed, NameIndex};
+use lot_kept::Stack;
 use lot_machine::{Event, Limits, MutexNumber, Name, Processor, Reply, ThreadNumber};
 use lot_mutex::Lottery;
 use lot_queues::Queues;
@@ -40,7 +41,7 @@ const NAME_BYTES: u64 = size_of::<Option<Name>>() as u64;
 pub(crate) struct Tables {
     limits: Limits,
     /// The name of each currency, base first; `None` for a removed one.
-    currencies: Vec<Option<Name>>,
+    currencies: Stack<Option<Name>>,
     /// The free places, if numbers are given again.
     freed: Freed,
     threads: Threads,
@@ -52,9 +53,10 @@ pub(crate) struct Tables {
 }
 
 impl Model for Tables {
-    ghost use Rattle.std.specs.Prelude.{◌≡◌, ◌+◌, ◌≤◌, false, length, vec_len, vec_capacity};
+    ghost use Rattle.std.specs.Prelude.{◌≡◌, ◌+◌, ◌≤◌, false, length};
     ghost use Rattle.lot_machine.specs.State.{sizes_of};
     ghost use Rattle.lot_kernel.specs.FreePlaces.{none_free, freed_in, HasRoomFor};
+    ghost use Rattle.lot_kernel.specs.Memory.{AreSized};
     ghost use Rattle.lot_kernel.specs.Names.{IsIndexOf, names_of};
     ghost use Rattle.lot_kernel.specs.Snapshots.{Snapshot, held, threads_of};
 
@@ -73,13 +75,13 @@ impl Model for Tables {
       count : length k.threads.threads ≡ length k.threads.records;
       few : length k.threads.records ≤ k.limits.threads;
       clients : length k.queues.clients ≡ length k.threads.records;
-      currencies : vec_len k.currencies ≤ k.limits.currencies + 1;
-      currency_room : k.limits.currencies + 1 ≤ vec_capacity k.currencies;
+      currencies : length k.currencies.items ≤ k.limits.currencies + 1;
+      currency_room : k.currencies.room ≡ k.limits.currencies + 1;
       currency_index : IsIndexOf k.currency_index k.currencies.items;
       currency_places : k.currency_index.nodes ≡ k.limits.currencies + 1;
       thread_index : IsIndexOf k.thread_index (names_of k.threads.threads);
       thread_places : k.thread_index.nodes ≡ k.limits.threads;
-      queue_room : k.queues.room ≡ k.limits.threads;
+      queue_sizes : AreSized (sizes_of k.limits) k.queues;
       lottery_room : k.lottery.room ≡ k.limits.threads;
       freed_room : HasRoomFor (sizes_of k.limits) k.freed;
       none_freed : k.limits.reuse ≡ false → freed_in k.freed ≡ none_free;
@@ -122,6 +124,19 @@ impl Tables {
             + Freed::bytes(limits)
     }
 
+    /// The bytes that the tables have room for: those that `new` requested, whatever has happened since.
+    pub(crate) fn held(&self) -> u64
+        ensures { result ≡ bytes_of self.now.state.limits }
+    {
+        NAME_BYTES * self.currencies.room() as u64
+            + self.threads.held()
+            + self.queues.held()
+            + self.currency_index.held()
+            + self.thread_index.held()
+            + self.lottery.held()
+            + self.freed.held()
+    }
+
     pub(crate) fn limits(&self) -> Limits
         ensures { sizes_of result ≡ self.now.state.limits }
     {
@@ -149,11 +164,11 @@ impl Tables {
 
     /// Stores in `out` the threads that wait for the mutex, the one that has waited longest first; none if there is
     /// no such mutex. It allocates nothing.
-    pub(crate) fn list_waiters(&self, mutex: MutexNumber, out: &mut Vec<u32>)
-        requires { self.now.state.limits.threads ≤ vec_capacity out.old }
+    pub(crate) fn list_waiters(&self, mutex: MutexNumber, out: &mut Stack<u32>)
+        requires { self.now.state.limits.threads ≤ out.old.room }
         ensures waiters { out.new.items ≡ (mutex_at self.now.state.mutexes mutex.number).waiters }
-        ensures few { vec_len out.new ≤ self.now.state.limits.threads }
-        ensures room { vec_capacity out.new ≡ vec_capacity out.old }
+        ensures few { length out.new.items ≤ self.now.state.limits.threads }
+        ensures room { out.new.room ≡ out.old.room }
     {
         out.clear();
         if 0 < mutex.number && mutex.number <= self.queues.mutexes() {
@@ -203,21 +218,21 @@ impl Tables {
 fn opening_currencies(
     alloc: Global,
     room: u32,
-) -> Result<(Vec<Option<Name>>, NameIndex), AllocError>
+) -> Result<(Stack<Option<Name>>, NameIndex), AllocError>
     requires { 0 < room }
     ensures names { IfOk result (λ made. made.0.items ≡ Some (codes "base") ∷ []) }
-    ensures few { IfOk result (λ made. vec_len made.0 ≤ room) }
-    ensures room { IfOk result (λ made. room ≤ vec_capacity made.0) }
+    ensures few { IfOk result (λ made. length made.0.items ≤ room) }
+    ensures room { IfOk result (λ made. made.0.room ≡ room) }
     ensures index { IfOk result (λ made. IsIndexOf made.1 made.0.items) }
     ensures places { IfOk result (λ made. made.1.nodes ≡ room) }
 {
-    let mut names = Vec::with_capacity(alloc, room as usize)?;
+    let mut names = Stack::new(alloc, room as usize)?;
     let mut index = NameIndex::new(alloc, room)?;
     let Some(base) = Name::new("base") else {
         unreachable!()
     };
     index.add(0, &Hashed::new(&base));
-    names.push_reserved(Some(base));
+    names.push(Some(base));
     Ok((names, index))
 }
 

@@ -214,7 +214,7 @@ impl Tables {
         }
         self.threads.apply(Change::NewCurrency);
         self.currency_index.add(number as usize, name);
-        self.currencies.push_reserved(Some(name.copied()));
+        self.currencies.push(Some(name.copied()));
         Some(number)
     }
 

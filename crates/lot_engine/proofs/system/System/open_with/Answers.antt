@@ -1,4 +1,4 @@
-use Rattle.std.proofs.Common.{rules, ◌≡◌, ◌∙◌, ◌+◌, ◌≤◌, [], length, is_some, replicate, vec_capacity, ap, sym, subst}
+use Rattle.std.proofs.Common.{rules, ◌≡◌, ◌∙◌, ◌+◌, ◌≤◌, [], length, is_some, replicate, ap, sym, subst}
 use Rattle.lot_machine.specs.State.{opening, sizes_of}
 use Rattle.lot_simulation.specs.Report.{turns_made}
 use Rattle.lot_engine.specs.Counted.{AreCounts, IsCount}
@@ -34,7 +34,7 @@ invariant_of-result c =
       counts = opened.count ∙ ap (λ p. p.limits.processors + 1) (sym copied);
       each_counted = each;
       total_counted = counted;
-      threads = subst (λ p. p.limits.threads ≤ vec_capacity places) (sym copied) opened.threads;
+      threads = subst (λ p. p.limits.threads ≤ places.room) (sym copied) opened.threads;
       room = opened.history.turns;
       wakes = opened.history.wakes;
       processors = opened.history.processors ∙ ap (λ p. p.limits.processors) (sym copied);

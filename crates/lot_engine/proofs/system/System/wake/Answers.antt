@@ -17,7 +17,7 @@ invariant_of-self c =
     let s = c.self.inside in
     let i = c.self.invariant in
     let requires = rw (← c.self.view_is) at c.requires in
-    rw (c.push_wake.ensures.items, i.processors) (timer-more s.program s.room s.is_wide s.has_timer s.history.items s.kernel.state s.places.items s.generators.items _ s.tickets s.spent s.counts.items _ s.total _ _ i c.args.thread (omega (arith, requires.there.0)) requires.timer requires.room (omega (arith, s.counts.ok.0))
+    rw (c.push_wake.ensures.items, i.processors) (timer-more s.program s.room s.is_wide s.has_timer s.history.items s.kernel.state s.places.items s.generators.items _ s.tickets s.spent s.counts.items _ s.total _ _ i c.args.thread (omega (arith, requires.there.0)) requires.timer requires.room (omega arith)
     c.answer.new.self.state c.answer.new.reply c.answer.ensures.state c.answer.ensures.reply
     _ c.add_turn.ensures.exact (c.add_turn.ensures.small (length s.history.items) i.total_counted.small) _ c.push_wake.ensures.size)
 

@@ -1,5 +1,4 @@
-use Rattle.std.proofs.Common.{◌≡◌, ◌∙◌, ◌+◌, ℕ, Option, ap, ap₂, subst, arith, drop, slice_get, vec_len}
-use Rattle.std.specs.Prelude.{MatchOption}
+use Rattle.std.proofs.Common.{◌≡◌, ◌∙◌, ℕ, Option, IfNone, [], ap, ap₂, subst, drop, length, slice_get}
 use Rattle.lot_kernel.specs.FreeStacks.{FreeStack}
 use Rattle.lot_kernel.proofs.Stacks.{popped, popped-none}
 use Rattle.lot_kernel.proofs.free_places.FreePlaces.pop.Goals as goal
@@ -7,18 +6,18 @@ use Rattle.lot_kernel.proofs.free_places.FreePlaces.pop.Goals as goal
 pub returns-clause-first : goal.returns-clause-first
 returns-clause-first c =
     (popped c.self.inside.places.items c.pop.new.self.items c.pop.result c.pop.ensures.items
-    (λ none. omega (arith, (subst (λ (o : Option ℕ). MatchOption o ((vec_len c.self.inside.places ≡ 0) × (vec_len c.pop.new.self ≡ 0)) (λ _. vec_len c.pop.new.self + 1 ≡ vec_len c.self.inside.places)) none c.pop.ensures.cases).0, c.self.inside.places.ok.0))).0
+    (λ none. ap (length {A = ℕ}) (subst (λ (o : Option ℕ). IfNone o (c.self.inside.places.items ≡ [])) none c.pop.ensures.none))).0
     ∙ ap (λ (v : FreeStack). slice_get v.places 0) c.self.view_is
 
 pub returns-clause-rest : goal.returns-clause-rest
 returns-clause-rest c =
     ap₂ (λ xs n. let v : FreeStack = record { places = xs; room = n } in v)
     (popped c.self.inside.places.items c.pop.new.self.items c.pop.result c.pop.ensures.items
-    (λ none. omega (arith, (subst (λ (o : Option ℕ). MatchOption o ((vec_len c.self.inside.places ≡ 0) × (vec_len c.pop.new.self ≡ 0)) (λ _. vec_len c.pop.new.self + 1 ≡ vec_len c.self.inside.places)) none c.pop.ensures.cases).0, c.self.inside.places.ok.0))).1
-    c.pop.ensures.capacity
+    (λ none. ap (length {A = ℕ}) (subst (λ (o : Option ℕ). IfNone o (c.self.inside.places.items ≡ [])) none c.pop.ensures.none))).1
+    c.pop.ensures.room
     ∙ ap (λ (v : FreeStack). record v { places = drop 1 v.places }) c.self.view_is
 
 pub returns-clause-unchanged : goal.returns-clause-unchanged
 returns-clause-unchanged c =
-    popped-none c.self.inside.places.items c.pop.new.self.items c.pop.result (λ same. ap₂ (λ xs n. let v : FreeStack = record { places = xs; room = n } in v) same c.pop.ensures.capacity ∙ c.self.view_is) c.pop.ensures.items
-    (λ none. omega (arith, (subst (λ (o : Option ℕ). MatchOption o ((vec_len c.self.inside.places ≡ 0) × (vec_len c.pop.new.self ≡ 0)) (λ _. vec_len c.pop.new.self + 1 ≡ vec_len c.self.inside.places)) none c.pop.ensures.cases).0, c.self.inside.places.ok.0))
+    popped-none c.self.inside.places.items c.pop.new.self.items c.pop.result (λ same. ap₂ (λ xs n. let v : FreeStack = record { places = xs; room = n } in v) same c.pop.ensures.room ∙ c.self.view_is) c.pop.ensures.items
+    (λ none. ap (length {A = ℕ}) (subst (λ (o : Option ℕ). IfNone o (c.self.inside.places.items ≡ [])) none c.pop.ensures.none))

@@ -4,11 +4,11 @@ use Rattle.lot_kernel.specs.FreeStacks.{FreeStack}
 use Rattle.lot_kernel.proofs.Stacks.{pushed-first}
 use Rattle.lot_kernel.proofs.free_places.FreePlaces.push.Goals as goal
 
-pub push_reserved-requires : goal.push_reserved-requires
-push_reserved-requires c =
+pub push-requires : goal.push-requires
+push-requires c =
     omega (arith, c.requires.room, ap (λ (v : FreeStack). length v.places) c.self.view_is, ap (λ (v : FreeStack). v.room) c.self.view_is, length-reverse c.self.inside.places.items)
 
 pub returns : goal.returns
 returns c =
-    ap₂ (λ xs n. let v : FreeStack = record { places = xs; room = n } in v) (ap reverse c.push_reserved.ensures.items ∙ pushed-first c.self.inside.places.items c.args.place) c.push_reserved.ensures.capacity
+    ap₂ (λ xs n. let v : FreeStack = record { places = xs; room = n } in v) (ap reverse c.push.ensures.items ∙ pushed-first c.self.inside.places.items c.args.place) c.push.ensures.room
     ∙ ap (λ (v : FreeStack). record v { places = c.args.place ∷ v.places }) c.self.view_is

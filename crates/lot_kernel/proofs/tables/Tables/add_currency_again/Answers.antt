@@ -1,4 +1,4 @@
-use Rattle.std.proofs.Common.{◌∙◌, ℕ, List, Some, ap, arith, is_some, length, option_map, subst, sym, slice_get, slice_set}
+use Rattle.std.proofs.Common.{◌∙◌, ℕ, List, Some, ap, arith, is_some, length, length-set, option_map, subst, sym, slice_get, slice_set}
 use Rattle.std.proofs.lemmas.Option.{slice_get_within, slice_get-map}
 use Rattle.lot_machine.specs.State.{sizes_of}
 use Rattle.lot_machine.specs.Order.{IsInOrder}
@@ -28,7 +28,7 @@ add-requires-clause-place c =
     let s = held (sizes_of i.limits) (freed_in i.freed) i.currencies.items i.threads i.queues in
     let order : IsInOrder s = rw (← c.self.view_is) at c.requires in
     let gap = first-currency_gap s order c.self.invariant.none_freed c.in_ok-place.place c.in_ok-place.ensures.first in
-    omega (arith, slice_get_within i.currencies.items c.in_ok-place.place _ gap, c.self.invariant.currencies, c.self.invariant.currency_places, i.currencies.ok.0)
+    omega (arith, slice_get_within i.currencies.items c.in_ok-place.place _ gap, c.self.invariant.currencies, c.self.invariant.currency_places)
 
 pub add-requires-clause-free : goal.add-requires-clause-free
 add-requires-clause-free c =
@@ -44,7 +44,7 @@ index_mut-requires c =
     let s = held (sizes_of i.limits) (freed_in i.freed) i.currencies.items i.threads i.queues in
     let order : IsInOrder s = rw (← c.self.view_is) at c.requires in
     let gap = first-currency_gap s order c.self.invariant.none_freed c.in_ok-place.place c.in_ok-place.ensures.first in
-    omega (arith, slice_get_within i.currencies.items c.in_ok-place.place _ gap, i.currencies.ok.0)
+    omega (arith, slice_get_within i.currencies.items c.in_ok-place.place _ gap)
 
 pub invariant_of-self-2 : goal.invariant_of-self-2
 invariant_of-self-2 c =
@@ -59,14 +59,14 @@ invariant_of-self-2 c =
       count = ap (λ (v : Threaded). length v.threads) c.apply.ensures.applied ∙ c.self.invariant.count ∙ sym records;
       few = omega (arith, c.self.invariant.few, records);
       clients = c.self.invariant.clients ∙ sym records;
-      currencies = c.self.invariant.currencies;
+      currencies = omega (arith, c.self.invariant.currencies, length-set i.currencies.items place (Some c.copied.result));
       currency_room = c.self.invariant.currency_room;
       currency_index = subst (λ (n : List ℕ). IsIndexOf c.add.new.self (slice_set i.currencies.items place (Some n))) (sym c.copied.ensures)
           (c.add.ensures.again i.currencies.items c.self.invariant.currency_index gap);
       currency_places = c.add.ensures.places ∙ c.self.invariant.currency_places;
       thread_index = subst (λ ts. IsIndexOf i.thread_index (names_of ts)) (sym (ap (λ (v : Threaded). v.threads) c.apply.ensures.applied)) c.self.invariant.thread_index;
       thread_places = c.self.invariant.thread_places;
-      queue_room = c.self.invariant.queue_room;
+      queue_sizes = c.self.invariant.queue_sizes;
       lottery_room = c.self.invariant.lottery_room;
       freed_room = room-currencies (sizes_of i.limits) i.freed c.self.invariant.freed_room c.pop.new.self (ap (λ (x : FreeStack). x.room) c.pop.ensures.rest);
       none_freed = popped-currencies i.limits.reuse i.freed c.self.invariant.none_freed c.pop.new.self (ap (λ (x : FreeStack). x.places) c.pop.ensures.rest);

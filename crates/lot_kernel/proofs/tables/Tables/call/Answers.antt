@@ -1,4 +1,3 @@
-use Rattle.lot_queues.specs.QueueLists.{QueueLists}
 use Rattle.lot_threads.specs.Threaded.{Threaded}
 use Rattle.lot_kernel.proofs.Keeping.{keeps-both}
 use Rattle.lot_machine.specs.declared.action.Action.TheVariants as action
@@ -23,7 +22,7 @@ call-requires-clause-same c = sym c.self.invariant.clients
 
 pub invariant_of-self : goal.invariant_of-self
 invariant_of-self c = let left = port-leaves (sizes_of c.self.inside.limits) (freed_in c.self.inside.freed) c.self.inside.currencies.items c.self.inside.threads c.self.inside.queues c.call.new.threads c.call.new.queues _ c.self.invariant.threads (call-keeps c.self.inside.threads.records c.self.inside.queues.clients c.self.inside.queues.ports c.args.thread.number c.args.port.number c.args.number) c.call.ensures.threads c.call.ensures.queues in
-    keeps-both c.self.inside c.self.invariant c.call.new.threads c.call.new.queues left.0 left.1 (ap (λ (v : Threaded). v.threads) c.call.ensures.threads) left.2 (ap (λ (q : QueueLists). q.room) c.call.ensures.queues)
+    keeps-both c.self.inside c.self.invariant c.call.new.threads c.call.new.queues left.0 left.1 (ap (λ (v : Threaded). v.threads) c.call.ensures.threads) left.2 (left.3 c.self.invariant.queue_sizes)
 
 pub returns : goal.returns
 returns c = let shown = port-shows (sizes_of c.self.inside.limits) (freed_in c.self.inside.freed) c.self.inside.currencies.items c.self.inside.threads c.self.inside.queues c.call.new.threads c.call.new.queues _ _ _ _ c.self.invariant.threads (call-done (the_view c.self.inside).state c.args.thread.number c.args.port.number c.args.number (rw (← c.self.view_is) at (c.has_port.ensures.there c.if-not-has_port.false))) c.call.ensures.outcome c.call.ensures.after c.call.ensures.threads c.call.ensures.queues c.call.ensures.stale c.call.ensures.kept in

@@ -3,7 +3,7 @@ use Rattle.lot_kernel.proofs.Keeping.{keeps-both}
 use Rattle.std.proofs.Common.{Contains, ap, length, refl, sym, ◌∙◌}
 use Rattle.lot_kernel.proofs.Holding.{held-mutexes, makes-held}
 use Rattle.lot_machine.specs.Mutexes.{lock}
-use Rattle.lot_kernel.proofs.Trapping.{lock-count, lock-there, running-nowhere}
+use Rattle.lot_kernel.proofs.Trapping.{lock-count, lock-mutexes, lock-there, mutexes-sized, running-nowhere}
 use Rattle.lot_machine.specs.State.{sizes_of}
 use Rattle.lot_threads.specs.Threaded.{Threaded}
 use Rattle.lot_threads.proofs.Ways.{live-status}
@@ -27,7 +27,7 @@ invariant_of-self c =
     let count = lock-count i.threads.records i.queues.mutexes c.args.thread.number c.args.mutex.number in
     let threads = held-mutexes (sizes_of i.limits) (freed_in i.freed) i.currencies.items i.threads c.lock.new.threads i.queues c.self.invariant.threads left c.lock.new.queues i.threads.meter c.lock.ensures.threads c.lock.ensures.queues in
     keeps-both i c.self.invariant c.lock.new.threads c.lock.new.queues threads (ap (λ (v : Threaded). length v.records) c.lock.ensures.threads ∙ count) (ap (λ (v : Threaded). v.threads) c.lock.ensures.threads)
-    (ap (λ (q : QueueLists). length q.clients) c.lock.ensures.queues) (ap (λ (q : QueueLists). q.room) c.lock.ensures.queues)
+    (ap (λ (q : QueueLists). length q.clients) c.lock.ensures.queues) (mutexes-sized (sizes_of i.limits) i.queues c.lock.new.queues left.mutexes c.lock.ensures.queues (lock-mutexes i.threads.records i.queues.mutexes c.args.thread.number c.args.mutex.number) c.self.invariant.queue_sizes)
 
 pub returns-clause-stale : goal.returns-clause-stale
 returns-clause-stale c =

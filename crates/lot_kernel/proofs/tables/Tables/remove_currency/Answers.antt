@@ -13,7 +13,7 @@ use Rattle.lot_machine.specs.Order.{IsInOrder}
 use Rattle.lot_kernel.specs.FreeStacks.{FreeStack}
 use Rattle.lot_kernel.specs.FreePlaces.{freed_in}
 use Rattle.lot_kernel.specs.Snapshots.{Snapshot, held}
-use Rattle.lot_kernel.proofs.Reusing.{currency-fits, currency-left, none-currencies, room-currencies}
+use Rattle.lot_kernel.proofs.Reusing.{currency-fits, currency-left, none-currencies, room-currencies, room-on}
 use Rattle.lot_kernel.proofs.Holding.{held-removed}
 use Rattle.lot_kernel.proofs.tables.Tables.remove_currency.Goals as goal
 
@@ -30,7 +30,7 @@ pub remove-requires : goal.remove-requires
 remove-requires c =
     let i = c.self.inside in
     let there : slice_get (map is_some i.currencies.items) c.in-Some.number ≡ Some true = ap (λ (x : Snapshot). slice_get (map is_some x.state.currencies) c.in-Some.number) c.self.view_is ∙ c.in-Some.ensures.there in
-    omega (arith, slice_get_within (map is_some i.currencies.items) c.in-Some.number true there, length-map i.currencies.items is_some, c.self.invariant.currencies, c.self.invariant.currency_places, i.currencies.ok.0)
+    omega (arith, slice_get_within (map is_some i.currencies.items) c.in-Some.number true there, length-map i.currencies.items is_some, c.self.invariant.currencies, c.self.invariant.currency_places)
 
 pub index_mut-requires : goal.index_mut-requires
 index_mut-requires c =
@@ -53,7 +53,7 @@ leave-requires c =
     let s = held (sizes_of i.limits) (freed_in i.freed) i.currencies.items i.threads i.queues in
     let order : IsInOrder s = rw (← c.self.view_is) at c.requires in
     let there : slice_get (map is_some i.currencies.items) c.in-Some.number ≡ Some true = ap (λ (x : Snapshot). slice_get (map is_some x.state.currencies) c.in-Some.number) c.self.view_is ∙ c.in-Some.ensures.there in
-    record { room = λ on. omega (arith, currency-fits s order on c.in-Some.number there, c.self.invariant.currencies, (c.self.invariant.freed_room on).currencies) }
+    record { room = λ on. omega (arith, currency-fits s order on c.in-Some.number there, c.self.invariant.currencies, (room-on (sizes_of c.self.inside.limits) c.self.inside.freed c.self.invariant.freed_room on).1.0) }
 
 pub returns-clause-state : goal.returns-clause-state
 returns-clause-state c =

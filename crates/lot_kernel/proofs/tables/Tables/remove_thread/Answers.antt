@@ -10,7 +10,7 @@ use Rattle.lot_machine.specs.Order.{IsInOrder}
 use Rattle.lot_kernel.specs.FreeStacks.{FreeStack}
 use Rattle.lot_kernel.specs.FreePlaces.{freed_in}
 use Rattle.lot_kernel.specs.Snapshots.{Snapshot, held}
-use Rattle.lot_kernel.proofs.Reusing.{none-threads, room-threads, thread-fits}
+use Rattle.lot_kernel.proofs.Reusing.{none-threads, room-threads, room-on, thread-fits}
 use Rattle.lot_kernel.proofs.ThreadsAgain.{removes-thread, thread-gone}
 use Rattle.lot_machine.specs.State.{sizes_of}
 use Rattle.lot_kernel.proofs.Indexed.{meant-place}
@@ -51,7 +51,7 @@ invariant_of-self c =
       currency_places = c.self.invariant.currency_places;
       thread_index = subst (λ (ns : List (Option (List ℕ))). IsIndexOf c.remove.new.self ns) (sym (left ∙ ap (λ k. slice_set (names_of i.threads.threads) k None) (sym c.index_of.ensures))) index;
       thread_places = search rules;
-      queue_room = c.self.invariant.queue_room;
+      queue_sizes = c.self.invariant.queue_sizes;
       lottery_room = c.self.invariant.lottery_room;
       freed_room = room-threads (sizes_of i.limits) i.freed c.self.invariant.freed_room c.leave.new.self (ap (λ (x : FreeStack). x.room) c.leave.ensures);
       none_freed = none-threads i.limits.reuse i.freed c.self.invariant.none_freed c.leave.new.self _ (ap (λ (x : FreeStack). x.places) c.leave.ensures);
@@ -74,7 +74,7 @@ leave-requires c =
     let order : IsInOrder s = rw (← c.self.view_is) at c.requires in
     let (t, number, at) = meant-place c.args.self.now.state c.args.thread.now c.in-Some.number c.index_of.result c.in-Some.ensures c.index_of.ensures in
     let here = ap (λ (x : Snapshot). slice_get x.state.threads c.index_of.result) c.self.view_is ∙ at in
-    record { room = λ on. omega (arith, thread-fits s order on c.index_of.result t here, c.self.invariant.count, c.self.invariant.few, (c.self.invariant.freed_room on).threads) }
+    record { room = λ on. omega (arith, thread-fits s order on c.index_of.result t here, c.self.invariant.count, c.self.invariant.few, (room-on (sizes_of c.self.inside.limits) c.self.inside.freed c.self.invariant.freed_room on).1.1) }
 
 pub returns-clause-state : goal.returns-clause-state
 returns-clause-state c =

@@ -10,7 +10,7 @@ use Rattle.lot_kernel.specs.FreeStacks.{FreeStack}
 use Rattle.lot_kernel.specs.FreePlaces.{freed_in}
 use Rattle.lot_kernel.specs.Snapshots.{Snapshot, held}
 use Rattle.lot_kernel.proofs.Holding.{held-tickets}
-use Rattle.lot_kernel.proofs.Reusing.{none-tickets, room-tickets, ticket-fits, ticket-left, ticket-some}
+use Rattle.lot_kernel.proofs.Reusing.{none-tickets, room-tickets, room-on, ticket-fits, ticket-left, ticket-some}
 use Rattle.lot_kernel.proofs.tables.Tables.remove_ticket.Goals as goal
 
 pub index_of-requires : goal.index_of-requires
@@ -22,7 +22,7 @@ leave-requires c =
     let s = held (sizes_of i.limits) (freed_in i.freed) i.currencies.items i.threads i.queues in
     let order : IsInOrder s = rw (← c.self.view_is) at c.requires in
     let there = rw (← c.self.view_is) at c.in-Some.ensures.found in
-    record { room = λ on. omega (arith, ticket-fits s order on c.args.ticket c.in-Some.found (sym there), (c.self.invariant.freed_room on).tickets) }
+    record { room = λ on. omega (arith, ticket-fits s order on c.args.ticket c.in-Some.found (sym there), (room-on (sizes_of c.self.inside.limits) c.self.inside.freed c.self.invariant.freed_room on).0) }
 
 pub returns-clause-state : goal.returns-clause-state
 returns-clause-state c =

@@ -1,4 +1,3 @@
-use Rattle.lot_queues.specs.QueueLists.{QueueLists}
 use Rattle.lot_threads.specs.Threaded.{Threaded}
 use Rattle.lot_kernel.proofs.Keeping.{keeps-both}
 use Rattle.lot_machine.specs.declared.action.Action.TheVariants as action
@@ -28,7 +27,7 @@ serve-requires-clause-same c = sym c.self.invariant.clients
 
 pub invariant_of-self : goal.invariant_of-self
 invariant_of-self c = let left = port-leaves (sizes_of c.self.inside.limits) (freed_in c.self.inside.freed) c.self.inside.currencies.items c.self.inside.threads c.self.inside.queues c.serve.new.threads c.serve.new.queues _ c.self.invariant.threads (serve-keeps c.self.inside.threads.records c.self.inside.queues.clients c.self.inside.queues.ports c.args.thread.number c.args.port.number c.args.number) c.serve.ensures.threads c.serve.ensures.queues in
-    keeps-both c.self.inside c.self.invariant c.serve.new.threads c.serve.new.queues left.0 left.1 (ap (λ (v : Threaded). v.threads) c.serve.ensures.threads) left.2 (ap (λ (q : QueueLists). q.room) c.serve.ensures.queues)
+    keeps-both c.self.inside c.self.invariant c.serve.new.threads c.serve.new.queues left.0 left.1 (ap (λ (v : Threaded). v.threads) c.serve.ensures.threads) left.2 (left.3 c.self.invariant.queue_sizes)
 
 pub returns : goal.returns
 returns c = let shown = port-shows (sizes_of c.self.inside.limits) (freed_in c.self.inside.freed) c.self.inside.currencies.items c.self.inside.threads c.self.inside.queues c.serve.new.threads c.serve.new.queues _ _ _ _ c.self.invariant.threads (serve-done (the_view c.self.inside).state c.args.thread.number c.args.port.number c.in-Some.client c.args.number (rw (← c.self.view_is) at (c.has_port.ensures.there c.if-not-has_port.false)) (sym c.in-Some.ensures)) c.serve.ensures.outcome c.serve.ensures.after c.serve.ensures.threads c.serve.ensures.queues c.serve.ensures.stale c.serve.ensures.kept in

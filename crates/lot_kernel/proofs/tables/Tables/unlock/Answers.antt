@@ -10,7 +10,7 @@ use Rattle.lot_queues.specs.QueueLists.{IsThere, QueueLists}
 use Rattle.lot_machine.specs.Mutexes.{MutexTrap, mutex_at, unlock}
 use Rattle.lot_threads.specs.Threaded.{Threaded, settled_in, worth_in}
 use Rattle.lot_kernel.proofs.Holding.{held-mutexes, makes-held}
-use Rattle.lot_kernel.proofs.Trapping.{mutexes-state, unlock-count, unlock-done, unlock-same}
+use Rattle.lot_kernel.proofs.Trapping.{mutexes-sized, mutexes-state, unlock-count, unlock-done, unlock-mutexes, unlock-same}
 use Rattle.lot_kernel.proofs.Leaving.{waiters-queue}
 use Rattle.lot_kernel.proofs.Metering.{unlock-counts}
 use Rattle.lot_kernel.specs.Snapshots.{Snapshot, held}
@@ -27,8 +27,8 @@ invariant_of-self c =
     let count = unlock-count i.threads.records i.queues.mutexes (worth_in i.threads) c.args.mutex.number c.args.d in
     let threads = held-mutexes (sizes_of i.limits) (freed_in i.freed) i.currencies.items i.threads c.unlock.new.threads i.queues c.self.invariant.threads left c.unlock.new.queues c.unlock.new.threads.meter c.unlock.ensures.threads c.unlock.ensures.queues in
     let kept = keeps-both i c.self.invariant c.unlock.new.threads c.unlock.new.queues threads (ap (λ (v : Threaded). length v.records) c.unlock.ensures.threads ∙ count) (ap (λ (v : Threaded). v.threads) c.unlock.ensures.threads)
-    (ap (λ (q : QueueLists). length q.clients) c.unlock.ensures.queues) (ap (λ (q : QueueLists). q.room) c.unlock.ensures.queues) in
-    record { threads = kept.threads; count = kept.count; few = kept.few; clients = kept.clients; currencies = kept.currencies; currency_room = kept.currency_room; currency_index = kept.currency_index; currency_places = kept.currency_places; thread_index = kept.thread_index; thread_places = kept.thread_places; queue_room = kept.queue_room; lottery_room = c.unlock.ensures.room ∙ c.self.invariant.lottery_room; freed_room = kept.freed_room; none_freed = kept.none_freed }
+    (ap (λ (q : QueueLists). length q.clients) c.unlock.ensures.queues) (mutexes-sized (sizes_of i.limits) i.queues c.unlock.new.queues left.mutexes c.unlock.ensures.queues (unlock-mutexes i.threads.records i.queues.mutexes (worth_in i.threads) c.args.mutex.number c.args.d) c.self.invariant.queue_sizes) in
+    record { threads = kept.threads; count = kept.count; few = kept.few; clients = kept.clients; currencies = kept.currencies; currency_room = kept.currency_room; currency_index = kept.currency_index; currency_places = kept.currency_places; thread_index = kept.thread_index; thread_places = kept.thread_places; queue_sizes = kept.queue_sizes; lottery_room = c.unlock.ensures.room ∙ c.self.invariant.lottery_room; freed_room = kept.freed_room; none_freed = kept.none_freed }
 
 pub returns-clause-outcome : goal.returns-clause-outcome
 returns-clause-outcome c =
@@ -91,7 +91,7 @@ pub unlock-requires-clause-owners : goal.unlock-requires-clause-owners
 unlock-requires-clause-owners c = sym (ap (λ (v : Threaded). v.owners) c.self.invariant.threads)
 
 pub unlock-requires-clause-room : goal.unlock-requires-clause-room
-unlock-requires-clause-room c = c.self.invariant.queue_room ∙ sym c.self.invariant.lottery_room
+unlock-requires-clause-room c = c.self.invariant.queue_sizes.room ∙ sym c.self.invariant.lottery_room
 
 pub returns-then-not-has_mutex : goal.returns-then-not-has_mutex
 returns-then-not-has_mutex c =
