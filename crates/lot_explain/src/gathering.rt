@@ -13,6 +13,7 @@ ghost use Rattle.lot_explain.specs.Lots.{draw_lots, loans_of, lots_of, waiter_lo
 use crate::entrants::{Entrants, next_entrants};
 use crate::loans::push_all_loans;
 use lot_engine::System;
+use lot_kept::Stack;
 use lot_machine::{Status, ThreadRow};
 use lot_print::{Compensation, Loan, Lot};
 use lot_text::Program;
@@ -24,7 +25,7 @@ pub(crate) struct Lots {
     lots: Vec<Lot>,
     loans: Vec<Loan>,
     /// The waiters of the mutex.
-    waiters: Vec<u32>,
+    waiters: Stack<u32>,
     /// The largest number of threads.
     room: u32,
 }
@@ -52,7 +53,7 @@ impl Model for Lots {
     ghost invariant = { λ l. record {
       lots_room : l.room ≤ vec_capacity l.lots;
       loans_room : l.room ≤ vec_capacity l.loans;
-      waiters_room : l.room ≤ vec_capacity l.waiters;
+      waiters_room : l.room ≤ l.waiters.room;
     } };
 }
 
@@ -65,7 +66,7 @@ impl Lots {
         Ok(Lots {
             lots: Vec::with_capacity(alloc, threads as usize)?,
             loans: Vec::with_capacity(alloc, threads as usize)?,
-            waiters: Vec::with_capacity(alloc, threads as usize)?,
+            waiters: Stack::new(alloc, threads as usize)?,
             room: threads,
         })
     }

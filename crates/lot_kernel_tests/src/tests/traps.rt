@@ -1,5 +1,6 @@
 //! Yields, ports, mutexes and exits.
 use super::*;
+use lot_kept::Stack;
 use lot_kernel::MutexNumber;
 
 /// Makes the events in a kernel with thread `a`, which has this much base, and compares the replies.
@@ -594,7 +595,7 @@ const TWO_WAITERS: [Event; 7] = [
 /// Compares the threads that wait for the mutex.
 fn check_waiters(rt: &impl Abort, alloc: Global, kernel: &Kernel, mutex: u32, wanted: &[u32]) {
     let room = kernel.limits().threads as usize;
-    let mut waiters = Vec::with_capacity(alloc, room).expect(rt, "memory");
+    let mut waiters = Stack::new(alloc, room).expect(rt, "memory");
     kernel.list_waiters(MutexNumber { number: mutex }, &mut waiters);
     check_same(rt, &waiters.as_slice(), &wanted);
 }

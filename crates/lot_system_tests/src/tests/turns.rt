@@ -3,6 +3,7 @@ ghost use Rattle.std.specs.Prelude.{◌≡◌};
 
 use super::same::{check_same, check_same_at};
 use super::{SPINNER, make_turns, opened, parsed};
+use lot_kept::Stack;
 use lot_machine::{Outcome, Reply, ThreadRef};
 use lot_script::Slice;
 use lot_system::{Answer, System, TurnFault, Work, slice_for};
@@ -380,7 +381,7 @@ fn check_waiters(rt: &impl Abort, alloc: Global, program: &Program, system: &Sys
     requires { system.now.setting.program ≡ program.now }
 {
     let threads = program.limits().threads as usize;
-    let mut waiters = Vec::with_capacity(alloc, threads).expect(rt, "memory");
+    let mut waiters = Stack::new(alloc, threads).expect(rt, "memory");
     system.list_waiters(1, &mut waiters);
     check_same(rt, &waiters.as_slice(), &[2, 3].as_slice());
     system.list_waiters(2, &mut waiters);

@@ -10,6 +10,7 @@ use super::helpers::{
     Won, add_thread, check_known, check_live, check_may_wait, check_mutex, check_step, finish,
     is_won, queues_of, stands, threads_of,
 };
+use lot_kept::Stack;
 use lot_machine::{Limits, MutexNumber, Outcome, Sizes, Status, ThreadNumber};
 use lot_mutex::{Lottery, are_waiting, have_same_owners, lock, pass_all_on, unlock};
 use lot_queues::Queues;
@@ -39,7 +40,7 @@ struct Scene {
     threads: Threads,
     queues: Queues,
     lottery: Lottery,
-    waiters: Vec<u32>,
+    waiters: Stack<u32>,
 }
 
 /// Ends the test unless the threads and the queues agree about the owner of each mutex.
@@ -75,14 +76,14 @@ fn make_lock(
 fn are_queued(
     threads: &Threads,
     queues: &Queues,
-    waiters: &mut Vec<u32>,
+    waiters: &mut Stack<u32>,
     mutex: MutexNumber,
 ) -> bool
     requires there { IsThere queues.now.mutexes mutex.number }
     ensures { IsTrue result → IsQueue threads.now.records (status.Waiting mutex.number)
         (mutex_at queues.now.mutexes mutex.number).waiters }
 {
-    if waiters.capacity() < queues.room() as usize {
+    if waiters.room() < queues.room() as usize {
         return false;
     }
     queues.list_waiters(mutex.number, waiters);
@@ -94,7 +95,7 @@ fn check_queued(
     rt: &impl Abort,
     threads: &Threads,
     queues: &Queues,
-    waiters: &mut Vec<u32>,
+    waiters: &mut Stack<u32>,
     mutex: MutexNumber,
 )
     requires there { IsThere queues.now.mutexes mutex.number }
@@ -200,8 +201,8 @@ fn lottery_of(rt: &impl Abort, alloc: Global, threads: u32) -> Lottery {
 }
 
 /// Room to list this many waiters.
-fn room_for(rt: &impl Abort, alloc: Global, threads: u32) -> Vec<u32> {
-    Vec::with_capacity(alloc, threads as usize).expect(rt, "memory")
+fn room_for(rt: &impl Abort, alloc: Global, threads: u32) -> Stack<u32> {
+    Stack::new(alloc, threads as usize).expect(rt, "memory")
 }
 
 /// Takes the steps among threads of these limits, of which none is there yet.

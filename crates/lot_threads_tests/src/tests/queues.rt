@@ -4,6 +4,7 @@ ghost use Rattle.lot_queues.specs.QueueLists.{IsNowhere, IsThere};
 
 use super::helpers::{check_mutex, check_port};
 use super::same::{check_same, check_same_at};
+use lot_kept::Stack;
 use lot_queues::{Queues, TakenCall};
 use std::alloc::Global;
 use std::process::Abort;
@@ -104,8 +105,8 @@ fn take(rt: &impl Abort, queues: &mut Queues, queue: Queue) -> Option<u32> {
 
 /// Checks the waiters of a mutex.
 fn check_waiters(rt: &impl Abort, alloc: Global, queues: &Queues, mutex: u32, expected: &[u32]) {
-    let mut out = Vec::with_capacity(alloc, THREADS as usize).expect(rt, "memory");
-    assert!(rt; queues.room() as usize <= out.capacity());
+    let mut out = Stack::new(alloc, THREADS as usize).expect(rt, "memory");
+    assert!(rt; queues.room() as usize <= out.room());
     check_mutex(rt, queues, mutex);
     queues.list_waiters(mutex, &mut out);
     check_same(rt, &out.as_slice(), &expected);
@@ -119,8 +120,8 @@ fn take_waiter_at(
     mutex: u32,
     place: usize,
 ) -> u32 {
-    let mut out = Vec::with_capacity(alloc, THREADS as usize).expect(rt, "memory");
-    assert!(rt; queues.room() as usize <= out.capacity());
+    let mut out = Stack::new(alloc, THREADS as usize).expect(rt, "memory");
+    assert!(rt; queues.room() as usize <= out.room());
     check_mutex(rt, queues, mutex);
     queues.list_waiters(mutex, &mut out);
     assert!(rt; place < out.len());
