@@ -14,6 +14,7 @@ pub mod CallTaken
 pub mod Replied
 pub mod CallReceived
 pub mod CallQueued
+pub mod CallLends
 pub mod MutexWait
 pub mod WaitingServer
 pub mod Enclosed

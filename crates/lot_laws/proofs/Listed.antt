@@ -23,10 +23,11 @@ use Rattle.lot_machine.specs.Change.{NewThread, PutRecord, PutClients}
 use Rattle.lot_machine.specs.Numbered.{at_number, set_number, option_any}
 use Rattle.lot_machine.specs.Lottery.{winner}
 use Rattle.lot_machine.specs.Places.{next_place, placed}
-use Rattle.lot_machine.specs.State.{State, Port, QueuedCall, opening, free_threads, status_of, thread_on, ready_threads, change_record, change_each, value_of, weight_of}
+use Rattle.lot_machine.specs.State.{State, Mutex, Port, QueuedCall, opening, free_threads, status_of, thread_on, ready_threads, change_record, change_each, value_of, weight_of}
 use Rattle.lot_machine.specs.Commands.{thread_meant, is_dead_in, command_refusal, command_effect, command_step, newborn}
 use Rattle.lot_machine.specs.Traps.{after_trap, compensation_for, with_ticks}
 use Rattle.lot_machine.specs.Ports.{clients_of, port_at, first_client, call, receive, reply}
+use Rattle.lot_machine.specs.Servers.{before_lock}
 use Rattle.lot_machine.specs.Mutexes.{mutex_at, lock, unlock}
 use Rattle.lot_machine.specs.Kill.{without, released_by, released, ended, killed}
 use Rattle.lot_machine.specs.Step.{Effect, of_ports, of_mutexes, is_bad_processor, started, draw, stopped, trap, trap_refusal, trap_effect, checked_effect, thread_there, used_there, event_effect, step, state_after}
@@ -214,10 +215,10 @@ module _ (finish : After → Record → Record) (leaves : (now : Status) (r : Re
   own-list : (these : List ℕ) × (at_number s.clients t ≡ Some these)
   own-list = list-there s t (status.Running p used) lists runs
 
-  lock-listed : (m : ℕ) → Done (of_mutexes s (lock s.records s.mutexes t m))
-  lock-listed m = at (mutex_at s.mutexes m).owner refl
+  lock-listed : (mutexes : List Mutex) (m : ℕ) → Done (of_mutexes s (lock s.records mutexes t m))
+  lock-listed mutexes m = at (mutex_at mutexes m).owner refl
     where
-      at : (o : Option ℕ) → (mutex_at s.mutexes m).owner ≡ o → Done (of_mutexes s (lock s.records s.mutexes t m))
+      at : (o : Option ℕ) → (mutex_at mutexes m).owner ≡ o → Done (of_mutexes s (lock s.records mutexes t m))
       at None is = rw is (keep-change (finish GoesOn) s.records s.clients t stays listed)
       at (Some owner) is = rw is (keep-change (finish (Leaves (status.Waiting m))) s.records s.clients t (leaves-other (status.Waiting m) (λ v e. cc)) listed)
 
@@ -246,7 +247,7 @@ module _ (finish : After → Record → Record) (leaves : (now : Status) (r : Re
   effect-listed (Serve port number) allowed =
       let passed = all-pass ((is_none (at_number s.ports port), NoPort) ∷ (is_none (first_client s.clients t), NothingToReply) ∷ []) allowed in
       receive-listed (of_ports s (reply s.records s.clients s.ports t number)).state port (drop 1 (clients_of s.clients t)) (number-set_same s.clients t (drop 1 (clients_of s.clients t)) own-list.0 own-list.1) (replied-listed number passed.1.0)
-  effect-listed (Lock m) allowed = lock-listed m
+  effect-listed (Lock m) allowed = lock-listed (before_lock s t m) m
   effect-listed (Unlock m d) allowed = unlock-listed (value_of s) m d
 
   checked-listed : (action : Action) (o : Option TrapRefusal) → trap_refusal s t action ≡ o → Done (checked_effect s o (trap_effect s t action))

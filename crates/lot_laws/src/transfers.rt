@@ -7,43 +7,43 @@ ghost use Rattle.lot_machine.specs.State.{State, funding_of, live_of, value_of};
 ghost use Rattle.lot_machine.specs.Facts.{live_value};
 ghost use Rattle.lot_machine.specs.Order.{IsInOrder};
 ghost use Rattle.lot_machine.specs.Step.{step};
-ghost use Rattle.lot_laws.specs.Transfers.{TakesCall, QueuesCall, TakesQueuedCall, RepliesTo, RepliesThenWaits};
-ghost use Rattle.lot_laws.specs.Transfers.{RepliesThenReceives, WaitsFor, OwnsNothing, with_ready};
+ghost use Rattle.lot_laws.specs.Transfers.{LendsServed, TakesCall, QueuesCall, TakesQueuedCall, RepliesTo, RepliesThenWaits};
+ghost use Rattle.lot_laws.specs.Transfers.{RepliesThenReceives, LendsQueued, QueuesAt, Serves, MayWait, WaitsFor, OwnsNothing, with_ready};
 
 /// A server with nothing of its own is worth nothing; once it takes a call, it is worth exactly what the caller was.
 /// Every other thread, and the caller, keeps its value, and so does the sum over the live threads.
 pub fn calls_transfer_value()
     ensures before { (s : State) (server : ℕ) → IsInOrder s → OwnsNothing s server → value_of s server ≡ 0 }
     ensures server { (s : State) (e : Event) (caller server : ℕ) → IsInOrder s
-        → s.limits.without_lending ≡ false → TakesCall s e caller server
+        → LendsServed s → TakesCall s e caller server
         → OwnsNothing s server → value_of (step s e).state server ≡ value_of s caller }
     ensures others { (s : State) (e : Event) (caller server other : ℕ) → IsInOrder s
-        → s.limits.without_lending ≡ false → TakesCall s e caller server
+        → LendsServed s → TakesCall s e caller server
         → OwnsNothing s server → other ≢ server
         → value_of (step s e).state other ≡ value_of s other }
     ensures together { (s : State) (e : Event) (caller server : ℕ) → IsInOrder s
-        → s.limits.without_lending ≡ false → TakesCall s e caller server
+        → LendsServed s → TakesCall s e caller server
         → OwnsNothing s server → live_value (step s e).state ≡ live_value s }
 {}
 
 /// A caller is worth nothing while its call is queued. A server that takes the call gains what the caller would be
 /// worth if it were Ready; all other values and the sum are as in that case.
 pub fn receipts_transfer_value()
-    ensures queued { (s : State) (e : Event) (caller server : ℕ) → IsInOrder s → TakesQueuedCall s e caller server
-        → value_of s caller ≡ 0 }
+    ensures queued { (s : State) (e : Event) (caller server : ℕ) → IsInOrder s → s.limits.queued_lend ≡ false
+        → TakesQueuedCall s e caller server → value_of s caller ≡ 0 }
     ensures server { (s : State) (e : Event) (caller server : ℕ) → IsInOrder s
-        → s.limits.without_lending ≡ false → TakesQueuedCall s e caller server
+        → LendsServed s → TakesQueuedCall s e caller server
         → value_of (step s e).state server
         ≡ value_of (with_ready s caller) server + value_of (with_ready s caller) caller }
     ensures alone { (s : State) (e : Event) (caller server : ℕ) → IsInOrder s
-        → s.limits.without_lending ≡ false → TakesQueuedCall s e caller server
+        → LendsServed s → TakesQueuedCall s e caller server
         → OwnsNothing s server
         → value_of (step s e).state server ≡ value_of (with_ready s caller) caller }
     ensures others { (s : State) (e : Event) (caller server other : ℕ) → IsInOrder s
-        → s.limits.without_lending ≡ false → TakesQueuedCall s e caller server → other ≢ server
+        → LendsServed s → TakesQueuedCall s e caller server → other ≢ server
         → value_of (step s e).state other ≡ value_of (with_ready s caller) other }
     ensures together { (s : State) (e : Event) (caller server : ℕ) → IsInOrder s
-        → s.limits.without_lending ≡ false → TakesQueuedCall s e caller server
+        → LendsServed s → TakesQueuedCall s e caller server
         → live_value (step s e).state ≡ live_value (with_ready s caller) }
 {}
 
@@ -51,19 +51,19 @@ pub fn receipts_transfer_value()
 /// takes at once.
 pub fn queued_calls_transfer_value()
     ensures server { (s : State) (e next : Event) (caller server : ℕ) → IsInOrder s
-        → s.limits.without_lending ≡ false → QueuesCall s e caller
+        → LendsServed s → QueuesCall s e caller
         → TakesQueuedCall (step s e).state next caller server
         → value_of (step (step s e).state next).state server ≡ value_of s server + value_of s caller }
     ensures alone { (s : State) (e next : Event) (caller server : ℕ) → IsInOrder s
-        → s.limits.without_lending ≡ false → QueuesCall s e caller
+        → LendsServed s → QueuesCall s e caller
         → TakesQueuedCall (step s e).state next caller server → OwnsNothing s server
         → value_of (step (step s e).state next).state server ≡ value_of s caller }
     ensures others { (s : State) (e next : Event) (caller server other : ℕ) → IsInOrder s
-        → s.limits.without_lending ≡ false → QueuesCall s e caller
+        → LendsServed s → QueuesCall s e caller
         → TakesQueuedCall (step s e).state next caller server → other ≢ server
         → value_of (step (step s e).state next).state other ≡ value_of s other }
     ensures together { (s : State) (e next : Event) (caller server : ℕ) → IsInOrder s
-        → s.limits.without_lending ≡ false → QueuesCall s e caller
+        → LendsServed s → QueuesCall s e caller
         → TakesQueuedCall (step s e).state next caller server
         → live_value (step (step s e).state next).state ≡ live_value s }
 {}
@@ -92,14 +92,14 @@ pub fn replies_return_value()
 /// a reply alone.
 pub fn servings_return_value()
     ensures server { (s : State) (e : Event) (caller server : ℕ) → IsInOrder s
-        → s.limits.without_lending ≡ false → RepliesThenWaits s e caller server
+        → LendsServed s → RepliesThenWaits s e caller server
         → OwnsNothing (step s e).state server → value_of s server ≡ value_of s caller }
     ensures others { (s : State) (e : Event) (caller server other : ℕ) → IsInOrder s
-        → s.limits.without_lending ≡ false → RepliesThenWaits s e caller server → other ≢ server
+        → LendsServed s → RepliesThenWaits s e caller server → other ≢ server
         → OwnsNothing (step s e).state server
         → value_of (step s e).state other ≡ value_of s other }
     ensures together { (s : State) (e : Event) (caller server : ℕ) → IsInOrder s
-        → s.limits.without_lending ≡ false → RepliesThenWaits s e caller server → OwnsNothing (step s e).state server
+        → LendsServed s → RepliesThenWaits s e caller server → OwnsNothing (step s e).state server
         → live_value (step s e).state ≡ live_value s }
 {}
 
@@ -107,16 +107,39 @@ pub fn servings_return_value()
 /// worth if both callers were Ready; all other values and the sum are as in that case.
 pub fn servings_transfer_value()
     ensures server { (s : State) (e : Event) (caller next server : ℕ) → IsInOrder s
-        → s.limits.without_lending ≡ false → RepliesThenReceives s e caller next server
+        → LendsServed s → RepliesThenReceives s e caller next server
         → value_of (step s e).state server
         ≡ value_of (with_ready (with_ready s caller) next) server
         + value_of (with_ready (with_ready s caller) next) next }
     ensures others { (s : State) (e : Event) (caller next server other : ℕ) → IsInOrder s
-        → s.limits.without_lending ≡ false → RepliesThenReceives s e caller next server → other ≢ server
+        → LendsServed s → RepliesThenReceives s e caller next server → other ≢ server
         → value_of (step s e).state other ≡ value_of (with_ready (with_ready s caller) next) other }
     ensures together { (s : State) (e : Event) (caller next server : ℕ) → IsInOrder s
-        → s.limits.without_lending ≡ false → RepliesThenReceives s e caller next server
+        → LendsServed s → RepliesThenReceives s e caller next server
         → live_value (step s e).state ≡ live_value (with_ready (with_ready s caller) next) }
+{}
+
+/// If queued calls lend, a caller whose call is queued passes its value to the port's server, and to each thread to which
+/// the server's lends lead: exactly what it would pass to a server that takes its call at once. Every other thread keeps
+/// its value, and so does the sum over the live threads. The server must be backed, and its lends must not lead to the
+/// caller.
+pub fn queued_calls_lend()
+    ensures server { (s : State) (e : Event) (caller port server : ℕ) → IsInOrder s → LendsQueued s
+        → QueuesAt s e caller port → Serves s port server → IsBacked (funding_of s) (live_of s) server
+        → ¬ LendsLead (funding_of s) server caller
+        → value_of (step s e).state server ≡ value_of s server + value_of s caller }
+    ensures behind { (s : State) (e : Event) (caller port server behind : ℕ) → IsInOrder s → LendsQueued s
+        → QueuesAt s e caller port → Serves s port server → IsBacked (funding_of s) (live_of s) server
+        → ¬ LendsLead (funding_of s) server caller → LendsLead (funding_of s) server behind
+        → value_of (step s e).state behind ≡ value_of s behind + value_of s caller }
+    ensures others { (s : State) (e : Event) (caller port server other : ℕ) → IsInOrder s → LendsQueued s
+        → QueuesAt s e caller port → Serves s port server → IsBacked (funding_of s) (live_of s) server
+        → ¬ LendsLead (funding_of s) server caller → ¬ LendsLead (funding_of s) server other
+        → value_of (step s e).state other ≡ value_of s other }
+    ensures together { (s : State) (e : Event) (caller port server : ℕ) → IsInOrder s → LendsQueued s
+        → QueuesAt s e caller port → Serves s port server → IsBacked (funding_of s) (live_of s) server
+        → ¬ LendsLead (funding_of s) server caller
+        → live_value (step s e).state ≡ live_value s }
 {}
 
 /// A thread that waits for a mutex passes its value to the owner, and to each thread to which the owner's lends lead.
@@ -126,21 +149,21 @@ pub fn servings_transfer_value()
 pub fn waits_transfer_value()
     ensures owner { (s : State) (e : Event) (t owner : ℕ) → IsInOrder s
         → s.limits.without_lending ≡ false → WaitsFor s e t owner
-        → IsBacked (funding_of s) (live_of s) owner
+        → MayWait s t owner → IsBacked (funding_of s) (live_of s) owner
         → value_of (step s e).state owner ≡ value_of s owner + value_of s t }
     ensures alone { (s : State) (e : Event) (t owner : ℕ) → IsInOrder s
         → s.limits.without_lending ≡ false → WaitsFor s e t owner
-        → IsBacked (funding_of s) (live_of s) owner → OwnsNothing s owner
+        → MayWait s t owner → IsBacked (funding_of s) (live_of s) owner → OwnsNothing s owner
         → value_of (step s e).state owner ≡ value_of s t }
     ensures behind { (s : State) (e : Event) (t owner behind : ℕ) → IsInOrder s
         → s.limits.without_lending ≡ false → WaitsFor s e t owner
-        → IsBacked (funding_of s) (live_of s) owner → LendsLead (funding_of s) owner behind
+        → MayWait s t owner → IsBacked (funding_of s) (live_of s) owner → LendsLead (funding_of s) owner behind
         → value_of (step s e).state behind ≡ value_of s behind + value_of s t }
     ensures others { (s : State) (e : Event) (t owner other : ℕ) → IsInOrder s
         → s.limits.without_lending ≡ false → WaitsFor s e t owner
-        → IsBacked (funding_of s) (live_of s) owner → ¬ LendsLead (funding_of s) owner other
+        → MayWait s t owner → IsBacked (funding_of s) (live_of s) owner → ¬ LendsLead (funding_of s) owner other
         → value_of (step s e).state other ≡ value_of s other }
     ensures together { (s : State) (e : Event) (t owner : ℕ) → IsInOrder s
         → s.limits.without_lending ≡ false → WaitsFor s e t owner
-        → IsBacked (funding_of s) (live_of s) owner → live_value (step s e).state ≡ live_value s }
+        → MayWait s t owner → IsBacked (funding_of s) (live_of s) owner → live_value (step s e).state ≡ live_value s }
 {}
