@@ -55,7 +55,7 @@ use Rattle.lot_machine.proofs.StepChanges.{By, On, Leads, kept, Apart, Queues, H
 use Rattle.lot_machine.proofs.KillKept.{kill-cycle, kill-queues, killed-idle}
 use Rattle.lot_machine.proofs.Queues.{queue-empty, queues-changed, queues-live}
 use Rattle.lot_machine.proofs.TrapQueues.{nowhere-from, stay-queues, call-queues, receive-queues, reply-queues, replied-queues, lock-queues, unlock-queues}
-use Rattle.lot_machine.proofs.TrapCycles.{cycle-nobody, call-cycle, receive-cycle, reply-cycle, replied-cycle, lock-cycle, unlock-cycle, cycle-unserved_each, receive-server, serve-server}
+use Rattle.lot_machine.proofs.TrapCycles.{cycle-nobody, call-cycle, receive-cycle, reply-cycle, replied-cycle, lock-cycle, unlock-cycle, cycle-unserved_each, serve-server}
 use Rattle.lot_machine.proofs.Servers.{queues-unserved, queues-served, lock-there, lock-queues_then, lock-fails, lock-untied, lock-apart}
 use Rattle.lot_machine.proofs.Serving.{checked-clients}
 use Rattle.lot_machine.proofs.BaseKept.{base-bounded}
@@ -236,8 +236,7 @@ module _ (s : State) (order : IsInOrder s) (t p before ticks used : ℕ) (runs :
       let passed = all-pass ((is_none (at_number s.ports port), NoPort) ∷ []) allowed in
       let there = default-of (at_number s.ports port) (record { calls = []; receivers = [] }) passed.0 in
       let received = receive s.records s.clients s.ports t port in (
-        subst (λ mutexes. HasNoCycle (funding_of (record s { records = change_record (finish received.after) received.records t; mutexes = mutexes }))) (sym (receive-server s s.records s.clients s.ports t port))
-            (receive-cycle finish (λ st r. refl) s goes-on order.no_cycle order.queues t p before runs port there),
+        receive-cycle finish (λ st r. refl) s goes-on order.no_cycle order.queues t p before runs port there,
         queues-served (change_record (finish received.after) received.records t) received.clients received.ports s t port received.outcome (receive-queues finish (λ st r. refl) s.records s.clients s.ports s.mutexes order.queues t p before runs port there),
       )
   effect-untangled (ReplyTo number) allowed =

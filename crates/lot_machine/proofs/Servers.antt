@@ -78,10 +78,8 @@ module _ (records : List Record) (clients : List (List ℕ)) (ports : List Port)
       by : (o : Outcome) → HasQueues records clients ports (served_at s t port o)
       by (outcome.ServedBy server) = serves (Some server)
       by outcome.Queued = back (leads_back s t port)
-      by outcome.Waits = serves (Some t)
       by (outcome.Received client number) = serves (Some t)
       by (outcome.RepliedThenReceived to client number) = serves (Some t)
-      by (outcome.RepliedThenWaits to) = serves (Some t)
       by other = queues
 
 -- ---- owners of holders that lose theirs

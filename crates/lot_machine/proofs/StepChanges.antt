@@ -747,10 +747,8 @@ port-leads s t port e (leads, stops) = (by e.outcome, stops)
     by : (o : Outcome) → Leads Work s (record (of_ports s e).state { mutexes = served_at s t port o })
     by (outcome.ServedBy server) = serves (Some server)
     by outcome.Queued = back (leads_back s t port)
-    by outcome.Waits = serves (Some t)
     by (outcome.Received client number) = serves (Some t)
     by (outcome.RepliedThenReceived to client number) = serves (Some t)
-    by (outcome.RepliedThenWaits to) = serves (Some t)
     by other = leads
 
 before-lock-leads : (s : State) (t m : ℕ) → Leads Work s (record s { mutexes = before_lock s t m })

@@ -18,7 +18,7 @@ use Rattle.lot_machine.specs.Lends.{borrower, LendsLead, lends_lead, lends_on_to
 use Rattle.lot_machine.specs.State.{State, Port, Mutex, QueuedCall, holder_of, lends_at, funding_of, lend_of, status_of, change_record}
 use Rattle.lot_machine.specs.declared.after.After.{After}
 use Rattle.lot_machine.specs.declared.after.After.TheVariants.{GoesOn, Leaves}
-use Rattle.lot_machine.specs.Ports.{first_client, port_at, call, receive, reply, serve}
+use Rattle.lot_machine.specs.Ports.{PortTrap, first_client, port_at, call, receive, reply, serve}
 use Rattle.lot_machine.specs.Mutexes.{mutex_at, lock, unlock}
 use Rattle.lot_machine.specs.Servers.{held_by, with_server, leads_back, served_at, unserved_at, unserved}
 use Rattle.lot_machine.specs.Facts.{HasNoCycle}
@@ -184,19 +184,20 @@ cycle-unserved_each test s (n ∷ ns) no_cycle = cycle-unserved_each test (recor
     by true = cycle-freed s n (held_by None) refl no_cycle
     by false = no_cycle
 
--- the server of a port after a receipt there
-pub receive-server : (s : State) (records : List Record) (clients : List (List ℕ)) (ports : List Port) (t port : ℕ) → served_at s t port (receive records clients ports t port).outcome ≡ with_server s.limits s.mutexes port (Some t)
-receive-server s records clients ports t port = by (port_at ports port).calls refl
-  where
-    by : (o : List QueuedCall) → (port_at ports port).calls ≡ o → served_at s t port (receive records clients ports t port).outcome ≡ with_server s.limits s.mutexes port (Some t)
-    by [] is = rw is refl
-    by (first ∷ others) is = rw is refl
-
--- and after a serving
-pub serve-server : (s : State) (t port number : ℕ) → served_at s t port (serve s.records s.clients s.ports t port number).outcome ≡ with_server s.limits s.mutexes port (Some t)
+-- a serving gives the port the server that its receipt gives it
+pub serve-server : (s : State) (t port number : ℕ) →
+    let replied = reply s.records s.clients s.ports t number in
+    let middle : State = record s { records = replied.records; clients = replied.clients; ports = replied.ports } in
+    served_at s t port (serve s.records s.clients s.ports t port number).outcome ≡ served_at middle t port (receive middle.records middle.clients middle.ports t port).outcome
 serve-server s t port number = by (port_at s.ports port).calls refl
   where
-    by : (o : List QueuedCall) → (port_at s.ports port).calls ≡ o → served_at s t port (serve s.records s.clients s.ports t port number).outcome ≡ with_server s.limits s.mutexes port (Some t)
+    replied : PortTrap
+    replied = reply s.records s.clients s.ports t number
+
+    middle : State
+    middle = record s { records = replied.records; clients = replied.clients; ports = replied.ports }
+
+    by : (o : List QueuedCall) → (port_at s.ports port).calls ≡ o → served_at s t port (serve s.records s.clients s.ports t port number).outcome ≡ served_at middle t port (receive middle.records middle.clients middle.ports t port).outcome
     by [] is = rw is refl
     by (first ∷ others) is = rw is refl
 
@@ -256,7 +257,7 @@ module _ (finish : After → Record → Record) (leaves : (status : Status) (r :
       at (server ∷ others) is = rw is (served server others is)
 
   pub receive-cycle : (port : ℕ) → at_number s.ports port ≡ Some (port_at s.ports port)
-      → HasNoCycle (funding_of (record s { records = change_record (finish (receive s.records s.clients s.ports t port).after) (receive s.records s.clients s.ports t port).records t; mutexes = with_server s.limits s.mutexes port (Some t) }))
+      → HasNoCycle (funding_of (record s { records = change_record (finish (receive s.records s.clients s.ports t port).after) (receive s.records s.clients s.ports t port).records t; mutexes = served_at s t port (receive s.records s.clients s.ports t port).outcome }))
   receive-cycle port there = at (port_at s.ports port).calls refl
     where
       taken : (first : QueuedCall) (others : List QueuedCall) → (port_at s.ports port).calls ≡ first ∷ others
@@ -279,9 +280,8 @@ module _ (finish : After → Record → Record) (leaves : (status : Status) (r :
           running-not q e = cc
 
       at : (o : List QueuedCall) → (port_at s.ports port).calls ≡ o
-          → HasNoCycle (funding_of (record s { records = change_record (finish (receive s.records s.clients s.ports t port).after) (receive s.records s.clients s.ports t port).records t; mutexes = with_server s.limits s.mutexes port (Some t) }))
-      at [] is = rw is (cycle-served (record s { records = change_record (finish (Leaves (Receiving port))) s.records t }) port t (lends-then s (finish (Leaves (Receiving port))) t (leaves-nobody (Receiving port) refl))
-          (cycle-nobody s (finish (Leaves (Receiving port))) t (leaves-nobody (Receiving port) refl) no_cycle))
+          → HasNoCycle (funding_of (record s { records = change_record (finish (receive s.records s.clients s.ports t port).after) (receive s.records s.clients s.ports t port).records t; mutexes = served_at s t port (receive s.records s.clients s.ports t port).outcome }))
+      at [] is = rw is (cycle-nobody s (finish (Leaves (Receiving port))) t (leaves-nobody (Receiving port) refl) no_cycle)
       at (first ∷ others) is = rw is (taken first others is)
 
   -- a reply, before the server goes on

@@ -65,10 +65,8 @@ served-off s t port outcome.Queued off = by (leads_back s t port)
     by : (b : Bool) → cond b (with_server s.limits s.mutexes port None) s.mutexes ≡ s.mutexes
     by true = server-off s port None off
     by false = refl
-served-off s t port outcome.Waits off = server-off s port (Some t) off
 served-off s t port (outcome.Received client number) off = server-off s port (Some t) off
 served-off s t port (outcome.RepliedThenReceived to client number) off = server-off s port (Some t) off
-served-off s t port (outcome.RepliedThenWaits to) off = server-off s port (Some t) off
 served-off s t port other off = refl
 
 none-off : (s : State) → s.limits.queued_lend ≡ false → port_holders s.limits ≡ []

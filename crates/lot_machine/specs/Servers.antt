@@ -1,10 +1,9 @@
--- The server of a port, in a kernel whose queued calls lend: the thread that last took a call there, or last waited
--- there for one (4.6).
+-- The server of a port, in a kernel whose queued calls lend: the thread that took the last call there (4.6).
 use Rattle.std.specs.Prelude.{ℕ, ◌+◌, ◌==◌, Bool, true, Option, Some, None, List, [], ◌∷◌, map, if◌then◌else◌}
 use Rattle.std.specs.List.{range_with_len}
 use Rattle.lot_machine.specs.declared.sizes.Sizes.{Sizes}
 use Rattle.lot_machine.specs.declared.reply.Outcome.{Outcome}
-use Rattle.lot_machine.specs.declared.reply.Outcome.TheVariants.{ServedBy, Queued, Waits, Received, RepliedThenReceived, RepliedThenWaits}
+use Rattle.lot_machine.specs.declared.reply.Outcome.TheVariants.{ServedBy, Queued, Received, RepliedThenReceived}
 use Rattle.lot_machine.specs.Numbered.{set_number, option_any}
 use Rattle.lot_machine.specs.Funding.{Funding, owner_of}
 use Rattle.lot_machine.specs.Lends.{lends_lead, lends_on_to}
@@ -23,15 +22,13 @@ with_server limits mutexes port server = if limits.queued_lend then set_number m
 abbrev pub leads_back : State → ℕ → ℕ → Bool
 leads_back s t port = option_any (λ server. lends_lead (funding_of s) server t) (owner_of (funding_of s) (holder_of s.limits port))
 
--- The holders after the thread's trap at the port, by its outcome: who took a call, or waits for one, is the port's
--- server. A queued call takes the server away if it would lend to its own caller.
+-- The holders after the thread's trap at the port, by its outcome: who took a call is the port's server. A queued call
+-- takes the server away if it would lend to its own caller.
 abbrev pub served_at : State → ℕ → ℕ → Outcome → List Mutex
 served_at s t port (ServedBy server) = with_server s.limits s.mutexes port (Some server)
 served_at s t port Queued = if leads_back s t port then with_server s.limits s.mutexes port None else s.mutexes
-served_at s t port Waits = with_server s.limits s.mutexes port (Some t)
 served_at s t port (Received client number) = with_server s.limits s.mutexes port (Some t)
 served_at s t port (RepliedThenReceived to client number) = with_server s.limits s.mutexes port (Some t)
-served_at s t port (RepliedThenWaits to) = with_server s.limits s.mutexes port (Some t)
 served_at s t port other = s.mutexes
 
 -- the holders of the ports' servers, by number

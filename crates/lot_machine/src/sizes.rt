@@ -39,8 +39,7 @@ pub struct Sizes {
     pub without_compensation: bool,
     /// Whether a blocked thread lends to nobody: its server, or the owner of its mutex, has its own tickets alone.
     pub without_lending: bool,
-    /// Whether a thread whose call is queued lends to the port's server: the thread that last took a call there, or last
-    /// waited there for one.
+    /// Whether a thread whose call is queued lends to the port's server: the thread that took the last call there.
     pub queued_lend: bool,
 }
 

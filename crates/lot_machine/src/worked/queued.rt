@@ -4,7 +4,8 @@ ghost use Rattle.lot_machine.specs.declared.action.Action.TheVariants.{Call, Rec
 ghost use Rattle.lot_machine.specs.declared.event.Event.TheVariants.{Draw, Trap};
 ghost use Rattle.lot_machine.specs.Worked.{after_in, answers_in, largest, queues_lend, values, weights, statuses};
 ghost use Rattle.lot_machine.specs.Worked.{kill, unfund, rmthr};
-ghost use Rattle.lot_machine.specs.WorkedRuns.{rich_queued, two_servers, three_served, own_port, port_cycle, server_ends};
+ghost use Rattle.lot_machine.specs.WorkedRuns.{rich_queued, two_servers, second_waits, three_served, two_queued};
+ghost use Rattle.lot_machine.specs.WorkedRuns.{own_port, port_cycle, server_ends};
 ghost use Rattle.lot_machine.specs.declared.reply.Reply.TheVariants as reply;
 ghost use Rattle.lot_machine.specs.declared.reply.Outcome.TheVariants as outcome;
 ghost use Rattle.lot_machine.specs.declared.record.Status.TheVariants as status;
@@ -24,22 +25,29 @@ pub fn rich_client()
         ≡ 1001 ∷ 1 ∷ 1 ∷ 1000 ∷ 1000 ∷ [] }
 {}
 
-/// Of several servers the one that took a call last, or waits last, is the port's (4.6).
+/// Of several servers the one that took the last call is the port's, though another one waits there. All calls that
+/// wait lend to it alone, until another thread takes one of them (4.6).
 pub fn several_servers()
-    ensures waits { (after_in queues_lend (two_servers ++ Draw 1 0 ∷ Trap 1 0 (Receive 1) ∷ Draw 1 0
-        ∷ Trap 1 0 (Receive 1) ∷ [])).mutexes
+    ensures waits { (after_in queues_lend (two_servers ++ second_waits)).mutexes
         ≡ record { owner = None; waiters = [] } ∷ record { owner = None; waiters = [] }
-        ∷ record { owner = Some 2; waiters = [] } ∷ record { owner = None; waiters = [] } ∷ [] }
+        ∷ record { owner = Some 1; waiters = [] } ∷ record { owner = None; waiters = [] } ∷ [] }
     ensures lent { values (after_in queues_lend (two_servers ++ three_served)) ≡ 30 ∷ 80 ∷ 20 ∷ 30 ∷ 40 ∷ [] }
     ensures own { values (after_in largest (two_servers ++ three_served)) ≡ 30 ∷ 40 ∷ 20 ∷ 30 ∷ 0 ∷ [] }
     ensures taken { answers_in queues_lend (two_servers ++ three_served) (Draw 1 0 ∷ Trap 1 0 (Serve 1 1) ∷ [])
         ≡ reply.Winner 1 0 11000 (Some 5) ∷ reply.Trapped 1 1 (outcome.RepliedThenReceived 3 5 7) false ∷ [] }
     ensures moved { values (after_in queues_lend (two_servers ++ three_served ++ Draw 1 0 ∷ Trap 1 0 (Serve 1 1) ∷ []))
         ≡ 50 ∷ 40 ∷ 20 ∷ 30 ∷ 40 ∷ [] }
+    ensures queued { values (after_in queues_lend (two_servers ++ two_queued)) ≡ 100 ∷ 10 ∷ 20 ∷ 30 ∷ 40 ∷ [] }
+    ensures taken_by_other { answers_in queues_lend (two_servers ++ two_queued)
+        (Draw 1 10000 ∷ Trap 1 0 (Receive 1) ∷ [])
+        ≡ reply.Winner 2 10000 10010 None ∷ reply.Trapped 2 1 (outcome.Received 4 6) false ∷ [] }
+    ensures rest_moved { values (after_in queues_lend (two_servers ++ two_queued ++ Draw 1 10000
+        ∷ Trap 1 0 (Receive 1) ∷ [])) ≡ 30 ∷ 80 ∷ 20 ∷ 30 ∷ 40 ∷ [] }
 {}
 
 /// A server that is killed is no port's server: the caller that waits lends to nobody, until another thread receives.
-/// A server that ends is none either, so it can be removed (4.6).
+/// A server that ends is none either, so it can be removed. One that waits at the port may go, and the server stays
+/// (4.6).
 pub fn server_gone()
     ensures killed { values (after_in queues_lend (two_servers ++ three_served ++ kill (codes "w") ∷ []))
         ≡ 30 ∷ 0 ∷ 20 ∷ 30 ∷ 0 ∷ [] }
@@ -47,6 +55,8 @@ pub fn server_gone()
         ≡ status.Ready ∷ status.Dead ∷ status.Served 1 ∷ status.Ready ∷ status.Queued 1 ∷ [] }
     ensures removed { answers_in queues_lend server_ends (unfund 1 ∷ rmthr (codes "v") ∷ [])
         ≡ reply.Done ∷ reply.Done ∷ [] }
+    ensures stays { values (after_in queues_lend (two_servers ++ second_waits ++ kill (codes "w") ∷ Draw 1 3000
+        ∷ Trap 1 0 (Call 1 6) ∷ [])) ≡ 60 ∷ 0 ∷ 20 ∷ 30 ∷ 40 ∷ [] }
 {}
 
 /// A server that calls its own port is the port's server no longer, so nothing is lent in a circle. Another thread
