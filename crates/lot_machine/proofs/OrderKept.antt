@@ -330,7 +330,7 @@ place-replicate zero x y i e = cc
 place-replicate (suc count) x y zero e = some-injective y x (sym e)
 place-replicate (suc count) x y (suc i) e = place-replicate count x y i e
 
-number-replicate : {A : Type 0} (count : ℕ) (x y : A) (n : ℕ) → at_number (replicate count x) n ≡ Some y → y ≡ x
+pub number-replicate : {A : Type 0} (count : ℕ) (x y : A) (n : ℕ) → at_number (replicate count x) n ≡ Some y → y ≡ x
 number-replicate count x y zero e = cc
 number-replicate count x y (suc i) e = place-replicate count x y i (sym (at_number-suc (replicate count x) i) ∙ e)
 

@@ -15,7 +15,7 @@ use Rattle.lot_machine.specs.Lottery.{winner}
 use Rattle.lot_machine.specs.Numbered.{at_number, set_number, option_any}
 use Rattle.lot_machine.specs.Funding.{Funding, owner_of}
 use Rattle.lot_machine.specs.Lends.{borrower, LendsLead, lends_lead, lends_on_to}
-use Rattle.lot_machine.specs.State.{State, Port, Mutex, QueuedCall, holder_of, lends_at, funding_of, lend_of, status_of, change_record}
+use Rattle.lot_machine.specs.State.{State, Mutex, QueuedCall, holder_of, lends_at, funding_of, lend_of, status_of, change_record}
 use Rattle.lot_machine.specs.declared.after.After.{After}
 use Rattle.lot_machine.specs.declared.after.After.TheVariants.{GoesOn, Leaves}
 use Rattle.lot_machine.specs.Ports.{PortTrap, first_client, port_at, call, receive, reply, serve}

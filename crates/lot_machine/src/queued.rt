@@ -1,4 +1,4 @@
-//! Queued calls that lend: laws of the machine, without executable code.
+//! Queued calls, and that they may lend: laws of the machine, without executable code.
 ghost use Rattle.std.specs.Prelude.{◌≡◌, ℕ, List, length, is_none, false};
 ghost use Rattle.lot_machine.specs.declared.event.Event.{Event};
 ghost use Rattle.lot_machine.specs.declared.sizes.Sizes.{Sizes};
@@ -7,8 +7,17 @@ ghost use Rattle.lot_machine.specs.declared.record.Status.TheVariants.{Queued};
 ghost use Rattle.lot_machine.specs.declared.reply.Outcome.{Outcome};
 ghost use Rattle.lot_machine.specs.Numbered.{at_number};
 ghost use Rattle.lot_machine.specs.State.{State, opening, funding_of, holders, lend_of};
+ghost use Rattle.lot_machine.specs.Order.{HasOneSidedPorts};
 ghost use Rattle.lot_machine.specs.Servers.{served_at, without_servers, before_lock, left_by};
-ghost use Rattle.lot_machine.specs.Step.{is_no_mutex, state_after};
+ghost use Rattle.lot_machine.specs.Step.{is_no_mutex, step, state_after};
+
+/// No call is queued at a port while a thread waits to receive there: so it is at the start, each event preserves it,
+/// and it holds in every state that is reached (4.6).
+pub fn no_call_waits_beside_a_receiver()
+    ensures start { (limits : Sizes) → HasOneSidedPorts (opening limits) }
+    ensures event { (s : State) (e : Event) → HasOneSidedPorts s → HasOneSidedPorts (step s e).state }
+    ensures reached { (limits : Sizes) (events : List Event) → HasOneSidedPorts (state_after (opening limits) events) }
+{}
 
 /// There are as many holders as mutexes, and one more for each port if queued calls lend.
 pub fn holders_are_counted()

@@ -53,6 +53,12 @@ pub fn server_gone()
         ≡ 30 ∷ 0 ∷ 20 ∷ 30 ∷ 0 ∷ [] }
     ensures statuses { statuses (after_in queues_lend (two_servers ++ three_served ++ kill (codes "w") ∷ []))
         ≡ status.Ready ∷ status.Dead ∷ status.Served 1 ∷ status.Ready ∷ status.Queued 1 ∷ [] }
+    ensures freed { (after_in queues_lend (two_servers ++ three_served ++ kill (codes "w") ∷ [])).mutexes
+        ≡ record { owner = None; waiters = [] } ∷ record { owner = None; waiters = [] }
+        ∷ record { owner = None; waiters = [] } ∷ record { owner = None; waiters = [] } ∷ [] }
+    ensures ended { (after_in queues_lend server_ends).mutexes
+        ≡ record { owner = None; waiters = [] } ∷ record { owner = None; waiters = [] }
+        ∷ record { owner = None; waiters = [] } ∷ record { owner = None; waiters = [] } ∷ [] }
     ensures removed { answers_in queues_lend server_ends (unfund 1 ∷ rmthr (codes "v") ∷ [])
         ≡ reply.Done ∷ reply.Done ∷ [] }
     ensures stays { values (after_in queues_lend (two_servers ++ second_waits ++ kill (codes "w") ∷ Draw 1 3000
