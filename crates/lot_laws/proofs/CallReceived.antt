@@ -48,14 +48,14 @@ use Rattle.lot_laws.proofs.Replied.{lends-on, lives-on}
 -- ---- the state
 
 -- the records after the server took the call, and after it went on
-abbrev taken : State → ℕ → ℕ → List Record
+abbrev pub taken : State → ℕ → ℕ → List Record
 taken s caller server = change_record (λ r. record r { status = Served server }) s.records caller
 
-abbrev gone_on : State → ℕ → ℕ → ℕ → ℕ → ℕ → List Record
+abbrev pub gone_on : State → ℕ → ℕ → ℕ → ℕ → ℕ → List Record
 gone_on s p ran used caller server = change_record (λ r. with_ticks (ran + 1) (after_trap GoesOn p used s.limits r)) (taken s caller server) server
 
 -- the state after a receipt
-abbrev received : State → ℕ → ℕ → ℕ → ℕ → List QueuedCall → ℕ → ℕ → State
+abbrev pub received : State → ℕ → ℕ → ℕ → ℕ → List QueuedCall → ℕ → ℕ → State
 received s p ran used port others caller server = record s {
   records = gone_on s p ran used caller server;
   clients = with_client s.clients server caller;
@@ -67,7 +67,7 @@ abbrev IsReceived : State → ℕ → ℕ → ℕ → ℕ → ℕ → ℕ → Li
 IsReceived s p ran used port caller server calls after =
     (first : QueuedCall) × (others : List QueuedCall) × (calls ≡ first ∷ others) × (first.caller ≡ caller) × (after ≡ received s p ran used port others caller server)
 
-call-received : (s : State) (p ran used port number caller server : ℕ) → (receive s.records s.clients s.ports server port).outcome ≡ Received caller number
+pub call-received : (s : State) (p ran used port number caller server : ℕ) → (receive s.records s.clients s.ports server port).outcome ≡ Received caller number
     → IsReceived s p ran used port caller server (port_at s.ports port).calls (finish_trap s p server (ran + 1) used (of_ports s (receive s.records s.clients s.ports server port))).state
 call-received s p ran used port number caller server = at (port_at s.ports port).calls refl
   where
@@ -79,7 +79,7 @@ call-received s p ran used port number caller server = at (port_at s.ports port)
 
 -- ---- what a blocked thread is worth that lends to nobody
 
-live-nobody : (without : Sizes) (status : Status) → is_live_status status ≡ true → lend_of without status ≡ Nobody
+pub live-nobody : (without : Sizes) (status : Status) → is_live_status status ≡ true → lend_of without status ≡ Nobody
 live-nobody without Ready e = refl
 live-nobody without (Running p used) e = refl
 live-nobody without (Receiving port) e = cc

@@ -15,6 +15,8 @@ pub mod Replied
 pub mod CallReceived
 pub mod CallQueued
 pub mod CallLends
+pub mod LendersReady
+pub mod QueueMoves
 pub mod MutexWait
 pub mod WaitingServer
 pub mod Enclosed

@@ -305,10 +305,8 @@ module _ (s : State) (order : IsInOrder s) where
         by : (o : Outcome) → ((server : ℕ) → o ≡ outcome.ServedBy server → IsIn s.threads server) → Owned (IsIn s.threads) (served_at s t port o)
         by (outcome.ServedBy server) is_in = owned-server port (Some server) (λ u e. subst (IsIn s.threads) (some-injective server u e) (is_in server refl))
         by outcome.Queued is_in = back (leads_back s t port)
-        by outcome.Waits is_in = it
         by (outcome.Received client number) is_in = it
         by (outcome.RepliedThenReceived to client number) is_in = it
-        by (outcome.RepliedThenWaits to) is_in = it
         by other is_in = owned
 
     owned-unserved : (test : ℕ → Bool) (mutexes : List Mutex) (ns : List ℕ) → Owned (IsIn s.threads) mutexes → Owned (IsIn s.threads) (unserved test mutexes ns)

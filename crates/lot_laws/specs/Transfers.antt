@@ -8,7 +8,8 @@ use Rattle.lot_machine.specs.declared.reply.Reply.TheVariants.{Trapped}
 use Rattle.lot_machine.specs.declared.reply.Outcome.TheVariants.{ServedBy, Queued, Received, Replied, RepliedThenReceived, RepliedThenWaits, Waits}
 use Rattle.lot_machine.specs.Funding.{owner_of, backing_thread}
 use Rattle.lot_machine.specs.Lends.{LendsTo, LendsLead}
-use Rattle.lot_machine.specs.State.{State, holder_of, funding_of, change_record}
+use Rattle.lot_machine.specs.Value.{mutex_value}
+use Rattle.lot_machine.specs.State.{State, holder_of, funding_of, live_of, change_record}
 use Rattle.lot_machine.specs.Step.{step}
 
 -- ---- events
@@ -62,7 +63,16 @@ abbrev pub QueuesAt : State → Event → ℕ → ℕ → Type 0
 QueuesAt s e caller port =
     (p : ℕ) × (ran : ℕ) × (number : ℕ) × (ticks : ℕ) × (ends : Bool) × (e ≡ Trap p ran (Call port number)) × ((step s e).reply ≡ Trapped caller ticks Queued ends)
 
--- the port is there, and the thread is its server: it took a call there last, or waits there last
+-- the thread receives at the port, and takes the caller's queued call
+abbrev pub TakesCallAt : State → Event → ℕ → ℕ → ℕ → Type 0
+TakesCallAt s e port caller server =
+    (p : ℕ) × (ran : ℕ) × (number : ℕ) × (ticks : ℕ) × (ends : Bool) × (e ≡ Trap p ran (Receive port)) × ((step s e).reply ≡ Trapped server ticks (Received caller number) ends)
+
+-- what the port passes on: the sum of the values of those whose calls are queued there
+abbrev pub port_value : State → ℕ → ℕ
+port_value s port = mutex_value s.limits.unit (funding_of s) (live_of s) (holder_of s.limits port)
+
+-- the port is there, and the thread is its server: it took the last call there
 abbrev pub Serves : State → ℕ → ℕ → Type 0
 Serves s port server = (nat_le port s.limits.ports ≡ true) × (owner_of (funding_of s) (holder_of s.limits port) ≡ Some server)
 

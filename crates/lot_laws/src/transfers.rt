@@ -8,7 +8,8 @@ ghost use Rattle.lot_machine.specs.Facts.{live_value};
 ghost use Rattle.lot_machine.specs.Order.{IsInOrder};
 ghost use Rattle.lot_machine.specs.Step.{step};
 ghost use Rattle.lot_laws.specs.Transfers.{LendsServed, TakesCall, QueuesCall, TakesQueuedCall, RepliesTo, RepliesThenWaits};
-ghost use Rattle.lot_laws.specs.Transfers.{RepliesThenReceives, LendsQueued, QueuesAt, Serves, MayWait, WaitsFor, OwnsNothing, with_ready};
+ghost use Rattle.lot_laws.specs.Transfers.{RepliesThenReceives, LendsQueued, QueuesAt, TakesCallAt, Serves, port_value};
+ghost use Rattle.lot_laws.specs.Transfers.{MayWait, WaitsFor, OwnsNothing, with_ready};
 
 /// A server with nothing of its own is worth nothing; once it takes a call, it is worth exactly what the caller was.
 /// Every other thread, and the caller, keeps its value, and so does the sum over the live threads.
@@ -139,6 +140,32 @@ pub fn queued_calls_lend()
     ensures together { (s : State) (e : Event) (caller port server : ℕ) → IsInOrder s → LendsQueued s
         → QueuesAt s e caller port → Serves s port server → IsBacked (funding_of s) (live_of s) server
         → ¬ LendsLead (funding_of s) server caller
+        → live_value (step s e).state ≡ live_value s }
+{}
+
+/// If queued calls lend, a thread that takes a queued call is the port's server from then on, and what all the callers
+/// lend moves to it: the server before it, and each thread to which that one's lends lead, loses the port's value, and
+/// the new server gains it. A server that had it already, as the port's server itself, keeps its value. So does every
+/// other thread, and the sum over the live threads. The server before must be backed.
+pub fn receipts_move_the_queue()
+    ensures gains { (s : State) (e : Event) (port caller server before : ℕ) → IsInOrder s → LendsQueued s
+        → TakesCallAt s e port caller server → Serves s port before → IsBacked (funding_of s) (live_of s) before
+        → ¬ LendsLead (funding_of s) before server
+        → value_of (step s e).state server ≡ value_of s server + port_value s port }
+    ensures keeps { (s : State) (e : Event) (port caller server before : ℕ) → IsInOrder s → LendsQueued s
+        → TakesCallAt s e port caller server → Serves s port before → IsBacked (funding_of s) (live_of s) before
+        → LendsLead (funding_of s) before server
+        → value_of (step s e).state server ≡ value_of s server }
+    ensures loses { (s : State) (e : Event) (port caller server before behind : ℕ) → IsInOrder s → LendsQueued s
+        → TakesCallAt s e port caller server → Serves s port before → IsBacked (funding_of s) (live_of s) before
+        → LendsLead (funding_of s) before behind → behind ≢ server
+        → value_of s behind ≡ value_of (step s e).state behind + port_value s port }
+    ensures others { (s : State) (e : Event) (port caller server before other : ℕ) → IsInOrder s → LendsQueued s
+        → TakesCallAt s e port caller server → Serves s port before → IsBacked (funding_of s) (live_of s) before
+        → ¬ LendsLead (funding_of s) before other → other ≢ server
+        → value_of (step s e).state other ≡ value_of s other }
+    ensures together { (s : State) (e : Event) (port caller server before : ℕ) → IsInOrder s → LendsQueued s
+        → TakesCallAt s e port caller server → Serves s port before → IsBacked (funding_of s) (live_of s) before
         → live_value (step s e).state ≡ live_value s }
 {}
 

@@ -1,0 +1,420 @@
+-- A receipt that takes a queued call, in a kernel whose queued calls lend: what threads are worth then.
+use Rattle.std.proofs.Common.{◌≡◌, ◌≢◌, ℕ, suc, ◌+◌, ◌-◌, ◌==◌, ◌<◌, nat_le, ◌&&◌, ◌⊎◌, inl, inr, Bool, true, false, cond, is_none, Option, Some, None, List, [], ◌∷◌, Contains, length, map, sum_by, option_map, option_and_then, refl, sym, ◌∙◌, ap, subst, arith, if◌then◌else◌}
+use Rattle.std.specs.Option.{option_flatten}
+use Rattle.std.specs.List.{range_with_len}
+use Rattle.std.proofs.lemmas.Bool.{cases_eq, eq-eqb, ne_eqb, eqb-true}
+use Rattle.std.proofs.lemmas.List.{length-map}
+use Rattle.std.proofs.lemmas.Option.{slice_get_within}
+use Rattle.lot_machine.specs.declared.record.Record.{Record}
+use Rattle.lot_machine.specs.declared.record.Status.{Status}
+use Rattle.lot_machine.specs.declared.record.Status.TheVariants.{Ready, Running, Queued as QueuedAt, Served}
+use Rattle.lot_machine.specs.declared.funding.Lend.{Lend}
+use Rattle.lot_machine.specs.declared.funding.Lend.TheVariants.{Nobody, ToThread, ToMutex}
+use Rattle.lot_machine.specs.declared.action.Action.TheVariants.{Receive}
+use Rattle.lot_machine.specs.declared.event.Event.{Event}
+use Rattle.lot_machine.specs.declared.event.Event.TheVariants.{Trap}
+use Rattle.lot_machine.specs.declared.reply.Outcome.TheVariants.{Received}
+use Rattle.lot_machine.specs.declared.refusal.TrapRefusal.TheVariants.{NoPort}
+use Rattle.lot_machine.specs.declared.after.After.TheVariants.{GoesOn}
+use Rattle.lot_machine.specs.Numbered.{at_number, set_number, numbers, option_any}
+use Rattle.lot_machine.specs.Funding.{Funding, owner_of, is_to_mutex}
+use Rattle.lot_machine.specs.Lends.{borrower, borrower_of, LendsTo, LendsLead, IsBacked, lends_lead, is_live}
+use Rattle.lot_machine.specs.Value.{waiters_for}
+use Rattle.lot_machine.specs.State.{State, QueuedCall, Mutex, funding_of, live_of, lend_of, lends_at, holder_of, is_live_status, status_of, value_of, change_each}
+use Rattle.lot_machine.specs.Traps.{after_trap, with_ticks}
+use Rattle.lot_machine.specs.Ports.{port_at, receive}
+use Rattle.lot_machine.specs.Servers.{held_by, with_server, served_at}
+use Rattle.lot_machine.specs.Step.{of_ports, finish_trap, step}
+use Rattle.lot_machine.specs.Facts.{HasNoCycle, live_value}
+use Rattle.lot_machine.specs.Order.{IsQueue, IsInOrder}
+use Rattle.lot_machine.proofs.Changes.{number-set, number-there}
+use Rattle.lot_machine.proofs.CommandsKept.{all-pass}
+use Rattle.lot_machine.proofs.EachOnce.{IsApart, place-in, contains-at, contains-filter, filter-contains, range-contains, apart-range, apart-filter}
+use Rattle.lot_machine.proofs.Killed.{each-now, each-other}
+use Rattle.lot_machine.proofs.KillKept.{lends-by}
+use Rattle.lot_machine.proofs.Sums.{sum-filter, sum-same}
+use Rattle.lot_machine.proofs.Queues.{IsAbsent, status-now, status-other, number-set_same}
+use Rattle.lot_machine.proofs.LendDepth.{lends_lead-exact}
+use Rattle.lot_machine.proofs.OrderKept.{step-order}
+use Rattle.lot_machine.proofs.StepSizes.{change-length, each-length}
+use Rattle.lot_machine.proofs.Tickets.{some-injective, at_number-suc, flatten-some}
+use Rattle.lot_machine.proofs.TrapCycles.{owners-set}
+use Rattle.lot_laws.specs.Transfers.{LendsQueued, TakesCallAt, Serves, port_value}
+use Rattle.lot_laws.proofs.Trapped.{IsDone, trap-done, lend-is, live-is}
+use Rattle.lot_laws.proofs.Lending.{same-worth}
+use Rattle.lot_laws.proofs.Blocked.{lead-itself, lead-other, lends-nobody}
+use Rattle.lot_laws.proofs.CallTaken.{port-there}
+use Rattle.lot_laws.proofs.CallReceived.{taken, gone_on, received, call-received}
+use Rattle.lot_laws.proofs.Replied.{lends-on, lives-on}
+use Rattle.lot_laws.proofs.LendersReady.{made_ready, with_ready_each, sum-listed, each-worth, each-together, each-cycle}
+
+-- the state after the receipt: the thread that took the call is the port's server
+abbrev pub moved : State → ℕ → ℕ → ℕ → ℕ → List QueuedCall → ℕ → ℕ → State
+moved s p ran used port others caller server = record (received s p ran used port others caller server) { mutexes = with_server s.limits s.mutexes port (Some server) }
+
+-- who lends to a thread isn't led to by it
+not-back : (f : Funding) (u b : ℕ) → HasNoCycle f → LendsTo f u b → lends_lead f b u ≡ false
+not-back f u b no_cycle to = by (lends_lead f b u) refl
+  where
+    by : (on : Bool) → lends_lead f b u ≡ on → on ≡ false
+    by false is = refl
+    by true is = absurd (no_cycle.lends u (b, to, (lends_lead-exact f no_cycle.lends b u).0 is))
+
+-- what comes to neither
+keeps : (now was now_ready was_ready : ℕ) (on led : Bool) (more less : ℕ) → now ≡ now_ready + cond on more 0 → was ≡ was_ready + cond led less 0 → now_ready ≡ was_ready → on ≡ false → led ≡ false → now ≡ was
+keeps now was now_ready was_ready on led more less is also same off out =
+    omega (arith, is, also, same, ap (λ b. cond b more 0) off, ap (λ b. cond b less 0) out)
+
+module _ (s : State) (order : IsInOrder s) (lends : LendsQueued s) (p ran used before port caller server old : ℕ) (first : QueuedCall) (others : List QueuedCall)
+    (runs : status_of s.records server ≡ Some (Running p before)) (there : at_number s.ports port ≡ Some (port_at s.ports port))
+    (calls : (port_at s.ports port).calls ≡ first ∷ others) (caller_is : first.caller ≡ caller)
+    (small : nat_le port s.limits.ports ≡ true) (old_is : owner_of (funding_of s) (holder_of s.limits port) ≡ Some old) (backed : IsBacked (funding_of s) (live_of s) old)
+    (no_cycle_now : HasNoCycle (funding_of (moved s p ran used port others caller server))) where
+  -- ---- statuses
+
+  queued : status_of s.records caller ≡ Some (QueuedAt port)
+  queued =
+      let queue : IsQueue s.records (QueuedAt port) (map (λ (c : QueuedCall). c.caller) (first ∷ others)) =
+      subst (λ cs. IsQueue s.records (QueuedAt port) (map (λ (c : QueuedCall). c.caller) cs)) calls (order.queues.callers port (port_at s.ports port) there) in
+      queue.each 0 caller (ap Some caller_is)
+
+  apart : ¬ (caller ≡ server)
+  apart same =
+      let both : Running p before ≡ QueuedAt port = some-injective (Running p before) (QueuedAt port) (sym runs ∙ ap (status_of s.records) (sym same) ∙ queued) in cc
+
+  server-then : status_of (taken s caller server) server ≡ Some (Running p before)
+  server-then = status-other (λ r. record r { status = Served server }) s.records caller server (λ same. apart (sym same)) ∙ runs
+
+  caller-now : status_of (gone_on s p ran used caller server) caller ≡ Some (Served server)
+  caller-now =
+      status-other (λ r. with_ticks (ran + 1) (after_trap GoesOn p used s.limits r)) (taken s caller server) server caller apart
+      ∙ status-now (λ r. record r { status = Served server }) s.records caller (QueuedAt port) (Served server) queued (λ r. refl)
+
+  other-now : (u : ℕ) → u ≢ caller → u ≢ server → status_of (gone_on s p ran used caller server) u ≡ status_of s.records u
+  other-now u one two =
+      status-other (λ r. with_ticks (ran + 1) (after_trap GoesOn p used s.limits r)) (taken s caller server) server u two
+      ∙ status-other (λ r. record r { status = Served server }) s.records caller u one
+
+  server-lend : option_map (lend_of s.limits) (status_of (gone_on s p ran used caller server) server) ≡ Some Nobody
+  server-lend = lends-on s.limits (taken s caller server) server p used (ran + 1) s.limits before server-then
+
+  server-live : option_map is_live_status (status_of (gone_on s p ran used caller server) server) ≡ Some true
+  server-live = lives-on (taken s caller server) server p used (ran + 1) s.limits before server-then
+
+  -- ---- lends
+
+  -- what a queued thread lends to
+  to-holder : lend_of s.limits (QueuedAt port) ≡ ToMutex (holder_of s.limits port)
+  to-holder =
+      ap (λ (without : Bool). if without then Nobody else (if lends_at s.limits port then ToMutex (holder_of s.limits port) else Nobody)) lends.0
+      ∙ ap (λ (on : Bool). if on then ToMutex (holder_of s.limits port) else Nobody) (ap (λ q. q && nat_le port s.limits.ports) lends.1 ∙ small)
+
+  -- those in the queue are those that lend to the holder
+  in-queue : (u : ℕ) → at_number (funding_of s).lends u ≡ Some (ToMutex (holder_of s.limits port)) → Contains (waiters_for (funding_of s) (holder_of s.limits port)) u
+  in-queue u is =
+      filter-contains (λ t. option_any (is_to_mutex (holder_of s.limits port)) (at_number (funding_of s).lends t)) (numbers (funding_of s).lends) u
+      (ap (option_any (is_to_mutex (holder_of s.limits port))) is ∙ eq-eqb (holder_of s.limits port) (holder_of s.limits port) refl)
+      (range-contains 1 (length (funding_of s).lends) u (omega (arith, number)) (omega (arith, number, within)))
+    where
+      number : suc (u - 1) ≡ u
+      number = number-there (funding_of s).lends u (ToMutex (holder_of s.limits port)) is
+
+      within : u - 1 < length (funding_of s).lends
+      within = slice_get_within (funding_of s).lends (u - 1) (ToMutex (holder_of s.limits port)) (sym (at_number-suc (funding_of s).lends (u - 1)) ∙ ap (at_number (funding_of s).lends) number ∙ is)
+
+  of-queue : (u : ℕ) → Contains (waiters_for (funding_of s) (holder_of s.limits port)) u → at_number (funding_of s).lends u ≡ Some (ToMutex (holder_of s.limits port))
+  of-queue u c =
+      by (at_number (funding_of s).lends u) refl (contains-filter (λ t. option_any (is_to_mutex (holder_of s.limits port)) (at_number (funding_of s).lends t)) (numbers (funding_of s).lends) u c).1
+    where
+      by : (o : Option Lend) → at_number (funding_of s).lends u ≡ o → option_any (is_to_mutex (holder_of s.limits port)) o ≡ true → at_number (funding_of s).lends u ≡ Some (ToMutex (holder_of s.limits port))
+      by None is e = cc
+      by (Some Nobody) is e = cc
+      by (Some (ToThread w)) is e = cc
+      by (Some (ToMutex m)) is e = is ∙ ap (λ n. Some (ToMutex n)) (eqb-true m (holder_of s.limits port) e)
+
+  -- the caller is one of them, and the server isn't
+  caller-in : Contains (waiters_for (funding_of s) (holder_of s.limits port)) caller
+  caller-in = in-queue caller (lend-is s.limits s.records caller ∙ ap (option_map (lend_of s.limits)) queued ∙ ap Some to-holder)
+
+  server-out : ¬ Contains (waiters_for (funding_of s) (holder_of s.limits port)) server
+  server-out c =
+      let never : Some Nobody ≡ Some (ToMutex (holder_of s.limits port)) = sym (lend-is s.limits s.records server ∙ ap (option_map (lend_of s.limits)) runs) ∙ of-queue server c in cc
+
+  -- ---- owners
+
+  held : at_number (map (λ (x : Mutex). x.owner) s.mutexes) (holder_of s.limits port) ≡ Some (Some old)
+  held = flatten-some (at_number (map (λ (x : Mutex). x.owner) s.mutexes) (holder_of s.limits port)) old old_is
+
+  owners-now : (funding_of (moved s p ran used port others caller server)).owners ≡ set_number (map (λ (x : Mutex). x.owner) s.mutexes) (holder_of s.limits port) (Some server)
+  owners-now =
+      ap (λ (on : Bool). map (λ (x : Mutex). x.owner) (if on then set_number s.mutexes (holder_of s.limits port) (held_by (Some server)) else s.mutexes)) lends.1
+      ∙ owners-set s (holder_of s.limits port) (held_by (Some server))
+
+  owner-now : owner_of (funding_of (moved s p ran used port others caller server)) (holder_of s.limits port) ≡ Some server
+  owner-now =
+      ap (λ owners. option_flatten (at_number owners (holder_of s.limits port))) owners-now
+      ∙ ap option_flatten (number-set_same (map (λ (x : Mutex). x.owner) s.mutexes) (holder_of s.limits port) (Some server) (Some old) held)
+
+  owner-other : (m : ℕ) → m ≢ holder_of s.limits port → owner_of (funding_of (moved s p ran used port others caller server)) m ≡ owner_of (funding_of s) m
+  owner-other m differs = ap (λ owners. option_flatten (at_number owners m)) owners-now ∙ by (number-set (map (λ (x : Mutex). x.owner) s.mutexes) (holder_of s.limits port) (Some server) m)
+    where
+      number : suc (holder_of s.limits port - 1) ≡ holder_of s.limits port
+      number = number-there (map (λ (x : Mutex). x.owner) s.mutexes) (holder_of s.limits port) (Some old) held
+
+      by : (at_number (set_number (map (λ (x : Mutex). x.owner) s.mutexes) (holder_of s.limits port) (Some server)) m ≡ at_number (map (λ (x : Mutex). x.owner) s.mutexes) m)
+          ⊎ ((m ≡ suc (holder_of s.limits port - 1)) × (at_number (set_number (map (λ (x : Mutex). x.owner) s.mutexes) (holder_of s.limits port) (Some server)) m ≡ Some (Some server)))
+          → option_flatten (at_number (set_number (map (λ (x : Mutex). x.owner) s.mutexes) (holder_of s.limits port) (Some server)) m) ≡ owner_of (funding_of s) m
+      by (inl same) = ap option_flatten same
+      by (inr (at, is)) = absurd (differs (at ∙ number))
+
+  -- ---- who lends to whom, before and afterwards
+
+  lent-old : (u : ℕ) → Contains (waiters_for (funding_of s) (holder_of s.limits port)) u → LendsTo (funding_of s) u old
+  lent-old u c = ap (option_and_then (borrower (funding_of s))) (of-queue u c) ∙ old_is
+
+  lent-now : (u : ℕ) → Contains (waiters_for (funding_of s) (holder_of s.limits port)) u → LendsTo (funding_of (moved s p ran used port others caller server)) u server
+  lent-now u c = by (cases_eq u caller)
+    where
+      is-served : at_number (funding_of (moved s p ran used port others caller server)).lends caller ≡ Some (ToThread server)
+      is-served =
+          lend-is s.limits (gone_on s p ran used caller server) caller ∙ ap (option_map (lend_of s.limits)) caller-now
+          ∙ ap (λ (without : Bool). Some (if without then Nobody else ToThread server)) lends.0
+
+      by : (u ≡ caller) ⊎ (¬ (u ≡ caller)) → LendsTo (funding_of (moved s p ran used port others caller server)) u server
+      by (inl same) = ap (borrower_of (funding_of (moved s p ran used port others caller server))) same ∙ ap (option_and_then (borrower (funding_of (moved s p ran used port others caller server)))) is-served
+      by (inr differs) =
+          let stays : status_of (gone_on s p ran used caller server) u ≡ status_of s.records u = other-now u differs (λ same. server-out (subst (Contains (waiters_for (funding_of s) (holder_of s.limits port))) same c)) in
+          let lend : at_number (funding_of (moved s p ran used port others caller server)).lends u ≡ Some (ToMutex (holder_of s.limits port)) =
+          lend-is s.limits (gone_on s p ran used caller server) u ∙ ap (option_map (lend_of s.limits)) stays ∙ sym (lend-is s.limits s.records u) ∙ of-queue u c in
+          ap (option_and_then (borrower (funding_of (moved s p ran used port others caller server)))) lend ∙ owner-now
+
+  -- the server lends to nobody, before and afterwards
+  server-alone : borrower_of (funding_of s) server ≡ None
+  server-alone = lends-nobody s server (Running p before) runs refl
+
+  server-alone_now : borrower_of (funding_of (moved s p ran used port others caller server)) server ≡ None
+  server-alone_now = ap (option_and_then (borrower (funding_of (moved s p ran used port others caller server)))) (lend-is s.limits (gone_on s p ran used caller server) server ∙ server-lend)
+
+  server-backed : IsBacked (funding_of (moved s p ran used port others caller server)) (live_of (moved s p ran used port others caller server)) server
+  server-backed = (server, ([], refl), live-is (gone_on s p ran used caller server) server ∙ server-live)
+
+  -- ---- with all of them Ready, before and afterwards
+
+  absent : (u : ℕ) → ¬ Contains (waiters_for (funding_of s) (holder_of s.limits port)) u → IsAbsent (waiters_for (funding_of s) (holder_of s.limits port)) u
+  absent u out place at = out (contains-at (waiters_for (funding_of s) (holder_of s.limits port)) place u at)
+
+  ready-in : (records : List Record) (u : ℕ) (status : Status) → status_of records u ≡ Some status → Contains (waiters_for (funding_of s) (holder_of s.limits port)) u
+      → status_of (change_each made_ready records (waiters_for (funding_of s) (holder_of s.limits port))) u ≡ Some Ready
+  ready-in records u status is c =
+      let (place, at) = place-in (waiters_for (funding_of s) (holder_of s.limits port)) u c in
+      each-now made_ready Ready (λ r. refl) records (waiters_for (funding_of s) (holder_of s.limits port)) place u status at is
+
+  ready-out : (records : List Record) (u : ℕ) → ¬ Contains (waiters_for (funding_of s) (holder_of s.limits port)) u
+      → status_of (change_each made_ready records (waiters_for (funding_of s) (holder_of s.limits port))) u ≡ status_of records u
+  ready-out records u out = each-other made_ready records (waiters_for (funding_of s) (holder_of s.limits port)) u (absent u out)
+
+  -- a thread is in the queue or not
+  told : (u : ℕ) → Contains (waiters_for (funding_of s) (holder_of s.limits port)) u ⊎ (¬ Contains (waiters_for (funding_of s) (holder_of s.limits port)) u)
+  told u = by (at_number (funding_of s).lends u) refl
+    where
+      by : (o : Option Lend) → at_number (funding_of s).lends u ≡ o → Contains (waiters_for (funding_of s) (holder_of s.limits port)) u ⊎ (¬ Contains (waiters_for (funding_of s) (holder_of s.limits port)) u)
+      by None is = inr (λ c. let never : None ≡ Some (ToMutex (holder_of s.limits port)) = sym is ∙ of-queue u c in cc)
+      by (Some Nobody) is = inr (λ c. let never : Some Nobody ≡ Some (ToMutex (holder_of s.limits port)) = sym is ∙ of-queue u c in cc)
+      by (Some (ToThread w)) is = inr (λ c. let never : Some (ToThread w) ≡ Some (ToMutex (holder_of s.limits port)) = sym is ∙ of-queue u c in cc)
+      by (Some (ToMutex m)) is = at (cases_eq m (holder_of s.limits port))
+        where
+          at : (m ≡ holder_of s.limits port) ⊎ (¬ (m ≡ holder_of s.limits port)) → Contains (waiters_for (funding_of s) (holder_of s.limits port)) u ⊎ (¬ Contains (waiters_for (funding_of s) (holder_of s.limits port)) u)
+          at (inl same) = inl (in-queue u (is ∙ ap (λ n. Some (ToMutex n)) same))
+          at (inr differs) = inr (λ c. let both : Some (ToMutex m) ≡ Some (ToMutex (holder_of s.limits port)) = sym is ∙ of-queue u c in let same : m ≡ holder_of s.limits port = cc in differs same)
+
+  -- a status that is told of is the same, with all of them Ready
+  status-same : {A : Type 0} (tell : Status → A) → option_map tell (status_of (gone_on s p ran used caller server) server) ≡ Some (tell (Running p before)) → (u : ℕ)
+      → option_map tell (status_of (with_ready_each (moved s p ran used port others caller server) (waiters_for (funding_of s) (holder_of s.limits port))).records u)
+      ≡ option_map tell (status_of (with_ready_each s (waiters_for (funding_of s) (holder_of s.limits port))).records u)
+  status-same tell goes_on u = by (told u)
+    where
+      rest : ¬ Contains (waiters_for (funding_of s) (holder_of s.limits port)) u → (u ≡ server) ⊎ (¬ (u ≡ server)) → option_map tell (status_of (gone_on s p ran used caller server) u) ≡ option_map tell (status_of s.records u)
+      rest out (inl same) =
+          ap (λ x. option_map tell (status_of (gone_on s p ran used caller server) x)) same ∙ goes_on ∙ sym (ap (option_map tell) runs) ∙ ap (λ x. option_map tell (status_of s.records x)) (sym same)
+      rest out (inr differs) = ap (option_map tell) (other-now u (λ same. out (subst (Contains (waiters_for (funding_of s) (holder_of s.limits port))) (sym same) caller-in)) differs)
+
+      by : Contains (waiters_for (funding_of s) (holder_of s.limits port)) u ⊎ (¬ Contains (waiters_for (funding_of s) (holder_of s.limits port)) u)
+          → option_map tell (status_of (with_ready_each (moved s p ran used port others caller server) (waiters_for (funding_of s) (holder_of s.limits port))).records u)
+          ≡ option_map tell (status_of (with_ready_each s (waiters_for (funding_of s) (holder_of s.limits port))).records u)
+      by (inl c) =
+          let after = lends-by (moved s p ran used port others caller server) u server (lent-now u c) in
+          let first = lends-by s u old (lent-old u c) in
+          ap (option_map tell) (ready-in (gone_on s p ran used caller server) u after.0 after.1 c ∙ sym (ready-in s.records u first.0 first.1 c))
+      by (inr out) = ap (option_map tell) (ready-out (gone_on s p ran used caller server) u out) ∙ rest out (cases_eq u server) ∙ sym (ap (option_map tell) (ready-out s.records u out))
+
+  lend-same : (u : ℕ) → at_number (funding_of (with_ready_each (moved s p ran used port others caller server) (waiters_for (funding_of s) (holder_of s.limits port)))).lends u
+      ≡ at_number (funding_of (with_ready_each s (waiters_for (funding_of s) (holder_of s.limits port)))).lends u
+  lend-same u =
+      lend-is s.limits (with_ready_each (moved s p ran used port others caller server) (waiters_for (funding_of s) (holder_of s.limits port))).records u
+      ∙ status-same (lend_of s.limits) server-lend u ∙ sym (lend-is s.limits (with_ready_each s (waiters_for (funding_of s) (holder_of s.limits port))).records u)
+
+  lives-same : (u : ℕ) → at_number (live_of (with_ready_each (moved s p ran used port others caller server) (waiters_for (funding_of s) (holder_of s.limits port)))) u
+      ≡ at_number (live_of (with_ready_each s (waiters_for (funding_of s) (holder_of s.limits port)))) u
+  lives-same u =
+      live-is (with_ready_each (moved s p ran used port others caller server) (waiters_for (funding_of s) (holder_of s.limits port))).records u
+      ∙ status-same is_live_status server-live u ∙ sym (live-is (with_ready_each s (waiters_for (funding_of s) (holder_of s.limits port))).records u)
+
+  -- nobody lends to the port then
+  none-left : (u : ℕ) → ¬ (at_number (funding_of (with_ready_each s (waiters_for (funding_of s) (holder_of s.limits port)))).lends u ≡ Some (ToMutex (holder_of s.limits port)))
+  none-left u is = by (told u)
+    where
+      by : Contains (waiters_for (funding_of s) (holder_of s.limits port)) u ⊎ (¬ Contains (waiters_for (funding_of s) (holder_of s.limits port)) u) → ⊥
+      by (inl c) =
+          let first = lends-by s u old (lent-old u c) in
+          let never : Some Nobody ≡ Some (ToMutex (holder_of s.limits port)) =
+          sym (lend-is s.limits (with_ready_each s (waiters_for (funding_of s) (holder_of s.limits port))).records u ∙ ap (option_map (lend_of s.limits)) (ready-in s.records u first.0 first.1 c)) ∙ is in cc
+      by (inr out) =
+          out (in-queue u (lend-is s.limits s.records u ∙ ap (option_map (lend_of s.limits)) (sym (ready-out s.records u out)) ∙ sym (lend-is s.limits (with_ready_each s (waiters_for (funding_of s) (holder_of s.limits port))).records u) ∙ is))
+
+  to-same : (u : ℕ) → borrower_of (funding_of (with_ready_each (moved s p ran used port others caller server) (waiters_for (funding_of s) (holder_of s.limits port)))) u
+      ≡ borrower_of (funding_of (with_ready_each s (waiters_for (funding_of s) (holder_of s.limits port)))) u
+  to-same u =
+      ap (option_and_then (borrower (funding_of (with_ready_each (moved s p ran used port others caller server) (waiters_for (funding_of s) (holder_of s.limits port)))))) (lend-same u)
+      ∙ by (at_number (funding_of (with_ready_each s (waiters_for (funding_of s) (holder_of s.limits port)))).lends u) refl
+    where
+      by : (o : Option Lend) → at_number (funding_of (with_ready_each s (waiters_for (funding_of s) (holder_of s.limits port)))).lends u ≡ o
+          → option_and_then (borrower (funding_of (with_ready_each (moved s p ran used port others caller server) (waiters_for (funding_of s) (holder_of s.limits port))))) o
+          ≡ option_and_then (borrower (funding_of (with_ready_each s (waiters_for (funding_of s) (holder_of s.limits port))))) o
+      by None is = refl
+      by (Some Nobody) is = refl
+      by (Some (ToThread w)) is = refl
+      by (Some (ToMutex m)) is = owner-other m (λ same. none-left u (is ∙ ap (λ n. Some (ToMutex n)) same))
+
+  as-many : length (with_ready_each (moved s p ran used port others caller server) (waiters_for (funding_of s) (holder_of s.limits port))).records
+      ≡ length (with_ready_each s (waiters_for (funding_of s) (holder_of s.limits port))).records
+  as-many =
+      each-length made_ready (gone_on s p ran used caller server) (waiters_for (funding_of s) (holder_of s.limits port))
+      ∙ change-length (λ r. with_ticks (ran + 1) (after_trap GoesOn p used s.limits r)) (taken s caller server) server
+      ∙ change-length (λ r. record r { status = Served server }) s.records caller
+      ∙ sym (each-length made_ready s.records (waiters_for (funding_of s) (holder_of s.limits port)))
+
+  -- so each thread is worth the same
+  ready-same : (v : ℕ) → value_of (with_ready_each (moved s p ran used port others caller server) (waiters_for (funding_of s) (holder_of s.limits port))) v
+      ≡ value_of (with_ready_each s (waiters_for (funding_of s) (holder_of s.limits port))) v
+  ready-same v =
+      let was = with_ready_each s (waiters_for (funding_of s) (holder_of s.limits port)) in
+      let is = with_ready_each (moved s p ran used port others caller server) (waiters_for (funding_of s) (holder_of s.limits port)) in
+      same-worth (funding_of was) (funding_of is).lends (funding_of is).owners (live_of was) (live_of is)
+      (length-map is.records (λ (r : Record). lend_of s.limits r.status) ∙ as-many ∙ sym (length-map was.records (λ (r : Record). lend_of s.limits r.status)))
+      (each-cycle (waiters_for (funding_of s) (holder_of s.limits port)) s order.no_cycle) (each-cycle (waiters_for (funding_of s) (holder_of s.limits port)) (moved s p ran used port others caller server) no_cycle_now)
+      order.funds_there to-same lives-same s.limits.unit v
+
+  ready-together : live_value (with_ready_each (moved s p ran used port others caller server) (waiters_for (funding_of s) (holder_of s.limits port)))
+      ≡ live_value (with_ready_each s (waiters_for (funding_of s) (holder_of s.limits port)))
+  ready-together =
+      let was = with_ready_each s (waiters_for (funding_of s) (holder_of s.limits port)) in
+      let is = with_ready_each (moved s p ran used port others caller server) (waiters_for (funding_of s) (holder_of s.limits port)) in
+      sum-filter (value_of is) (is_live (live_of is)) (numbers is.records)
+      ∙ ap (λ n. sum_by (λ u. cond (is_live (live_of is) u) (value_of is u) 0) (range_with_len 1 n)) as-many
+      ∙ sum-same (λ u. cond (is_live (live_of is) u) (value_of is u) 0) (λ u. cond (is_live (live_of was) u) (value_of was u) 0) (numbers was.records)
+      (λ u. ap (λ (o : Option Bool). cond (option_any (λ flag. flag) o) (value_of is u) 0) (lives-same u) ∙ ap (λ w. cond (is_live (live_of was) u) w 0) (ready-same u))
+      ∙ sym (sum-filter (value_of was) (is_live (live_of was)) (numbers was.records))
+
+  -- ---- what moves
+
+  queue-apart : IsApart (waiters_for (funding_of s) (holder_of s.limits port))
+  queue-apart = apart-filter (λ t. option_any (is_to_mutex (holder_of s.limits port)) (at_number (funding_of s).lends t)) (numbers (funding_of s).lends) (apart-range 1 (length (funding_of s).lends))
+
+  worth-before : (v : ℕ) → value_of s v
+      ≡ value_of (with_ready_each s (waiters_for (funding_of s) (holder_of s.limits port))) v + cond (lends_lead (funding_of s) old v) (port_value s port) 0
+  worth-before = each-worth (waiters_for (funding_of s) (holder_of s.limits port)) s old order.no_cycle order.funds_there backed queue-apart lent-old
+
+  worth-now : (v : ℕ) → value_of (moved s p ran used port others caller server) v
+      ≡ value_of (with_ready_each (moved s p ran used port others caller server) (waiters_for (funding_of s) (holder_of s.limits port))) v
+      + cond (lends_lead (funding_of (moved s p ran used port others caller server)) server v) (sum_by (value_of (moved s p ran used port others caller server)) (waiters_for (funding_of s) (holder_of s.limits port))) 0
+  worth-now = each-worth (waiters_for (funding_of s) (holder_of s.limits port)) (moved s p ran used port others caller server) server no_cycle_now order.funds_there server-backed queue-apart lent-now
+
+  -- who is in the queue keeps its value
+  queue-keeps : (u : ℕ) → Contains (waiters_for (funding_of s) (holder_of s.limits port)) u → value_of (moved s p ran used port others caller server) u ≡ value_of s u
+  queue-keeps u c =
+      keeps (value_of (moved s p ran used port others caller server) u) (value_of s u) (value_of (with_ready_each (moved s p ran used port others caller server) (waiters_for (funding_of s) (holder_of s.limits port))) u)
+      (value_of (with_ready_each s (waiters_for (funding_of s) (holder_of s.limits port))) u)
+      (lends_lead (funding_of (moved s p ran used port others caller server)) server u) (lends_lead (funding_of s) old u) _ _ (worth-now u) (worth-before u) (ready-same u)
+      (not-back (funding_of (moved s p ran used port others caller server)) u server no_cycle_now (lent-now u c)) (not-back (funding_of s) u old order.no_cycle (lent-old u c))
+
+  same-queue : sum_by (value_of (moved s p ran used port others caller server)) (waiters_for (funding_of s) (holder_of s.limits port)) ≡ port_value s port
+  same-queue = sum-listed (value_of (moved s p ran used port others caller server)) (value_of s) (waiters_for (funding_of s) (holder_of s.limits port)) queue-keeps
+
+  server-only : (v : ℕ) → lends_lead (funding_of (moved s p ran used port others caller server)) server v ≡ (v == server)
+  server-only v = by (cases_eq v server)
+    where
+      by : (v ≡ server) ⊎ (¬ (v ≡ server)) → lends_lead (funding_of (moved s p ran used port others caller server)) server v ≡ (v == server)
+      by (inl same) =
+          ap (lends_lead (funding_of (moved s p ran used port others caller server)) server) same ∙ lead-itself (funding_of (moved s p ran used port others caller server)) server no_cycle_now ∙ sym (eq-eqb v server same)
+      by (inr differs) = lead-other (funding_of (moved s p ran used port others caller server)) server v no_cycle_now server-alone_now differs ∙ sym (ne_eqb v server differs)
+
+  pub moves : (v : ℕ) → value_of (moved s p ran used port others caller server) v + cond (lends_lead (funding_of s) old v) (port_value s port) 0 ≡ value_of s v + cond (v == server) (port_value s port) 0
+  moves v =
+      let came : cond (lends_lead (funding_of (moved s p ran used port others caller server)) server v) (sum_by (value_of (moved s p ran used port others caller server)) (waiters_for (funding_of s) (holder_of s.limits port))) 0
+      ≡ cond (v == server) (port_value s port) 0 =
+      ap (λ w. cond (lends_lead (funding_of (moved s p ran used port others caller server)) server v) w 0) same-queue ∙ ap (λ on. cond on (port_value s port) 0) (server-only v) in
+      omega (arith, worth-now v, worth-before v, ready-same v, came)
+
+  pub moved-together : live_value (moved s p ran used port others caller server) ≡ live_value s
+  moved-together =
+      each-together (waiters_for (funding_of s) (holder_of s.limits port)) (moved s p ran used port others caller server) server no_cycle_now order.funds_there server-backed queue-apart lent-now
+      ∙ ready-together ∙ sym (each-together (waiters_for (funding_of s) (holder_of s.limits port)) s old order.no_cycle order.funds_there backed queue-apart lent-old)
+
+-- ---- the event
+
+-- what holds of the state then, if it holds of each state after such a receipt
+after-receipt : (P : State → Type 0) (s : State) (e : Event) (port caller server : ℕ) → IsInOrder s → TakesCallAt s e port caller server
+    → ((p ran used before : ℕ) (first : QueuedCall) (others : List QueuedCall) → status_of s.records server ≡ Some (Running p before) → at_number s.ports port ≡ Some (port_at s.ports port)
+    → (port_at s.ports port).calls ≡ first ∷ others → first.caller ≡ caller → HasNoCycle (funding_of (moved s p ran used port others caller server)) → P (moved s p ran used port others caller server))
+    → P (step s e).state
+after-receipt P s e port caller server order (p, ran, number, ticks, ends, is, replied) holds =
+    by (trap-done s p ran (Receive port) server ticks (Received caller number) ends (λ refusal same. cc) (ap (λ x. (step s x).reply) (sym is) ∙ replied))
+  where
+    by : IsDone s p ran (Receive port) server (Received caller number) (step s (Trap p ran (Receive port))).state → P (step s e).state
+    by done =
+        let got = receive s.records s.clients s.ports server port in
+        let serves : served_at s server port got.outcome ≡ with_server s.limits s.mutexes port (Some server) = ap (served_at s server port) done.came in
+        let (first, others, calls, caller_is, state) = call-received s p ran done.used port number caller server done.came in
+        let here : (step s e).state ≡ moved s p ran done.used port others caller server =
+        ap (λ x. (step s x).state) is ∙ done.state
+        ∙ ap (λ mutexes. (finish_trap s p server (ran + 1) done.used (record { state = record (of_ports s got).state { mutexes = mutexes }; outcome = got.outcome; after = got.after })).state) serves
+        ∙ ap (λ (x : State). record x { mutexes = with_server s.limits s.mutexes port (Some server) }) state in
+        let now : HasNoCycle (funding_of (step s e).state) = (step-order s e order).no_cycle in
+        subst P (sym here) (holds p ran done.used done.before first others done.runs (port-there s port (all-pass ((is_none (at_number s.ports port), NoPort) ∷ []) done.passed).0) calls caller_is (subst (λ x. HasNoCycle (funding_of x)) here now))
+
+module _ (s : State) (e : Event) (port caller server old : ℕ) (order : IsInOrder s) (lends : LendsQueued s) (takes : TakesCallAt s e port caller server) (serves : Serves s port old) (backed : IsBacked (funding_of s) (live_of s) old) where
+  -- what the old server and those behind it lose, and the new one gains
+  worth-moves : (v : ℕ) → value_of (step s e).state v + cond (lends_lead (funding_of s) old v) (port_value s port) 0 ≡ value_of s v + cond (v == server) (port_value s port) 0
+  worth-moves v =
+      after-receipt (λ x. value_of x v + cond (lends_lead (funding_of s) old v) (port_value s port) 0 ≡ value_of s v + cond (v == server) (port_value s port) 0) s e port caller server order takes
+      (λ p ran used before first others runs there calls caller_is now. moves s order lends p ran used before port caller server old first others runs there calls caller_is serves.0 serves.1 backed now v)
+
+  leads : (v : ℕ) → LendsLead (funding_of s) old v → lends_lead (funding_of s) old v ≡ true
+  leads v = (lends_lead-exact (funding_of s) order.no_cycle.lends old v).1
+
+  leads-not : (v : ℕ) → ¬ LendsLead (funding_of s) old v → lends_lead (funding_of s) old v ≡ false
+  leads-not v off = by (lends_lead (funding_of s) old v) refl
+    where
+      by : (b : Bool) → lends_lead (funding_of s) old v ≡ b → b ≡ false
+      by false is = refl
+      by true is = absurd (off ((lends_lead-exact (funding_of s) order.no_cycle.lends old v).0 is))
+
+  counted : (v : ℕ) (on same : Bool) → lends_lead (funding_of s) old v ≡ on → (v == server) ≡ same → value_of (step s e).state v + cond on (port_value s port) 0 ≡ value_of s v + cond same (port_value s port) 0
+  counted v on same led is = sym (ap (λ b. value_of (step s e).state v + cond b (port_value s port) 0) led) ∙ worth-moves v ∙ ap (λ b. value_of s v + cond b (port_value s port) 0) is
+
+  pub server-gains : ¬ LendsLead (funding_of s) old server → value_of (step s e).state server ≡ value_of s server + port_value s port
+  server-gains off = omega (arith, counted server false true (leads-not server off) (eq-eqb server server refl))
+
+  pub server-keeps : LendsLead (funding_of s) old server → value_of (step s e).state server ≡ value_of s server
+  server-keeps on = omega (arith, counted server true true (leads server on) (eq-eqb server server refl))
+
+  pub behind-loses : (v : ℕ) → LendsLead (funding_of s) old v → v ≢ server → value_of s v ≡ value_of (step s e).state v + port_value s port
+  behind-loses v on differs = omega (arith, counted v true false (leads v on) (ne_eqb v server differs))
+
+  pub others-keep : (v : ℕ) → ¬ LendsLead (funding_of s) old v → v ≢ server → value_of (step s e).state v ≡ value_of s v
+  others-keep v off differs = omega (arith, counted v false false (leads-not v off) (ne_eqb v server differs))
+
+  pub together-same : live_value (step s e).state ≡ live_value s
+  together-same =
+      after-receipt (λ x. live_value x ≡ live_value s) s e port caller server order takes
+      (λ p ran used before first others runs there calls caller_is now. moved-together s order lends p ran used before port caller server old first others runs there calls caller_is serves.0 serves.1 backed now)
