@@ -17,6 +17,7 @@ pub mod CallQueued
 pub mod CallLends
 pub mod LendersReady
 pub mod QueueMoves
+pub mod ServingMoves
 pub mod MutexWait
 pub mod WaitingServer
 pub mod Enclosed

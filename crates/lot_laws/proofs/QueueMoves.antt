@@ -25,8 +25,8 @@ use Rattle.lot_machine.specs.Traps.{after_trap, with_ticks}
 use Rattle.lot_machine.specs.Ports.{port_at, receive}
 use Rattle.lot_machine.specs.Servers.{held_by, with_server, served_at}
 use Rattle.lot_machine.specs.Step.{of_ports, finish_trap, step}
-use Rattle.lot_machine.specs.Facts.{HasNoCycle, live_value}
-use Rattle.lot_machine.specs.Order.{IsQueue, IsInOrder}
+use Rattle.lot_machine.specs.Facts.{HasNoCycle, FundsThere, live_value}
+use Rattle.lot_machine.specs.Order.{IsQueue, HasQueues, IsInOrder}
 use Rattle.lot_machine.proofs.Changes.{number-set, number-there}
 use Rattle.lot_machine.proofs.CommandsKept.{all-pass}
 use Rattle.lot_machine.proofs.EachOnce.{IsApart, place-in, contains-at, contains-filter, filter-contains, range-contains, apart-range, apart-filter}
@@ -65,18 +65,11 @@ keeps : (now was now_ready was_ready : ℕ) (on led : Bool) (more less : ℕ) �
 keeps now was now_ready was_ready on led more less is also same off out =
     omega (arith, is, also, same, ap (λ b. cond b more 0) off, ap (λ b. cond b less 0) out)
 
-module _ (s : State) (order : IsInOrder s) (lends : LendsQueued s) (p ran used before port caller server old : ℕ) (first : QueuedCall) (others : List QueuedCall)
-    (runs : status_of s.records server ≡ Some (Running p before)) (there : at_number s.ports port ≡ Some (port_at s.ports port))
-    (calls : (port_at s.ports port).calls ≡ first ∷ others) (caller_is : first.caller ≡ caller)
+module _ (s : State) (no_cycle : HasNoCycle (funding_of s)) (funds_there : FundsThere (funding_of s)) (lends : LendsQueued s) (p ran used before port caller server old : ℕ) (others : List QueuedCall)
+    (runs : status_of s.records server ≡ Some (Running p before)) (queued : status_of s.records caller ≡ Some (QueuedAt port))
     (small : nat_le port s.limits.ports ≡ true) (old_is : owner_of (funding_of s) (holder_of s.limits port) ≡ Some old) (backed : IsBacked (funding_of s) (live_of s) old)
     (no_cycle_now : HasNoCycle (funding_of (moved s p ran used port others caller server))) where
   -- ---- statuses
-
-  queued : status_of s.records caller ≡ Some (QueuedAt port)
-  queued =
-      let queue : IsQueue s.records (QueuedAt port) (map (λ (c : QueuedCall). c.caller) (first ∷ others)) =
-      subst (λ cs. IsQueue s.records (QueuedAt port) (map (λ (c : QueuedCall). c.caller) cs)) calls (order.queues.callers port (port_at s.ports port) there) in
-      queue.each 0 caller (ap Some caller_is)
 
   apart : ¬ (caller ≡ server)
   apart same =
@@ -301,8 +294,8 @@ module _ (s : State) (order : IsInOrder s) (lends : LendsQueued s) (p ran used b
       let is = with_ready_each (moved s p ran used port others caller server) (waiters_for (funding_of s) (holder_of s.limits port)) in
       same-worth (funding_of was) (funding_of is).lends (funding_of is).owners (live_of was) (live_of is)
       (length-map is.records (λ (r : Record). lend_of s.limits r.status) ∙ as-many ∙ sym (length-map was.records (λ (r : Record). lend_of s.limits r.status)))
-      (each-cycle (waiters_for (funding_of s) (holder_of s.limits port)) s order.no_cycle) (each-cycle (waiters_for (funding_of s) (holder_of s.limits port)) (moved s p ran used port others caller server) no_cycle_now)
-      order.funds_there to-same lives-same s.limits.unit v
+      (each-cycle (waiters_for (funding_of s) (holder_of s.limits port)) s no_cycle) (each-cycle (waiters_for (funding_of s) (holder_of s.limits port)) (moved s p ran used port others caller server) no_cycle_now)
+      funds_there to-same lives-same s.limits.unit v
 
   ready-together : live_value (with_ready_each (moved s p ran used port others caller server) (waiters_for (funding_of s) (holder_of s.limits port)))
       ≡ live_value (with_ready_each s (waiters_for (funding_of s) (holder_of s.limits port)))
@@ -322,12 +315,12 @@ module _ (s : State) (order : IsInOrder s) (lends : LendsQueued s) (p ran used b
 
   worth-before : (v : ℕ) → value_of s v
       ≡ value_of (with_ready_each s (waiters_for (funding_of s) (holder_of s.limits port))) v + cond (lends_lead (funding_of s) old v) (port_value s port) 0
-  worth-before = each-worth (waiters_for (funding_of s) (holder_of s.limits port)) s old order.no_cycle order.funds_there backed queue-apart lent-old
+  worth-before = each-worth (waiters_for (funding_of s) (holder_of s.limits port)) s old no_cycle funds_there backed queue-apart lent-old
 
   worth-now : (v : ℕ) → value_of (moved s p ran used port others caller server) v
       ≡ value_of (with_ready_each (moved s p ran used port others caller server) (waiters_for (funding_of s) (holder_of s.limits port))) v
       + cond (lends_lead (funding_of (moved s p ran used port others caller server)) server v) (sum_by (value_of (moved s p ran used port others caller server)) (waiters_for (funding_of s) (holder_of s.limits port))) 0
-  worth-now = each-worth (waiters_for (funding_of s) (holder_of s.limits port)) (moved s p ran used port others caller server) server no_cycle_now order.funds_there server-backed queue-apart lent-now
+  worth-now = each-worth (waiters_for (funding_of s) (holder_of s.limits port)) (moved s p ran used port others caller server) server no_cycle_now funds_there server-backed queue-apart lent-now
 
   -- who is in the queue keeps its value
   queue-keeps : (u : ℕ) → Contains (waiters_for (funding_of s) (holder_of s.limits port)) u → value_of (moved s p ran used port others caller server) u ≡ value_of s u
@@ -335,7 +328,7 @@ module _ (s : State) (order : IsInOrder s) (lends : LendsQueued s) (p ran used b
       keeps (value_of (moved s p ran used port others caller server) u) (value_of s u) (value_of (with_ready_each (moved s p ran used port others caller server) (waiters_for (funding_of s) (holder_of s.limits port))) u)
       (value_of (with_ready_each s (waiters_for (funding_of s) (holder_of s.limits port))) u)
       (lends_lead (funding_of (moved s p ran used port others caller server)) server u) (lends_lead (funding_of s) old u) _ _ (worth-now u) (worth-before u) (ready-same u)
-      (not-back (funding_of (moved s p ran used port others caller server)) u server no_cycle_now (lent-now u c)) (not-back (funding_of s) u old order.no_cycle (lent-old u c))
+      (not-back (funding_of (moved s p ran used port others caller server)) u server no_cycle_now (lent-now u c)) (not-back (funding_of s) u old no_cycle (lent-old u c))
 
   same-queue : sum_by (value_of (moved s p ran used port others caller server)) (waiters_for (funding_of s) (holder_of s.limits port)) ≡ port_value s port
   same-queue = sum-listed (value_of (moved s p ran used port others caller server)) (value_of s) (waiters_for (funding_of s) (holder_of s.limits port)) queue-keeps
@@ -357,15 +350,22 @@ module _ (s : State) (order : IsInOrder s) (lends : LendsQueued s) (p ran used b
 
   pub moved-together : live_value (moved s p ran used port others caller server) ≡ live_value s
   moved-together =
-      each-together (waiters_for (funding_of s) (holder_of s.limits port)) (moved s p ran used port others caller server) server no_cycle_now order.funds_there server-backed queue-apart lent-now
-      ∙ ready-together ∙ sym (each-together (waiters_for (funding_of s) (holder_of s.limits port)) s old order.no_cycle order.funds_there backed queue-apart lent-old)
+      each-together (waiters_for (funding_of s) (holder_of s.limits port)) (moved s p ran used port others caller server) server no_cycle_now funds_there server-backed queue-apart lent-now
+      ∙ ready-together ∙ sym (each-together (waiters_for (funding_of s) (holder_of s.limits port)) s old no_cycle funds_there backed queue-apart lent-old)
 
 -- ---- the event
 
+-- the first of a port's calls is queued there
+pub first-queued : (s : State) → HasQueues s.records s.clients s.ports s.mutexes → (port caller : ℕ) (first : QueuedCall) (others : List QueuedCall) → at_number s.ports port ≡ Some (port_at s.ports port)
+    → (port_at s.ports port).calls ≡ first ∷ others → first.caller ≡ caller → status_of s.records caller ≡ Some (QueuedAt port)
+first-queued s queues port caller first others there calls caller_is =
+    let queue : IsQueue s.records (QueuedAt port) (map (λ (c : QueuedCall). c.caller) (first ∷ others)) =
+    subst (λ cs. IsQueue s.records (QueuedAt port) (map (λ (c : QueuedCall). c.caller) cs)) calls (queues.callers port (port_at s.ports port) there) in
+    queue.each 0 caller (ap Some caller_is)
+
 -- what holds of the state then, if it holds of each state after such a receipt
 after-receipt : (P : State → Type 0) (s : State) (e : Event) (port caller server : ℕ) → IsInOrder s → TakesCallAt s e port caller server
-    → ((p ran used before : ℕ) (first : QueuedCall) (others : List QueuedCall) → status_of s.records server ≡ Some (Running p before) → at_number s.ports port ≡ Some (port_at s.ports port)
-    → (port_at s.ports port).calls ≡ first ∷ others → first.caller ≡ caller → HasNoCycle (funding_of (moved s p ran used port others caller server)) → P (moved s p ran used port others caller server))
+    → ((p ran used before : ℕ) (others : List QueuedCall) → status_of s.records server ≡ Some (Running p before) → status_of s.records caller ≡ Some (QueuedAt port) → HasNoCycle (funding_of (moved s p ran used port others caller server)) → P (moved s p ran used port others caller server))
     → P (step s e).state
 after-receipt P s e port caller server order (p, ran, number, ticks, ends, is, replied) holds =
     by (trap-done s p ran (Receive port) server ticks (Received caller number) ends (λ refusal same. cc) (ap (λ x. (step s x).reply) (sym is) ∙ replied))
@@ -380,14 +380,14 @@ after-receipt P s e port caller server order (p, ran, number, ticks, ends, is, r
         ∙ ap (λ mutexes. (finish_trap s p server (ran + 1) done.used (record { state = record (of_ports s got).state { mutexes = mutexes }; outcome = got.outcome; after = got.after })).state) serves
         ∙ ap (λ (x : State). record x { mutexes = with_server s.limits s.mutexes port (Some server) }) state in
         let now : HasNoCycle (funding_of (step s e).state) = (step-order s e order).no_cycle in
-        subst P (sym here) (holds p ran done.used done.before first others done.runs (port-there s port (all-pass ((is_none (at_number s.ports port), NoPort) ∷ []) done.passed).0) calls caller_is (subst (λ x. HasNoCycle (funding_of x)) here now))
+        subst P (sym here) (holds p ran done.used done.before others done.runs (first-queued s order.queues port caller first others (port-there s port (all-pass ((is_none (at_number s.ports port), NoPort) ∷ []) done.passed).0) calls caller_is) (subst (λ x. HasNoCycle (funding_of x)) here now))
 
 module _ (s : State) (e : Event) (port caller server old : ℕ) (order : IsInOrder s) (lends : LendsQueued s) (takes : TakesCallAt s e port caller server) (serves : Serves s port old) (backed : IsBacked (funding_of s) (live_of s) old) where
   -- what the old server and those behind it lose, and the new one gains
   worth-moves : (v : ℕ) → value_of (step s e).state v + cond (lends_lead (funding_of s) old v) (port_value s port) 0 ≡ value_of s v + cond (v == server) (port_value s port) 0
   worth-moves v =
       after-receipt (λ x. value_of x v + cond (lends_lead (funding_of s) old v) (port_value s port) 0 ≡ value_of s v + cond (v == server) (port_value s port) 0) s e port caller server order takes
-      (λ p ran used before first others runs there calls caller_is now. moves s order lends p ran used before port caller server old first others runs there calls caller_is serves.0 serves.1 backed now v)
+      (λ p ran used before others runs queued now. moves s order.no_cycle order.funds_there lends p ran used before port caller server old others runs queued serves.0 serves.1 backed now v)
 
   leads : (v : ℕ) → LendsLead (funding_of s) old v → lends_lead (funding_of s) old v ≡ true
   leads v = (lends_lead-exact (funding_of s) order.no_cycle.lends old v).1
@@ -417,4 +417,4 @@ module _ (s : State) (e : Event) (port caller server old : ℕ) (order : IsInOrd
   pub together-same : live_value (step s e).state ≡ live_value s
   together-same =
       after-receipt (λ x. live_value x ≡ live_value s) s e port caller server order takes
-      (λ p ran used before first others runs there calls caller_is now. moved-together s order lends p ran used before port caller server old first others runs there calls caller_is serves.0 serves.1 backed now)
+      (λ p ran used before others runs queued now. moved-together s order.no_cycle order.funds_there lends p ran used before port caller server old others runs queued serves.0 serves.1 backed now)

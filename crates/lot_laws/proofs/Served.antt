@@ -15,6 +15,7 @@ use Rattle.lot_machine.specs.Lends.{IsBacked, lends_lead}
 use Rattle.lot_machine.specs.State.{State, QueuedCall, funding_of, live_of, lend_of, is_live_status, status_of, value_of, change_record}
 use Rattle.lot_machine.specs.Traps.{after_trap, with_ticks}
 use Rattle.lot_machine.specs.Ports.{port_at, clients_of, first_client, with_client, serve}
+use Rattle.lot_machine.specs.Servers.{served_at}
 use Rattle.lot_machine.specs.Step.{of_ports, finish_trap, step}
 use Rattle.lot_machine.specs.Facts.{HasNoCycle, live_value}
 use Rattle.lot_machine.specs.Order.{IsQueue, IsInOrder}
@@ -26,7 +27,7 @@ use Rattle.lot_machine.proofs.CountsOnce.{counts-once}
 use Rattle.lot_machine.proofs.OrderKept.{step-order}
 use Rattle.lot_laws.specs.Transfers.{LendsServed, RepliesThenWaits, RepliesThenReceives, OwnsNothing, with_ready}
 use Rattle.lot_machine.proofs.StepSizes.{change-length}
-use Rattle.lot_laws.proofs.Trapped.{port-off, IsDone, trap-done}
+use Rattle.lot_laws.proofs.Trapped.{port-stays, port-off, IsDone, trap-done}
 use Rattle.lot_laws.proofs.Lending.{worth-nothing, comes-alone}
 use Rattle.lot_laws.proofs.Blocked.{lead-itself, lead-other, lends-nobody, is-live, woken-worth, woken-own, blocked-worth, blocked-own, served-lends}
 use Rattle.lot_laws.proofs.CallTaken.{port-there}
@@ -52,7 +53,7 @@ taken s number caller next server = change_record (λ r. record r { status = Ser
 abbrev gone_on : State → ℕ → ℕ → ℕ → ℕ → ℕ → ℕ → ℕ → List Record
 gone_on s p ran used number caller next server = change_record (λ r. with_ticks (ran + 1) (after_trap GoesOn p used s.limits r)) (taken s number caller next server) server
 
-abbrev serving : State → ℕ → ℕ → ℕ → ℕ → ℕ → List QueuedCall → ℕ → ℕ → ℕ → State
+abbrev pub serving : State → ℕ → ℕ → ℕ → ℕ → ℕ → List QueuedCall → ℕ → ℕ → ℕ → State
 serving s p ran used port number others caller next server = record s {
   records = gone_on s p ran used number caller next server;
   clients = with_client (set_number s.clients server (drop 1 (clients_of s.clients server))) server next;
@@ -69,11 +70,11 @@ serve-waits s p ran used port number caller server = at (port_at s.ports port).c
     at (first ∷ others) is = rw is (λ came. cc)
 
 -- the first of these calls was the next caller's, and this is the state then
-abbrev IsServing : State → ℕ → ℕ → ℕ → ℕ → ℕ → ℕ → ℕ → ℕ → List QueuedCall → State → Type 0
+abbrev pub IsServing : State → ℕ → ℕ → ℕ → ℕ → ℕ → ℕ → ℕ → ℕ → List QueuedCall → State → Type 0
 IsServing s p ran used port number caller next server calls after =
     (first : QueuedCall) × (others : List QueuedCall) × (calls ≡ first ∷ others) × (first.caller ≡ next) × (unwrap_or (first_client s.clients server) 0 ≡ caller) × (after ≡ serving s p ran used port number others caller next server)
 
-serve-receives : (s : State) (p ran used port number caller next got server : ℕ) → (serve s.records s.clients s.ports server port number).outcome ≡ RepliedThenReceived caller next got
+pub serve-receives : (s : State) (p ran used port number caller next got server : ℕ) → (serve s.records s.clients s.ports server port number).outcome ≡ RepliedThenReceived caller next got
     → IsServing s p ran used port number caller next server (port_at s.ports port).calls (finish_trap s p server (ran + 1) used (of_ports s (serve s.records s.clients s.ports server port number))).state
 serve-receives s p ran used port number caller next got server = at (port_at s.ports port).calls refl
   where
@@ -311,17 +312,17 @@ module _ (s : State) (order : IsInOrder s) (lends : s.limits.without_lending ≡
 
 -- ---- the event
 
-after-wait : (P : State → Type 0) (s : State) → s.limits.queued_lend ≡ false → (e : Event) (caller server : ℕ) → IsInOrder s → RepliesThenWaits s e caller server
+after-wait : (P : State → Type 0) (s : State) (e : Event) (caller server : ℕ) → IsInOrder s → RepliesThenWaits s e caller server
     → ((p ran used before port number : ℕ) → status_of s.records server ≡ Some (Running p before) → first_client s.clients server ≡ Some caller → HasNoCycle (funding_of (waiting s p ran used port number caller server))
     → P (waiting s p ran used port number caller server)) → P (step s e).state
-after-wait P s off e caller server order (p, ran, port, number, ticks, ends, is, replies) holds =
+after-wait P s e caller server order (p, ran, port, number, ticks, ends, is, replies) holds =
     by (trap-done s p ran (Serve port number) server ticks (RepliedThenWaits caller) ends (λ refusal same. cc) (ap (λ x. (step s x).reply) (sym is) ∙ replies))
   where
     by : IsDone s p ran (Serve port number) server (RepliedThenWaits caller) (step s (Trap p ran (Serve port number))).state → P (step s e).state
     by done =
         let (same, state) = serve-waits s p ran done.used port number caller server done.came in
         let checks = all-pass ((is_none (at_number s.ports port), NoPort) ∷ (is_none (first_client s.clients server), NothingToReply) ∷ []) done.passed in
-        let here : (step s e).state ≡ waiting s p ran done.used port number caller server = ap (λ x. (step s x).state) is ∙ done.state ∙ ap (λ x. (finish_trap s p server (ran + 1) done.used x).state) (port-off s server port (serve s.records s.clients s.ports server port number) off) ∙ state in
+        let here : (step s e).state ≡ waiting s p ran done.used port number caller server = ap (λ x. (step s x).state) is ∙ done.state ∙ ap (λ x. (finish_trap s p server (ran + 1) done.used x).state) (port-stays s server port (serve s.records s.clients s.ports server port number) (ap (served_at s server port) done.came)) ∙ state in
         let now : HasNoCycle (funding_of (step s e).state) = (step-order s e order).no_cycle in
         subst P (sym here) (holds p ran done.used done.before port number done.runs (caller-first s caller server same checks.1.0) (subst (λ x. HasNoCycle (funding_of x)) here now))
 
@@ -342,20 +343,20 @@ after-serve P s off e caller next server order (p, ran, port, number, got, ticks
         subst P (sym here) (holds p ran done.used done.before port number queued others done.runs (caller-first s caller server same checks.1.0) there calls next_is (subst (λ x. HasNoCycle (funding_of x)) here now))
 
 -- that a server is left with nothing, if it is in the state then
-pub waits-server : (s : State) (e : Event) (caller server : ℕ) → IsInOrder s → LendsServed s → RepliesThenWaits s e caller server → OwnsNothing (step s e).state server → value_of s server ≡ value_of s caller
+pub waits-server : (s : State) (e : Event) (caller server : ℕ) → IsInOrder s → s.limits.without_lending ≡ false → RepliesThenWaits s e caller server → OwnsNothing (step s e).state server → value_of s server ≡ value_of s caller
 waits-server s e caller server order lends replies =
-    after-wait (λ x. OwnsNothing x server → value_of s server ≡ value_of s caller) s lends.1 e caller server order replies
-    (λ p ran used before port number runs first now owns. left-server s order lends.0 p before caller server runs first ran used port number now owns)
+    after-wait (λ x. OwnsNothing x server → value_of s server ≡ value_of s caller) s e caller server order replies
+    (λ p ran used before port number runs first now owns. left-server s order lends p before caller server runs first ran used port number now owns)
 
-pub waits-others : (s : State) (e : Event) (caller server other : ℕ) → IsInOrder s → LendsServed s → RepliesThenWaits s e caller server → other ≢ server → OwnsNothing (step s e).state server → value_of (step s e).state other ≡ value_of s other
+pub waits-others : (s : State) (e : Event) (caller server other : ℕ) → IsInOrder s → s.limits.without_lending ≡ false → RepliesThenWaits s e caller server → other ≢ server → OwnsNothing (step s e).state server → value_of (step s e).state other ≡ value_of s other
 waits-others s e caller server other order lends replies differs =
-    after-wait (λ x. OwnsNothing x server → value_of x other ≡ value_of s other) s lends.1 e caller server order replies
-    (λ p ran used before port number runs first now owns. left-others s order lends.0 p before caller server runs first ran used port number now owns other differs)
+    after-wait (λ x. OwnsNothing x server → value_of x other ≡ value_of s other) s e caller server order replies
+    (λ p ran used before port number runs first now owns. left-others s order lends p before caller server runs first ran used port number now owns other differs)
 
-pub waits-together : (s : State) (e : Event) (caller server : ℕ) → IsInOrder s → LendsServed s → RepliesThenWaits s e caller server → OwnsNothing (step s e).state server → live_value (step s e).state ≡ live_value s
+pub waits-together : (s : State) (e : Event) (caller server : ℕ) → IsInOrder s → s.limits.without_lending ≡ false → RepliesThenWaits s e caller server → OwnsNothing (step s e).state server → live_value (step s e).state ≡ live_value s
 waits-together s e caller server order lends replies =
-    after-wait (λ x. OwnsNothing x server → live_value x ≡ live_value s) s lends.1 e caller server order replies
-    (λ p ran used before port number runs first now owns. left-together s order lends.0 p before caller server runs first ran used port number now owns)
+    after-wait (λ x. OwnsNothing x server → live_value x ≡ live_value s) s e caller server order replies
+    (λ p ran used before port number runs first now owns. left-together s order lends p before caller server runs first ran used port number now owns)
 
 pub serves-server : (s : State) (e : Event) (caller next server : ℕ) → IsInOrder s → LendsServed s → RepliesThenReceives s e caller next server
     → value_of (step s e).state server ≡ value_of (with_ready (with_ready s caller) next) server + value_of (with_ready (with_ready s caller) next) next

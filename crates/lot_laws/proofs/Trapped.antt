@@ -18,6 +18,7 @@ use Rattle.lot_machine.specs.State.{State, live_in, lend_of, is_live_status, sta
 use Rattle.lot_machine.specs.Commands.{Step, unless_refused}
 use Rattle.lot_machine.specs.Traps.{after_trap, with_ticks}
 use Rattle.lot_machine.specs.Ports.{PortTrap}
+use Rattle.lot_machine.specs.Servers.{served_at}
 use Rattle.lot_machine.specs.Step.{at_port, of_ports, is_bad_processor, trap_refusal, trap_effect, checked_effect, finish_trap, thread_there, used_there, event_refusal, event_effect, step}
 use Rattle.lot_machine.proofs.CommandsKept.{all-pass}
 use Rattle.lot_machine.proofs.TrapCycles.{at_number-map}
@@ -89,6 +90,10 @@ goes-on without ticks p used limits r = by (nat_lt used limits.quantum) refl
     by true is = rw is (refl, refl)
     by false is = rw is (refl, refl)
 
--- a trap at a port changes no server if queued calls don't lend
+-- a trap at a port that changes no server
+pub port-stays : (s : State) (t port : ℕ) (e : PortTrap) → served_at s t port e.outcome ≡ s.mutexes → at_port s t port e ≡ of_ports s e
+port-stays s t port e same = ap (λ mutexes. record { state = record (of_ports s e).state { mutexes = mutexes }; outcome = e.outcome; after = e.after }) same
+
+-- as none does if queued calls don't lend
 pub port-off : (s : State) (t port : ℕ) (e : PortTrap) → s.limits.queued_lend ≡ false → at_port s t port e ≡ of_ports s e
-port-off s t port e off = ap (λ mutexes. record { state = record (of_ports s e).state { mutexes = mutexes }; outcome = e.outcome; after = e.after }) (served-off s t port e.outcome off)
+port-off s t port e off = port-stays s t port e (served-off s t port e.outcome off)

@@ -68,6 +68,12 @@ abbrev pub TakesCallAt : State → Event → ℕ → ℕ → ℕ → Type 0
 TakesCallAt s e port caller server =
     (p : ℕ) × (ran : ℕ) × (number : ℕ) × (ticks : ℕ) × (ends : Bool) × (e ≡ Trap p ran (Receive port)) × ((step s e).reply ≡ Trapped server ticks (Received caller number) ends)
 
+-- the server replies to the caller and receives at the port, in one trap, and takes the next caller's queued call
+abbrev pub ServesNextAt : State → Event → ℕ → ℕ → ℕ → ℕ → Type 0
+ServesNextAt s e port caller next server =
+    (p : ℕ) × (ran : ℕ) × (number : ℕ) × (taken : ℕ) × (ticks : ℕ) × (ends : Bool) × (e ≡ Trap p ran (Serve port number))
+    × ((step s e).reply ≡ Trapped server ticks (RepliedThenReceived caller next taken) ends)
+
 -- what the port passes on: the sum of the values of those whose calls are queued there
 abbrev pub port_value : State → ℕ → ℕ
 port_value s port = mutex_value s.limits.unit (funding_of s) (live_of s) (holder_of s.limits port)

@@ -1,6 +1,6 @@
 //! Transfers lose nothing: a thread that blocks passes its value to the thread that it waits for, and gets it back
 //! with the reply (3.1, 4.6, 6.1), unless the kernel is without lending.
-ghost use Rattle.std.specs.Prelude.{◌≡◌, ◌≢◌, ◌+◌, ℕ, false};
+ghost use Rattle.std.specs.Prelude.{◌≡◌, ◌≢◌, ◌⊎◌, ◌+◌, ℕ, false};
 ghost use Rattle.lot_machine.specs.declared.event.Event.{Event};
 ghost use Rattle.lot_machine.specs.Lends.{LendsLead, IsBacked};
 ghost use Rattle.lot_machine.specs.State.{State, funding_of, live_of, value_of};
@@ -8,8 +8,8 @@ ghost use Rattle.lot_machine.specs.Facts.{live_value};
 ghost use Rattle.lot_machine.specs.Order.{IsInOrder};
 ghost use Rattle.lot_machine.specs.Step.{step};
 ghost use Rattle.lot_laws.specs.Transfers.{LendsServed, TakesCall, QueuesCall, TakesQueuedCall, RepliesTo, RepliesThenWaits};
-ghost use Rattle.lot_laws.specs.Transfers.{RepliesThenReceives, LendsQueued, QueuesAt, TakesCallAt, Serves, port_value};
-ghost use Rattle.lot_laws.specs.Transfers.{MayWait, WaitsFor, OwnsNothing, with_ready};
+ghost use Rattle.lot_laws.specs.Transfers.{RepliesThenReceives, LendsQueued, QueuesAt, TakesCallAt, ServesNextAt};
+ghost use Rattle.lot_laws.specs.Transfers.{Serves, port_value, MayWait, WaitsFor, OwnsNothing, with_ready};
 
 /// A server with nothing of its own is worth nothing; once it takes a call, it is worth exactly what the caller was.
 /// Every other thread, and the caller, keeps its value, and so does the sum over the live threads.
@@ -93,14 +93,14 @@ pub fn replies_return_value()
 /// a reply alone.
 pub fn servings_return_value()
     ensures server { (s : State) (e : Event) (caller server : ℕ) → IsInOrder s
-        → LendsServed s → RepliesThenWaits s e caller server
+        → s.limits.without_lending ≡ false → RepliesThenWaits s e caller server
         → OwnsNothing (step s e).state server → value_of s server ≡ value_of s caller }
     ensures others { (s : State) (e : Event) (caller server other : ℕ) → IsInOrder s
-        → LendsServed s → RepliesThenWaits s e caller server → other ≢ server
+        → s.limits.without_lending ≡ false → RepliesThenWaits s e caller server → other ≢ server
         → OwnsNothing (step s e).state server
         → value_of (step s e).state other ≡ value_of s other }
     ensures together { (s : State) (e : Event) (caller server : ℕ) → IsInOrder s
-        → LendsServed s → RepliesThenWaits s e caller server → OwnsNothing (step s e).state server
+        → s.limits.without_lending ≡ false → RepliesThenWaits s e caller server → OwnsNothing (step s e).state server
         → live_value (step s e).state ≡ live_value s }
 {}
 
@@ -166,6 +166,35 @@ pub fn receipts_move_the_queue()
         → value_of (step s e).state other ≡ value_of s other }
     ensures together { (s : State) (e : Event) (port caller server before : ℕ) → IsInOrder s → LendsQueued s
         → TakesCallAt s e port caller server → Serves s port before → IsBacked (funding_of s) (live_of s) before
+        → live_value (step s e).state ≡ live_value s }
+{}
+
+/// If queued calls lend, a server that replies and then takes the next caller's queued call, in one trap, gives back
+/// what the answered caller is worth, and what all the callers lend moves to it as by a receipt alone. So the port's own
+/// server gives back exactly that much (`own`). Another one gains the port's value too (`gains`), unless it has it
+/// already (`keeps`).
+pub fn servings_move_the_queue()
+    ensures own { (s : State) (e : Event) (port caller next server : ℕ) → IsInOrder s → LendsQueued s
+        → ServesNextAt s e port caller next server → Serves s port server
+        → value_of s server ≡ value_of (step s e).state server + value_of s caller }
+    ensures gains { (s : State) (e : Event) (port caller next server before : ℕ) → IsInOrder s → LendsQueued s
+        → ServesNextAt s e port caller next server → Serves s port before → IsBacked (funding_of s) (live_of s) before
+        → (¬ LendsLead (funding_of s) before server) ⊎ LendsLead (funding_of s) before caller
+        → value_of (step s e).state server + value_of s caller ≡ value_of s server + port_value s port }
+    ensures keeps { (s : State) (e : Event) (port caller next server before : ℕ) → IsInOrder s → LendsQueued s
+        → ServesNextAt s e port caller next server → Serves s port before → IsBacked (funding_of s) (live_of s) before
+        → LendsLead (funding_of s) before server → ¬ LendsLead (funding_of s) before caller
+        → value_of s server ≡ value_of (step s e).state server + value_of s caller }
+    ensures loses { (s : State) (e : Event) (port caller next server before behind : ℕ) → IsInOrder s → LendsQueued s
+        → ServesNextAt s e port caller next server → Serves s port before → IsBacked (funding_of s) (live_of s) before
+        → LendsLead (funding_of s) before behind → behind ≢ server
+        → value_of s behind ≡ value_of (step s e).state behind + port_value s port }
+    ensures others { (s : State) (e : Event) (port caller next server before other : ℕ) → IsInOrder s → LendsQueued s
+        → ServesNextAt s e port caller next server → Serves s port before → IsBacked (funding_of s) (live_of s) before
+        → ¬ LendsLead (funding_of s) before other → other ≢ server
+        → value_of (step s e).state other ≡ value_of s other }
+    ensures together { (s : State) (e : Event) (port caller next server before : ℕ) → IsInOrder s → LendsQueued s
+        → ServesNextAt s e port caller next server → Serves s port before → IsBacked (funding_of s) (live_of s) before
         → live_value (step s e).state ≡ live_value s }
 {}
 
