@@ -28,5 +28,7 @@ pub mod StayOut
 pub mod FullRefused
 pub mod Sleepers
 pub mod Listed
+pub mod WaitsListed
+pub mod PortQueues
 pub mod Killed
 pub mod Issuers

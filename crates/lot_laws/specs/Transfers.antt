@@ -1,5 +1,5 @@
 -- Transfers: a blocked thread lends its value to the thread that it waits for (3.1, 4.6, 6.1).
-use Rattle.std.specs.Prelude.{◌≡◌, ℕ, nat_le, Bool, true, false, Some, []}
+use Rattle.std.specs.Prelude.{◌≡◌, ℕ, nat_le, Bool, true, false, Some, List, [], map}
 use Rattle.lot_machine.specs.declared.action.Action.TheVariants.{Call, Receive, Reply as ReplyTo, Serve, Lock}
 use Rattle.lot_machine.specs.declared.event.Event.{Event}
 use Rattle.lot_machine.specs.declared.event.Event.TheVariants.{Trap}
@@ -9,7 +9,8 @@ use Rattle.lot_machine.specs.declared.reply.Outcome.TheVariants.{ServedBy, Queue
 use Rattle.lot_machine.specs.Funding.{owner_of, backing_thread}
 use Rattle.lot_machine.specs.Lends.{LendsTo, LendsLead}
 use Rattle.lot_machine.specs.Value.{mutex_value}
-use Rattle.lot_machine.specs.State.{State, holder_of, funding_of, live_of, change_record}
+use Rattle.lot_machine.specs.State.{State, Port, holder_of, funding_of, live_of, change_record}
+use Rattle.lot_machine.specs.Ports.{port_at}
 use Rattle.lot_machine.specs.Step.{step}
 
 -- ---- events
@@ -74,7 +75,11 @@ ServesNextAt s e port caller next server =
     (p : ℕ) × (ran : ℕ) × (number : ℕ) × (taken : ℕ) × (ticks : ℕ) × (ends : Bool) × (e ≡ Trap p ran (Serve port number))
     × ((step s e).reply ≡ Trapped server ticks (RepliedThenReceived caller next taken) ends)
 
--- what the port passes on: the sum of the values of those whose calls are queued there
+-- the threads whose calls are queued at the port, the one that has waited longest first
+abbrev pub callers_of : List Port → ℕ → List ℕ
+callers_of ports port = map (λ call. call.caller) (port_at ports port).calls
+
+-- what the port passes on: the sum of the values of those that lend to it, which are those whose calls are queued there
 abbrev pub port_value : State → ℕ → ℕ
 port_value s port = mutex_value s.limits.unit (funding_of s) (live_of s) (holder_of s.limits port)
 

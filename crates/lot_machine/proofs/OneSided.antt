@@ -28,11 +28,11 @@ use Rattle.lot_machine.proofs.TrapCycles.{at_number-map}
 -- ---- ports
 
 -- each of these ports is one-sided
-abbrev Each : List Port → Type 0
+abbrev pub Each : List Port → Type 0
 Each ports = (p : ℕ) (port : Port) → at_number ports p ≡ Some port → IsOneSided port
 
 -- and so has one that is looked up, if it is there or not
-at-port : (ports : List Port) (p : ℕ) → Each ports → IsOneSided (port_at ports p)
+pub at-port : (ports : List Port) (p : ℕ) → Each ports → IsOneSided (port_at ports p)
 at-port ports p each = by (at_number ports p) refl
   where
     by : (o : Option Port) → at_number ports p ≡ o → IsOneSided (unwrap_or o (record { calls = []; receivers = [] }))
