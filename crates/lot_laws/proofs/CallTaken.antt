@@ -36,14 +36,14 @@ port-there s port some =
 -- ---- the state
 
 -- the records after the server woke, and after the caller left
-abbrev woken : State → ℕ → ℕ → List Record
+abbrev pub woken : State → ℕ → ℕ → List Record
 woken s number server = change_record (λ r. record r { status = Ready; delivered = Some number }) s.records server
 
-abbrev left : State → ℕ → ℕ → ℕ → ℕ → ℕ → ℕ → List Record
+abbrev pub left : State → ℕ → ℕ → ℕ → ℕ → ℕ → ℕ → List Record
 left s p ran used number server caller = change_record (λ r. with_ticks (ran + 1) (after_trap (Leaves (Served server)) p used s.limits r)) (woken s number server) caller
 
 -- the state after a call was taken
-abbrev called : State → ℕ → ℕ → ℕ → ℕ → ℕ → List ℕ → ℕ → ℕ → State
+abbrev pub called : State → ℕ → ℕ → ℕ → ℕ → ℕ → List ℕ → ℕ → ℕ → State
 called s p ran used port number others server caller = record s {
   records = left s p ran used number server caller;
   clients = with_client s.clients server caller;
@@ -51,11 +51,11 @@ called s p ran used port number others server caller = record s {
 }
 
 -- the first of these receivers took the call, and this is the state then
-abbrev IsCalled : State → ℕ → ℕ → ℕ → ℕ → ℕ → ℕ → ℕ → List ℕ → State → Type 0
+abbrev pub IsCalled : State → ℕ → ℕ → ℕ → ℕ → ℕ → ℕ → ℕ → List ℕ → State → Type 0
 IsCalled s p ran used port number caller server receivers after =
     (others : List ℕ) × (receivers ≡ server ∷ others) × (after ≡ called s p ran used port number others server caller)
 
-call-taken : (s : State) (p ran used port number caller server : ℕ) → (call s.records s.clients s.ports caller port number).outcome ≡ ServedBy server
+pub call-taken : (s : State) (p ran used port number caller server : ℕ) → (call s.records s.clients s.ports caller port number).outcome ≡ ServedBy server
     → IsCalled s p ran used port number caller server (port_at s.ports port).receivers (finish_trap s p caller (ran + 1) used (of_ports s (call s.records s.clients s.ports caller port number))).state
 call-taken s p ran used port number caller server = at (port_at s.ports port).receivers refl
   where

@@ -343,6 +343,14 @@ comes-alone whole own more is none = omega (arith, is, none)
 
 -- ---- each thread lends as before, through other lends and owners
 
+-- then nothing is lent in a circle if nothing is so
+pub untangled-same : (f : Funding) (lends : List Lend) (owners : List (Option ℕ)) → ((u : ℕ) → borrower_of (relent f lends owners) u ≡ borrower_of f u) → HasNoCycle (relent f lends owners) → HasNoCycle f
+untangled-same f lends owners to_same no_cycle = record { funding = no_cycle.funding; lends = λ t (u, first, (chain, is)). no_cycle.lends t (u, to_same t ∙ first, (chain, chain-on u chain t is)) }
+  where
+    chain-on : (u : ℕ) (chain : List ℕ) (v : ℕ) → IsLendChain f u chain v → IsLendChain (relent f lends owners) u chain v
+    chain-on u [] v is = is
+    chain-on u (w ∷ rest) v (first, more) = (to_same u ∙ first, chain-on w rest v more)
+
 -- each lends to the same thread, and lives as before
 module _ (f : Funding) (lends : List Lend) (owners : List (Option ℕ)) (live now : List Bool) (many : length lends ≡ length f.lends) (no_cycle : HasNoCycle f) (no_cycle_now : HasNoCycle (relent f lends owners)) (there : FundsThere f)
     (to_same : (u : ℕ) → borrower_of (relent f lends owners) u ≡ borrower_of f u) (lives : (u : ℕ) → at_number now u ≡ at_number live u) where

@@ -16,6 +16,7 @@ pub mod CallReceived
 pub mod CallQueued
 pub mod CallLends
 pub mod LendersReady
+pub mod MutexWaiters
 pub mod QueueMoves
 pub mod ServingMoves
 pub mod MutexWait
@@ -30,5 +31,7 @@ pub mod Sleepers
 pub mod Listed
 pub mod WaitsListed
 pub mod PortQueues
+pub mod CallAlone
+pub mod QueueGathers
 pub mod Killed
 pub mod Issuers

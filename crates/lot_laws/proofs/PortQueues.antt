@@ -1,25 +1,23 @@
 -- Who waits at a port in a reachable state, and what the port passes on.
-use Rattle.std.proofs.Common.{◌≡◌, ◌≢◌, ℕ, suc, ◌+◌, ◌-◌, ◌≤◌, ◌<◌, nat_le, ◌&&◌, inl, inr, Bool, true, false, cond, Option, Some, None, List, [], Contains, length, map, sum_by, option_map, unwrap_or, slice_get, refl, sym, ◌∙◌, ap, subst, arith, if◌then◌else◌}
-use Rattle.std.proofs.lemmas.Bool.{eq-eqb, eqb-true, le-leb, ltb-false}
-use Rattle.std.proofs.lemmas.Option.{slice_get_within}
+use Rattle.std.proofs.Common.{◌≡◌, ◌≢◌, ℕ, ◌+◌, ◌≤◌, nat_le, ◌&&◌, inl, inr, Bool, true, false, cond, Option, Some, None, List, [], Contains, map, sum_by, option_map, unwrap_or, slice_get, refl, sym, ◌∙◌, ap, subst, arith, if◌then◌else◌}
+use Rattle.std.proofs.lemmas.Bool.{le-leb, ltb-false}
 use Rattle.lot_machine.specs.declared.record.Status.{Status}
 use Rattle.lot_machine.specs.declared.record.Status.TheVariants as status
 use Rattle.lot_machine.specs.declared.funding.Lend.{Lend}
 use Rattle.lot_machine.specs.declared.funding.Lend.TheVariants.{Nobody, ToThread, ToMutex}
-use Rattle.lot_machine.specs.Numbered.{at_number, numbers, option_any}
-use Rattle.lot_machine.specs.Funding.{is_to_mutex}
+use Rattle.lot_machine.specs.Numbered.{at_number}
 use Rattle.lot_machine.specs.Value.{waiters_for}
 use Rattle.lot_machine.specs.State.{State, Port, QueuedCall, funding_of, lend_of, lends_at, holder_of, status_of, value_of}
 use Rattle.lot_machine.specs.Ports.{port_at}
 use Rattle.lot_machine.specs.Order.{IsOneSided, HasOneSidedPorts, IsInOrder}
-use Rattle.lot_machine.proofs.Changes.{number-there}
-use Rattle.lot_machine.proofs.EachOnce.{IsApart, contains-nothing, contains-at, place-in, contains-filter, filter-contains, range-contains, apart-from, apart-range, apart-filter, same-sums}
+use Rattle.lot_machine.proofs.EachOnce.{IsApart, contains-nothing, contains-at, place-in, apart-from, same-sums}
 use Rattle.lot_machine.proofs.OneSided.{at-port, reached-one}
 use Rattle.lot_machine.proofs.OrderKept.{reached-order}
-use Rattle.lot_machine.proofs.Tickets.{some-injective, at_number-suc}
+use Rattle.lot_machine.proofs.Tickets.{some-injective}
 use Rattle.lot_laws.specs.Reachable.{IsReachable}
 use Rattle.lot_laws.specs.Transfers.{LendsQueued, callers_of, port_value}
 use Rattle.lot_laws.proofs.Trapped.{lend-is}
+use Rattle.lot_laws.proofs.MutexWaiters.{waiters-of, waiters-in, waiters-apart}
 use Rattle.lot_laws.proofs.WaitsListed.{reachable-waits}
 
 pub queued-listed : (s : State) (t port : ℕ) → IsReachable s → status_of s.records t ≡ Some (status.Queued port) → Contains (callers_of s.ports port) t
@@ -32,7 +30,7 @@ receiving-listed s t port reachable is = let (place, at) = reachable-waits s rea
 reachable-sided : (s : State) → IsReachable s → HasOneSidedPorts s
 reachable-sided s (limits, events, bounds, is) = subst HasOneSidedPorts (sym is) (reached-one limits events)
 
-reachable-order : (s : State) → IsReachable s → IsInOrder s
+pub reachable-order : (s : State) → IsReachable s → IsInOrder s
 reachable-order s (limits, events, bounds, is) = subst IsInOrder (sym is) (reached-order limits events bounds)
 
 pub never-both : (s : State) (caller receiver port : ℕ) → IsReachable s → status_of s.records caller ≡ Some (status.Queued port) → status_of s.records receiver ≢ Some (status.Receiving port)
@@ -44,13 +42,7 @@ never-both s caller receiver port reachable queued receives = by (at-port s.port
 
 -- ---- what a port passes on
 
-module _ (s : State) (port : ℕ) (reachable : IsReachable s) (lends : LendsQueued s) (least : 1 ≤ port) (small : port ≤ s.limits.ports) where
-  -- what a thread whose call is queued at a port lends to
-  to-holder : (p : ℕ) → nat_le p s.limits.ports ≡ true → lend_of s.limits (status.Queued p) ≡ ToMutex (holder_of s.limits p)
-  to-holder p within =
-      ap (λ (without : Bool). if without then Nobody else (if lends_at s.limits p then ToMutex (holder_of s.limits p) else Nobody)) lends.0
-      ∙ ap (λ (on : Bool). if on then ToMutex (holder_of s.limits p) else Nobody) (ap (λ q. q && nat_le p s.limits.ports) lends.1 ∙ within)
-
+module _ (s : State) (port : ℕ) (reachable : IsReachable s) (least : 1 ≤ port) where
   unlent : {A : Type 0} (without : Bool) (lend : Lend) (m : ℕ) → (lend ≡ ToMutex m → A) → cond without Nobody lend ≡ ToMutex m → A
   unlent true lend m to is = cc
   unlent false lend m to is = to is
@@ -85,54 +77,38 @@ module _ (s : State) (port : ℕ) (reachable : IsReachable s) (lends : LendsQueu
       by None at to = cc
       by (Some now) at to = of now at (some-injective (lend_of s.limits now) (ToMutex (holder_of s.limits port)) to)
 
+module _ (s : State) (port : ℕ) (reachable : IsReachable s) (lends : LendsQueued s) (least : 1 ≤ port) (small : port ≤ s.limits.ports) where
+  -- what a thread whose call is queued at a port lends to
+  to-holder : (p : ℕ) → nat_le p s.limits.ports ≡ true → lend_of s.limits (status.Queued p) ≡ ToMutex (holder_of s.limits p)
+  to-holder p within =
+      ap (λ (without : Bool). if without then Nobody else (if lends_at s.limits p then ToMutex (holder_of s.limits p) else Nobody)) lends.0
+      ∙ ap (λ (on : Bool). if on then ToMutex (holder_of s.limits p) else Nobody) (ap (λ q. q && nat_le p s.limits.ports) lends.1 ∙ within)
+
   -- and the other way round
-  queued-lender : (u : ℕ) → status_of s.records u ≡ Some (status.Queued port) → at_number (funding_of s).lends u ≡ Some (ToMutex (holder_of s.limits port))
+  pub queued-lender : (u : ℕ) → status_of s.records u ≡ Some (status.Queued port) → at_number (funding_of s).lends u ≡ Some (ToMutex (holder_of s.limits port))
   queued-lender u at = lend-is s.limits s.records u ∙ ap (option_map (lend_of s.limits)) at ∙ ap Some (to-holder port (le-leb port s.limits.ports small))
 
   -- a port's callers, each of whom is queued there
-  callers : (place u : ℕ) → slice_get (callers_of s.ports port) place ≡ Some u → status_of s.records u ≡ Some (status.Queued port)
+  pub callers : (place u : ℕ) → slice_get (callers_of s.ports port) place ≡ Some u → status_of s.records u ≡ Some (status.Queued port)
   callers place u = by (at_number s.ports port) refl
     where
       by : (o : Option Port) → at_number s.ports port ≡ o → slice_get (map (λ (c : QueuedCall). c.caller) (unwrap_or o (record { calls = []; receivers = [] })).calls) place ≡ Some u → status_of s.records u ≡ Some (status.Queued port)
       by None there at = cc
       by (Some x) there at = ((reachable-order s reachable).queues.callers port x there).each place u at
 
-  callers-apart : IsApart (callers_of s.ports port)
+  pub callers-apart : IsApart (callers_of s.ports port)
   callers-apart = by (at_number s.ports port) refl
     where
       by : (o : Option Port) → at_number s.ports port ≡ o → IsApart (map (λ (c : QueuedCall). c.caller) (unwrap_or o (record { calls = []; receivers = [] })).calls)
       by None there = tt
       by (Some x) there = apart-from (map (λ (c : QueuedCall). c.caller) x.calls) (λ u place other at also. ((reachable-order s reachable).queues.callers port x there).once place other u at also)
 
-  -- those who lend to it
-  lenders : (u : ℕ) → Contains (waiters_for (funding_of s) (holder_of s.limits port)) u → at_number (funding_of s).lends u ≡ Some (ToMutex (holder_of s.limits port))
-  lenders u c =
-      by (at_number (funding_of s).lends u) refl (contains-filter (λ t. option_any (is_to_mutex (holder_of s.limits port)) (at_number (funding_of s).lends t)) (numbers (funding_of s).lends) u c).1
-    where
-      by : (o : Option Lend) → at_number (funding_of s).lends u ≡ o → option_any (is_to_mutex (holder_of s.limits port)) o ≡ true → at_number (funding_of s).lends u ≡ Some (ToMutex (holder_of s.limits port))
-      by None is e = cc
-      by (Some Nobody) is e = cc
-      by (Some (ToThread w)) is e = cc
-      by (Some (ToMutex m)) is e = is ∙ ap (λ n. Some (ToMutex n)) (eqb-true m (holder_of s.limits port) e)
-
-  lenders-back : (u : ℕ) → at_number (funding_of s).lends u ≡ Some (ToMutex (holder_of s.limits port)) → Contains (waiters_for (funding_of s) (holder_of s.limits port)) u
-  lenders-back u is =
-      filter-contains (λ t. option_any (is_to_mutex (holder_of s.limits port)) (at_number (funding_of s).lends t)) (numbers (funding_of s).lends) u
-      (ap (option_any (is_to_mutex (holder_of s.limits port))) is ∙ eq-eqb (holder_of s.limits port) (holder_of s.limits port) refl)
-      (range-contains 1 (length (funding_of s).lends) u (omega (arith, number)) (omega (arith, number, within)))
-    where
-      number : suc (u - 1) ≡ u
-      number = number-there (funding_of s).lends u (ToMutex (holder_of s.limits port)) is
-
-      within : u - 1 < length (funding_of s).lends
-      within = slice_get_within (funding_of s).lends (u - 1) (ToMutex (holder_of s.limits port)) (sym (at_number-suc (funding_of s).lends (u - 1)) ∙ ap (at_number (funding_of s).lends) number ∙ is)
-
-  pub passes-on : port_value s port ≡ sum_by (value_of s) (callers_of s.ports port)
-  passes-on =
-      same-sums (value_of s) (waiters_for (funding_of s) (holder_of s.limits port)) (callers_of s.ports port)
-      (apart-filter (λ t. option_any (is_to_mutex (holder_of s.limits port)) (at_number (funding_of s).lends t)) (numbers (funding_of s).lends) (apart-range 1 (length (funding_of s).lends))) callers-apart
-      (λ u c. queued-listed s u port reachable (lender-queued u (lenders u c)))
-      (λ u c. let (place, at) = place-in (callers_of s.ports port) u c in lenders-back u (queued-lender u (callers place u at)))
+  -- what is summed over those who lend to the port is summed over its callers
+  pub same-callers : (g : ℕ → ℕ) → sum_by g (waiters_for (funding_of s) (holder_of s.limits port)) ≡ sum_by g (callers_of s.ports port)
+  same-callers g =
+      same-sums g (waiters_for (funding_of s) (holder_of s.limits port)) (callers_of s.ports port) (waiters-apart (funding_of s) (holder_of s.limits port)) callers-apart
+      (λ u c. queued-listed s u port reachable (lender-queued s port reachable least u (waiters-of (funding_of s) (holder_of s.limits port) u c)))
+      (λ u c. let (place, at) = place-in (callers_of s.ports port) u c in waiters-in (funding_of s) (holder_of s.limits port) u (queued-lender u (callers place u at)))
 
 pub ports-pass : (s : State) (port : ℕ) → IsReachable s → LendsQueued s → 1 ≤ port → port ≤ s.limits.ports → port_value s port ≡ sum_by (value_of s) (callers_of s.ports port)
-ports-pass s port reachable lends least small = passes-on s port reachable lends least small
+ports-pass s port reachable lends least small = same-callers s port reachable lends least small (value_of s)

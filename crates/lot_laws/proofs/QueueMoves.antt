@@ -1,10 +1,9 @@
 -- A receipt that takes a queued call, in a kernel whose queued calls lend: what threads are worth then.
-use Rattle.std.proofs.Common.{◌≡◌, ◌≢◌, ℕ, suc, ◌+◌, ◌-◌, ◌==◌, ◌<◌, nat_le, ◌&&◌, ◌⊎◌, inl, inr, Bool, true, false, cond, is_none, Option, Some, None, List, [], ◌∷◌, Contains, length, map, sum_by, option_map, option_and_then, refl, sym, ◌∙◌, ap, subst, arith, if◌then◌else◌}
+use Rattle.std.proofs.Common.{◌≡◌, ◌≢◌, ℕ, suc, ◌+◌, ◌-◌, ◌==◌, nat_le, ◌&&◌, ◌⊎◌, inl, inr, Bool, true, false, cond, is_none, Option, Some, None, List, [], ◌∷◌, Contains, length, map, sum_by, option_map, option_and_then, refl, sym, ◌∙◌, ap, subst, arith, if◌then◌else◌}
 use Rattle.std.specs.Option.{option_flatten}
 use Rattle.std.specs.List.{range_with_len}
-use Rattle.std.proofs.lemmas.Bool.{cases_eq, eq-eqb, ne_eqb, eqb-true}
+use Rattle.std.proofs.lemmas.Bool.{cases_eq, eq-eqb, ne_eqb}
 use Rattle.std.proofs.lemmas.List.{length-map}
-use Rattle.std.proofs.lemmas.Option.{slice_get_within}
 use Rattle.lot_machine.specs.declared.record.Record.{Record}
 use Rattle.lot_machine.specs.declared.record.Status.{Status}
 use Rattle.lot_machine.specs.declared.record.Status.TheVariants.{Ready, Running, Queued as QueuedAt, Served}
@@ -17,7 +16,7 @@ use Rattle.lot_machine.specs.declared.reply.Outcome.TheVariants.{Received}
 use Rattle.lot_machine.specs.declared.refusal.TrapRefusal.TheVariants.{NoPort}
 use Rattle.lot_machine.specs.declared.after.After.TheVariants.{GoesOn}
 use Rattle.lot_machine.specs.Numbered.{at_number, set_number, numbers, option_any}
-use Rattle.lot_machine.specs.Funding.{Funding, owner_of, is_to_mutex}
+use Rattle.lot_machine.specs.Funding.{Funding, owner_of}
 use Rattle.lot_machine.specs.Lends.{borrower, borrower_of, LendsTo, LendsLead, IsBacked, lends_lead, is_live}
 use Rattle.lot_machine.specs.Value.{waiters_for}
 use Rattle.lot_machine.specs.State.{State, QueuedCall, Mutex, funding_of, live_of, lend_of, lends_at, holder_of, is_live_status, status_of, value_of, change_each}
@@ -29,7 +28,7 @@ use Rattle.lot_machine.specs.Facts.{HasNoCycle, FundsThere, live_value}
 use Rattle.lot_machine.specs.Order.{IsQueue, HasQueues, IsInOrder}
 use Rattle.lot_machine.proofs.Changes.{number-set, number-there}
 use Rattle.lot_machine.proofs.CommandsKept.{all-pass}
-use Rattle.lot_machine.proofs.EachOnce.{IsApart, place-in, contains-at, contains-filter, filter-contains, range-contains, apart-range, apart-filter}
+use Rattle.lot_machine.proofs.EachOnce.{IsApart, place-in, contains-at}
 use Rattle.lot_machine.proofs.Killed.{each-now, each-other}
 use Rattle.lot_machine.proofs.KillKept.{lends-by}
 use Rattle.lot_machine.proofs.Sums.{sum-filter, sum-same}
@@ -37,7 +36,7 @@ use Rattle.lot_machine.proofs.Queues.{IsAbsent, status-now, status-other, number
 use Rattle.lot_machine.proofs.LendDepth.{lends_lead-exact}
 use Rattle.lot_machine.proofs.OrderKept.{step-order}
 use Rattle.lot_machine.proofs.StepSizes.{change-length, each-length}
-use Rattle.lot_machine.proofs.Tickets.{some-injective, at_number-suc, flatten-some}
+use Rattle.lot_machine.proofs.Tickets.{some-injective, flatten-some}
 use Rattle.lot_machine.proofs.TrapCycles.{owners-set}
 use Rattle.lot_laws.specs.Transfers.{LendsQueued, TakesCallAt, Serves, port_value}
 use Rattle.lot_laws.proofs.Trapped.{IsDone, trap-done, lend-is, live-is}
@@ -46,6 +45,7 @@ use Rattle.lot_laws.proofs.Blocked.{lead-itself, lead-other, lends-nobody}
 use Rattle.lot_laws.proofs.CallTaken.{port-there}
 use Rattle.lot_laws.proofs.CallReceived.{taken, gone_on, received, call-received}
 use Rattle.lot_laws.proofs.Replied.{lends-on, lives-on}
+use Rattle.lot_laws.proofs.MutexWaiters.{waiters-of, waiters-in, waiters-apart}
 use Rattle.lot_laws.proofs.LendersReady.{made_ready, with_ready_each, sum-listed, each-worth, each-together, each-cycle}
 
 -- the state after the receipt: the thread that took the call is the port's server
@@ -60,14 +60,15 @@ not-back f u b no_cycle to = by (lends_lead f b u) refl
     by false is = refl
     by true is = absurd (no_cycle.lends u (b, to, (lends_lead-exact f no_cycle.lends b u).0 is))
 
--- what comes to neither
-keeps : (now was now_ready was_ready : ℕ) (on led : Bool) (more less : ℕ) → now ≡ now_ready + cond on more 0 → was ≡ was_ready + cond led less 0 → now_ready ≡ was_ready → on ≡ false → led ≡ false → now ≡ was
-keeps now was now_ready was_ready on led more less is also same off out =
-    omega (arith, is, also, same, ap (λ b. cond b more 0) off, ap (λ b. cond b less 0) out)
+-- a thread to which nothing comes
+none-comes : (on : Bool) (now was more : ℕ) → now ≡ was + cond on more 0 → on ≡ false → now ≡ was
+none-comes on now was more is off = omega (arith, is, ap (λ b. cond b more 0) off)
 
-module _ (s : State) (no_cycle : HasNoCycle (funding_of s)) (funds_there : FundsThere (funding_of s)) (lends : LendsQueued s) (p ran used before port caller server old : ℕ) (others : List QueuedCall)
+module _ (s : State) (no_cycle : HasNoCycle (funding_of s)) (funds_there : FundsThere (funding_of s)) (lends : LendsQueued s) (p ran used before port caller server : ℕ) (others : List QueuedCall)
     (runs : status_of s.records server ≡ Some (Running p before)) (queued : status_of s.records caller ≡ Some (QueuedAt port))
-    (small : nat_le port s.limits.ports ≡ true) (old_is : owner_of (funding_of s) (holder_of s.limits port) ≡ Some old) (backed : IsBacked (funding_of s) (live_of s) old)
+    (small : nat_le port s.limits.ports ≡ true) (was : Option ℕ) (held : at_number (map (λ (x : Mutex). x.owner) s.mutexes) (holder_of s.limits port) ≡ Some was)
+    (queue : List ℕ) (queue-apart : IsApart queue) (in-queue : (u : ℕ) → at_number (funding_of s).lends u ≡ Some (ToMutex (holder_of s.limits port)) → Contains queue u)
+    (of-queue : (u : ℕ) → Contains queue u → at_number (funding_of s).lends u ≡ Some (ToMutex (holder_of s.limits port)))
     (no_cycle_now : HasNoCycle (funding_of (moved s p ran used port others caller server))) where
   -- ---- statuses
 
@@ -102,41 +103,15 @@ module _ (s : State) (no_cycle : HasNoCycle (funding_of s)) (funds_there : Funds
       ap (λ (without : Bool). if without then Nobody else (if lends_at s.limits port then ToMutex (holder_of s.limits port) else Nobody)) lends.0
       ∙ ap (λ (on : Bool). if on then ToMutex (holder_of s.limits port) else Nobody) (ap (λ q. q && nat_le port s.limits.ports) lends.1 ∙ small)
 
-  -- those in the queue are those that lend to the holder
-  in-queue : (u : ℕ) → at_number (funding_of s).lends u ≡ Some (ToMutex (holder_of s.limits port)) → Contains (waiters_for (funding_of s) (holder_of s.limits port)) u
-  in-queue u is =
-      filter-contains (λ t. option_any (is_to_mutex (holder_of s.limits port)) (at_number (funding_of s).lends t)) (numbers (funding_of s).lends) u
-      (ap (option_any (is_to_mutex (holder_of s.limits port))) is ∙ eq-eqb (holder_of s.limits port) (holder_of s.limits port) refl)
-      (range-contains 1 (length (funding_of s).lends) u (omega (arith, number)) (omega (arith, number, within)))
-    where
-      number : suc (u - 1) ≡ u
-      number = number-there (funding_of s).lends u (ToMutex (holder_of s.limits port)) is
-
-      within : u - 1 < length (funding_of s).lends
-      within = slice_get_within (funding_of s).lends (u - 1) (ToMutex (holder_of s.limits port)) (sym (at_number-suc (funding_of s).lends (u - 1)) ∙ ap (at_number (funding_of s).lends) number ∙ is)
-
-  of-queue : (u : ℕ) → Contains (waiters_for (funding_of s) (holder_of s.limits port)) u → at_number (funding_of s).lends u ≡ Some (ToMutex (holder_of s.limits port))
-  of-queue u c =
-      by (at_number (funding_of s).lends u) refl (contains-filter (λ t. option_any (is_to_mutex (holder_of s.limits port)) (at_number (funding_of s).lends t)) (numbers (funding_of s).lends) u c).1
-    where
-      by : (o : Option Lend) → at_number (funding_of s).lends u ≡ o → option_any (is_to_mutex (holder_of s.limits port)) o ≡ true → at_number (funding_of s).lends u ≡ Some (ToMutex (holder_of s.limits port))
-      by None is e = cc
-      by (Some Nobody) is e = cc
-      by (Some (ToThread w)) is e = cc
-      by (Some (ToMutex m)) is e = is ∙ ap (λ n. Some (ToMutex n)) (eqb-true m (holder_of s.limits port) e)
-
   -- the caller is one of them, and the server isn't
-  caller-in : Contains (waiters_for (funding_of s) (holder_of s.limits port)) caller
+  caller-in : Contains queue caller
   caller-in = in-queue caller (lend-is s.limits s.records caller ∙ ap (option_map (lend_of s.limits)) queued ∙ ap Some to-holder)
 
-  server-out : ¬ Contains (waiters_for (funding_of s) (holder_of s.limits port)) server
+  server-out : ¬ Contains queue server
   server-out c =
       let never : Some Nobody ≡ Some (ToMutex (holder_of s.limits port)) = sym (lend-is s.limits s.records server ∙ ap (option_map (lend_of s.limits)) runs) ∙ of-queue server c in cc
 
   -- ---- owners
-
-  held : at_number (map (λ (x : Mutex). x.owner) s.mutexes) (holder_of s.limits port) ≡ Some (Some old)
-  held = flatten-some (at_number (map (λ (x : Mutex). x.owner) s.mutexes) (holder_of s.limits port)) old old_is
 
   owners-now : (funding_of (moved s p ran used port others caller server)).owners ≡ set_number (map (λ (x : Mutex). x.owner) s.mutexes) (holder_of s.limits port) (Some server)
   owners-now =
@@ -146,13 +121,13 @@ module _ (s : State) (no_cycle : HasNoCycle (funding_of s)) (funds_there : Funds
   owner-now : owner_of (funding_of (moved s p ran used port others caller server)) (holder_of s.limits port) ≡ Some server
   owner-now =
       ap (λ owners. option_flatten (at_number owners (holder_of s.limits port))) owners-now
-      ∙ ap option_flatten (number-set_same (map (λ (x : Mutex). x.owner) s.mutexes) (holder_of s.limits port) (Some server) (Some old) held)
+      ∙ ap option_flatten (number-set_same (map (λ (x : Mutex). x.owner) s.mutexes) (holder_of s.limits port) (Some server) was held)
 
   owner-other : (m : ℕ) → m ≢ holder_of s.limits port → owner_of (funding_of (moved s p ran used port others caller server)) m ≡ owner_of (funding_of s) m
   owner-other m differs = ap (λ owners. option_flatten (at_number owners m)) owners-now ∙ by (number-set (map (λ (x : Mutex). x.owner) s.mutexes) (holder_of s.limits port) (Some server) m)
     where
       number : suc (holder_of s.limits port - 1) ≡ holder_of s.limits port
-      number = number-there (map (λ (x : Mutex). x.owner) s.mutexes) (holder_of s.limits port) (Some old) held
+      number = number-there (map (λ (x : Mutex). x.owner) s.mutexes) (holder_of s.limits port) was held
 
       by : (at_number (set_number (map (λ (x : Mutex). x.owner) s.mutexes) (holder_of s.limits port) (Some server)) m ≡ at_number (map (λ (x : Mutex). x.owner) s.mutexes) m)
           ⊎ ((m ≡ suc (holder_of s.limits port - 1)) × (at_number (set_number (map (λ (x : Mutex). x.owner) s.mutexes) (holder_of s.limits port) (Some server)) m ≡ Some (Some server)))
@@ -162,10 +137,7 @@ module _ (s : State) (no_cycle : HasNoCycle (funding_of s)) (funds_there : Funds
 
   -- ---- who lends to whom, before and afterwards
 
-  lent-old : (u : ℕ) → Contains (waiters_for (funding_of s) (holder_of s.limits port)) u → LendsTo (funding_of s) u old
-  lent-old u c = ap (option_and_then (borrower (funding_of s))) (of-queue u c) ∙ old_is
-
-  lent-now : (u : ℕ) → Contains (waiters_for (funding_of s) (holder_of s.limits port)) u → LendsTo (funding_of (moved s p ran used port others caller server)) u server
+  lent-now : (u : ℕ) → Contains queue u → LendsTo (funding_of (moved s p ran used port others caller server)) u server
   lent-now u c = by (cases_eq u caller)
     where
       is-served : at_number (funding_of (moved s p ran used port others caller server)).lends caller ≡ Some (ToThread server)
@@ -176,7 +148,7 @@ module _ (s : State) (no_cycle : HasNoCycle (funding_of s)) (funds_there : Funds
       by : (u ≡ caller) ⊎ (¬ (u ≡ caller)) → LendsTo (funding_of (moved s p ran used port others caller server)) u server
       by (inl same) = ap (borrower_of (funding_of (moved s p ran used port others caller server))) same ∙ ap (option_and_then (borrower (funding_of (moved s p ran used port others caller server)))) is-served
       by (inr differs) =
-          let stays : status_of (gone_on s p ran used caller server) u ≡ status_of s.records u = other-now u differs (λ same. server-out (subst (Contains (waiters_for (funding_of s) (holder_of s.limits port))) same c)) in
+          let stays : status_of (gone_on s p ran used caller server) u ≡ status_of s.records u = other-now u differs (λ same. server-out (subst (Contains queue) same c)) in
           let lend : at_number (funding_of (moved s p ran used port others caller server)).lends u ≡ Some (ToMutex (holder_of s.limits port)) =
           lend-is s.limits (gone_on s p ran used caller server) u ∙ ap (option_map (lend_of s.limits)) stays ∙ sym (lend-is s.limits s.records u) ∙ of-queue u c in
           ap (option_and_then (borrower (funding_of (moved s p ran used port others caller server)))) lend ∙ owner-now
@@ -193,115 +165,123 @@ module _ (s : State) (no_cycle : HasNoCycle (funding_of s)) (funds_there : Funds
 
   -- ---- with all of them Ready, before and afterwards
 
-  absent : (u : ℕ) → ¬ Contains (waiters_for (funding_of s) (holder_of s.limits port)) u → IsAbsent (waiters_for (funding_of s) (holder_of s.limits port)) u
-  absent u out place at = out (contains-at (waiters_for (funding_of s) (holder_of s.limits port)) place u at)
+  -- who is in the queue has a status
+  has-status : (u : ℕ) → Contains queue u → (status : Status) × (status_of s.records u ≡ Some status)
+  has-status u c = by (status_of s.records u) refl
+    where
+      by : (o : Option Status) → status_of s.records u ≡ o → (status : Status) × (status_of s.records u ≡ Some status)
+      by (Some status) at = (status, at)
+      by None at = let never : None ≡ Some (ToMutex (holder_of s.limits port)) = sym (lend-is s.limits s.records u ∙ ap (option_map (lend_of s.limits)) at) ∙ of-queue u c in cc
 
-  ready-in : (records : List Record) (u : ℕ) (status : Status) → status_of records u ≡ Some status → Contains (waiters_for (funding_of s) (holder_of s.limits port)) u
-      → status_of (change_each made_ready records (waiters_for (funding_of s) (holder_of s.limits port))) u ≡ Some Ready
+  absent : (u : ℕ) → ¬ Contains queue u → IsAbsent queue u
+  absent u out place at = out (contains-at queue place u at)
+
+  ready-in : (records : List Record) (u : ℕ) (status : Status) → status_of records u ≡ Some status → Contains queue u
+      → status_of (change_each made_ready records queue) u ≡ Some Ready
   ready-in records u status is c =
-      let (place, at) = place-in (waiters_for (funding_of s) (holder_of s.limits port)) u c in
-      each-now made_ready Ready (λ r. refl) records (waiters_for (funding_of s) (holder_of s.limits port)) place u status at is
+      let (place, at) = place-in queue u c in
+      each-now made_ready Ready (λ r. refl) records queue place u status at is
 
-  ready-out : (records : List Record) (u : ℕ) → ¬ Contains (waiters_for (funding_of s) (holder_of s.limits port)) u
-      → status_of (change_each made_ready records (waiters_for (funding_of s) (holder_of s.limits port))) u ≡ status_of records u
-  ready-out records u out = each-other made_ready records (waiters_for (funding_of s) (holder_of s.limits port)) u (absent u out)
+  ready-out : (records : List Record) (u : ℕ) → ¬ Contains queue u
+      → status_of (change_each made_ready records queue) u ≡ status_of records u
+  ready-out records u out = each-other made_ready records queue u (absent u out)
 
   -- a thread is in the queue or not
-  told : (u : ℕ) → Contains (waiters_for (funding_of s) (holder_of s.limits port)) u ⊎ (¬ Contains (waiters_for (funding_of s) (holder_of s.limits port)) u)
+  told : (u : ℕ) → Contains queue u ⊎ (¬ Contains queue u)
   told u = by (at_number (funding_of s).lends u) refl
     where
-      by : (o : Option Lend) → at_number (funding_of s).lends u ≡ o → Contains (waiters_for (funding_of s) (holder_of s.limits port)) u ⊎ (¬ Contains (waiters_for (funding_of s) (holder_of s.limits port)) u)
+      by : (o : Option Lend) → at_number (funding_of s).lends u ≡ o → Contains queue u ⊎ (¬ Contains queue u)
       by None is = inr (λ c. let never : None ≡ Some (ToMutex (holder_of s.limits port)) = sym is ∙ of-queue u c in cc)
       by (Some Nobody) is = inr (λ c. let never : Some Nobody ≡ Some (ToMutex (holder_of s.limits port)) = sym is ∙ of-queue u c in cc)
       by (Some (ToThread w)) is = inr (λ c. let never : Some (ToThread w) ≡ Some (ToMutex (holder_of s.limits port)) = sym is ∙ of-queue u c in cc)
       by (Some (ToMutex m)) is = at (cases_eq m (holder_of s.limits port))
         where
-          at : (m ≡ holder_of s.limits port) ⊎ (¬ (m ≡ holder_of s.limits port)) → Contains (waiters_for (funding_of s) (holder_of s.limits port)) u ⊎ (¬ Contains (waiters_for (funding_of s) (holder_of s.limits port)) u)
+          at : (m ≡ holder_of s.limits port) ⊎ (¬ (m ≡ holder_of s.limits port)) → Contains queue u ⊎ (¬ Contains queue u)
           at (inl same) = inl (in-queue u (is ∙ ap (λ n. Some (ToMutex n)) same))
           at (inr differs) = inr (λ c. let both : Some (ToMutex m) ≡ Some (ToMutex (holder_of s.limits port)) = sym is ∙ of-queue u c in let same : m ≡ holder_of s.limits port = cc in differs same)
 
   -- a status that is told of is the same, with all of them Ready
   status-same : {A : Type 0} (tell : Status → A) → option_map tell (status_of (gone_on s p ran used caller server) server) ≡ Some (tell (Running p before)) → (u : ℕ)
-      → option_map tell (status_of (with_ready_each (moved s p ran used port others caller server) (waiters_for (funding_of s) (holder_of s.limits port))).records u)
-      ≡ option_map tell (status_of (with_ready_each s (waiters_for (funding_of s) (holder_of s.limits port))).records u)
+      → option_map tell (status_of (with_ready_each (moved s p ran used port others caller server) queue).records u)
+      ≡ option_map tell (status_of (with_ready_each s queue).records u)
   status-same tell goes_on u = by (told u)
     where
-      rest : ¬ Contains (waiters_for (funding_of s) (holder_of s.limits port)) u → (u ≡ server) ⊎ (¬ (u ≡ server)) → option_map tell (status_of (gone_on s p ran used caller server) u) ≡ option_map tell (status_of s.records u)
+      rest : ¬ Contains queue u → (u ≡ server) ⊎ (¬ (u ≡ server)) → option_map tell (status_of (gone_on s p ran used caller server) u) ≡ option_map tell (status_of s.records u)
       rest out (inl same) =
           ap (λ x. option_map tell (status_of (gone_on s p ran used caller server) x)) same ∙ goes_on ∙ sym (ap (option_map tell) runs) ∙ ap (λ x. option_map tell (status_of s.records x)) (sym same)
-      rest out (inr differs) = ap (option_map tell) (other-now u (λ same. out (subst (Contains (waiters_for (funding_of s) (holder_of s.limits port))) (sym same) caller-in)) differs)
+      rest out (inr differs) = ap (option_map tell) (other-now u (λ same. out (subst (Contains queue) (sym same) caller-in)) differs)
 
-      by : Contains (waiters_for (funding_of s) (holder_of s.limits port)) u ⊎ (¬ Contains (waiters_for (funding_of s) (holder_of s.limits port)) u)
-          → option_map tell (status_of (with_ready_each (moved s p ran used port others caller server) (waiters_for (funding_of s) (holder_of s.limits port))).records u)
-          ≡ option_map tell (status_of (with_ready_each s (waiters_for (funding_of s) (holder_of s.limits port))).records u)
+      by : Contains queue u ⊎ (¬ Contains queue u)
+          → option_map tell (status_of (with_ready_each (moved s p ran used port others caller server) queue).records u)
+          ≡ option_map tell (status_of (with_ready_each s queue).records u)
       by (inl c) =
           let after = lends-by (moved s p ran used port others caller server) u server (lent-now u c) in
-          let first = lends-by s u old (lent-old u c) in
+          let first = has-status u c in
           ap (option_map tell) (ready-in (gone_on s p ran used caller server) u after.0 after.1 c ∙ sym (ready-in s.records u first.0 first.1 c))
       by (inr out) = ap (option_map tell) (ready-out (gone_on s p ran used caller server) u out) ∙ rest out (cases_eq u server) ∙ sym (ap (option_map tell) (ready-out s.records u out))
 
-  lend-same : (u : ℕ) → at_number (funding_of (with_ready_each (moved s p ran used port others caller server) (waiters_for (funding_of s) (holder_of s.limits port)))).lends u
-      ≡ at_number (funding_of (with_ready_each s (waiters_for (funding_of s) (holder_of s.limits port)))).lends u
+  lend-same : (u : ℕ) → at_number (funding_of (with_ready_each (moved s p ran used port others caller server) queue)).lends u
+      ≡ at_number (funding_of (with_ready_each s queue)).lends u
   lend-same u =
-      lend-is s.limits (with_ready_each (moved s p ran used port others caller server) (waiters_for (funding_of s) (holder_of s.limits port))).records u
-      ∙ status-same (lend_of s.limits) server-lend u ∙ sym (lend-is s.limits (with_ready_each s (waiters_for (funding_of s) (holder_of s.limits port))).records u)
+      lend-is s.limits (with_ready_each (moved s p ran used port others caller server) queue).records u
+      ∙ status-same (lend_of s.limits) server-lend u ∙ sym (lend-is s.limits (with_ready_each s queue).records u)
 
-  lives-same : (u : ℕ) → at_number (live_of (with_ready_each (moved s p ran used port others caller server) (waiters_for (funding_of s) (holder_of s.limits port)))) u
-      ≡ at_number (live_of (with_ready_each s (waiters_for (funding_of s) (holder_of s.limits port)))) u
+  lives-same : (u : ℕ) → at_number (live_of (with_ready_each (moved s p ran used port others caller server) queue)) u
+      ≡ at_number (live_of (with_ready_each s queue)) u
   lives-same u =
-      live-is (with_ready_each (moved s p ran used port others caller server) (waiters_for (funding_of s) (holder_of s.limits port))).records u
-      ∙ status-same is_live_status server-live u ∙ sym (live-is (with_ready_each s (waiters_for (funding_of s) (holder_of s.limits port))).records u)
+      live-is (with_ready_each (moved s p ran used port others caller server) queue).records u
+      ∙ status-same is_live_status server-live u ∙ sym (live-is (with_ready_each s queue).records u)
 
   -- nobody lends to the port then
-  none-left : (u : ℕ) → ¬ (at_number (funding_of (with_ready_each s (waiters_for (funding_of s) (holder_of s.limits port)))).lends u ≡ Some (ToMutex (holder_of s.limits port)))
+  none-left : (u : ℕ) → ¬ (at_number (funding_of (with_ready_each s queue)).lends u ≡ Some (ToMutex (holder_of s.limits port)))
   none-left u is = by (told u)
     where
-      by : Contains (waiters_for (funding_of s) (holder_of s.limits port)) u ⊎ (¬ Contains (waiters_for (funding_of s) (holder_of s.limits port)) u) → ⊥
+      by : Contains queue u ⊎ (¬ Contains queue u) → ⊥
       by (inl c) =
-          let first = lends-by s u old (lent-old u c) in
+          let first = has-status u c in
           let never : Some Nobody ≡ Some (ToMutex (holder_of s.limits port)) =
-          sym (lend-is s.limits (with_ready_each s (waiters_for (funding_of s) (holder_of s.limits port))).records u ∙ ap (option_map (lend_of s.limits)) (ready-in s.records u first.0 first.1 c)) ∙ is in cc
+          sym (lend-is s.limits (with_ready_each s queue).records u ∙ ap (option_map (lend_of s.limits)) (ready-in s.records u first.0 first.1 c)) ∙ is in cc
       by (inr out) =
-          out (in-queue u (lend-is s.limits s.records u ∙ ap (option_map (lend_of s.limits)) (sym (ready-out s.records u out)) ∙ sym (lend-is s.limits (with_ready_each s (waiters_for (funding_of s) (holder_of s.limits port))).records u) ∙ is))
+          out (in-queue u (lend-is s.limits s.records u ∙ ap (option_map (lend_of s.limits)) (sym (ready-out s.records u out)) ∙ sym (lend-is s.limits (with_ready_each s queue).records u) ∙ is))
 
-  to-same : (u : ℕ) → borrower_of (funding_of (with_ready_each (moved s p ran used port others caller server) (waiters_for (funding_of s) (holder_of s.limits port)))) u
-      ≡ borrower_of (funding_of (with_ready_each s (waiters_for (funding_of s) (holder_of s.limits port)))) u
+  to-same : (u : ℕ) → borrower_of (funding_of (with_ready_each (moved s p ran used port others caller server) queue)) u
+      ≡ borrower_of (funding_of (with_ready_each s queue)) u
   to-same u =
-      ap (option_and_then (borrower (funding_of (with_ready_each (moved s p ran used port others caller server) (waiters_for (funding_of s) (holder_of s.limits port)))))) (lend-same u)
-      ∙ by (at_number (funding_of (with_ready_each s (waiters_for (funding_of s) (holder_of s.limits port)))).lends u) refl
+      ap (option_and_then (borrower (funding_of (with_ready_each (moved s p ran used port others caller server) queue)))) (lend-same u)
+      ∙ by (at_number (funding_of (with_ready_each s queue)).lends u) refl
     where
-      by : (o : Option Lend) → at_number (funding_of (with_ready_each s (waiters_for (funding_of s) (holder_of s.limits port)))).lends u ≡ o
-          → option_and_then (borrower (funding_of (with_ready_each (moved s p ran used port others caller server) (waiters_for (funding_of s) (holder_of s.limits port))))) o
-          ≡ option_and_then (borrower (funding_of (with_ready_each s (waiters_for (funding_of s) (holder_of s.limits port))))) o
+      by : (o : Option Lend) → at_number (funding_of (with_ready_each s queue)).lends u ≡ o
+          → option_and_then (borrower (funding_of (with_ready_each (moved s p ran used port others caller server) queue))) o
+          ≡ option_and_then (borrower (funding_of (with_ready_each s queue))) o
       by None is = refl
       by (Some Nobody) is = refl
       by (Some (ToThread w)) is = refl
       by (Some (ToMutex m)) is = owner-other m (λ same. none-left u (is ∙ ap (λ n. Some (ToMutex n)) same))
 
-  as-many : length (with_ready_each (moved s p ran used port others caller server) (waiters_for (funding_of s) (holder_of s.limits port))).records
-      ≡ length (with_ready_each s (waiters_for (funding_of s) (holder_of s.limits port))).records
+  as-many : length (with_ready_each (moved s p ran used port others caller server) queue).records
+      ≡ length (with_ready_each s queue).records
   as-many =
-      each-length made_ready (gone_on s p ran used caller server) (waiters_for (funding_of s) (holder_of s.limits port))
+      each-length made_ready (gone_on s p ran used caller server) queue
       ∙ change-length (λ r. with_ticks (ran + 1) (after_trap GoesOn p used s.limits r)) (taken s caller server) server
       ∙ change-length (λ r. record r { status = Served server }) s.records caller
-      ∙ sym (each-length made_ready s.records (waiters_for (funding_of s) (holder_of s.limits port)))
+      ∙ sym (each-length made_ready s.records queue)
 
   -- so each thread is worth the same
-  ready-same : (v : ℕ) → value_of (with_ready_each (moved s p ran used port others caller server) (waiters_for (funding_of s) (holder_of s.limits port))) v
-      ≡ value_of (with_ready_each s (waiters_for (funding_of s) (holder_of s.limits port))) v
+  ready-same : (v : ℕ) → value_of (with_ready_each (moved s p ran used port others caller server) queue) v
+      ≡ value_of (with_ready_each s queue) v
   ready-same v =
-      let was = with_ready_each s (waiters_for (funding_of s) (holder_of s.limits port)) in
-      let is = with_ready_each (moved s p ran used port others caller server) (waiters_for (funding_of s) (holder_of s.limits port)) in
+      let was = with_ready_each s queue in
+      let is = with_ready_each (moved s p ran used port others caller server) queue in
       same-worth (funding_of was) (funding_of is).lends (funding_of is).owners (live_of was) (live_of is)
       (length-map is.records (λ (r : Record). lend_of s.limits r.status) ∙ as-many ∙ sym (length-map was.records (λ (r : Record). lend_of s.limits r.status)))
-      (each-cycle (waiters_for (funding_of s) (holder_of s.limits port)) s no_cycle) (each-cycle (waiters_for (funding_of s) (holder_of s.limits port)) (moved s p ran used port others caller server) no_cycle_now)
+      (each-cycle queue s no_cycle) (each-cycle queue (moved s p ran used port others caller server) no_cycle_now)
       funds_there to-same lives-same s.limits.unit v
 
-  ready-together : live_value (with_ready_each (moved s p ran used port others caller server) (waiters_for (funding_of s) (holder_of s.limits port)))
-      ≡ live_value (with_ready_each s (waiters_for (funding_of s) (holder_of s.limits port)))
+  ready-together : live_value (with_ready_each (moved s p ran used port others caller server) queue)
+      ≡ live_value (with_ready_each s queue)
   ready-together =
-      let was = with_ready_each s (waiters_for (funding_of s) (holder_of s.limits port)) in
-      let is = with_ready_each (moved s p ran used port others caller server) (waiters_for (funding_of s) (holder_of s.limits port)) in
+      let was = with_ready_each s queue in
+      let is = with_ready_each (moved s p ran used port others caller server) queue in
       sum-filter (value_of is) (is_live (live_of is)) (numbers is.records)
       ∙ ap (λ n. sum_by (λ u. cond (is_live (live_of is) u) (value_of is u) 0) (range_with_len 1 n)) as-many
       ∙ sum-same (λ u. cond (is_live (live_of is) u) (value_of is u) 0) (λ u. cond (is_live (live_of was) u) (value_of was u) 0) (numbers was.records)
@@ -310,28 +290,14 @@ module _ (s : State) (no_cycle : HasNoCycle (funding_of s)) (funds_there : Funds
 
   -- ---- what moves
 
-  queue-apart : IsApart (waiters_for (funding_of s) (holder_of s.limits port))
-  queue-apart = apart-filter (λ t. option_any (is_to_mutex (holder_of s.limits port)) (at_number (funding_of s).lends t)) (numbers (funding_of s).lends) (apart-range 1 (length (funding_of s).lends))
-
-  worth-before : (v : ℕ) → value_of s v
-      ≡ value_of (with_ready_each s (waiters_for (funding_of s) (holder_of s.limits port))) v + cond (lends_lead (funding_of s) old v) (port_value s port) 0
-  worth-before = each-worth (waiters_for (funding_of s) (holder_of s.limits port)) s old no_cycle funds_there backed queue-apart lent-old
-
   worth-now : (v : ℕ) → value_of (moved s p ran used port others caller server) v
-      ≡ value_of (with_ready_each (moved s p ran used port others caller server) (waiters_for (funding_of s) (holder_of s.limits port))) v
-      + cond (lends_lead (funding_of (moved s p ran used port others caller server)) server v) (sum_by (value_of (moved s p ran used port others caller server)) (waiters_for (funding_of s) (holder_of s.limits port))) 0
-  worth-now = each-worth (waiters_for (funding_of s) (holder_of s.limits port)) (moved s p ran used port others caller server) server no_cycle_now funds_there server-backed queue-apart lent-now
+      ≡ value_of (with_ready_each (moved s p ran used port others caller server) queue) v
+      + cond (lends_lead (funding_of (moved s p ran used port others caller server)) server v) (sum_by (value_of (moved s p ran used port others caller server)) queue) 0
+  worth-now = each-worth queue (moved s p ran used port others caller server) server no_cycle_now funds_there server-backed queue-apart lent-now
 
-  -- who is in the queue keeps its value
-  queue-keeps : (u : ℕ) → Contains (waiters_for (funding_of s) (holder_of s.limits port)) u → value_of (moved s p ran used port others caller server) u ≡ value_of s u
-  queue-keeps u c =
-      keeps (value_of (moved s p ran used port others caller server) u) (value_of s u) (value_of (with_ready_each (moved s p ran used port others caller server) (waiters_for (funding_of s) (holder_of s.limits port))) u)
-      (value_of (with_ready_each s (waiters_for (funding_of s) (holder_of s.limits port))) u)
-      (lends_lead (funding_of (moved s p ran used port others caller server)) server u) (lends_lead (funding_of s) old u) _ _ (worth-now u) (worth-before u) (ready-same u)
-      (not-back (funding_of (moved s p ran used port others caller server)) u server no_cycle_now (lent-now u c)) (not-back (funding_of s) u old no_cycle (lent-old u c))
-
-  same-queue : sum_by (value_of (moved s p ran used port others caller server)) (waiters_for (funding_of s) (holder_of s.limits port)) ≡ port_value s port
-  same-queue = sum-listed (value_of (moved s p ran used port others caller server)) (value_of s) (waiters_for (funding_of s) (holder_of s.limits port)) queue-keeps
+  -- who is in the queue is worth what it is worth if all are Ready
+  queue-keeps : (u : ℕ) → Contains queue u → value_of (moved s p ran used port others caller server) u ≡ value_of (with_ready_each s queue) u
+  queue-keeps u c = none-comes (lends_lead (funding_of (moved s p ran used port others caller server)) server u) _ _ _ (worth-now u) (not-back (funding_of (moved s p ran used port others caller server)) u server no_cycle_now (lent-now u c)) ∙ ready-same u
 
   server-only : (v : ℕ) → lends_lead (funding_of (moved s p ran used port others caller server)) server v ≡ (v == server)
   server-only v = by (cases_eq v server)
@@ -341,17 +307,40 @@ module _ (s : State) (no_cycle : HasNoCycle (funding_of s)) (funds_there : Funds
           ap (lends_lead (funding_of (moved s p ran used port others caller server)) server) same ∙ lead-itself (funding_of (moved s p ran used port others caller server)) server no_cycle_now ∙ sym (eq-eqb v server same)
       by (inr differs) = lead-other (funding_of (moved s p ran used port others caller server)) server v no_cycle_now server-alone_now differs ∙ sym (ne_eqb v server differs)
 
-  pub moves : (v : ℕ) → value_of (moved s p ran used port others caller server) v + cond (lends_lead (funding_of s) old v) (port_value s port) 0 ≡ value_of s v + cond (v == server) (port_value s port) 0
-  moves v =
-      let came : cond (lends_lead (funding_of (moved s p ran used port others caller server)) server v) (sum_by (value_of (moved s p ran used port others caller server)) (waiters_for (funding_of s) (holder_of s.limits port))) 0
-      ≡ cond (v == server) (port_value s port) 0 =
-      ap (λ w. cond (lends_lead (funding_of (moved s p ran used port others caller server)) server v) w 0) same-queue ∙ ap (λ on. cond on (port_value s port) 0) (server-only v) in
-      omega (arith, worth-now v, worth-before v, ready-same v, came)
+  -- the new server has what all of them are worth if they are Ready
+  pub gathers : (v : ℕ) → value_of (moved s p ran used port others caller server) v ≡ value_of (with_ready_each s queue) v + cond (v == server) (sum_by (value_of (with_ready_each s queue)) queue) 0
+  gathers v =
+      worth-now v
+      ∙ ap (λ w. w + cond (lends_lead (funding_of (moved s p ran used port others caller server)) server v) (sum_by (value_of (moved s p ran used port others caller server)) queue) 0) (ready-same v)
+      ∙ ap (λ w. value_of (with_ready_each s queue) v + cond (lends_lead (funding_of (moved s p ran used port others caller server)) server v) w 0) (sum-listed (value_of (moved s p ran used port others caller server)) (value_of (with_ready_each s queue)) queue queue-keeps)
+      ∙ ap (λ on. value_of (with_ready_each s queue) v + cond on (sum_by (value_of (with_ready_each s queue)) queue) 0) (server-only v)
 
-  pub moved-together : live_value (moved s p ran used port others caller server) ≡ live_value s
-  moved-together =
-      each-together (waiters_for (funding_of s) (holder_of s.limits port)) (moved s p ran used port others caller server) server no_cycle_now funds_there server-backed queue-apart lent-now
-      ∙ ready-together ∙ sym (each-together (waiters_for (funding_of s) (holder_of s.limits port)) s old no_cycle funds_there backed queue-apart lent-old)
+  pub gathered-together : live_value (moved s p ran used port others caller server) ≡ live_value (with_ready_each s queue)
+  gathered-together = each-together queue (moved s p ran used port others caller server) server no_cycle_now funds_there server-backed queue-apart lent-now ∙ ready-together
+
+  -- ---- what moves, if the server before is backed
+
+  module _ (old : ℕ) (old_is : was ≡ Some old) (backed : IsBacked (funding_of s) (live_of s) old) where
+    lent-old : (u : ℕ) → Contains queue u → LendsTo (funding_of s) u old
+    lent-old u c = ap (option_and_then (borrower (funding_of s))) (of-queue u c) ∙ ap option_flatten held ∙ old_is
+
+    worth-before : (v : ℕ) → value_of s v ≡ value_of (with_ready_each s queue) v + cond (lends_lead (funding_of s) old v) (sum_by (value_of s) queue) 0
+    worth-before = each-worth queue s old no_cycle funds_there backed queue-apart lent-old
+
+    same-queue : sum_by (value_of (with_ready_each s queue)) queue ≡ sum_by (value_of s) queue
+    same-queue =
+        sum-listed (value_of (with_ready_each s queue)) (value_of s) queue
+        (λ u c. sym (none-comes (lends_lead (funding_of s) old u) _ _ _ (worth-before u) (not-back (funding_of s) u old no_cycle (lent-old u c))))
+
+    pub moves : (v : ℕ) → value_of (moved s p ran used port others caller server) v + cond (lends_lead (funding_of s) old v) (sum_by (value_of s) queue) 0 ≡ value_of s v + cond (v == server) (sum_by (value_of s) queue) 0
+    moves v = omega (arith, gathers v, worth-before v, ap (λ w. cond (v == server) w 0) same-queue)
+
+    pub moved-together : live_value (moved s p ran used port others caller server) ≡ live_value s
+    moved-together = gathered-together ∙ sym (each-together queue s old no_cycle funds_there backed queue-apart lent-old)
+
+-- the holder of a server has it
+pub holder-held : (s : State) (port old : ℕ) → owner_of (funding_of s) (holder_of s.limits port) ≡ Some old → at_number (map (λ (x : Mutex). x.owner) s.mutexes) (holder_of s.limits port) ≡ Some (Some old)
+holder-held s port old is = flatten-some (at_number (map (λ (x : Mutex). x.owner) s.mutexes) (holder_of s.limits port)) old is
 
 -- ---- the event
 
@@ -364,7 +353,7 @@ first-queued s queues port caller first others there calls caller_is =
     queue.each 0 caller (ap Some caller_is)
 
 -- what holds of the state then, if it holds of each state after such a receipt
-after-receipt : (P : State → Type 0) (s : State) (e : Event) (port caller server : ℕ) → IsInOrder s → TakesCallAt s e port caller server
+pub after-receipt : (P : State → Type 0) (s : State) (e : Event) (port caller server : ℕ) → IsInOrder s → TakesCallAt s e port caller server
     → ((p ran used before : ℕ) (others : List QueuedCall) → status_of s.records server ≡ Some (Running p before) → status_of s.records caller ≡ Some (QueuedAt port) → HasNoCycle (funding_of (moved s p ran used port others caller server)) → P (moved s p ran used port others caller server))
     → P (step s e).state
 after-receipt P s e port caller server order (p, ran, number, ticks, ends, is, replied) holds =
@@ -387,7 +376,8 @@ module _ (s : State) (e : Event) (port caller server old : ℕ) (order : IsInOrd
   worth-moves : (v : ℕ) → value_of (step s e).state v + cond (lends_lead (funding_of s) old v) (port_value s port) 0 ≡ value_of s v + cond (v == server) (port_value s port) 0
   worth-moves v =
       after-receipt (λ x. value_of x v + cond (lends_lead (funding_of s) old v) (port_value s port) 0 ≡ value_of s v + cond (v == server) (port_value s port) 0) s e port caller server order takes
-      (λ p ran used before others runs queued now. moves s order.no_cycle order.funds_there lends p ran used before port caller server old others runs queued serves.0 serves.1 backed now v)
+      (λ p ran used before others runs queued now. moves s order.no_cycle order.funds_there lends p ran used before port caller server others runs queued serves.0 (Some old) (holder-held s port old serves.1) (waiters_for (funding_of s) (holder_of s.limits port)) (waiters-apart (funding_of s) (holder_of s.limits port))
+      (waiters-in (funding_of s) (holder_of s.limits port)) (waiters-of (funding_of s) (holder_of s.limits port)) now old refl backed v)
 
   leads : (v : ℕ) → LendsLead (funding_of s) old v → lends_lead (funding_of s) old v ≡ true
   leads v = (lends_lead-exact (funding_of s) order.no_cycle.lends old v).1
@@ -417,4 +407,5 @@ module _ (s : State) (e : Event) (port caller server old : ℕ) (order : IsInOrd
   pub together-same : live_value (step s e).state ≡ live_value s
   together-same =
       after-receipt (λ x. live_value x ≡ live_value s) s e port caller server order takes
-      (λ p ran used before others runs queued now. moved-together s order.no_cycle order.funds_there lends p ran used before port caller server old others runs queued serves.0 serves.1 backed now)
+      (λ p ran used before others runs queued now. moved-together s order.no_cycle order.funds_there lends p ran used before port caller server others runs queued serves.0 (Some old) (holder-held s port old serves.1) (waiters_for (funding_of s) (holder_of s.limits port))
+      (waiters-apart (funding_of s) (holder_of s.limits port)) (waiters-in (funding_of s) (holder_of s.limits port)) (waiters-of (funding_of s) (holder_of s.limits port)) now old refl backed)

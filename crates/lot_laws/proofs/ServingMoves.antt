@@ -14,6 +14,7 @@ use Rattle.lot_machine.specs.declared.refusal.TrapRefusal.TheVariants.{NoPort, N
 use Rattle.lot_machine.specs.Numbered.{at_number, set_number, numbers, option_any}
 use Rattle.lot_machine.specs.Funding.{Funding, is_to_mutex}
 use Rattle.lot_machine.specs.Lends.{borrower_of, LendsTo, IsLendChain, LendsLead, IsBacked, lends_lead}
+use Rattle.lot_machine.specs.Value.{waiters_for}
 use Rattle.lot_machine.specs.State.{State, QueuedCall, funding_of, live_of, lend_of, holder_of, status_of, value_of}
 use Rattle.lot_machine.specs.Ports.{clients_of, first_client, serve}
 use Rattle.lot_machine.specs.Servers.{with_server, served_at}
@@ -36,7 +37,8 @@ use Rattle.lot_laws.proofs.CallTaken.{port-there}
 use Rattle.lot_laws.proofs.Replied.{woken, caller-first}
 use Rattle.lot_laws.proofs.Served.{serve-receives}
 use Rattle.lot_laws.proofs.LendersReady.{ready-cycle, ready-alone, ready-lends, ready-backed, ready-worth, ready-together, lender-keeps, chain-before, chain-then, lead-then}
-use Rattle.lot_laws.proofs.QueueMoves.{moved, moves, moved-together, first-queued}
+use Rattle.lot_laws.proofs.QueueMoves.{moved, moves, moved-together, holder-held, first-queued}
+use Rattle.lot_laws.proofs.MutexWaiters.{waiters-of, waiters-in, waiters-apart}
 
 -- a caller that gets its reply
 abbrev answered : ℕ → Record → Record
@@ -153,12 +155,16 @@ module _ (s : State) (order : IsInOrder s) (lends : LendsQueued s) (p ran used b
       ≡ value_of (between s number caller server) v + cond (v == server) (port_value s port) 0
   moves-on v =
       ap (λ q. value_of (moved (between s number caller server) p ran used port others next server) v + cond (lends_lead (funding_of (between s number caller server)) old v) q 0) (sym same-port)
-      ∙ moves (between s number caller server) cycle-between order.funds_there lends p ran used before port next server old others runs-between queued-between serves.0 serves.1 backed-between no_cycle_now v
+      ∙ moves (between s number caller server) cycle-between order.funds_there lends p ran used before port next server others runs-between queued-between serves.0 (Some old) (holder-held s port old serves.1) (waiters_for (funding_of (between s number caller server)) (holder_of s.limits port))
+      (waiters-apart (funding_of (between s number caller server)) (holder_of s.limits port)) (waiters-in (funding_of (between s number caller server)) (holder_of s.limits port)) (waiters-of (funding_of (between s number caller server)) (holder_of s.limits port))
+      no_cycle_now old refl backed-between v
       ∙ ap (λ q. value_of (between s number caller server) v + cond (v == server) q 0) same-port
 
   pub serving-together : live_value (moved (between s number caller server) p ran used port others next server) ≡ live_value s
   serving-together =
-      moved-together (between s number caller server) cycle-between order.funds_there lends p ran used before port next server old others runs-between queued-between serves.0 serves.1 backed-between no_cycle_now
+      moved-together (between s number caller server) cycle-between order.funds_there lends p ran used before port next server others runs-between queued-between serves.0 (Some old) (holder-held s port old serves.1) (waiters_for (funding_of (between s number caller server)) (holder_of s.limits port))
+      (waiters-apart (funding_of (between s number caller server)) (holder_of s.limits port)) (waiters-in (funding_of (between s number caller server)) (holder_of s.limits port)) (waiters-of (funding_of (between s number caller server)) (holder_of s.limits port))
+      no_cycle_now old refl backed-between
       ∙ sym (ready-together (answered number) (λ r. refl) s caller server order.no_cycle order.funds_there lent (server, ([], refl), is-live s.records server (Running p before) runs refl))
 
   -- to whom the old server's lends lead between the two

@@ -9,7 +9,7 @@ use Rattle.lot_machine.specs.declared.reply.Outcome.TheVariants.{ServedBy, Queue
 use Rattle.lot_machine.specs.Funding.{owner_of, backing_thread}
 use Rattle.lot_machine.specs.Lends.{LendsTo, LendsLead}
 use Rattle.lot_machine.specs.Value.{mutex_value}
-use Rattle.lot_machine.specs.State.{State, Port, holder_of, funding_of, live_of, change_record}
+use Rattle.lot_machine.specs.State.{State, Port, holder_of, funding_of, live_of, change_record, change_each}
 use Rattle.lot_machine.specs.Ports.{port_at}
 use Rattle.lot_machine.specs.Step.{step}
 
@@ -78,6 +78,10 @@ ServesNextAt s e port caller next server =
 -- the threads whose calls are queued at the port, the one that has waited longest first
 abbrev pub callers_of : List Port → ℕ → List ℕ
 callers_of ports port = map (λ call. call.caller) (port_at ports port).calls
+
+-- the state with each of them Ready
+abbrev pub with_callers_ready : State → ℕ → State
+with_callers_ready s port = record s { records = change_each (λ r. record r { status = Ready }) s.records (callers_of s.ports port) }
 
 -- what the port passes on: the sum of the values of those that lend to it, which are those whose calls are queued there
 abbrev pub port_value : State → ℕ → ℕ

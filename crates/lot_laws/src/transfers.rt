@@ -1,15 +1,17 @@
 //! Transfers lose nothing: a thread that blocks passes its value to the thread that it waits for, and gets it back
 //! with the reply (3.1, 4.6, 6.1), unless the kernel is without lending.
-ghost use Rattle.std.specs.Prelude.{◌≡◌, ◌≢◌, ◌⊎◌, ◌+◌, ℕ, false};
+ghost use Rattle.std.specs.Prelude.{◌≡◌, ◌≢◌, ◌⊎◌, ◌+◌, ℕ, false, sum_by};
 ghost use Rattle.lot_machine.specs.declared.event.Event.{Event};
 ghost use Rattle.lot_machine.specs.Lends.{LendsLead, IsBacked};
 ghost use Rattle.lot_machine.specs.State.{State, funding_of, live_of, value_of};
 ghost use Rattle.lot_machine.specs.Facts.{live_value};
 ghost use Rattle.lot_machine.specs.Order.{IsInOrder};
 ghost use Rattle.lot_machine.specs.Step.{step};
+ghost use Rattle.lot_laws.specs.Reachable.{IsReachable};
 ghost use Rattle.lot_laws.specs.Transfers.{LendsServed, TakesCall, QueuesCall, TakesQueuedCall, RepliesTo, RepliesThenWaits};
 ghost use Rattle.lot_laws.specs.Transfers.{RepliesThenReceives, LendsQueued, QueuesAt, TakesCallAt, ServesNextAt};
-ghost use Rattle.lot_laws.specs.Transfers.{Serves, port_value, MayWait, WaitsFor, OwnsNothing, with_ready};
+ghost use Rattle.lot_laws.specs.Transfers.{Serves, port_value, callers_of, with_callers_ready};
+ghost use Rattle.lot_laws.specs.Transfers.{MayWait, WaitsFor, OwnsNothing, with_ready};
 
 /// A server with nothing of its own is worth nothing; once it takes a call, it is worth exactly what the caller was.
 /// Every other thread, and the caller, keeps its value, and so does the sum over the live threads.
@@ -24,6 +26,21 @@ pub fn calls_transfer_value()
         → value_of (step s e).state other ≡ value_of s other }
     ensures together { (s : State) (e : Event) (caller server : ℕ) → IsInOrder s
         → LendsServed s → TakesCall s e caller server
+        → OwnsNothing s server → live_value (step s e).state ≡ live_value s }
+{}
+
+/// The same where queued calls lend, in a reachable state: nobody's call is queued at the port, since a server waits
+/// there, so the port's new server gets nothing besides.
+pub fn calls_transfer_value_at_once()
+    ensures server { (s : State) (e : Event) (caller server : ℕ) → IsReachable s
+        → LendsQueued s → TakesCall s e caller server
+        → OwnsNothing s server → value_of (step s e).state server ≡ value_of s caller }
+    ensures others { (s : State) (e : Event) (caller server other : ℕ) → IsReachable s
+        → LendsQueued s → TakesCall s e caller server
+        → OwnsNothing s server → other ≢ server
+        → value_of (step s e).state other ≡ value_of s other }
+    ensures together { (s : State) (e : Event) (caller server : ℕ) → IsReachable s
+        → LendsQueued s → TakesCall s e caller server
         → OwnsNothing s server → live_value (step s e).state ≡ live_value s }
 {}
 
@@ -167,6 +184,22 @@ pub fn receipts_move_the_queue()
     ensures together { (s : State) (e : Event) (port caller server before : ℕ) → IsInOrder s → LendsQueued s
         → TakesCallAt s e port caller server → Serves s port before → IsBacked (funding_of s) (live_of s) before
         → live_value (step s e).state ≡ live_value s }
+{}
+
+/// If queued calls lend, a thread that takes a queued call in a reachable state gains what all the callers would be worth
+/// if they were Ready, whoever the port's server was; all other values and the sum are as in that case. So nothing is
+/// lost that waits at a port without a server, or with one that isn't backed.
+pub fn receipts_gather_the_queue()
+    ensures server { (s : State) (e : Event) (port caller server : ℕ) → IsReachable s → LendsQueued s
+        → TakesCallAt s e port caller server
+        → value_of (step s e).state server ≡ value_of (with_callers_ready s port) server
+        + sum_by (value_of (with_callers_ready s port)) (callers_of s.ports port) }
+    ensures others { (s : State) (e : Event) (port caller server other : ℕ) → IsReachable s → LendsQueued s
+        → TakesCallAt s e port caller server → other ≢ server
+        → value_of (step s e).state other ≡ value_of (with_callers_ready s port) other }
+    ensures together { (s : State) (e : Event) (port caller server : ℕ) → IsReachable s → LendsQueued s
+        → TakesCallAt s e port caller server
+        → live_value (step s e).state ≡ live_value (with_callers_ready s port) }
 {}
 
 /// If queued calls lend, a server that replies and then takes the next caller's queued call, in one trap, gives back
