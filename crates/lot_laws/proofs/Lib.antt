@@ -33,5 +33,6 @@ pub mod WaitsListed
 pub mod PortQueues
 pub mod CallAlone
 pub mod QueueGathers
+pub mod ServingGathers
 pub mod Killed
 pub mod Issuers

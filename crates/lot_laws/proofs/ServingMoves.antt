@@ -41,11 +41,11 @@ use Rattle.lot_laws.proofs.QueueMoves.{moved, moves, moved-together, holder-held
 use Rattle.lot_laws.proofs.MutexWaiters.{waiters-of, waiters-in, waiters-apart}
 
 -- a caller that gets its reply
-abbrev answered : ℕ → Record → Record
+abbrev pub answered : ℕ → Record → Record
 answered number r = record r { status = Ready; delivered = Some number }
 
 -- the state between the reply and the receipt
-abbrev between : State → ℕ → ℕ → ℕ → State
+abbrev pub between : State → ℕ → ℕ → ℕ → State
 between s number caller server = record s { records = woken s number caller; clients = set_number s.clients server (drop 1 (clients_of s.clients server)) }
 
 -- of two chains from one thread that end at threads which lend to nobody, both end at the same
@@ -214,7 +214,7 @@ module _ (s : State) (order : IsInOrder s) (lends : LendsQueued s) (p ran used b
 
 -- ---- the event
 
-after-serving : (P : State → Type 0) (s : State) (e : Event) (port caller next server : ℕ) → IsInOrder s → ServesNextAt s e port caller next server
+pub after-serving : (P : State → Type 0) (s : State) (e : Event) (port caller next server : ℕ) → IsInOrder s → ServesNextAt s e port caller next server
     → ((p ran used before number : ℕ) (others : List QueuedCall) → status_of s.records server ≡ Some (Running p before) → first_client s.clients server ≡ Some caller → status_of s.records next ≡ Some (QueuedAt port)
     → HasNoCycle (funding_of (moved (between s number caller server) p ran used port others next server)) → P (moved (between s number caller server) p ran used port others next server)) → P (step s e).state
 after-serving P s e port caller next server order (p, ran, number, got, ticks, ends, is, replies) holds =

@@ -31,7 +31,7 @@ pub fn calls_transfer_value()
 
 /// The same where queued calls lend, in a reachable state: nobody's call is queued at the port, since a server waits
 /// there, so the port's new server gets nothing besides.
-pub fn calls_transfer_value_at_once()
+pub fn calls_taken_at_once_move_no_queue()
     ensures server { (s : State) (e : Event) (caller server : ℕ) → IsReachable s
         → LendsQueued s → TakesCall s e caller server
         → OwnsNothing s server → value_of (step s e).state server ≡ value_of s caller }
@@ -200,6 +200,21 @@ pub fn receipts_gather_the_queue()
     ensures together { (s : State) (e : Event) (port caller server : ℕ) → IsReachable s → LendsQueued s
         → TakesCallAt s e port caller server
         → live_value (step s e).state ≡ live_value (with_callers_ready s port) }
+{}
+
+/// The same for a server that replies and then takes the next caller's queued call, in one trap, against the state in
+/// which the answered caller is Ready too.
+pub fn servings_gather_the_queue()
+    ensures server { (s : State) (e : Event) (port caller next server : ℕ) → IsReachable s → LendsQueued s
+        → ServesNextAt s e port caller next server
+        → value_of (step s e).state server ≡ value_of (with_callers_ready (with_ready s caller) port) server
+        + sum_by (value_of (with_callers_ready (with_ready s caller) port)) (callers_of s.ports port) }
+    ensures others { (s : State) (e : Event) (port caller next server other : ℕ) → IsReachable s → LendsQueued s
+        → ServesNextAt s e port caller next server → other ≢ server
+        → value_of (step s e).state other ≡ value_of (with_callers_ready (with_ready s caller) port) other }
+    ensures together { (s : State) (e : Event) (port caller next server : ℕ) → IsReachable s → LendsQueued s
+        → ServesNextAt s e port caller next server
+        → live_value (step s e).state ≡ live_value (with_callers_ready (with_ready s caller) port) }
 {}
 
 /// If queued calls lend, a server that replies and then takes the next caller's queued call, in one trap, gives back

@@ -1,5 +1,5 @@
 use Rattle.lot_laws.proofs.CallAlone.{server-gets, others-keep, together-same}
-use Rattle.lot_laws.proofs.transfers.calls_transfer_value_at_once.Goals as goal
+use Rattle.lot_laws.proofs.transfers.calls_taken_at_once_move_no_queue.Goals as goal
 
 pub returns-clause-server : goal.returns-clause-server
 returns-clause-server c = server-gets
