@@ -2,6 +2,7 @@
 use Rattle.std.proofs.Common.{◌≡◌, ◌≢◌, ℕ, suc, ◌+◌, ◌-◌, ◌≤◌, ◌⊎◌, inl, inr, Bool, cond, is_none, Option, Some, None, List, [], ◌∷◌, map, option_map, option_and_then, slice_get, refl, sym, ◌∙◌, ap, subst, arith, if◌then◌else◌}
 use Rattle.std.specs.Option.{option_flatten}
 use Rattle.std.proofs.lemmas.Bool.{cases_eq}
+use Rattle.lot_machine.specs.declared.record.Record.{Record}
 use Rattle.lot_machine.specs.declared.record.Status.TheVariants.{Ready, Running, Receiving, Served}
 use Rattle.lot_machine.specs.declared.funding.Lend.{Lend}
 use Rattle.lot_machine.specs.declared.funding.Lend.TheVariants.{Nobody, ToThread, ToMutex}
@@ -42,8 +43,21 @@ module _ (s : State) (reachable : IsReachable s) (lends : LendsQueued s) (p ran 
     (runs : status_of s.records caller ≡ Some (Running p before)) (there : at_number s.ports port ≡ Some (port_at s.ports port))
     (receivers : (port_at s.ports port).receivers ≡ server ∷ others) (owns : OwnsNothing s server)
     (no_cycle_now : HasNoCycle (funding_of (served s p ran used port number others server caller))) where
+  -- the state afterwards, and that without the port's new server
+  abbrev later : State
+  later = served s p ran used port number others server caller
+
+  abbrev without : State
+  without = called s p ran used port number others server caller
+
+  abbrev records_later : List Record
+  records_later = left s p ran used number server caller
+
+  order : IsInOrder s
+  order = reachable-order s reachable
+
   receives : status_of s.records server ≡ Some (Receiving port)
-  receives = ((reachable-order s reachable).queues.receivers port (port_at s.ports port) there).each 0 server (ap (λ (ts : List ℕ). slice_get ts 0) receivers)
+  receives = (order.queues.receivers port (port_at s.ports port) there).each 0 server (ap (λ (ts : List ℕ). slice_get ts 0) receivers)
 
   apart : ¬ (caller ≡ server)
   apart same =
@@ -52,40 +66,40 @@ module _ (s : State) (reachable : IsReachable s) (lends : LendsQueued s) (p ran 
   least : 1 ≤ port
   least = omega (arith, number-there s.ports port (port_at s.ports port) there)
 
-  caller-now : status_of (left s p ran used number server caller) caller ≡ Some (Served server)
+  caller-now : status_of records_later caller ≡ Some (Served server)
   caller-now =
       status-now (λ r. with_ticks (ran + 1) (after_trap (Leaves (Served server)) p used s.limits r)) (woken s number server) caller (Running p before) (Served server)
       (status-other (λ r. record r { status = Ready; delivered = Some number }) s.records server caller apart ∙ runs) (λ r. refl)
 
-  server-now : status_of (left s p ran used number server caller) server ≡ Some Ready
+  server-now : status_of records_later server ≡ Some Ready
   server-now =
       status-other (λ r. with_ticks (ran + 1) (after_trap (Leaves (Served server)) p used s.limits r)) (woken s number server) caller server (λ same. apart (sym same))
       ∙ status-now (λ r. record r { status = Ready; delivered = Some number }) s.records server (Receiving port) Ready receives (λ r. refl)
 
-  other-now : (u : ℕ) → u ≢ caller → u ≢ server → status_of (left s p ran used number server caller) u ≡ status_of s.records u
+  other-now : (u : ℕ) → u ≢ caller → u ≢ server → status_of records_later u ≡ status_of s.records u
   other-now u first second =
       status-other (λ r. with_ticks (ran + 1) (after_trap (Leaves (Served server)) p used s.limits r)) (woken s number server) caller u first
       ∙ status-other (λ r. record r { status = Ready; delivered = Some number }) s.records server u second
 
   -- nobody lends to the port then
-  none-lends : (u : ℕ) → ¬ (at_number (funding_of (called s p ran used port number others server caller)).lends u ≡ Some (ToMutex (holder_of s.limits port)))
+  none-lends : (u : ℕ) → ¬ (at_number (funding_of without).lends u ≡ Some (ToMutex (holder_of s.limits port)))
   none-lends u is = by (cases_eq u caller) (cases_eq u server)
     where
-      told : option_map (lend_of s.limits) (status_of (left s p ran used number server caller) u) ≡ Some (ToMutex (holder_of s.limits port))
-      told = sym (lend-is s.limits (left s p ran used number server caller) u) ∙ is
+      told : option_map (lend_of s.limits) (status_of records_later u) ≡ Some (ToMutex (holder_of s.limits port))
+      told = sym (lend-is s.limits records_later u) ∙ is
 
       by : (u ≡ caller) ⊎ (¬ (u ≡ caller)) → (u ≡ server) ⊎ (¬ (u ≡ server)) → ⊥
       by (inl same) which =
           let never : Some (ToThread server) ≡ Some (ToMutex (holder_of s.limits port)) =
-          sym (ap (λ x. option_map (lend_of s.limits) (status_of (left s p ran used number server caller) x)) same ∙ ap (option_map (lend_of s.limits)) caller-now ∙ ap (λ (without : Bool). Some (if without then Nobody else ToThread server)) lends.0) ∙ told in cc
+          sym (ap (λ x. option_map (lend_of s.limits) (status_of records_later x)) same ∙ ap (option_map (lend_of s.limits)) caller-now ∙ ap (λ (without : Bool). Some (if without then Nobody else ToThread server)) lends.0) ∙ told in cc
       by (inr differs) (inl same) =
           let never : Some Nobody ≡ Some (ToMutex (holder_of s.limits port)) =
-          sym (ap (λ x. option_map (lend_of s.limits) (status_of (left s p ran used number server caller) x)) same ∙ ap (option_map (lend_of s.limits)) server-now) ∙ told in cc
+          sym (ap (λ x. option_map (lend_of s.limits) (status_of records_later x)) same ∙ ap (option_map (lend_of s.limits)) server-now) ∙ told in cc
       by (inr differs) (inr other) =
           never-both s u server port reachable
           (lender-queued s port reachable least u (lend-is s.limits s.records u ∙ ap (option_map (lend_of s.limits)) (sym (other-now u differs other)) ∙ told)) receives
 
-  owner-other : (m : ℕ) → m ≢ holder_of s.limits port → owner_of (funding_of (served s p ran used port number others server caller)) m ≡ owner_of (funding_of s) m
+  owner-other : (m : ℕ) → m ≢ holder_of s.limits port → owner_of (funding_of later) m ≡ owner_of (funding_of s) m
   owner-other m differs =
       ap (λ (on : Bool). option_flatten (at_number (map (λ (x : Mutex). x.owner) (if on then set_number s.mutexes (holder_of s.limits port) (held_by (Some server)) else s.mutexes)) m)) lends.1
       ∙ ap (λ owners. option_flatten (at_number owners m)) (owners-set s (holder_of s.limits port) (held_by (Some server)))
@@ -100,39 +114,39 @@ module _ (s : State) (reachable : IsReachable s) (lends : LendsQueued s) (p ran 
       by (inl same) = ap option_flatten same
       by (inr (at, is)) = absurd (differs (at ∙ holder-is))
 
-  to-same : (u : ℕ) → borrower_of (funding_of (served s p ran used port number others server caller)) u ≡ borrower_of (funding_of (called s p ran used port number others server caller)) u
-  to-same u = by (at_number (funding_of (called s p ran used port number others server caller)).lends u) refl
+  to-same : (u : ℕ) → borrower_of (funding_of later) u ≡ borrower_of (funding_of without) u
+  to-same u = by (at_number (funding_of without).lends u) refl
     where
-      by : (o : Option Lend) → at_number (funding_of (called s p ran used port number others server caller)).lends u ≡ o
-          → option_and_then (borrower (funding_of (served s p ran used port number others server caller))) o ≡ option_and_then (borrower (funding_of (called s p ran used port number others server caller))) o
+      by : (o : Option Lend) → at_number (funding_of without).lends u ≡ o
+          → option_and_then (borrower (funding_of later)) o ≡ option_and_then (borrower (funding_of without)) o
       by None is = refl
       by (Some Nobody) is = refl
       by (Some (ToThread w)) is = refl
       by (Some (ToMutex m)) is = owner-other m (λ same. none-lends u (is ∙ ap (λ n. Some (ToMutex n)) same))
 
-  called-cycle : HasNoCycle (funding_of (called s p ran used port number others server caller))
+  called-cycle : HasNoCycle (funding_of without)
   called-cycle =
-      untangled-same (funding_of (called s p ran used port number others server caller)) (funding_of (called s p ran used port number others server caller)).lends (funding_of (served s p ran used port number others server caller)).owners to-same no_cycle_now
+      untangled-same (funding_of without) (funding_of without).lends (funding_of later).owners to-same no_cycle_now
 
-  worth-same : (v : ℕ) → value_of (served s p ran used port number others server caller) v ≡ value_of (called s p ran used port number others server caller) v
+  worth-same : (v : ℕ) → value_of later v ≡ value_of without v
   worth-same v =
-      let was = called s p ran used port number others server caller in
-      same-worth (funding_of was) (funding_of was).lends (funding_of (served s p ran used port number others server caller)).owners (live_of was) (live_of was) refl called-cycle no_cycle_now (reachable-order s reachable).funds_there to-same (λ u. refl) s.limits.unit v
+      let was = without in
+      same-worth (funding_of was) (funding_of was).lends (funding_of later).owners (live_of was) (live_of was) refl called-cycle no_cycle_now order.funds_there to-same (λ u. refl) s.limits.unit v
 
-  pub alone-server : value_of (served s p ran used port number others server caller) server ≡ value_of s caller
-  alone-server = worth-same server ∙ call-server s (reachable-order s reachable) lends.0 p ran used before port number server caller others runs there receivers owns called-cycle
+  pub alone-server : value_of later server ≡ value_of s caller
+  alone-server = worth-same server ∙ call-server s order lends.0 p ran used before port number server caller others runs there receivers owns called-cycle
 
-  pub alone-others : (v : ℕ) → v ≢ server → value_of (served s p ran used port number others server caller) v ≡ value_of s v
-  alone-others v differs = worth-same v ∙ call-others s (reachable-order s reachable) lends.0 p ran used before port number server caller others runs there receivers owns called-cycle v differs
+  pub alone-others : (v : ℕ) → v ≢ server → value_of later v ≡ value_of s v
+  alone-others v differs = worth-same v ∙ call-others s order lends.0 p ran used before port number server caller others runs there receivers owns called-cycle v differs
 
-  pub alone-together : live_value (served s p ran used port number others server caller) ≡ live_value s
+  pub alone-together : live_value later ≡ live_value s
   alone-together =
-      let was = called s p ran used port number others server caller in
-      let is = served s p ran used port number others server caller in
+      let was = without in
+      let is = later in
       sum-filter (value_of is) (is_live (live_of is)) (numbers is.records)
       ∙ sum-same (λ u. cond (is_live (live_of is) u) (value_of is u) 0) (λ u. cond (is_live (live_of was) u) (value_of was u) 0) (numbers was.records) (λ u. ap (λ w. cond (is_live (live_of was) u) w 0) (worth-same u))
       ∙ sym (sum-filter (value_of was) (is_live (live_of was)) (numbers was.records))
-      ∙ call-together s (reachable-order s reachable) lends.0 p ran used before port number server caller others runs there receivers owns called-cycle
+      ∙ call-together s order lends.0 p ran used before port number server caller others runs there receivers owns called-cycle
 
 -- ---- the event
 

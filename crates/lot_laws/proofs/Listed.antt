@@ -1,6 +1,5 @@
 -- In a reachable state each thread that is served is among the clients of its server.
-use Rattle.std.proofs.Common.{◌≡◌, ℕ, zero, suc, ◌+◌, ◌-◌, ◌<◌, ◌≤◌, ◌==◌, cond, Bool, true, false, not, ◌⊎◌, inl, inr, Option, Some, None, is_none, List, [], ◌∷◌, ◌++◌, length, map, drop, refl, sym, ◌∙◌, ap, subst, arith, nat_lt, option_map, unwrap_or, get_or, slice_get, slice_index}
-use Rattle.std.proofs.lemmas.Bool.{eqb-true}
+use Rattle.std.proofs.Common.{◌≡◌, ℕ, zero, suc, ◌+◌, ◌-◌, ◌<◌, ◌≤◌, cond, Bool, true, false, ◌⊎◌, inl, inr, Option, Some, None, is_none, List, [], ◌∷◌, ◌++◌, length, map, drop, refl, sym, ◌∙◌, ap, subst, arith, nat_lt, option_map, unwrap_or, get_or, slice_get, slice_index}
 use Rattle.std.proofs.lemmas.List.{length-append}
 use Rattle.std.proofs.lemmas.Option.{slice_get_cases}
 use Rattle.std.proofs.Math.ListN.{length-set}
@@ -45,6 +44,7 @@ use Rattle.lot_machine.proofs.OrderKept.{step-order, opening-order, meant-number
 use Rattle.lot_machine.proofs.Killed.{IsAmong, among-append_left, among-append_right, killed-either, killed-dead, each-now, client-waits}
 use Rattle.lot_machine.proofs.StepChanges.{By, Keeps, kept, by_event, step-leads}
 use Rattle.lot_laws.specs.Reachable.{IsReachable}
+use Rattle.lot_laws.proofs.WaitsListed.{left-threads}
 
 -- as many lists of clients as records
 abbrev HasLists : State → Type 0
@@ -310,28 +310,12 @@ keep-kill s t number listed u v is = from (killed-either s t u)
         status-other ended (change_each released s.records (released_by s t)) t u (other same) ∙ each-now released status.Ready (λ r. refl) s.records (released_by s t) here.0 u (status.Served v) here.1 (before same) in
         let never : Some status.Ready ≡ Some (status.Served v) = sym ready ∙ is in cc
 
-    left : (xs : List ℕ) → ¬ (u ≡ t) → IsAmong xs u → IsAmong (without t xs) u
-    left [] differs (place, e) = (place, e)
-    left (x ∷ xs) differs (zero, e) = first (x == t) refl
-      where
-        same : x ≡ u
-        same = some-injective x u e
-
-        first : (b : Bool) → (x == t) ≡ b → IsAmong (cond (not b) (x ∷ without t xs) (without t xs)) u
-        first true at = absurd (differs (sym same ∙ eqb-true x t at))
-        first false at = (zero, e)
-    left (x ∷ xs) differs (suc place, e) = next (x == t) (left xs differs (place, e))
-      where
-        next : (b : Bool) → IsAmong (without t xs) u → IsAmong (cond (not b) (x ∷ without t xs) (without t xs)) u
-        next true (i, h) = (i, h)
-        next false (i, h) = (suc i, h)
-
     among : status_of (killed s t).records u ≡ status_of s.records u → IsAmong (clients_of (set_number (map (without t) s.clients) t []) v) u
     among same = place (set-clients (map (without t) s.clients) t v [])
       where
         mapped : (o : Option (List ℕ)) → IsAmong (unwrap_or o []) u → IsAmong (unwrap_or (option_map (without t) o) []) u
         mapped None (i, h) = (i, h)
-        mapped (Some xs) there = left xs (other same) there
+        mapped (Some xs) there = left-threads t xs u (other same) there
 
         place : (clients_of (set_number (map (without t) s.clients) t []) v ≡ clients_of (map (without t) s.clients) v) ⊎ ((v ≡ suc (t - 1)) × (clients_of (set_number (map (without t) s.clients) t []) v ≡ []))
             → IsAmong (clients_of (set_number (map (without t) s.clients) t []) v) u

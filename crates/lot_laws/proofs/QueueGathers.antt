@@ -1,8 +1,8 @@
 -- A receipt that takes a queued call, whoever was the port's server, in a reachable state of a kernel whose queued calls lend: what threads are worth then.
-use Rattle.std.proofs.Common.{◌≡◌, ◌≢◌, ℕ, zero, suc, ◌+◌, ◌-◌, ◌==◌, ◌≤◌, ◌<◌, cond, Option, Some, None, List, [], ◌∷◌, Contains, length, map, replicate, sum_by, unwrap_or, slice_get, get_or, ◌⊎◌, inl, inr, refl, sym, ◌∙◌, ap, subst, arith}
+use Rattle.std.proofs.Common.{◌≡◌, ◌≢◌, ℕ, suc, ◌+◌, ◌-◌, ◌==◌, ◌≤◌, ◌<◌, cond, Option, Some, None, List, [], ◌∷◌, Contains, length, map, sum_by, unwrap_or, slice_get, get_or, ◌⊎◌, inl, inr, refl, sym, ◌∙◌, ap, subst, arith}
 use Rattle.std.proofs.Math.ListN.{length-set}
 use Rattle.std.proofs.lemmas.Bool.{eq-eqb, ne_eqb, le-leb}
-use Rattle.std.proofs.lemmas.List.{length-map}
+use Rattle.std.proofs.lemmas.List.{length-map, length-replicate}
 use Rattle.std.proofs.lemmas.Option.{slice_get_within, slice_get_cases}
 use Rattle.lot_machine.specs.declared.event.Event.{Event}
 use Rattle.lot_machine.specs.declared.record.Status.TheVariants.{Queued as QueuedAt}
@@ -36,10 +36,6 @@ run-ports s [] = (refl, refl)
 run-ports s (e ∷ es) =
     let first = kept (HasPortsOf s) (change-ports (by_event s e) s) (step-leads s e) (refl, refl) in
     let rest = run-ports (step s e).state es in (rest.0 ∙ first.0, rest.1 ∙ first.1)
-
-length-replicate : {A : Type 0} (n : ℕ) (x : A) → length (replicate n x) ≡ n
-length-replicate zero x = refl
-length-replicate (suc n) x = ap suc (length-replicate n x)
 
 -- as many ports and holders as the sizes say
 sized : (s : State) → IsReachable s → (length s.ports ≡ s.limits.ports) × (length s.mutexes ≡ holders s.limits)

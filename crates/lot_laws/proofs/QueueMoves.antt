@@ -70,6 +70,19 @@ module _ (s : State) (no_cycle : HasNoCycle (funding_of s)) (funds_there : Funds
     (queue : List ℕ) (queue-apart : IsApart queue) (in-queue : (u : ℕ) → at_number (funding_of s).lends u ≡ Some (ToMutex (holder_of s.limits port)) → Contains queue u)
     (of-queue : (u : ℕ) → Contains queue u → at_number (funding_of s).lends u ≡ Some (ToMutex (holder_of s.limits port)))
     (no_cycle_now : HasNoCycle (funding_of (moved s p ran used port others caller server))) where
+  -- the state afterwards, and each of both states with all of the queue Ready
+  abbrev later : State
+  later = moved s p ran used port others caller server
+
+  abbrev records_later : List Record
+  records_later = gone_on s p ran used caller server
+
+  abbrev ready : State
+  ready = with_ready_each s queue
+
+  abbrev ready_later : State
+  ready_later = with_ready_each later queue
+
   -- ---- statuses
 
   apart : ¬ (caller ≡ server)
@@ -79,20 +92,20 @@ module _ (s : State) (no_cycle : HasNoCycle (funding_of s)) (funds_there : Funds
   server-then : status_of (taken s caller server) server ≡ Some (Running p before)
   server-then = status-other (λ r. record r { status = Served server }) s.records caller server (λ same. apart (sym same)) ∙ runs
 
-  caller-now : status_of (gone_on s p ran used caller server) caller ≡ Some (Served server)
+  caller-now : status_of records_later caller ≡ Some (Served server)
   caller-now =
       status-other (λ r. with_ticks (ran + 1) (after_trap GoesOn p used s.limits r)) (taken s caller server) server caller apart
       ∙ status-now (λ r. record r { status = Served server }) s.records caller (QueuedAt port) (Served server) queued (λ r. refl)
 
-  other-now : (u : ℕ) → u ≢ caller → u ≢ server → status_of (gone_on s p ran used caller server) u ≡ status_of s.records u
+  other-now : (u : ℕ) → u ≢ caller → u ≢ server → status_of records_later u ≡ status_of s.records u
   other-now u one two =
       status-other (λ r. with_ticks (ran + 1) (after_trap GoesOn p used s.limits r)) (taken s caller server) server u two
       ∙ status-other (λ r. record r { status = Served server }) s.records caller u one
 
-  server-lend : option_map (lend_of s.limits) (status_of (gone_on s p ran used caller server) server) ≡ Some Nobody
+  server-lend : option_map (lend_of s.limits) (status_of records_later server) ≡ Some Nobody
   server-lend = lends-on s.limits (taken s caller server) server p used (ran + 1) s.limits before server-then
 
-  server-live : option_map is_live_status (status_of (gone_on s p ran used caller server) server) ≡ Some true
+  server-live : option_map is_live_status (status_of records_later server) ≡ Some true
   server-live = lives-on (taken s caller server) server p used (ran + 1) s.limits before server-then
 
   -- ---- lends
@@ -113,17 +126,17 @@ module _ (s : State) (no_cycle : HasNoCycle (funding_of s)) (funds_there : Funds
 
   -- ---- owners
 
-  owners-now : (funding_of (moved s p ran used port others caller server)).owners ≡ set_number (map (λ (x : Mutex). x.owner) s.mutexes) (holder_of s.limits port) (Some server)
+  owners-now : (funding_of later).owners ≡ set_number (map (λ (x : Mutex). x.owner) s.mutexes) (holder_of s.limits port) (Some server)
   owners-now =
       ap (λ (on : Bool). map (λ (x : Mutex). x.owner) (if on then set_number s.mutexes (holder_of s.limits port) (held_by (Some server)) else s.mutexes)) lends.1
       ∙ owners-set s (holder_of s.limits port) (held_by (Some server))
 
-  owner-now : owner_of (funding_of (moved s p ran used port others caller server)) (holder_of s.limits port) ≡ Some server
+  owner-now : owner_of (funding_of later) (holder_of s.limits port) ≡ Some server
   owner-now =
       ap (λ owners. option_flatten (at_number owners (holder_of s.limits port))) owners-now
       ∙ ap option_flatten (number-set_same (map (λ (x : Mutex). x.owner) s.mutexes) (holder_of s.limits port) (Some server) was held)
 
-  owner-other : (m : ℕ) → m ≢ holder_of s.limits port → owner_of (funding_of (moved s p ran used port others caller server)) m ≡ owner_of (funding_of s) m
+  owner-other : (m : ℕ) → m ≢ holder_of s.limits port → owner_of (funding_of later) m ≡ owner_of (funding_of s) m
   owner-other m differs = ap (λ owners. option_flatten (at_number owners m)) owners-now ∙ by (number-set (map (λ (x : Mutex). x.owner) s.mutexes) (holder_of s.limits port) (Some server) m)
     where
       number : suc (holder_of s.limits port - 1) ≡ holder_of s.limits port
@@ -137,31 +150,31 @@ module _ (s : State) (no_cycle : HasNoCycle (funding_of s)) (funds_there : Funds
 
   -- ---- who lends to whom, before and afterwards
 
-  lent-now : (u : ℕ) → Contains queue u → LendsTo (funding_of (moved s p ran used port others caller server)) u server
+  lent-now : (u : ℕ) → Contains queue u → LendsTo (funding_of later) u server
   lent-now u c = by (cases_eq u caller)
     where
-      is-served : at_number (funding_of (moved s p ran used port others caller server)).lends caller ≡ Some (ToThread server)
+      is-served : at_number (funding_of later).lends caller ≡ Some (ToThread server)
       is-served =
-          lend-is s.limits (gone_on s p ran used caller server) caller ∙ ap (option_map (lend_of s.limits)) caller-now
+          lend-is s.limits records_later caller ∙ ap (option_map (lend_of s.limits)) caller-now
           ∙ ap (λ (without : Bool). Some (if without then Nobody else ToThread server)) lends.0
 
-      by : (u ≡ caller) ⊎ (¬ (u ≡ caller)) → LendsTo (funding_of (moved s p ran used port others caller server)) u server
-      by (inl same) = ap (borrower_of (funding_of (moved s p ran used port others caller server))) same ∙ ap (option_and_then (borrower (funding_of (moved s p ran used port others caller server)))) is-served
+      by : (u ≡ caller) ⊎ (¬ (u ≡ caller)) → LendsTo (funding_of later) u server
+      by (inl same) = ap (borrower_of (funding_of later)) same ∙ ap (option_and_then (borrower (funding_of later))) is-served
       by (inr differs) =
-          let stays : status_of (gone_on s p ran used caller server) u ≡ status_of s.records u = other-now u differs (λ same. server-out (subst (Contains queue) same c)) in
-          let lend : at_number (funding_of (moved s p ran used port others caller server)).lends u ≡ Some (ToMutex (holder_of s.limits port)) =
-          lend-is s.limits (gone_on s p ran used caller server) u ∙ ap (option_map (lend_of s.limits)) stays ∙ sym (lend-is s.limits s.records u) ∙ of-queue u c in
-          ap (option_and_then (borrower (funding_of (moved s p ran used port others caller server)))) lend ∙ owner-now
+          let stays : status_of records_later u ≡ status_of s.records u = other-now u differs (λ same. server-out (subst (Contains queue) same c)) in
+          let lend : at_number (funding_of later).lends u ≡ Some (ToMutex (holder_of s.limits port)) =
+          lend-is s.limits records_later u ∙ ap (option_map (lend_of s.limits)) stays ∙ sym (lend-is s.limits s.records u) ∙ of-queue u c in
+          ap (option_and_then (borrower (funding_of later))) lend ∙ owner-now
 
   -- the server lends to nobody, before and afterwards
   server-alone : borrower_of (funding_of s) server ≡ None
   server-alone = lends-nobody s server (Running p before) runs refl
 
-  server-alone_now : borrower_of (funding_of (moved s p ran used port others caller server)) server ≡ None
-  server-alone_now = ap (option_and_then (borrower (funding_of (moved s p ran used port others caller server)))) (lend-is s.limits (gone_on s p ran used caller server) server ∙ server-lend)
+  server-alone_now : borrower_of (funding_of later) server ≡ None
+  server-alone_now = ap (option_and_then (borrower (funding_of later))) (lend-is s.limits records_later server ∙ server-lend)
 
-  server-backed : IsBacked (funding_of (moved s p ran used port others caller server)) (live_of (moved s p ran used port others caller server)) server
-  server-backed = (server, ([], refl), live-is (gone_on s p ran used caller server) server ∙ server-live)
+  server-backed : IsBacked (funding_of later) (live_of later) server
+  server-backed = (server, ([], refl), live-is records_later server ∙ server-live)
 
   -- ---- with all of them Ready, before and afterwards
 
@@ -182,8 +195,7 @@ module _ (s : State) (no_cycle : HasNoCycle (funding_of s)) (funds_there : Funds
       let (place, at) = place-in queue u c in
       each-now made_ready Ready (λ r. refl) records queue place u status at is
 
-  ready-out : (records : List Record) (u : ℕ) → ¬ Contains queue u
-      → status_of (change_each made_ready records queue) u ≡ status_of records u
+  ready-out : (records : List Record) (u : ℕ) → ¬ Contains queue u → status_of (change_each made_ready records queue) u ≡ status_of records u
   ready-out records u out = each-other made_ready records queue u (absent u out)
 
   -- a thread is in the queue or not
@@ -201,87 +213,77 @@ module _ (s : State) (no_cycle : HasNoCycle (funding_of s)) (funds_there : Funds
           at (inr differs) = inr (λ c. let both : Some (ToMutex m) ≡ Some (ToMutex (holder_of s.limits port)) = sym is ∙ of-queue u c in let same : m ≡ holder_of s.limits port = cc in differs same)
 
   -- a status that is told of is the same, with all of them Ready
-  status-same : {A : Type 0} (tell : Status → A) → option_map tell (status_of (gone_on s p ran used caller server) server) ≡ Some (tell (Running p before)) → (u : ℕ)
-      → option_map tell (status_of (with_ready_each (moved s p ran used port others caller server) queue).records u)
-      ≡ option_map tell (status_of (with_ready_each s queue).records u)
+  status-same : {A : Type 0} (tell : Status → A) → option_map tell (status_of records_later server) ≡ Some (tell (Running p before)) → (u : ℕ)
+      → option_map tell (status_of ready_later.records u) ≡ option_map tell (status_of ready.records u)
   status-same tell goes_on u = by (told u)
     where
-      rest : ¬ Contains queue u → (u ≡ server) ⊎ (¬ (u ≡ server)) → option_map tell (status_of (gone_on s p ran used caller server) u) ≡ option_map tell (status_of s.records u)
+      rest : ¬ Contains queue u → (u ≡ server) ⊎ (¬ (u ≡ server)) → option_map tell (status_of records_later u) ≡ option_map tell (status_of s.records u)
       rest out (inl same) =
-          ap (λ x. option_map tell (status_of (gone_on s p ran used caller server) x)) same ∙ goes_on ∙ sym (ap (option_map tell) runs) ∙ ap (λ x. option_map tell (status_of s.records x)) (sym same)
+          ap (λ x. option_map tell (status_of records_later x)) same ∙ goes_on ∙ sym (ap (option_map tell) runs) ∙ ap (λ x. option_map tell (status_of s.records x)) (sym same)
       rest out (inr differs) = ap (option_map tell) (other-now u (λ same. out (subst (Contains queue) (sym same) caller-in)) differs)
 
-      by : Contains queue u ⊎ (¬ Contains queue u)
-          → option_map tell (status_of (with_ready_each (moved s p ran used port others caller server) queue).records u)
-          ≡ option_map tell (status_of (with_ready_each s queue).records u)
+      by : Contains queue u ⊎ (¬ Contains queue u) → option_map tell (status_of ready_later.records u) ≡ option_map tell (status_of ready.records u)
       by (inl c) =
-          let after = lends-by (moved s p ran used port others caller server) u server (lent-now u c) in
+          let after = lends-by later u server (lent-now u c) in
           let first = has-status u c in
-          ap (option_map tell) (ready-in (gone_on s p ran used caller server) u after.0 after.1 c ∙ sym (ready-in s.records u first.0 first.1 c))
-      by (inr out) = ap (option_map tell) (ready-out (gone_on s p ran used caller server) u out) ∙ rest out (cases_eq u server) ∙ sym (ap (option_map tell) (ready-out s.records u out))
+          ap (option_map tell) (ready-in records_later u after.0 after.1 c ∙ sym (ready-in s.records u first.0 first.1 c))
+      by (inr out) = ap (option_map tell) (ready-out records_later u out) ∙ rest out (cases_eq u server) ∙ sym (ap (option_map tell) (ready-out s.records u out))
 
-  lend-same : (u : ℕ) → at_number (funding_of (with_ready_each (moved s p ran used port others caller server) queue)).lends u
-      ≡ at_number (funding_of (with_ready_each s queue)).lends u
+  lend-same : (u : ℕ) → at_number (funding_of ready_later).lends u ≡ at_number (funding_of ready).lends u
   lend-same u =
-      lend-is s.limits (with_ready_each (moved s p ran used port others caller server) queue).records u
-      ∙ status-same (lend_of s.limits) server-lend u ∙ sym (lend-is s.limits (with_ready_each s queue).records u)
+      lend-is s.limits ready_later.records u
+      ∙ status-same (lend_of s.limits) server-lend u ∙ sym (lend-is s.limits ready.records u)
 
-  lives-same : (u : ℕ) → at_number (live_of (with_ready_each (moved s p ran used port others caller server) queue)) u
-      ≡ at_number (live_of (with_ready_each s queue)) u
+  lives-same : (u : ℕ) → at_number (live_of ready_later) u ≡ at_number (live_of ready) u
   lives-same u =
-      live-is (with_ready_each (moved s p ran used port others caller server) queue).records u
-      ∙ status-same is_live_status server-live u ∙ sym (live-is (with_ready_each s queue).records u)
+      live-is ready_later.records u
+      ∙ status-same is_live_status server-live u ∙ sym (live-is ready.records u)
 
   -- nobody lends to the port then
-  none-left : (u : ℕ) → ¬ (at_number (funding_of (with_ready_each s queue)).lends u ≡ Some (ToMutex (holder_of s.limits port)))
+  none-left : (u : ℕ) → ¬ (at_number (funding_of ready).lends u ≡ Some (ToMutex (holder_of s.limits port)))
   none-left u is = by (told u)
     where
       by : Contains queue u ⊎ (¬ Contains queue u) → ⊥
       by (inl c) =
           let first = has-status u c in
           let never : Some Nobody ≡ Some (ToMutex (holder_of s.limits port)) =
-          sym (lend-is s.limits (with_ready_each s queue).records u ∙ ap (option_map (lend_of s.limits)) (ready-in s.records u first.0 first.1 c)) ∙ is in cc
+          sym (lend-is s.limits ready.records u ∙ ap (option_map (lend_of s.limits)) (ready-in s.records u first.0 first.1 c)) ∙ is in cc
       by (inr out) =
-          out (in-queue u (lend-is s.limits s.records u ∙ ap (option_map (lend_of s.limits)) (sym (ready-out s.records u out)) ∙ sym (lend-is s.limits (with_ready_each s queue).records u) ∙ is))
+          out (in-queue u (lend-is s.limits s.records u ∙ ap (option_map (lend_of s.limits)) (sym (ready-out s.records u out)) ∙ sym (lend-is s.limits ready.records u) ∙ is))
 
-  to-same : (u : ℕ) → borrower_of (funding_of (with_ready_each (moved s p ran used port others caller server) queue)) u
-      ≡ borrower_of (funding_of (with_ready_each s queue)) u
+  to-same : (u : ℕ) → borrower_of (funding_of ready_later) u ≡ borrower_of (funding_of ready) u
   to-same u =
-      ap (option_and_then (borrower (funding_of (with_ready_each (moved s p ran used port others caller server) queue)))) (lend-same u)
-      ∙ by (at_number (funding_of (with_ready_each s queue)).lends u) refl
+      ap (option_and_then (borrower (funding_of ready_later))) (lend-same u)
+      ∙ by (at_number (funding_of ready).lends u) refl
     where
-      by : (o : Option Lend) → at_number (funding_of (with_ready_each s queue)).lends u ≡ o
-          → option_and_then (borrower (funding_of (with_ready_each (moved s p ran used port others caller server) queue))) o
-          ≡ option_and_then (borrower (funding_of (with_ready_each s queue))) o
+      by : (o : Option Lend) → at_number (funding_of ready).lends u ≡ o → option_and_then (borrower (funding_of ready_later)) o
+          ≡ option_and_then (borrower (funding_of ready)) o
       by None is = refl
       by (Some Nobody) is = refl
       by (Some (ToThread w)) is = refl
       by (Some (ToMutex m)) is = owner-other m (λ same. none-left u (is ∙ ap (λ n. Some (ToMutex n)) same))
 
-  as-many : length (with_ready_each (moved s p ran used port others caller server) queue).records
-      ≡ length (with_ready_each s queue).records
+  as-many : length ready_later.records ≡ length ready.records
   as-many =
-      each-length made_ready (gone_on s p ran used caller server) queue
+      each-length made_ready records_later queue
       ∙ change-length (λ r. with_ticks (ran + 1) (after_trap GoesOn p used s.limits r)) (taken s caller server) server
       ∙ change-length (λ r. record r { status = Served server }) s.records caller
       ∙ sym (each-length made_ready s.records queue)
 
   -- so each thread is worth the same
-  ready-same : (v : ℕ) → value_of (with_ready_each (moved s p ran used port others caller server) queue) v
-      ≡ value_of (with_ready_each s queue) v
+  ready-same : (v : ℕ) → value_of ready_later v ≡ value_of ready v
   ready-same v =
       let was = with_ready_each s queue in
-      let is = with_ready_each (moved s p ran used port others caller server) queue in
+      let is = with_ready_each later queue in
       same-worth (funding_of was) (funding_of is).lends (funding_of is).owners (live_of was) (live_of is)
       (length-map is.records (λ (r : Record). lend_of s.limits r.status) ∙ as-many ∙ sym (length-map was.records (λ (r : Record). lend_of s.limits r.status)))
-      (each-cycle queue s no_cycle) (each-cycle queue (moved s p ran used port others caller server) no_cycle_now)
+      (each-cycle queue s no_cycle) (each-cycle queue later no_cycle_now)
       funds_there to-same lives-same s.limits.unit v
 
-  ready-together : live_value (with_ready_each (moved s p ran used port others caller server) queue)
-      ≡ live_value (with_ready_each s queue)
+  ready-together : live_value ready_later ≡ live_value ready
   ready-together =
       let was = with_ready_each s queue in
-      let is = with_ready_each (moved s p ran used port others caller server) queue in
+      let is = with_ready_each later queue in
       sum-filter (value_of is) (is_live (live_of is)) (numbers is.records)
       ∙ ap (λ n. sum_by (λ u. cond (is_live (live_of is) u) (value_of is u) 0) (range_with_len 1 n)) as-many
       ∙ sum-same (λ u. cond (is_live (live_of is) u) (value_of is u) 0) (λ u. cond (is_live (live_of was) u) (value_of was u) 0) (numbers was.records)
@@ -290,33 +292,31 @@ module _ (s : State) (no_cycle : HasNoCycle (funding_of s)) (funds_there : Funds
 
   -- ---- what moves
 
-  worth-now : (v : ℕ) → value_of (moved s p ran used port others caller server) v
-      ≡ value_of (with_ready_each (moved s p ran used port others caller server) queue) v
-      + cond (lends_lead (funding_of (moved s p ran used port others caller server)) server v) (sum_by (value_of (moved s p ran used port others caller server)) queue) 0
-  worth-now = each-worth queue (moved s p ran used port others caller server) server no_cycle_now funds_there server-backed queue-apart lent-now
+  worth-now : (v : ℕ) → value_of later v ≡ value_of ready_later v + cond (lends_lead (funding_of later) server v) (sum_by (value_of later) queue) 0
+  worth-now = each-worth queue later server no_cycle_now funds_there server-backed queue-apart lent-now
 
   -- who is in the queue is worth what it is worth if all are Ready
-  queue-keeps : (u : ℕ) → Contains queue u → value_of (moved s p ran used port others caller server) u ≡ value_of (with_ready_each s queue) u
-  queue-keeps u c = none-comes (lends_lead (funding_of (moved s p ran used port others caller server)) server u) _ _ _ (worth-now u) (not-back (funding_of (moved s p ran used port others caller server)) u server no_cycle_now (lent-now u c)) ∙ ready-same u
+  queue-keeps : (u : ℕ) → Contains queue u → value_of later u ≡ value_of ready u
+  queue-keeps u c = none-comes (lends_lead (funding_of later) server u) _ _ _ (worth-now u) (not-back (funding_of later) u server no_cycle_now (lent-now u c)) ∙ ready-same u
 
-  server-only : (v : ℕ) → lends_lead (funding_of (moved s p ran used port others caller server)) server v ≡ (v == server)
+  server-only : (v : ℕ) → lends_lead (funding_of later) server v ≡ (v == server)
   server-only v = by (cases_eq v server)
     where
-      by : (v ≡ server) ⊎ (¬ (v ≡ server)) → lends_lead (funding_of (moved s p ran used port others caller server)) server v ≡ (v == server)
+      by : (v ≡ server) ⊎ (¬ (v ≡ server)) → lends_lead (funding_of later) server v ≡ (v == server)
       by (inl same) =
-          ap (lends_lead (funding_of (moved s p ran used port others caller server)) server) same ∙ lead-itself (funding_of (moved s p ran used port others caller server)) server no_cycle_now ∙ sym (eq-eqb v server same)
-      by (inr differs) = lead-other (funding_of (moved s p ran used port others caller server)) server v no_cycle_now server-alone_now differs ∙ sym (ne_eqb v server differs)
+          ap (lends_lead (funding_of later) server) same ∙ lead-itself (funding_of later) server no_cycle_now ∙ sym (eq-eqb v server same)
+      by (inr differs) = lead-other (funding_of later) server v no_cycle_now server-alone_now differs ∙ sym (ne_eqb v server differs)
 
   -- the new server has what all of them are worth if they are Ready
-  pub gathers : (v : ℕ) → value_of (moved s p ran used port others caller server) v ≡ value_of (with_ready_each s queue) v + cond (v == server) (sum_by (value_of (with_ready_each s queue)) queue) 0
+  pub gathers : (v : ℕ) → value_of later v ≡ value_of ready v + cond (v == server) (sum_by (value_of ready) queue) 0
   gathers v =
       worth-now v
-      ∙ ap (λ w. w + cond (lends_lead (funding_of (moved s p ran used port others caller server)) server v) (sum_by (value_of (moved s p ran used port others caller server)) queue) 0) (ready-same v)
-      ∙ ap (λ w. value_of (with_ready_each s queue) v + cond (lends_lead (funding_of (moved s p ran used port others caller server)) server v) w 0) (sum-listed (value_of (moved s p ran used port others caller server)) (value_of (with_ready_each s queue)) queue queue-keeps)
-      ∙ ap (λ on. value_of (with_ready_each s queue) v + cond on (sum_by (value_of (with_ready_each s queue)) queue) 0) (server-only v)
+      ∙ ap (λ w. w + cond (lends_lead (funding_of later) server v) (sum_by (value_of later) queue) 0) (ready-same v)
+      ∙ ap (λ w. value_of ready v + cond (lends_lead (funding_of later) server v) w 0) (sum-listed (value_of later) (value_of ready) queue queue-keeps)
+      ∙ ap (λ on. value_of ready v + cond on (sum_by (value_of ready) queue) 0) (server-only v)
 
-  pub gathered-together : live_value (moved s p ran used port others caller server) ≡ live_value (with_ready_each s queue)
-  gathered-together = each-together queue (moved s p ran used port others caller server) server no_cycle_now funds_there server-backed queue-apart lent-now ∙ ready-together
+  pub gathered-together : live_value later ≡ live_value ready
+  gathered-together = each-together queue later server no_cycle_now funds_there server-backed queue-apart lent-now ∙ ready-together
 
   -- ---- what moves, if the server before is backed
 
@@ -324,18 +324,18 @@ module _ (s : State) (no_cycle : HasNoCycle (funding_of s)) (funds_there : Funds
     lent-old : (u : ℕ) → Contains queue u → LendsTo (funding_of s) u old
     lent-old u c = ap (option_and_then (borrower (funding_of s))) (of-queue u c) ∙ ap option_flatten held ∙ old_is
 
-    worth-before : (v : ℕ) → value_of s v ≡ value_of (with_ready_each s queue) v + cond (lends_lead (funding_of s) old v) (sum_by (value_of s) queue) 0
+    worth-before : (v : ℕ) → value_of s v ≡ value_of ready v + cond (lends_lead (funding_of s) old v) (sum_by (value_of s) queue) 0
     worth-before = each-worth queue s old no_cycle funds_there backed queue-apart lent-old
 
-    same-queue : sum_by (value_of (with_ready_each s queue)) queue ≡ sum_by (value_of s) queue
+    same-queue : sum_by (value_of ready) queue ≡ sum_by (value_of s) queue
     same-queue =
-        sum-listed (value_of (with_ready_each s queue)) (value_of s) queue
+        sum-listed (value_of ready) (value_of s) queue
         (λ u c. sym (none-comes (lends_lead (funding_of s) old u) _ _ _ (worth-before u) (not-back (funding_of s) u old no_cycle (lent-old u c))))
 
-    pub moves : (v : ℕ) → value_of (moved s p ran used port others caller server) v + cond (lends_lead (funding_of s) old v) (sum_by (value_of s) queue) 0 ≡ value_of s v + cond (v == server) (sum_by (value_of s) queue) 0
+    pub moves : (v : ℕ) → value_of later v + cond (lends_lead (funding_of s) old v) (sum_by (value_of s) queue) 0 ≡ value_of s v + cond (v == server) (sum_by (value_of s) queue) 0
     moves v = omega (arith, gathers v, worth-before v, ap (λ w. cond (v == server) w 0) same-queue)
 
-    pub moved-together : live_value (moved s p ran used port others caller server) ≡ live_value s
+    pub moved-together : live_value later ≡ live_value s
     moved-together = gathered-together ∙ sym (each-together queue s old no_cycle funds_there backed queue-apart lent-old)
 
 -- the holder of a server has it

@@ -1,5 +1,5 @@
 -- A serving that takes the next queued call, whoever was the port's server, in a reachable state of a kernel whose queued calls lend: what threads are worth then.
-use Rattle.std.proofs.Common.{◌≡◌, ◌≢◌, ℕ, ◌+◌, ◌==◌, ◌⊎◌, inl, inr, Bool, cond, Option, Some, None, List, [], ◌∷◌, Contains, length, sum_by, option_map, option_and_then, refl, sym, ◌∙◌, ap, arith}
+use Rattle.std.proofs.Common.{◌≡◌, ◌≢◌, ℕ, ◌+◌, ◌==◌, ◌≤◌, ◌⊎◌, inl, inr, Bool, cond, Option, Some, None, List, [], ◌∷◌, Contains, length, sum_by, option_map, option_and_then, refl, sym, ◌∙◌, ap, arith}
 use Rattle.std.specs.List.{range_with_len}
 use Rattle.std.proofs.lemmas.Bool.{cases_eq, eq-eqb, ne_eqb, le-leb}
 use Rattle.std.proofs.lemmas.List.{length-map}
@@ -66,11 +66,33 @@ same-each (t ∷ ts) xs ys same = same-each ts (change_record made_ready xs t) (
 module _ (s : State) (reachable : IsReachable s) (lends : LendsQueued s) (p ran used before port number caller next server : ℕ) (others : List QueuedCall)
     (runs : status_of s.records server ≡ Some (Running p before)) (first : first_client s.clients server ≡ Some caller) (queued : status_of s.records next ≡ Some (QueuedAt port))
     (no_cycle_now : HasNoCycle (funding_of (moved (between s number caller server) p ran used port others next server))) where
+  -- the states between the reply and the receipt, and afterwards; and those with all of the queue Ready
+  abbrev middle : State
+  middle = between s number caller server
+
+  abbrev later : State
+  later = moved middle p ran used port others next server
+
+  abbrev queue : List ℕ
+  queue = callers_of s.ports port
+
+  abbrev ready_middle : State
+  ready_middle = with_ready_each middle queue
+
+  abbrev ready : State
+  ready = with_callers_ready (with_ready s caller) port
+
   order : IsInOrder s
   order = reachable-order s reachable
 
+  first_port : 1 ≤ port
+  first_port = least s port next reachable lends queued
+
+  last_port : port ≤ s.limits.ports
+  last_port = small s port next reachable lends queued
+
   served : status_of s.records caller ≡ Some (Served server)
-  served = (queue-clients s.records s.clients s.ports s.mutexes (reachable-order s reachable).queues server).each 0 caller first
+  served = (queue-clients s.records s.clients s.ports s.mutexes order.queues server).each 0 caller first
 
   differ : (u : ℕ) → status_of s.records u ≡ Some (QueuedAt port) → ¬ (u ≡ caller)
   differ u is same =
@@ -80,83 +102,81 @@ module _ (s : State) (reachable : IsReachable s) (lends : LendsQueued s) (p ran 
   server-caller same =
       let both : Some (Served server) ≡ Some (Running p before) = sym served ∙ ap (status_of s.records) (sym same) ∙ runs in cc
 
-  cycle-between : HasNoCycle (funding_of (between s number caller server))
+  cycle-between : HasNoCycle (funding_of middle)
   cycle-between =
-      ready-cycle (answered number) (λ r. refl) s caller server (reachable-order s reachable).no_cycle (reachable-order s reachable).funds_there (lends-of s caller server (Served server) served (served-lends s server lends.0))
+      ready-cycle (answered number) (λ r. refl) s caller server order.no_cycle order.funds_there (lends-of s caller server (Served server) served (served-lends s server lends.0))
 
   other-between : (u : ℕ) → ¬ (u ≡ caller) → status_of (woken s number caller) u ≡ status_of s.records u
   other-between u differs = status-other (answered number) s.records caller u differs
 
   -- those who lend to the port between the reply and the receipt
-  in-queue : (u : ℕ) → at_number (funding_of (between s number caller server)).lends u ≡ Some (ToMutex (holder_of s.limits port)) → Contains (callers_of s.ports port) u
+  in-queue : (u : ℕ) → at_number (funding_of middle).lends u ≡ Some (ToMutex (holder_of s.limits port)) → Contains queue u
   in-queue u is = by (cases_eq u caller)
     where
       told : option_map (lend_of s.limits) (status_of (woken s number caller) u) ≡ Some (ToMutex (holder_of s.limits port))
       told = sym (lend-is s.limits (woken s number caller) u) ∙ is
 
-      by : (u ≡ caller) ⊎ (¬ (u ≡ caller)) → Contains (callers_of s.ports port) u
+      by : (u ≡ caller) ⊎ (¬ (u ≡ caller)) → Contains queue u
       by (inl same) =
           let never : Some Nobody ≡ Some (ToMutex (holder_of s.limits port)) =
           sym (ap (λ x. option_map (lend_of s.limits) (status_of (woken s number caller) x)) same ∙ ap (option_map (lend_of s.limits)) (status-now (answered number) s.records caller (Served server) Ready served (λ r. refl))) ∙ told in cc
       by (inr differs) =
           queued-listed s u port reachable
-          (lender-queued s port reachable (least s port next reachable lends queued) u (lend-is s.limits s.records u ∙ ap (option_map (lend_of s.limits)) (sym (other-between u differs)) ∙ told))
+          (lender-queued s port reachable first_port u (lend-is s.limits s.records u ∙ ap (option_map (lend_of s.limits)) (sym (other-between u differs)) ∙ told))
 
-  of-queue : (u : ℕ) → Contains (callers_of s.ports port) u → at_number (funding_of (between s number caller server)).lends u ≡ Some (ToMutex (holder_of s.limits port))
+  of-queue : (u : ℕ) → Contains queue u → at_number (funding_of middle).lends u ≡ Some (ToMutex (holder_of s.limits port))
   of-queue u c =
-      let (place, at) = place-in (callers_of s.ports port) u c in
-      let is : status_of s.records u ≡ Some (QueuedAt port) = callers s port reachable lends (least s port next reachable lends queued) (small s port next reachable lends queued) place u at in
+      let (place, at) = place-in queue u c in
+      let is : status_of s.records u ≡ Some (QueuedAt port) = callers s port reachable lends first_port last_port place u at in
       lend-is s.limits (woken s number caller) u ∙ ap (option_map (lend_of s.limits)) (other-between u (differ u is)) ∙ sym (lend-is s.limits s.records u)
-      ∙ queued-lender s port reachable lends (least s port next reachable lends queued) (small s port next reachable lends queued) u is
+      ∙ queued-lender s port reachable lends first_port last_port u is
 
   -- with all of them Ready
-  same-ready : SameStatuses (with_ready_each (between s number caller server) (callers_of s.ports port)).records (with_callers_ready (with_ready s caller) port).records
-  same-ready = same-each (callers_of s.ports port) (woken s number caller) (with_ready s caller).records (same-change (answered number) made_ready (λ r. refl) (λ r. refl) s.records s.records caller (λ u. refl))
+  same-ready : SameStatuses ready_middle.records ready.records
+  same-ready = same-each queue (woken s number caller) (with_ready s caller).records (same-change (answered number) made_ready (λ r. refl) (λ r. refl) s.records s.records caller (λ u. refl))
 
-  as-many : length (with_ready_each (between s number caller server) (callers_of s.ports port)).records ≡ length (with_callers_ready (with_ready s caller) port).records
+  as-many : length ready_middle.records ≡ length ready.records
   as-many =
-      each-length made_ready (woken s number caller) (callers_of s.ports port) ∙ change-length (answered number) s.records caller
-      ∙ sym (each-length made_ready (with_ready s caller).records (callers_of s.ports port) ∙ change-length made_ready s.records caller)
+      each-length made_ready (woken s number caller) queue ∙ change-length (answered number) s.records caller
+      ∙ sym (each-length made_ready (with_ready s caller).records queue ∙ change-length made_ready s.records caller)
 
-  lives-same : (u : ℕ) → at_number (live_of (with_ready_each (between s number caller server) (callers_of s.ports port))) u ≡ at_number (live_of (with_callers_ready (with_ready s caller) port)) u
+  lives-same : (u : ℕ) → at_number (live_of ready_middle) u ≡ at_number (live_of ready) u
   lives-same u =
-      live-is (with_ready_each (between s number caller server) (callers_of s.ports port)).records u ∙ ap (option_map is_live_status) (same-ready u) ∙ sym (live-is (with_callers_ready (with_ready s caller) port).records u)
+      live-is ready_middle.records u ∙ ap (option_map is_live_status) (same-ready u) ∙ sym (live-is ready.records u)
 
-  lend-same : (u : ℕ) → at_number (funding_of (with_ready_each (between s number caller server) (callers_of s.ports port))).lends u ≡ at_number (funding_of (with_callers_ready (with_ready s caller) port)).lends u
+  lend-same : (u : ℕ) → at_number (funding_of ready_middle).lends u ≡ at_number (funding_of ready).lends u
   lend-same u =
-      lend-is s.limits (with_ready_each (between s number caller server) (callers_of s.ports port)).records u ∙ ap (option_map (lend_of s.limits)) (same-ready u)
-      ∙ sym (lend-is s.limits (with_callers_ready (with_ready s caller) port).records u)
+      lend-is s.limits ready_middle.records u ∙ ap (option_map (lend_of s.limits)) (same-ready u)
+      ∙ sym (lend-is s.limits ready.records u)
 
-  worth-same : (v : ℕ) → value_of (with_ready_each (between s number caller server) (callers_of s.ports port)) v ≡ value_of (with_callers_ready (with_ready s caller) port) v
+  worth-same : (v : ℕ) → value_of ready_middle v ≡ value_of ready v
   worth-same v =
-      let was = with_callers_ready (with_ready s caller) port in
-      let is = with_ready_each (between s number caller server) (callers_of s.ports port) in
+      let was = ready in
+      let is = ready_middle in
       same-worth (funding_of was) (funding_of is).lends (funding_of is).owners (live_of was) (live_of is)
       (length-map is.records (λ (r : Record). lend_of s.limits r.status) ∙ as-many ∙ sym (length-map was.records (λ (r : Record). lend_of s.limits r.status)))
-      (each-cycle (callers_of s.ports port) (with_ready s caller) (cycle-nobody s made_ready caller (λ r. refl) (reachable-order s reachable).no_cycle))
-      (each-cycle (callers_of s.ports port) (between s number caller server) cycle-between) (reachable-order s reachable).funds_there
+      (each-cycle queue (with_ready s caller) (cycle-nobody s made_ready caller (λ r. refl) order.no_cycle))
+      (each-cycle queue middle cycle-between) order.funds_there
       (λ u. ap (option_and_then (borrower (funding_of is))) (lend-same u)) lives-same s.limits.unit v
 
-  pub serving-gathers : (v : ℕ) → value_of (moved (between s number caller server) p ran used port others next server) v
-      ≡ value_of (with_callers_ready (with_ready s caller) port) v + cond (v == server) (sum_by (value_of (with_callers_ready (with_ready s caller) port)) (callers_of s.ports port)) 0
+  pub serving-gathers : (v : ℕ) → value_of later v ≡ value_of ready v + cond (v == server) (sum_by (value_of ready) queue) 0
   serving-gathers v =
-      let ready = with_ready_each (between s number caller server) (callers_of s.ports port) in
       let (was, holds) = held s port next reachable lends queued in
-      gathers (between s number caller server) cycle-between (reachable-order s reachable).funds_there lends p ran used before port next server others (other-between server server-caller ∙ runs) (other-between next (differ next queued) ∙ queued)
-      (le-leb port s.limits.ports (small s port next reachable lends queued)) was holds (callers_of s.ports port)
-      (callers-apart s port reachable lends (least s port next reachable lends queued) (small s port next reachable lends queued)) in-queue of-queue no_cycle_now v
-      ∙ ap (λ w. w + cond (v == server) (sum_by (value_of ready) (callers_of s.ports port)) 0) (worth-same v)
-      ∙ ap (λ w. value_of (with_callers_ready (with_ready s caller) port) v + cond (v == server) w 0)
-      (sum-same (value_of ready) (value_of (with_callers_ready (with_ready s caller) port)) (callers_of s.ports port) worth-same)
+      gathers middle cycle-between order.funds_there lends p ran used before port next server others (other-between server server-caller ∙ runs) (other-between next (differ next queued) ∙ queued)
+      (le-leb port s.limits.ports last_port) was holds queue
+      (callers-apart s port reachable lends first_port last_port) in-queue of-queue no_cycle_now v
+      ∙ ap (λ w. w + cond (v == server) (sum_by (value_of ready_middle) queue) 0) (worth-same v)
+      ∙ ap (λ w. value_of ready v + cond (v == server) w 0)
+      (sum-same (value_of ready_middle) (value_of ready) queue worth-same)
 
-  pub serving-gathered : live_value (moved (between s number caller server) p ran used port others next server) ≡ live_value (with_callers_ready (with_ready s caller) port)
+  pub serving-gathered : live_value later ≡ live_value ready
   serving-gathered =
-      let was = with_callers_ready (with_ready s caller) port in
-      let is = with_ready_each (between s number caller server) (callers_of s.ports port) in
+      let was = ready in
+      let is = ready_middle in
       let (held_by, holds) = held s port next reachable lends queued in
-      gathered-together (between s number caller server) cycle-between (reachable-order s reachable).funds_there lends p ran used before port next server others (other-between server server-caller ∙ runs) (other-between next (differ next queued) ∙ queued)
-      (le-leb port s.limits.ports (small s port next reachable lends queued)) held_by holds (callers_of s.ports port)
-      (callers-apart s port reachable lends (least s port next reachable lends queued) (small s port next reachable lends queued)) in-queue of-queue no_cycle_now
+      gathered-together middle cycle-between order.funds_there lends p ran used before port next server others (other-between server server-caller ∙ runs) (other-between next (differ next queued) ∙ queued)
+      (le-leb port s.limits.ports last_port) held_by holds queue
+      (callers-apart s port reachable lends first_port last_port) in-queue of-queue no_cycle_now
       ∙ sum-filter (value_of is) (is_live (live_of is)) (numbers is.records)
       ∙ ap (λ n. sum_by (λ u. cond (is_live (live_of is) u) (value_of is u) 0) (range_with_len 1 n)) as-many
       ∙ sum-same (λ u. cond (is_live (live_of is) u) (value_of is u) 0) (λ u. cond (is_live (live_of was) u) (value_of was u) 0) (numbers was.records)

@@ -59,6 +59,13 @@ module _ (s : State) (order : IsInOrder s) (lends : LendsQueued s) (p ran used b
     (runs : status_of s.records server ≡ Some (Running p before)) (first : first_client s.clients server ≡ Some caller) (queued : status_of s.records next ≡ Some (QueuedAt port))
     (serves : Serves s port old) (backed : IsBacked (funding_of s) (live_of s) old)
     (no_cycle_now : HasNoCycle (funding_of (moved (between s number caller server) p ran used port others next server))) where
+  -- the states between the reply and the receipt, and afterwards
+  abbrev middle : State
+  middle = between s number caller server
+
+  abbrev later : State
+  later = moved middle p ran used port others next server
+
   served : status_of s.records caller ≡ Some (Served server)
   served = (queue-clients s.records s.clients s.ports s.mutexes order.queues server).each 0 caller first
 
@@ -85,19 +92,19 @@ module _ (s : State) (order : IsInOrder s) (lends : LendsQueued s) (p ran used b
   caller-between : status_of (woken s number caller) caller ≡ Some Ready
   caller-between = status-now (answered number) s.records caller (Served server) Ready served (λ r. refl)
 
-  cycle-between : HasNoCycle (funding_of (between s number caller server))
+  cycle-between : HasNoCycle (funding_of middle)
   cycle-between = ready-cycle (answered number) (λ r. refl) s caller server order.no_cycle order.funds_there lent
 
-  backed-between : IsBacked (funding_of (between s number caller server)) (live_of (between s number caller server)) old
+  backed-between : IsBacked (funding_of middle) (live_of middle) old
   backed-between = ready-backed (answered number) (λ r. refl) s caller server order.no_cycle order.funds_there lent old backed
 
   -- ---- the reply: the server is worth less by what the caller is worth
 
-  answers : (v : ℕ) → value_of s v ≡ value_of (between s number caller server) v + cond (v == server) (value_of s caller) 0
+  answers : (v : ℕ) → value_of s v ≡ value_of middle v + cond (v == server) (value_of s caller) 0
   answers v =
       ready-worth (answered number) (λ r. refl) s caller server order.no_cycle order.funds_there lent server-backed v
-      ∙ ap (λ w. value_of (between s number caller server) v + cond (lends_lead (funding_of s) server v) w 0) (sym (lender-keeps (answered number) (λ r. refl) s caller server order.no_cycle order.funds_there lent server-backed caller lent))
-      ∙ ap (λ on. value_of (between s number caller server) v + cond on (value_of s caller) 0) (by (cases_eq v server))
+      ∙ ap (λ w. value_of middle v + cond (lends_lead (funding_of s) server v) w 0) (sym (lender-keeps (answered number) (λ r. refl) s caller server order.no_cycle order.funds_there lent server-backed caller lent))
+      ∙ ap (λ on. value_of middle v + cond on (value_of s caller) 0) (by (cases_eq v server))
     where
       server-backed : IsBacked (funding_of s) (live_of s) server
       server-backed = (server, ([], refl), is-live s.records server (Running p before) runs refl)
@@ -106,7 +113,7 @@ module _ (s : State) (order : IsInOrder s) (lends : LendsQueued s) (p ran used b
       by (inl same) = ap (lends_lead (funding_of s) server) same ∙ lead-itself (funding_of s) server order.no_cycle ∙ sym (eq-eqb v server same)
       by (inr differs) = lead-other (funding_of s) server v order.no_cycle server-alone differs ∙ sym (ne_eqb v server differs)
 
-  other-between : (v : ℕ) → v ≢ server → value_of (between s number caller server) v ≡ value_of s v
+  other-between : (v : ℕ) → v ≢ server → value_of middle v ≡ value_of s v
   other-between v differs = omega (arith, answers v, ap (λ on. cond on (value_of s caller) 0) (ne_eqb v server differs))
 
   -- ---- the queue is as it was
@@ -123,93 +130,92 @@ module _ (s : State) (order : IsInOrder s) (lends : LendsQueued s) (p ran used b
       ap (option_any (is_to_mutex (holder_of s.limits port))) (lend-is s.limits s.records caller ∙ ap (option_map (lend_of s.limits)) served
       ∙ ap (λ (without : Bool). Some (cond without Nobody (ToThread server))) lends.0)
 
-  lend-of-ready : in_queue (between s number caller server) caller ≡ false
+  lend-of-ready : in_queue middle caller ≡ false
   lend-of-ready = ap (option_any (is_to_mutex (holder_of s.limits port))) (lend-is s.limits (woken s number caller) caller ∙ ap (option_map (lend_of s.limits)) caller-between)
 
-  lend-between : (u : ℕ) → u ≢ caller → in_queue (between s number caller server) u ≡ in_queue s u
+  lend-between : (u : ℕ) → u ≢ caller → in_queue middle u ≡ in_queue s u
   lend-between u differs =
       ap (option_any (is_to_mutex (holder_of s.limits port))) (lend-is s.limits (woken s number caller) u ∙ ap (option_map (lend_of s.limits)) (status-other (answered number) s.records caller u differs) ∙ sym (lend-is s.limits s.records u))
 
-  same-port : port_value (between s number caller server) port ≡ port_value s port
+  same-port : port_value middle port ≡ port_value s port
   same-port =
-      sum-filter (value_of (between s number caller server)) (in_queue (between s number caller server)) (numbers (funding_of (between s number caller server)).lends)
-      ∙ ap (λ n. sum_by (λ u. cond (in_queue (between s number caller server) u) (value_of (between s number caller server) u) 0) (range_with_len 1 n)) as-many
-      ∙ sum-same (λ u. cond (in_queue (between s number caller server) u) (value_of (between s number caller server) u) 0) (λ u. cond (in_queue s u) (value_of s u) 0) (numbers (funding_of s).lends) (λ u. each u (cases_eq u caller) (cases_eq u server))
+      sum-filter (value_of middle) (in_queue middle) (numbers (funding_of middle).lends)
+      ∙ ap (λ n. sum_by (λ u. cond (in_queue middle u) (value_of middle u) 0) (range_with_len 1 n)) as-many
+      ∙ sum-same (λ u. cond (in_queue middle u) (value_of middle u) 0) (λ u. cond (in_queue s u) (value_of s u) 0) (numbers (funding_of s).lends) (λ u. each u (cases_eq u caller) (cases_eq u server))
       ∙ sym (sum-filter (value_of s) (in_queue s) (numbers (funding_of s).lends))
     where
-      as-many : length (funding_of (between s number caller server)).lends ≡ length (funding_of s).lends
+      as-many : length (funding_of middle).lends ≡ length (funding_of s).lends
       as-many = length-map (woken s number caller) (λ (r : Record). lend_of s.limits r.status) ∙ change-length (answered number) s.records caller ∙ sym (length-map s.records (λ (r : Record). lend_of s.limits r.status))
 
       neither : (on off : Bool) (w x : ℕ) → on ≡ false → off ≡ false → cond on w 0 ≡ cond off x 0
       neither on off w x is also = ap (λ b. cond b w 0) is ∙ sym (ap (λ b. cond b x 0) also)
 
       each : (u : ℕ) → (u ≡ caller) ⊎ (¬ (u ≡ caller)) → (u ≡ server) ⊎ (¬ (u ≡ server))
-          → cond (in_queue (between s number caller server) u) (value_of (between s number caller server) u) 0 ≡ cond (in_queue s u) (value_of s u) 0
-      each u (inl same) which = neither _ _ _ _ (ap (in_queue (between s number caller server)) same ∙ lend-of-ready) (ap (in_queue s) same ∙ lend-of-served)
+          → cond (in_queue middle u) (value_of middle u) 0 ≡ cond (in_queue s u) (value_of s u) 0
+      each u (inl same) which = neither _ _ _ _ (ap (in_queue middle) same ∙ lend-of-ready) (ap (in_queue s) same ∙ lend-of-served)
       each u (inr differs) (inl same) = neither _ _ _ _ (lend-between u differs ∙ ap (in_queue s) same ∙ lend-of-running) (ap (in_queue s) same ∙ lend-of-running)
-      each u (inr differs) (inr other) = ap (λ on. cond on (value_of (between s number caller server) u) 0) (lend-between u differs) ∙ ap (λ w. cond (in_queue s u) w 0) (other-between u other)
+      each u (inr differs) (inr other) = ap (λ on. cond on (value_of middle u) 0) (lend-between u differs) ∙ ap (λ w. cond (in_queue s u) w 0) (other-between u other)
 
   -- ---- the receipt
 
-  moves-on : (v : ℕ) → value_of (moved (between s number caller server) p ran used port others next server) v + cond (lends_lead (funding_of (between s number caller server)) old v) (port_value s port) 0
-      ≡ value_of (between s number caller server) v + cond (v == server) (port_value s port) 0
+  moves-on : (v : ℕ) → value_of later v + cond (lends_lead (funding_of middle) old v) (port_value s port) 0 ≡ value_of middle v + cond (v == server) (port_value s port) 0
   moves-on v =
-      ap (λ q. value_of (moved (between s number caller server) p ran used port others next server) v + cond (lends_lead (funding_of (between s number caller server)) old v) q 0) (sym same-port)
-      ∙ moves (between s number caller server) cycle-between order.funds_there lends p ran used before port next server others runs-between queued-between serves.0 (Some old) (holder-held s port old serves.1) (waiters_for (funding_of (between s number caller server)) (holder_of s.limits port))
-      (waiters-apart (funding_of (between s number caller server)) (holder_of s.limits port)) (waiters-in (funding_of (between s number caller server)) (holder_of s.limits port)) (waiters-of (funding_of (between s number caller server)) (holder_of s.limits port))
+      ap (λ q. value_of later v + cond (lends_lead (funding_of middle) old v) q 0) (sym same-port)
+      ∙ moves middle cycle-between order.funds_there lends p ran used before port next server others runs-between queued-between serves.0 (Some old) (holder-held s port old serves.1) (waiters_for (funding_of middle) (holder_of s.limits port))
+      (waiters-apart (funding_of middle) (holder_of s.limits port)) (waiters-in (funding_of middle) (holder_of s.limits port)) (waiters-of (funding_of middle) (holder_of s.limits port))
       no_cycle_now old refl backed-between v
-      ∙ ap (λ q. value_of (between s number caller server) v + cond (v == server) q 0) same-port
+      ∙ ap (λ q. value_of middle v + cond (v == server) q 0) same-port
 
-  pub serving-together : live_value (moved (between s number caller server) p ran used port others next server) ≡ live_value s
+  pub serving-together : live_value later ≡ live_value s
   serving-together =
-      moved-together (between s number caller server) cycle-between order.funds_there lends p ran used before port next server others runs-between queued-between serves.0 (Some old) (holder-held s port old serves.1) (waiters_for (funding_of (between s number caller server)) (holder_of s.limits port))
-      (waiters-apart (funding_of (between s number caller server)) (holder_of s.limits port)) (waiters-in (funding_of (between s number caller server)) (holder_of s.limits port)) (waiters-of (funding_of (between s number caller server)) (holder_of s.limits port))
+      moved-together middle cycle-between order.funds_there lends p ran used before port next server others runs-between queued-between serves.0 (Some old) (holder-held s port old serves.1) (waiters_for (funding_of middle) (holder_of s.limits port))
+      (waiters-apart (funding_of middle) (holder_of s.limits port)) (waiters-in (funding_of middle) (holder_of s.limits port)) (waiters-of (funding_of middle) (holder_of s.limits port))
       no_cycle_now old refl backed-between
       ∙ sym (ready-together (answered number) (λ r. refl) s caller server order.no_cycle order.funds_there lent (server, ([], refl), is-live s.records server (Running p before) runs refl))
 
   -- to whom the old server's lends lead between the two
-  leads-on : (v : ℕ) → v ≢ server → LendsLead (funding_of s) old v → LendsLead (funding_of (between s number caller server)) old v
+  leads-on : (v : ℕ) → v ≢ server → LendsLead (funding_of s) old v → LendsLead (funding_of middle) old v
   leads-on v differs (chain, is) = lead-then (answered number) (λ r. refl) s caller server order.no_cycle order.funds_there lent server-alone old chain v is differs
 
-  leads-back : (v : ℕ) → LendsLead (funding_of (between s number caller server)) old v → LendsLead (funding_of s) old v
+  leads-back : (v : ℕ) → LendsLead (funding_of middle) old v → LendsLead (funding_of s) old v
   leads-back v (chain, is) = (chain, chain-before (answered number) (λ r. refl) s caller server order.no_cycle order.funds_there lent old chain v is)
 
-  led : (v : ℕ) → LendsLead (funding_of (between s number caller server)) old v → lends_lead (funding_of (between s number caller server)) old v ≡ true
-  led v = (lends_lead-exact (funding_of (between s number caller server)) cycle-between.lends old v).1
+  led : (v : ℕ) → LendsLead (funding_of middle) old v → lends_lead (funding_of middle) old v ≡ true
+  led v = (lends_lead-exact (funding_of middle) cycle-between.lends old v).1
 
-  not-led : (v : ℕ) → ¬ LendsLead (funding_of (between s number caller server)) old v → lends_lead (funding_of (between s number caller server)) old v ≡ false
-  not-led v off = by (lends_lead (funding_of (between s number caller server)) old v) refl
+  not-led : (v : ℕ) → ¬ LendsLead (funding_of middle) old v → lends_lead (funding_of middle) old v ≡ false
+  not-led v off = by (lends_lead (funding_of middle) old v) refl
     where
-      by : (b : Bool) → lends_lead (funding_of (between s number caller server)) old v ≡ b → b ≡ false
+      by : (b : Bool) → lends_lead (funding_of middle) old v ≡ b → b ≡ false
       by false is = refl
-      by true is = absurd (off ((lends_lead-exact (funding_of (between s number caller server)) cycle-between.lends old v).0 is))
+      by true is = absurd (off ((lends_lead-exact (funding_of middle) cycle-between.lends old v).0 is))
 
-  counted : (v : ℕ) (on same : Bool) → lends_lead (funding_of (between s number caller server)) old v ≡ on → (v == server) ≡ same
-      → value_of (moved (between s number caller server) p ran used port others next server) v + cond on (port_value s port) 0 + cond same (value_of s caller) 0 ≡ value_of s v + cond same (port_value s port) 0
+  counted : (v : ℕ) (on same : Bool) → lends_lead (funding_of middle) old v ≡ on → (v == server) ≡ same
+      → value_of later v + cond on (port_value s port) 0 + cond same (value_of s caller) 0 ≡ value_of s v + cond same (port_value s port) 0
   counted v on same is at =
       omega (arith, moves-on v, answers v, ap (λ b. cond b (port_value s port) 0) is, ap (λ b. cond b (port_value s port) 0) at, ap (λ b. cond b (value_of s caller) 0) at)
 
-  pub serving-gains : ¬ LendsLead (funding_of s) old server → value_of (moved (between s number caller server) p ran used port others next server) server + value_of s caller ≡ value_of s server + port_value s port
+  pub serving-gains : ¬ LendsLead (funding_of s) old server → value_of later server + value_of s caller ≡ value_of s server + port_value s port
   serving-gains off = omega (arith, counted server false true (not-led server (λ lead. off (leads-back server lead))) (eq-eqb server server refl))
 
   -- the caller, which gets its reply, is between them
-  pub serving-frees : LendsLead (funding_of s) old caller → value_of (moved (between s number caller server) p ran used port others next server) server + value_of s caller ≡ value_of s server + port_value s port
+  pub serving-frees : LendsLead (funding_of s) old caller → value_of later server + value_of s caller ≡ value_of s server + port_value s port
   serving-frees on = omega (arith, counted server false true (not-led server off) (eq-eqb server server refl))
     where
-      off : ¬ LendsLead (funding_of (between s number caller server)) old server
+      off : ¬ LendsLead (funding_of middle) old server
       off (chain, is) =
           let (other, also) = leads-on caller caller-server on in
-          caller-server (ends-same (funding_of (between s number caller server)) old other caller chain server (ready-alone (answered number) (λ r. refl) s caller server order.no_cycle order.funds_there lent)
+          caller-server (ends-same (funding_of middle) old other caller chain server (ready-alone (answered number) (λ r. refl) s caller server order.no_cycle order.funds_there lent)
           (ready-lends (answered number) (λ r. refl) s caller server order.no_cycle order.funds_there lent server (λ same. caller-server (sym same)) ∙ server-alone) also is)
 
-  pub serving-keeps : LendsLead (funding_of s) old server → ¬ LendsLead (funding_of s) old caller → value_of s server ≡ value_of (moved (between s number caller server) p ran used port others next server) server + value_of s caller
+  pub serving-keeps : LendsLead (funding_of s) old server → ¬ LendsLead (funding_of s) old caller → value_of s server ≡ value_of later server + value_of s caller
   serving-keeps (chain, is) apart =
       omega (arith, counted server true true (led server (chain, chain-then (answered number) (λ r. refl) s caller server order.no_cycle order.funds_there lent old chain server is apart)) (eq-eqb server server refl))
 
-  pub serving-loses : (v : ℕ) → LendsLead (funding_of s) old v → v ≢ server → value_of s v ≡ value_of (moved (between s number caller server) p ran used port others next server) v + port_value s port
+  pub serving-loses : (v : ℕ) → LendsLead (funding_of s) old v → v ≢ server → value_of s v ≡ value_of later v + port_value s port
   serving-loses v on differs = omega (arith, counted v true false (led v (leads-on v differs on)) (ne_eqb v server differs))
 
-  pub serving-others : (v : ℕ) → ¬ LendsLead (funding_of s) old v → v ≢ server → value_of (moved (between s number caller server) p ran used port others next server) v ≡ value_of s v
+  pub serving-others : (v : ℕ) → ¬ LendsLead (funding_of s) old v → v ≢ server → value_of later v ≡ value_of s v
   serving-others v off differs = omega (arith, counted v false false (not-led v (λ lead. off (leads-back v lead))) (ne_eqb v server differs))
 
 -- ---- the event

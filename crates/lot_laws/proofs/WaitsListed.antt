@@ -95,7 +95,7 @@ left-callers t (c ∷ calls) u differs (suc place, e) = next (c.caller == t) (le
     next true (i, h) = (i, h)
     next false (i, h) = (suc i, h)
 
-left-threads : (t : ℕ) (xs : List ℕ) (u : ℕ) → ¬ (u ≡ t) → IsAmong xs u → IsAmong (without t xs) u
+pub left-threads : (t : ℕ) (xs : List ℕ) (u : ℕ) → ¬ (u ≡ t) → IsAmong xs u → IsAmong (without t xs) u
 left-threads t [] u differs (place, e) = (place, e)
 left-threads t (x ∷ xs) u differs (zero, e) = first (x == t) refl
   where

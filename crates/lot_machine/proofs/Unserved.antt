@@ -1,7 +1,8 @@
 -- Without lending of queued calls no holder but the mutexes is there, and none changes.
-use Rattle.std.proofs.Common.{◌≡◌, ℕ, zero, suc, ◌+◌, ◌-◌, ◌==◌, ◌<◌, ◌≤◌, Bool, true, false, ◌||◌, cond, nat_lt, nat_le, ◌&&◌, is_none, Option, Some, None, List, [], ◌∷◌, length, map, replicate, refl, sym, ◌∙◌, ap, arith, slice_get}
+use Rattle.std.proofs.Common.{◌≡◌, ℕ, suc, ◌+◌, ◌-◌, ◌==◌, ◌<◌, ◌≤◌, Bool, true, false, ◌||◌, cond, nat_lt, nat_le, ◌&&◌, is_none, Option, Some, None, List, [], ◌∷◌, length, map, refl, sym, ◌∙◌, ap, arith, slice_get}
 use Rattle.std.proofs.Math.ListN.{length-set}
 use Rattle.std.proofs.lemmas.Bool.{le-ltb}
+use Rattle.std.proofs.lemmas.List.{length-replicate}
 use Rattle.std.proofs.lemmas.Option.{slice_get_within}
 use Rattle.lot_machine.specs.declared.event.Event.{Event}
 use Rattle.lot_machine.specs.declared.sizes.Sizes.{Sizes}
@@ -29,10 +30,6 @@ HasHoldersOf s a = (a.limits ≡ s.limits) × (length a.mutexes ≡ length s.mut
 change-holders : (by : By) (s : State) → Keeps by s (HasHoldersOf s)
 change-holders by s a (PutMutex m x) allowed (limits, many) = (limits, length-set a.mutexes (m - 1) x ∙ many)
 change-holders by s a other allowed same = same
-
-length-replicate : {A : Type 0} (n : ℕ) (x : A) → length (replicate n x) ≡ n
-length-replicate zero x = refl
-length-replicate (suc n) x = ap suc (length-replicate n x)
 
 pub run-holders : (s : State) (events : List Event) → HasHoldersOf s (state_after s events)
 run-holders s [] = (refl, refl)
