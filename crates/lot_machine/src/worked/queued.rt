@@ -37,6 +37,8 @@ pub fn several_servers()
         ≡ reply.Winner 1 0 11000 (Some 5) ∷ reply.Trapped 1 1 (outcome.RepliedThenReceived 3 5 7) false ∷ [] }
     ensures moved { values (after_in queues_lend (two_servers ++ three_served ++ Draw 1 0 ∷ Trap 1 0 (Serve 1 1) ∷ []))
         ≡ 50 ∷ 40 ∷ 20 ∷ 30 ∷ 40 ∷ [] }
+    ensures served_next { values (after_in queues_lend (two_servers ++ three_served ++ Draw 1 0 ∷ Trap 1 0 (Serve 1 1)
+        ∷ Draw 2 4000 ∷ Trap 2 0 (Call 1 8) ∷ [])) ≡ 70 ∷ 40 ∷ 20 ∷ 30 ∷ 40 ∷ [] }
     ensures queued { values (after_in queues_lend (two_servers ++ two_queued)) ≡ 100 ∷ 10 ∷ 20 ∷ 30 ∷ 40 ∷ [] }
     ensures taken_by_other { answers_in queues_lend (two_servers ++ two_queued)
         (Draw 1 10000 ∷ Trap 1 0 (Receive 1) ∷ [])
