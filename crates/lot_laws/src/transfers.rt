@@ -8,10 +8,10 @@ ghost use Rattle.lot_machine.specs.Facts.{live_value};
 ghost use Rattle.lot_machine.specs.Order.{IsInOrder};
 ghost use Rattle.lot_machine.specs.Step.{step};
 ghost use Rattle.lot_laws.specs.Reachable.{IsReachable};
-ghost use Rattle.lot_laws.specs.Transfers.{LendsServed, TakesCall, QueuesCall, TakesQueuedCall, RepliesTo, RepliesThenWaits};
-ghost use Rattle.lot_laws.specs.Transfers.{RepliesThenReceives, LendsQueued, QueuesAt, TakesCallAt, ServesNextAt};
-ghost use Rattle.lot_laws.specs.Transfers.{Serves, port_value, callers_of, with_callers_ready};
-ghost use Rattle.lot_laws.specs.Transfers.{MayWait, WaitsFor, OwnsNothing, with_ready};
+ghost use Rattle.lot_laws.specs.Transfers.{LendsServed, TakesCall, QueuesCall, TakesQueuedCall, RepliesTo};
+ghost use Rattle.lot_laws.specs.Transfers.{RepliesThenWaits, RepliesThenReceives, LendsQueued, QueuesAt};
+ghost use Rattle.lot_laws.specs.Transfers.{TakesCallAt, ServesNextAt, Serves, port_value, callers_of};
+ghost use Rattle.lot_laws.specs.Transfers.{with_callers_ready, MayWait, WaitsFor, OwnsNothing, with_ready};
 
 /// A server with nothing of its own is worth nothing; once it takes a call, it is worth exactly what the caller was.
 /// Every other thread, and the caller, keeps its value, and so does the sum over the live threads.
@@ -137,10 +137,10 @@ pub fn servings_transfer_value()
         → live_value (step s e).state ≡ live_value (with_ready (with_ready s caller) next) }
 {}
 
-/// If queued calls lend, a caller whose call is queued passes its value to the port's server, and to each thread to which
-/// the server's lends lead: exactly what it would pass to a server that takes its call at once. Every other thread keeps
-/// its value, and so does the sum over the live threads. The server must be backed, and its lends must not lead to the
-/// caller.
+/// If queued calls lend, a caller whose call is queued passes its value to the port's server, and to each thread to
+/// which the server's lends lead: exactly what it would pass to a server that takes its call at once. Every other
+/// thread keeps its value, and so does the sum over the live threads. The server must be backed, and its lends must not
+/// lead to the caller.
 pub fn queued_calls_lend()
     ensures server { (s : State) (e : Event) (caller port server : ℕ) → IsInOrder s → LendsQueued s
         → QueuesAt s e caller port → Serves s port server → IsBacked (funding_of s) (live_of s) server
@@ -186,9 +186,9 @@ pub fn receipts_move_the_queue()
         → live_value (step s e).state ≡ live_value s }
 {}
 
-/// If queued calls lend, a thread that takes a queued call in a reachable state gains what all the callers would be worth
-/// if they were Ready, whoever the port's server was; all other values and the sum are as in that case. So nothing is
-/// lost that waits at a port without a server, or with one that isn't backed.
+/// If queued calls lend, a thread that takes a queued call in a reachable state gains what all the callers would be
+/// worth if they were Ready, whoever the port's server was; all other values and the sum are as in that case. So
+/// nothing is lost that waits at a port without a server, or with one that isn't backed.
 pub fn receipts_gather_the_queue()
     ensures server { (s : State) (e : Event) (port caller server : ℕ) → IsReachable s → LendsQueued s
         → TakesCallAt s e port caller server
@@ -218,8 +218,8 @@ pub fn servings_gather_the_queue()
 {}
 
 /// If queued calls lend, a server that replies and then takes the next caller's queued call, in one trap, gives back
-/// what the answered caller is worth, and what all the callers lend moves to it as by a receipt alone. So the port's own
-/// server gives back exactly that much (`own`). Another one gains the port's value too (`gains`), unless it has it
+/// what the answered caller is worth, and what all the callers lend moves to it as by a receipt alone. So the port's
+/// own server gives back exactly that much (`own`). Another one gains the port's value too (`gains`), unless it has it
 /// already (`keeps`).
 pub fn servings_move_the_queue()
     ensures own { (s : State) (e : Event) (port caller next server : ℕ) → IsInOrder s → LendsQueued s

@@ -91,8 +91,8 @@ pub fn port_cycle()
     ensures gone { (after_in queues_lend (port_cycle ++ Trap 1 0 (Lock 1) ∷ [])).mutexes
         ≡ record { owner = Some 3; waiters = 2 ∷ [] } ∷ record { owner = None; waiters = [] }
         ∷ record { owner = None; waiters = [] } ∷ record { owner = None; waiters = [] } ∷ [] }
-    ensures lent { values (after_in queues_lend (port_cycle ++ Trap 1 0 (Lock 1) ∷ Draw 2 0 ∷ Trap 2 0 (Receive 1) ∷ []))
-        ≡ 10 ∷ 30 ∷ 60 ∷ 65 ∷ [] }
+    ensures lent { values (after_in queues_lend (port_cycle ++ Trap 1 0 (Lock 1) ∷ Draw 2 0 ∷ Trap 2 0 (Receive 1)
+        ∷ [])) ≡ 10 ∷ 30 ∷ 60 ∷ 65 ∷ [] }
     ensures no_mutex { answers_in queues_lend port_cycle (Trap 1 0 (Lock 3) ∷ Trap 1 0 (Unlock 3 0) ∷ [])
         ≡ reply.Trapped 2 1 (outcome.Refused trap_refusal.NoMutex) false
         ∷ reply.Trapped 2 1 (outcome.Refused trap_refusal.NoMutex) false ∷ [] }
