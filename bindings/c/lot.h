@@ -148,7 +148,7 @@
 // or leave the server tickets of its own.
 //
 // QUEUED CALLS. Set `queued_lend` of lot_sizes: then a thread whose call is queued at a port lends to the port's
-// server, the thread that last took a call there, as the call came, by LOT_RECEIVE or by LOT_SERVE. So a server that
+// server, the thread that took the last call there, as the call came, by LOT_RECEIVE or by LOT_SERVE. So a server that
 // works for a poor client has the funding of the rich ones whose calls wait. Where several threads serve a port, one
 // of them is its server at a time. A port has no server before a thread takes a call there, and after its server has
 // exited or was killed. Callers in its queue lend to nobody then, until another thread takes a call. Two traps take a

@@ -407,7 +407,7 @@ class Kernel:
     ) -> TrappedReply:
         """The running thread calls the port with a number, and lends to the thread that serves it until the reply.
 
-        With `queued_lend` it also lends while its call is queued, to the thread that last took a call at the port.
+        With `queued_lend` it also lends while its call is queued, to the thread that took the last call at the port.
 
         Replies `TRAPPED` with `SERVED_BY` or `QUEUED`. Refused: BAD_PROCESSOR, NOT_RUNNING, BAD_TICKS; NO_PORT.
         """

@@ -25,8 +25,8 @@ class Sizes:
     With `plain_names` a name may have any printable ASCII but the space. Otherwise it is a letter a to z, followed by
     letters a to z, digits, '_' or '-'.
 
-    With `queued_lend` a thread whose call is queued lends to the port's server: the thread that last took a call there.
-    So a server that works for a poor client has the funding of the rich ones whose calls wait.
+    With `queued_lend` a thread whose call is queued lends to the port's server, the thread that took the last call
+    there. So a server that works for a poor client has the funding of the rich ones whose calls wait.
 
     Values are whole numbers, rounded down: a ticket of a currency is worth 0 if the currency's value times the ticket's
     amount is below the currency's active amount, and a thread that is worth 0 wins no draw. So give tickets of base

@@ -69,7 +69,7 @@ pub struct Sizes {
     /// ```
     pub plain_names: u32,
     /// 0 if a thread whose call is queued lends to nobody. Otherwise it lends to the port's server: the thread that
-    /// last took a call there. So a server that works for a poor client has the funding of the rich ones whose calls
+    /// took the last call there. So a server that works for a poor client has the funding of the rich ones whose calls
     /// wait. A port has no server before a thread takes a call there, and after its server has exited or was killed.
     /// Nothing is lent in a circle: a queued call, or a lock, that would make one takes the port's server away. The
     /// kernel keeps it as 0 or 1.
