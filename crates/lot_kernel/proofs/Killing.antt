@@ -196,8 +196,8 @@ module _ (v : Threaded) (q : QueueLists) (t : ℕ) (out : QueueLists) (taken : o
 
         pub all-stale : MakesStaleIn v v1 → MakesStaleIn v1 v2 → MakesStaleIn v2 v3 → MakesStaleIn v v3
         all-stale one two three =
-            makes-each v v2 v3 (ap (λ (x : Threaded). x.without_lending) v2-is, sym (ap (λ (x : Threaded). x.without_lending) ended_threads)) (ap (λ (x : Threaded). x.tickets) v2-is) (λ m. inr (inl (ap (λ (x : Threaded). at_number x.owners m) (sym ended_threads)))) ends
-            (makes-each v v1 v2 (ap (λ (x : Threaded). x.without_lending) v1-is, sym (ap (λ (x : Threaded). x.without_lending) passed_threads)) (ap (λ (x : Threaded). x.tickets) v1-is) (λ m. inl (ap (λ (x : Threaded). at_number x.owners m) v1-is)) between one two) three
+            makes-each v v2 v3 (ap (λ (x : Threaded). x.lending) v2-is, sym (ap (λ (x : Threaded). x.lending) ended_threads)) (ap (λ (x : Threaded). x.tickets) v2-is) (λ m. inr (inl (ap (λ (x : Threaded). at_number x.owners m) (sym ended_threads)))) ends
+            (makes-each v v1 v2 (ap (λ (x : Threaded). x.lending) v1-is, sym (ap (λ (x : Threaded). x.lending) passed_threads)) (ap (λ (x : Threaded). x.tickets) v1-is) (λ m. inl (ap (λ (x : Threaded). at_number x.owners m) v1-is)) between one two) three
           where
             between : (u : ℕ) → (at_number v1.records u ≡ at_number v.records u) ⊎ (at_number v1.records u ≡ at_number v2.records u)
             between u = from (each-between released (λ r. refl) v.records clients nexts u)

@@ -1,8 +1,8 @@
 -- What a trap's checks say, and what it leaves in the tables.
-use Rattle.std.proofs.Common.{◌≡◌, ◌≢◌, ◌∙◌, ◌↔◌, ℕ, zero, suc, ◌-◌, ◌<◌, ◌≤◌, ne_eqb, Bool, true, false, Option, Some, None, is_none, List, [], ◌∷◌, length, slice_get, unwrap_or, ap, sym, refl, subst, arith, if◌then◌else◌}
+use Rattle.std.proofs.Common.{◌≡◌, ◌≢◌, ◌∙◌, ◌↔◌, ℕ, zero, suc, ◌-◌, ◌<◌, ◌≤◌, ne_eqb, nat_lt, Bool, true, false, ◌||◌, Option, Some, None, is_none, List, [], ◌∷◌, length, slice_get, option_and_then, unwrap_or, ap, sym, refl, subst, arith, if◌then◌else◌}
 use Rattle.std.proofs.Math.ListN.{length-set}
 use Rattle.std.specs.Prelude.{IsTrue}
-use Rattle.std.proofs.lemmas.Bool.{eq-eqb}
+use Rattle.std.proofs.lemmas.Bool.{eq-eqb, le-ltb, ltb-false}
 use Rattle.lot_machine.specs.declared.action.Action.TheVariants as action
 use Rattle.lot_machine.specs.declared.after.After.TheVariants.{GoesOn}
 use Rattle.lot_machine.specs.declared.record.Record.{Record}
@@ -15,13 +15,15 @@ use Rattle.lot_machine.specs.Commands.{first_failing}
 use Rattle.lot_machine.specs.declared.funding.Node.TheVariants as node
 use Rattle.lot_machine.specs.Facts.{HasNoCycle}
 use Rattle.lot_machine.specs.Funding.{Funding}
-use Rattle.lot_machine.specs.Lends.{LendsLead, borrower_of, lends_lead, lends_on_to}
+use Rattle.lot_machine.specs.declared.funding.Lend.{Lend}
+use Rattle.lot_machine.specs.Lends.{LendsLead, borrower, borrower_of, lends_lead, lends_on_to}
 use Rattle.lot_machine.specs.Mutexes.{MutexTrap, mutex_at, lock, unlock}
 use Rattle.lot_machine.specs.Numbered.{at_number, option_any}
 use Rattle.lot_machine.specs.Order.{IsInOrder}
 use Rattle.lot_machine.specs.Ports.{PortTrap, call, receive, reply, serve, first_client, port_at}
-use Rattle.lot_machine.specs.State.{Freed, State, Mutex, Port, QueuedCall, change_record, funding_of, status_of, value_of}
-use Rattle.lot_machine.specs.Step.{of_mutexes, of_ports, owns, trap_refusal}
+use Rattle.lot_machine.specs.State.{Freed, State, Mutex, Port, QueuedCall, change_record, status_of, value_of}
+use Rattle.lot_machine.specs.Servers.{before_lock, without_servers}
+use Rattle.lot_machine.specs.Step.{at_port, is_no_mutex, of_mutexes, of_ports, owns, trap_refusal}
 use Rattle.lot_machine.proofs.LendDepth.{lends_lead-exact}
 use Rattle.lot_machine.proofs.Queues.{record-of}
 use Rattle.lot_machine.proofs.Tickets.{at_number-suc}
@@ -73,40 +75,54 @@ running-nowhere sizes freed names v q t order (processor, (used, runs)) = nowher
 -- ---- what isn't refused
 
 module _ (s : State) (t : ℕ) where
-  pub call-done : (p number : ℕ) → IsThere s.ports p → effect_of s t (action.Call p number) ≡ of_ports s (call s.records s.clients s.ports t p number)
+  pub call-done : (p number : ℕ) → IsThere s.ports p → effect_of s t (action.Call p number) ≡ at_port s t p (call s.records s.clients s.ports t p number)
   call-done p number there = rw (number-there s.ports p there) refl
 
-  pub receive-done : (p : ℕ) → IsThere s.ports p → effect_of s t (action.Receive p) ≡ of_ports s (receive s.records s.clients s.ports t p)
+  pub receive-done : (p : ℕ) → IsThere s.ports p → effect_of s t (action.Receive p) ≡ at_port s t p (receive s.records s.clients s.ports t p)
   receive-done p there = rw (number-there s.ports p there) refl
 
   pub reply-done : (client number : ℕ) → first_client s.clients t ≡ Some client → effect_of s t (action.Reply number) ≡ of_ports s (reply s.records s.clients s.ports t number)
   reply-done client number some = rw some refl
 
-  pub serve-done : (p client number : ℕ) → IsThere s.ports p → first_client s.clients t ≡ Some client → effect_of s t (action.Serve p number) ≡ of_ports s (serve s.records s.clients s.ports t p number)
+  pub serve-done : (p client number : ℕ) → IsThere s.ports p → first_client s.clients t ≡ Some client → effect_of s t (action.Serve p number) ≡ at_port s t p (serve s.records s.clients s.ports t p number)
   serve-done p client number there some = rw (number-there s.ports p there, some) refl
 
   -- a port that is there, but no client
   pub serve-refused : (p number : ℕ) → IsThere s.ports p → first_client s.clients t ≡ None → effect_of s t (action.Serve p number) ≡ record { state = s; outcome = Refused NothingToReply; after = GoesOn }
   serve-refused p number there none = rw (number-there s.ports p there, none) refl
 
-  pub lock-done : (m : ℕ) → trap_refusal s t (action.Lock m) ≡ None → effect_of s t (action.Lock m) ≡ of_mutexes s (lock s.records s.mutexes t m)
+  pub lock-done : (m : ℕ) → trap_refusal s t (action.Lock m) ≡ None → effect_of s t (action.Lock m) ≡ of_mutexes s (lock s.records (before_lock s t m) t m)
   lock-done m none = rw none refl
 
-  pub unlock-done : (m d : ℕ) → IsThere s.mutexes m → (mutex_at s.mutexes m).owner ≡ Some t → effect_of s t (action.Unlock m d) ≡ of_mutexes s (unlock s.records s.mutexes (value_of s) m d)
-  unlock-done m d there owned = rw (number-there s.mutexes m there, owned, eq-eqb t t refl) refl
+  -- a mutex that is there
+  mutex-there : (m : ℕ) → IsThere s.mutexes m → m ≤ s.limits.mutexes → is_no_mutex s m ≡ false
+  mutex-there m there low = rw (number-there s.mutexes m there, le-ltb s.limits.mutexes m low) refl
+
+  pub unlock-done : (m d : ℕ) → IsThere s.mutexes m → m ≤ s.limits.mutexes → (mutex_at s.mutexes m).owner ≡ Some t → effect_of s t (action.Unlock m d) ≡ of_mutexes s (unlock s.records s.mutexes (value_of s) m d)
+  unlock-done m d there low owned = rw (mutex-there m there low, owned, eq-eqb t t refl) refl
 
   -- nothing is refused only if the mutex is there
-  pub lock-there : (m : ℕ) → trap_refusal s t (action.Lock m) ≡ None → IsThere s.mutexes m
-  lock-there m none = at (is_none (at_number s.mutexes m)) refl none
+  pub lock-there : (m : ℕ) → trap_refusal s t (action.Lock m) ≡ None → IsThere s.mutexes m × (m ≤ s.limits.mutexes)
+  lock-there m none = at (is_none (at_number s.mutexes m)) (nat_lt s.limits.mutexes m) refl refl none
     where
-      at : (b : Bool) → is_none (at_number s.mutexes m) ≡ b → (if b then Some NoMutex else first_failing ((owns s t m, AlreadyOwner) ∷ (option_any (λ owner. lends_on_to (funding_of s) owner t) (mutex_at s.mutexes m).owner, LockCycle) ∷ [])) ≡ None → IsThere s.mutexes m
-      at true is e = cc
-      at false is e = number-within s.mutexes m is
+      at : (a b : Bool) → is_none (at_number s.mutexes m) ≡ a → nat_lt s.limits.mutexes m ≡ b
+          → (if a || b then Some NoMutex else first_failing ((owns s t m, AlreadyOwner) ∷ (option_any (λ owner. lends_on_to (without_servers s) owner t) (mutex_at s.mutexes m).owner, LockCycle) ∷ [])) ≡ None
+          → IsThere s.mutexes m × (m ≤ s.limits.mutexes)
+      at true b is high e = cc
+      at false true is high e = cc
+      at false false is low e = (number-within s.mutexes m is, omega (arith, ltb-false s.limits.mutexes m low))
 
-  -- an owned mutex is refused if its owner's lends lead on to the thread
-  pub lock-checked : (m owner : ℕ) (cycle : Bool) → IsThere s.mutexes m → (mutex_at s.mutexes m).owner ≡ Some owner → (owner ≡ t → ⊥) → lends_on_to (funding_of s) owner t ≡ cycle
+  -- nor does the thread own it then
+  pub lock-unowned : (m : ℕ) → trap_refusal s t (action.Lock m) ≡ None → (mutex_at s.mutexes m).owner ≢ Some t
+  lock-unowned m none owned =
+      let there = lock-there m none in
+      let again : trap_refusal s t (action.Lock m) ≡ Some AlreadyOwner = rw (mutex-there m there.0 there.1, owned, eq-eqb t t refl) refl in
+      let never : None ≡ Some AlreadyOwner = sym none ∙ again in cc
+
+  -- an owned mutex is refused if its owner's lends lead on to the thread and pass no port
+  pub lock-checked : (m owner : ℕ) (cycle : Bool) → IsThere s.mutexes m → m ≤ s.limits.mutexes → (mutex_at s.mutexes m).owner ≡ Some owner → (owner ≡ t → ⊥) → lends_on_to (without_servers s) owner t ≡ cycle
       → trap_refusal s t (action.Lock m) ≡ (if cycle then Some LockCycle else None)
-  lock-checked m owner cycle there owned other is = rw (number-there s.mutexes m there, owned, ne_eqb owner t other, is) refl
+  lock-checked m owner cycle there low owned other is = rw (mutex-there m there low, owned, ne_eqb owner t other, is) refl
 
 -- ---- what traps leave in the tables
 
@@ -118,36 +134,37 @@ change-count change records t = by (at_number records t) refl
     by None is = rw is refl
     by (Some r) is = rw is (length-set records (t - 1) (change r))
 
--- the trap leaves how many records and clients there are
-pub record Keeps (rs : List Record) (cs : List (List ℕ)) (trap : PortTrap) : Type 0 where
+-- the trap leaves how many records, clients and ports there are
+pub record Keeps (rs : List Record) (cs : List (List ℕ)) (ps : List Port) (trap : PortTrap) : Type 0 where
   pub records : length trap.records ≡ length rs
   pub clients : length trap.clients ≡ length cs
+  pub ports : length trap.ports ≡ length ps
 
 module _ (rs : List Record) (cs : List (List ℕ)) (ports : List Port) (t : ℕ) where
-  pub call-keeps : (p number : ℕ) → Keeps rs cs (call rs cs ports t p number)
+  pub call-keeps : (p number : ℕ) → Keeps rs cs ports (call rs cs ports t p number)
   call-keeps p number = by (port_at ports p).receivers refl
     where
-      by : (o : List ℕ) → (port_at ports p).receivers ≡ o → Keeps rs cs (call rs cs ports t p number)
-      by [] is = rw is (record { records = refl; clients = refl })
-      by (server ∷ others) is = rw is (record { records = change-count _ rs server; clients = length-set cs (server - 1) _ })
+      by : (o : List ℕ) → (port_at ports p).receivers ≡ o → Keeps rs cs ports (call rs cs ports t p number)
+      by [] is = rw is (record { records = refl; clients = refl; ports = length-set ports (p - 1) _ })
+      by (server ∷ others) is = rw is (record { records = change-count _ rs server; clients = length-set cs (server - 1) _; ports = length-set ports (p - 1) _ })
 
-  pub receive-keeps : (p : ℕ) → Keeps rs cs (receive rs cs ports t p)
+  pub receive-keeps : (p : ℕ) → Keeps rs cs ports (receive rs cs ports t p)
   receive-keeps p = by (port_at ports p).calls refl
     where
-      by : (o : List QueuedCall) → (port_at ports p).calls ≡ o → Keeps rs cs (receive rs cs ports t p)
-      by [] is = rw is (record { records = refl; clients = refl })
-      by (first ∷ others) is = rw is (record { records = change-count _ rs first.caller; clients = length-set cs (t - 1) _ })
+      by : (o : List QueuedCall) → (port_at ports p).calls ≡ o → Keeps rs cs ports (receive rs cs ports t p)
+      by [] is = rw is (record { records = refl; clients = refl; ports = length-set ports (p - 1) _ })
+      by (first ∷ others) is = rw is (record { records = change-count _ rs first.caller; clients = length-set cs (t - 1) _; ports = length-set ports (p - 1) _ })
 
-  pub reply-keeps : (number : ℕ) → Keeps rs cs (reply rs cs ports t number)
-  reply-keeps number = record { records = change-count _ rs (unwrap_or (first_client cs t) 0); clients = length-set cs (t - 1) _ }
+  pub reply-keeps : (number : ℕ) → Keeps rs cs ports (reply rs cs ports t number)
+  reply-keeps number = record { records = change-count _ rs (unwrap_or (first_client cs t) 0); clients = length-set cs (t - 1) _; ports = refl }
 
 -- a reply, and then a receipt
-pub serve-keeps : (rs : List Record) (cs : List (List ℕ)) (ports : List Port) (t p number : ℕ) → Keeps rs cs (serve rs cs ports t p number)
+pub serve-keeps : (rs : List Record) (cs : List (List ℕ)) (ports : List Port) (t p number : ℕ) → Keeps rs cs ports (serve rs cs ports t p number)
 serve-keeps rs cs ports t p number =
     let first = reply rs cs ports t number in
     let one = reply-keeps rs cs ports t number in
     let two = receive-keeps first.records first.clients first.ports t p in
-    record { records = two.records ∙ one.records; clients = two.clients ∙ one.clients }
+    record { records = two.records ∙ one.records; clients = two.clients ∙ one.clients; ports = two.ports ∙ one.ports }
 
 -- locks and unlocks leave how many records there are
 pub lock-count : (records : List Record) (mutexes : List Mutex) (t m : ℕ) → length (lock records mutexes t m).records ≡ length records
@@ -182,20 +199,34 @@ module _ (sizes : Sizes) (freed : Freed) (names : List (Option (List ℕ))) (v n
 pub unlock-same : (sizes : Sizes) (freed : Freed) (names : List (Option (List ℕ))) (v : Threaded) (q : QueueLists) → IsHeld sizes freed names v q → (m d : ℕ) → unlock v.records q.mutexes (worth_in v) m d ≡ unlock v.records q.mutexes (value_of (held sizes freed names v q)) m d
 unlock-same sizes freed names v q was m d = ap (λ (w : Threaded). unlock v.records q.mutexes (worth_in w) m d) was
 
--- whether a thread's lends lead on to another is whether it reaches it
-module _ (f : Funding) (no_cycle : HasNoCycle f) (t u : ℕ) (other : t ≢ u) where
-  on-from : LendsLead f t u → lends_on_to f t u ≡ true
-  on-from ([], same) = absurd (other same)
-  on-from (s ∷ rest, (lends, leads)) = ap (option_any (λ v. lends_lead f v u)) lends ∙ (lends_lead-exact f no_cycle.lends s u).1 (rest, leads)
-
-  on-to : (o : Option ℕ) → borrower_of f t ≡ o → option_any (λ v. lends_lead f v u) o ≡ true → LendsLead f t u
-  on-to None is e = cc
-  on-to (Some s) is e = let (chain, leads) = (lends_lead-exact f no_cycle.lends s u).0 e in (s ∷ chain, (is, leads))
-
-  pub reaches-on : (found : Bool) → (IsTrue found ↔ Reaches f (node.Thread t) (node.Thread u)) → found ≡ lends_on_to f t u
-  reaches-on true is = sym (on-from ((reaches-leads f t u).0 (is.0 refl)))
-  reaches-on false is = by (lends_on_to f t u) refl
+-- whether a thread's lends lead to another is whether it reaches it
+module _ (f : Funding) (no_cycle : HasNoCycle f) (t u : ℕ) where
+  pub reaches-lead : (found : Bool) → (IsTrue found ↔ Reaches f (node.Thread t) (node.Thread u)) → found ≡ lends_lead f t u
+  reaches-lead true is = sym ((lends_lead-exact f no_cycle.lends t u).1 ((reaches-leads f t u).0 (is.0 refl)))
+  reaches-lead false is = by (lends_lead f t u) refl
     where
-      by : (b : Bool) → lends_on_to f t u ≡ b → false ≡ lends_on_to f t u
-      by true on = let never : false ≡ true = is.1 ((reaches-leads f t u).1 (on-to (borrower_of f t) refl on)) in cc
-      by false off = sym off
+      by : (b : Bool) → lends_lead f t u ≡ b → false ≡ b
+      by true on = let never : false ≡ true = is.1 ((reaches-leads f t u).1 ((lends_lead-exact f no_cycle.lends t u).0 on)) in cc
+      by false off = refl
+
+  module _ (other : t ≢ u) where
+    on-from : LendsLead f t u → lends_on_to f t u ≡ true
+    on-from ([], same) = absurd (other same)
+    on-from (s ∷ rest, (lends, leads)) = ap (option_any (λ v. lends_lead f v u)) lends ∙ (lends_lead-exact f no_cycle.lends s u).1 (rest, leads)
+
+    on-to : (o : Option ℕ) → borrower_of f t ≡ o → option_any (λ v. lends_lead f v u) o ≡ true → LendsLead f t u
+    on-to None is e = cc
+    on-to (Some s) is e = let (chain, leads) = (lends_lead-exact f no_cycle.lends s u).0 e in (s ∷ chain, (is, leads))
+
+    -- those of another thread lead on to it
+    pub lead-on : lends_lead f t u ≡ lends_on_to f t u
+    lead-on = by (lends_lead f t u) (lends_on_to f t u) refl refl
+      where
+        by : (a b : Bool) → lends_lead f t u ≡ a → lends_on_to f t u ≡ b → a ≡ b
+        by true b on is = sym (on-from ((lends_lead-exact f no_cycle.lends t u).0 on)) ∙ is
+        by false true off is = sym off ∙ (lends_lead-exact f no_cycle.lends t u).1 (on-to (borrower_of f t) refl is)
+        by false false off is = refl
+
+    -- who isn't there lends to nobody
+    pub lead-nobody : at_number f.lends t ≡ None → lends_lead f t u ≡ false
+    lead-nobody none = lead-on ∙ ap (λ (o : Option Lend). option_any (λ v. lends_lead f v u) (option_and_then (borrower f) o)) none

@@ -77,6 +77,7 @@ invariant_of-self-2 c =
       lottery_room = c.self.invariant.lottery_room;
       freed_room = room-threads (sizes_of i.limits) i.freed c.self.invariant.freed_room c.pop.new.self (ap (λ (x : FreeStack). x.room) c.pop.ensures.rest);
       none_freed = popped-threads i.limits.reuse i.freed c.self.invariant.none_freed c.pop.new.self (ap (λ (x : FreeStack). x.places) c.pop.ensures.rest);
+      holders = c.self.invariant.holders;
     }
 
 pub returns-clause-stale : goal.returns-clause-stale

@@ -4,7 +4,9 @@ use Rattle.lot_queues.specs.QueueLists.{QueueLists}
 use Rattle.lot_threads.specs.Threaded.{Threaded}
 use Rattle.lot_kernel.specs.Names.{IsIndexOf, names_of}
 use Rattle.lot_kernel.specs.FreePlaces.{freed_in}
+use Rattle.lot_kernel.specs.Snapshots.{HasHolders}
 use Rattle.lot_kernel.proofs.Holding.{makes-held}
+use Rattle.lot_kernel.proofs.Serving.{holders-killed}
 use Rattle.lot_kernel.proofs.Killing.{held-killed, state-killed, records-count, clients-count, out-there, out-count, pass-nowhere, pass-count, pass-owners, end-there, all-queues, all-threads, all-meter, all-stale}
 use Rattle.lot_kernel.proofs.tables.Tables.end.Goals as goal
 
@@ -69,6 +71,7 @@ invariant_of-self c =
       lottery_room = c.self.invariant.lottery_room;
       freed_room = c.self.invariant.freed_room;
       none_freed = c.self.invariant.none_freed;
+      holders = subst (HasHolders (sizes_of i.limits)) (sym queues) (holders-killed (sizes_of i.limits) i.queues t c.self.invariant.holders);
     }
 
 pub returns-clause-state : goal.returns-clause-state

@@ -1,6 +1,6 @@
 use Rattle.std.proofs.Common.{arith, refl}
 use Rattle.lot_kernel.specs.FreePlaces.{freed_in}
-use Rattle.lot_kernel.proofs.Opening.{opening-held, opening-starts}
+use Rattle.lot_kernel.proofs.Opening.{opening-held, opening-holders, opening-starts}
 use Rattle.lot_machine.specs.State.{sizes_of}
 use Rattle.lot_kernel.proofs.tables.Tables.new.Goals as goal
 
@@ -24,6 +24,7 @@ invariant_of-result c =
       lottery_room = c.in_ok-queues.ensures.room;
       freed_room = c.in_ok-freed.ensures.room;
       none_freed = λ off. c.in_ok-freed.ensures.none;
+      holders = opening-holders (sizes_of c.args.limits) c.in_ok-queues.queues empty;
     }
 
 pub returns : goal.returns

@@ -55,6 +55,7 @@ invariant_of-self c =
       lottery_room = c.self.invariant.lottery_room;
       freed_room = room-threads (sizes_of i.limits) i.freed c.self.invariant.freed_room c.leave.new.self (ap (λ (x : FreeStack). x.room) c.leave.ensures);
       none_freed = none-threads i.limits.reuse i.freed c.self.invariant.none_freed c.leave.new.self _ (ap (λ (x : FreeStack). x.places) c.leave.ensures);
+      holders = c.self.invariant.holders;
     }
 
 pub returns-clause-stale : goal.returns-clause-stale

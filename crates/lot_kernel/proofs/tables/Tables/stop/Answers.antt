@@ -51,4 +51,5 @@ invariant_of-self c =
       lottery_room = c.self.invariant.lottery_room;
       freed_room = c.self.invariant.freed_room;
       none_freed = c.self.invariant.none_freed;
+      holders = c.self.invariant.holders;
     }
