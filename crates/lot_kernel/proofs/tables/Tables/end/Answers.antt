@@ -1,5 +1,6 @@
 use Rattle.std.proofs.Common.{◌∙◌, ℕ, Option, List, ap, arith, length, subst, sym}
 use Rattle.lot_machine.specs.State.{sizes_of}
+use Rattle.lot_queues.specs.QueueLists.{QueueLists}
 use Rattle.lot_threads.specs.Threaded.{Threaded}
 use Rattle.lot_kernel.specs.Names.{IsIndexOf, names_of}
 use Rattle.lot_kernel.specs.FreePlaces.{freed_in}
