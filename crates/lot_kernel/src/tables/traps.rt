@@ -44,7 +44,13 @@ impl Tables {
                 outcome: Outcome::Slept,
                 after: After::Leaves(Status::Asleep),
             },
-            Action::Exit => self.exit(thread),
+            Action::Exit => {
+                self.leave_ports(thread);
+                Effect {
+                    outcome: Outcome::Exited,
+                    after: After::Ends,
+                }
+            }
         }
     }
 
@@ -195,21 +201,6 @@ impl Tables {
             mutex,
             d,
         )
-    }
-
-    fn exit(&mut self, thread: ThreadNumber) -> Effect
-        ensures outcome { result.outcome ≡ (effect_of self.old.state thread.number action.Exit).outcome }
-        ensures after { result.after ≡ (effect_of self.old.state thread.number action.Exit).after }
-        ensures state { self.new.state ≡ (effect_of self.old.state thread.number action.Exit).state }
-        ensures stale { MakesStale self.old self.new }
-        ensures kept { KeepsStale self.old self.new }
-        ensures meter { self.new.meter ≡ self.old.meter }
-    {
-        self.leave_ports(thread);
-        Effect {
-            outcome: Outcome::Exited,
-            after: After::Ends,
-        }
     }
 
     fn has_port(&self, port: PortNumber) -> bool
