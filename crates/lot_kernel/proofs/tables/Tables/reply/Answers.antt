@@ -1,3 +1,4 @@
+use Rattle.lot_queues.specs.QueueLists.{QueueLists}
 use Rattle.lot_threads.specs.Threaded.{Threaded}
 use Rattle.lot_kernel.proofs.Keeping.{keeps-both}
 use Rattle.lot_machine.specs.declared.action.Action.TheVariants as action
