@@ -19,6 +19,9 @@
 //   - A sleep, a wake, a preemption and an overrun have the reply that these rows lead to, and the thread's row
 //     follows. Each thread weighs what its value makes with the compensation that this file has kept for it.
 //   - Who waits at a port or for a mutex, and whom a thread serves, comes in the order in which this file has it.
+//   - Each thread is worth the tickets that fund it and the threads that lend to it: the clients that it serves, those
+//     that wait for its mutexes, and, if queued calls lend, those whose calls wait at a port that it took a call from
+//     last. A lock is refused as a cycle if this file finds one that passes no port's queue.
 //   - What is made has the number that this file expects: the one behind all others, or that of what was removed last
 //     where the sizes have `reuse`. A thread with such a number has run nothing. Something is made unless as many exist
 //     as the sizes allow, or, without `reuse`, were ever made.
@@ -337,12 +340,13 @@ struct numbers {
     size_t count;
 };
 
-// Who owns a mutex, and who waits for it; whose calls wait at a port, and who waits there for a call; whom a thread
-// serves; which number a thread is given when it next wins a draw, and which it sent with its call; how many ticks it
-// has used since it won, and its compensation, 0 for none; whether it is there, and its name, of length 0 if it has
-// none; the name of a currency, of length 0 if there is none; and the numbers of what comes next.
+// Who owns a mutex, and who waits for it; whose calls wait at a port, who waits there for a call, and who is its
+// server if queued calls lend, 0 for none; whom a thread serves; which number a thread is given when it next wins a
+// draw, and which it sent with its call; how many ticks it has used since it won, and its compensation, 0 for none;
+// whether it is there, and its name, of length 0 if it has none; the name of a currency, of length 0 if there is none;
+// and the numbers of what comes next.
 static struct {
-    uint32_t owner[MUTEXES + 1];
+    uint32_t owner[MUTEXES + 1], server[PORTS + 1];
     struct queue waiters[MUTEXES + 1], callers[PORTS + 1], receivers[PORTS + 1], clients[THREADS + 1];
     uint32_t delivered[THREADS + 1], sent[THREADS + 1];
     bool has_delivered[THREADS + 1];
@@ -350,7 +354,7 @@ static struct {
     bool has_thread[THREADS + 1];
     lot_name names[THREADS + 1], currency_names[CURRENCIES + 1];
     struct numbers tickets, currencies, threads;
-    bool reuse, plain_names;
+    bool reuse, plain_names, queued_lend;
 } known;
 
 static void join(struct queue *queue, uint32_t thread) {
@@ -379,6 +383,83 @@ static uint32_t take_first(struct queue *queue) {
     return first;
 }
 
+static bool stands_in(const struct queue *queue, uint32_t thread) {
+    size_t i = 0;
+    while (i < queue->count && queue->threads[i] != thread) {
+        i++;
+    }
+    return i < queue->count;
+}
+
+// The thread that this one lends to, 0 for none. Callers in a port's queue count if that is asked for.
+static uint32_t borrower_of(uint32_t thread, bool by_ports) {
+    for (uint32_t mutex = 1; mutex <= MUTEXES; mutex++) {
+        if (stands_in(&known.waiters[mutex], thread)) {
+            return known.owner[mutex];
+        }
+    }
+    for (uint32_t port = 1; by_ports && port <= PORTS; port++) {
+        if (stands_in(&known.callers[port], thread)) {
+            return known.server[port];
+        }
+    }
+    uint32_t server = THREADS;
+    while (server != 0 && !stands_in(&known.clients[server], thread)) {
+        server--;
+    }
+    return server;
+}
+
+// Whether one thread is the other, or lends lead from it to the other. From 0 they lead nowhere.
+static bool lends_lead(uint32_t from, uint32_t to, bool by_ports) {
+    while (from != 0 && from != to) {
+        from = borrower_of(from, by_ports);
+    }
+    return from != 0;
+}
+
+static unsigned long queued_lent, servers_gone, servers_cut;
+
+// The thread took a call at the port.
+static void learn_server(uint32_t port, uint32_t thread) {
+    known.server[port] = known.queued_lend ? thread : 0;
+}
+
+// The thread has ended, so it is no port's server.
+static void learn_end(uint32_t thread) {
+    for (uint32_t port = 1; port <= PORTS; port++) {
+        servers_gone += known.server[port] == thread;
+        known.server[port] = known.server[port] == thread ? 0 : known.server[port];
+    }
+}
+
+// A call waits. The port has no server then whose lends lead to the caller.
+static void learn_queued(uint32_t port, uint32_t thread) {
+    CHECK(known.receivers[port].count == 0);
+    if (lends_lead(known.server[port], thread, true)) {
+        known.server[port] = 0;
+        servers_cut++;
+    }
+    queued_lent += known.server[port] != 0;
+    join(&known.callers[port], thread);
+}
+
+// A thread waits for a mutex. If lends lead from its owner to the thread, they pass a port's queue, and no port has a
+// server then whose lends lead to the thread.
+static void learn_mutex_wait(uint32_t mutex, uint32_t thread) {
+    uint32_t next = borrower_of(known.owner[mutex], true);
+    bool leads[PORTS + 1];
+    CHECK(!lends_lead(borrower_of(known.owner[mutex], false), thread, false));
+    for (uint32_t port = 1; port <= PORTS; port++) {
+        leads[port] = lends_lead(next, thread, true) && lends_lead(known.server[port], thread, true);
+    }
+    for (uint32_t port = 1; port <= PORTS; port++) {
+        servers_cut += leads[port];
+        known.server[port] = leads[port] ? 0 : known.server[port];
+    }
+    join(&known.waiters[mutex], thread);
+}
+
 static void deliver(uint32_t thread, uint32_t sent) {
     known.has_delivered[thread] = true;
     known.delivered[thread] = sent;
@@ -389,6 +470,7 @@ static void learn_receipt(uint32_t server, uint32_t port, const lot_reply *reply
     CHECK(take_first(&known.callers[port]) == reply->other);
     CHECK(reply->has_sent && reply->sent == known.sent[reply->other]);
     join(&known.clients[server], reply->other);
+    learn_server(port, server);
 }
 
 // A server replies to the client that it took first.
@@ -400,7 +482,7 @@ static void learn_reply(uint32_t server, uint32_t client, uint32_t sent) {
 // A thread waits for a mutex, or at a port where no call waits.
 static void learn_wait(const lot_event *event, uint32_t thread) {
     if (event->kind == LOT_LOCK) {
-        join(&known.waiters[event->object], thread);
+        learn_mutex_wait(event->object, thread);
     } else {
         CHECK(known.callers[event->object].count == 0);
         join(&known.receivers[event->object], thread);
@@ -413,11 +495,11 @@ static void learn_trap(const lot_event *event, const lot_reply *reply) {
     case LOT_OUTCOME_SERVED_BY:
         CHECK(take_first(&known.receivers[object]) == reply->other);
         join(&known.clients[reply->other], thread);
+        learn_server(object, reply->other);
         deliver(reply->other, event->sent);
         break;
     case LOT_OUTCOME_QUEUED:
-        CHECK(known.receivers[object].count == 0);
-        join(&known.callers[object], thread);
+        learn_queued(object, thread);
         known.sent[thread] = event->sent;
         break;
     case LOT_OUTCOME_REPLIED: learn_reply(thread, reply->other, event->sent); break;
@@ -437,10 +519,13 @@ static void learn_trap(const lot_event *event, const lot_reply *reply) {
         known.owner[object] = reply->other;
         CHECK(take_out(&known.waiters[object], reply->other));
         break;
+    case LOT_OUTCOME_EXITED: learn_end(thread); break;
+    case LOT_OUTCOME_REFUSED:
+        CHECK(reply->reason != LOT_TRAP_REFUSAL_LOCK_CYCLE ||
+              lends_lead(borrower_of(known.owner[object], false), thread, false));
+        break;
     case LOT_OUTCOME_YIELDED:
-    case LOT_OUTCOME_SLEPT:
-    case LOT_OUTCOME_EXITED:
-    case LOT_OUTCOME_REFUSED: break;
+    case LOT_OUTCOME_SLEPT: break;
     }
 }
 
@@ -463,6 +548,7 @@ static void learn_kill(uint32_t thread) {
     for (uint32_t server = 1; server <= THREADS; server++) {
         take_out(&known.clients[server], thread);
     }
+    learn_end(thread);
     released += known.clients[thread].count;
     known.clients[thread].count = 0;
     known.compensation[thread] = 0;
@@ -702,6 +788,35 @@ static void check_targets(const struct view *view) {
         if (view->has_ticket[i]) {
             check_target(view, &view->tickets[i]);
         }
+    }
+}
+
+static uint64_t sum_of(const struct view *view, const struct queue *queue) {
+    uint64_t sum = 0;
+    for (size_t i = 0; i < queue->count; i++) {
+        sum += view->threads[queue->threads[i] - 1].value;
+    }
+    return sum;
+}
+
+// Each thread is worth the tickets that fund it and the threads that lend to it. What is lent to nobody counts for 0.
+static void check_values(const struct view *view) {
+    uint64_t sums[THREADS + 1] = {0};
+    for (uint32_t i = 0; i < view->ticket_count; i++) {
+        bool is_of_thread = view->has_ticket[i] && view->tickets[i].target_kind == LOT_TARGET_THREAD;
+        sums[is_of_thread ? view->tickets[i].target_number : 0] += view->tickets[i].value;
+    }
+    for (uint32_t thread = 1; thread <= THREADS; thread++) {
+        sums[thread] += sum_of(view, &known.clients[thread]);
+    }
+    for (uint32_t mutex = 1; mutex <= MUTEXES; mutex++) {
+        sums[known.owner[mutex]] += sum_of(view, &known.waiters[mutex]);
+    }
+    for (uint32_t port = 1; port <= PORTS; port++) {
+        sums[known.server[port]] += sum_of(view, &known.callers[port]);
+    }
+    for (uint32_t i = 0; i < view->thread_count; i++) {
+        CHECK(!view->has_thread[i] || view->threads[i].value == sums[i + 1]);
     }
 }
 
@@ -1394,6 +1509,7 @@ static void look(lot_kernel *handle, bool stays) {
     memcpy(&now, &after, sizeof now);
     check_threads(&now, &sizes);
     check_targets(&now);
+    check_values(&now);
 }
 
 static bool is_trap(uint32_t kind) {
@@ -1692,6 +1808,7 @@ static void step_counts(void) {
     lot_sizes expected = sizes;
     expected.reuse = sizes.reuse != 0;
     expected.plain_names = sizes.plain_names != 0;
+    expected.queued_lend = sizes.queued_lend != 0;
     CHECK(lot_kernel_limits(handle, limits) == LOT_DONE && memcmp(limits, &expected, sizeof expected) == 0);
     check_paint(&output);
     lot_meter *meter = PUT_OUTPUT(&output, lot_meter);
@@ -1758,7 +1875,8 @@ static lot_sizes some_sizes(void) {
                        .quantum = quanta[below(8)],
                        .unit = one_in(2) ? 1 : 256,
                        .reuse = one_in(2) ? 0 : (uint32_t)random_bits(),
-                       .plain_names = one_in(2) ? 0 : (uint32_t)random_bits()};
+                       .plain_names = one_in(2) ? 0 : (uint32_t)random_bits(),
+                       .queued_lend = one_in(2) ? 0 : (uint32_t)random_bits()};
 }
 
 // Sizes of any bytes, up to the largest, or such as above with one byte changed.
@@ -1767,7 +1885,7 @@ static lot_sizes any_sizes(void) {
     if (one_in(40)) {
         return (lot_sizes){from_to(1, 65535), from_to(1, 4096), from_to(1, 4096), from_to(0, 256), from_to(0, 256),
                            from_to(1, 64),    from_to(0, 256),  from_to(1, 1000), one_in(2) ? 1 : 256,
-                           (uint32_t)random_bits(), (uint32_t)random_bits()};
+                           (uint32_t)random_bits(), (uint32_t)random_bits(), (uint32_t)random_bits()};
     }
     if (one_in(2)) {
         fill(&any, sizeof any);
@@ -1974,6 +2092,7 @@ static void fuzz_kernel(unsigned long count) {
     known.tickets.next = known.currencies.next = known.threads.next = 1;
     known.reuse = sizes.reuse != 0;
     known.plain_names = sizes.plain_names != 0;
+    known.queued_lend = sizes.queued_lend != 0;
     fresh = 0x5a;
     CHECK(lot_kernel_new(&sizes, &kernel) == LOT_DONE && kernel.at != NULL);
     view_kernel(&kernel, &sizes, &now);
@@ -2013,6 +2132,7 @@ static void check_all_seen(void) {
     CHECK(inherited != 0 && released != 0);
     CHECK(tickets_again != 0 && currencies_again != 0 && threads_again != 0 && full_again != 0);
     CHECK(unnamed != 0 && plainly_named != 0);
+    CHECK(queued_lent != 0 && servers_cut != 0 && servers_gone != 0);
 }
 
 int main(int argc, char **argv) {
@@ -2047,6 +2167,8 @@ int main(int argc, char **argv) {
     printf("ok: fuzz: %lu tickets, %lu currencies and %lu threads with a number given again\n", tickets_again,
            currencies_again, threads_again);
     printf("ok: fuzz: %lu threads without a name, %lu with a plain one\n", unnamed, plainly_named);
+    printf("ok: fuzz: %lu queued calls lent to a server; %lu servers taken away, %lu ended\n", queued_lent, servers_cut,
+           servers_gone);
     unsigned long killed = 0;
     for (uint32_t status = 0; status <= LOT_STATUS_ASLEEP; status++) {
         killed += kills[status];

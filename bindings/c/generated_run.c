@@ -6,9 +6,9 @@
 // gets a third of the events: in it threads, tickets and currencies are born and die for as long as it lasts, far more
 // than it has room for at once. The fourth has the largest sizes and gives numbers again; it gets a hundredth of the
 // events, since it fills up with tickets that fund each other, and each draw then settles many. The others are small,
-// with a larger one now and then, until there are EVENTS. A third of them give numbers again, and a third have plain
-// names, as the fourth kernel has. Threads, tickets and currencies come and go all the time, a quarter of the threads
-// have no name, and some events are hostile.
+// with a larger one now and then, until there are EVENTS. A third of them give numbers again, a third have plain names,
+// as the fourth kernel has, and in a third queued calls lend, as in the third and the fourth kernel. Threads, tickets
+// and currencies come and go all the time, a quarter of the threads have no name, and some events are hostile.
 // Compared with the model are
 //   - of each event the status and the reply. In a small kernel the model holds each lottery itself, over values that
 //     it computes from the tickets. In a larger one it holds one of many, and each in which the kernel finds nobody
@@ -116,9 +116,9 @@ static void print_place(const char *what) {
            (unsigned long long)run.events, (unsigned long long)kernel_seed, (unsigned long long)events_wanted,
            (unsigned long long)kernel_seed);
     printf("sizes: %u tickets, %u currencies, %u threads, %u ports, %u mutexes, %u processors, %u scripts, quantum %u, "
-           "unit %u, reuse %u, plain names %u\n",
+           "unit %u, reuse %u, plain names %u, queued calls lend %u\n",
            sizes->tickets, sizes->currencies, sizes->threads, sizes->ports, sizes->mutexes, sizes->processors,
-           sizes->scripts, sizes->quantum, sizes->unit, sizes->reuse, sizes->plain_names);
+           sizes->scripts, sizes->quantum, sizes->unit, sizes->reuse, sizes->plain_names, sizes->queued_lend);
 }
 
 static void fail_reply(const lot_event *event, uint32_t status, const lot_reply *got, uint32_t due,
@@ -369,14 +369,35 @@ static uint32_t some_mutex(void) {
     return NOTHING;
 }
 
+// The first caller in the port's queue that owns a mutex, 0 for none.
+static uint32_t owner_at(uint32_t port) {
+    uint32_t caller = machine.ports[port].calls.first;
+    while (caller != 0 && machine.threads[caller].owned.first == 0) {
+        caller = next_waiting(caller);
+    }
+    return caller;
+}
+
+// A thread that owns a mutex and whose call is queued at a port that this one serves, 0 for none.
+static uint32_t caller_of(uint32_t thread) {
+    uint32_t port = machine.sizes.ports;
+    while (port != 0 && (machine.ports[port].server != thread || owner_at(port) == 0)) {
+        port--;
+    }
+    return port == 0 ? 0 : owner_at(port);
+}
+
+// A thread that lends to this one: a caller, a client, or one that waits for its mutex, 0 for none.
+static uint32_t lender_to(uint32_t thread) {
+    const struct thread *it = &machine.threads[thread];
+    uint32_t caller = caller_of(thread);
+    uint32_t lender = caller != 0 ? caller : it->clients.first;
+    return lender == 0 && it->owned.first != 0 ? machine.mutexes[it->owned.first].waiters.first : lender;
+}
+
 // A mutex of a thread that lends to this one, or some other, or NOTHING.
 static uint32_t mutex_to_lock(uint32_t thread) {
-    const struct thread *it = &machine.threads[thread];
-    uint32_t lender = it->clients.first;
-    if (lender == 0 && it->owned.first != 0) {
-        lender = machine.mutexes[it->owned.first].waiters.first;
-    }
-    uint32_t lenders = machine.threads[lender].owned.first;
+    uint32_t lenders = machine.threads[lender_to(thread)].owned.first;
     if (lenders != 0 && machine.mutexes[lenders].waiters.count < 3 && one_in(4)) {
         return lenders;
     }
@@ -835,7 +856,7 @@ static void say_so_far(void) {
 
 // ---- kernels
 
-static lot_sizes largest_sizes(uint32_t reuse, uint32_t plain_names) {
+static lot_sizes largest_sizes(uint32_t options) {
     lot_sizes sizes = {.tickets = MOST_TICKETS, .currencies = MOST_CURRENCIES, .threads = MOST_THREADS};
     sizes.ports = MOST_PORTS;
     sizes.mutexes = MOST_MUTEXES;
@@ -843,8 +864,7 @@ static lot_sizes largest_sizes(uint32_t reuse, uint32_t plain_names) {
     sizes.scripts = MOST_SCRIPTS;
     sizes.quantum = from_to(50, 1000);
     sizes.unit = one_in(2) ? 1 : 256;
-    sizes.reuse = reuse;
-    sizes.plain_names = plain_names;
+    sizes.reuse = sizes.plain_names = sizes.queued_lend = options;
     return sizes;
 }
 
@@ -862,6 +882,7 @@ static lot_sizes small_sizes(uint32_t scale) {
     sizes.unit = one_in(2) ? 1 : 256;
     sizes.reuse = one_in(3);
     sizes.plain_names = one_in(3);
+    sizes.queued_lend = one_in(3);
     return sizes;
 }
 
@@ -871,7 +892,7 @@ static lot_sizes lasting_sizes(void) {
     sizes.scripts = 4;
     sizes.quantum = 100;
     sizes.unit = 256;
-    sizes.reuse = 1;
+    sizes.reuse = sizes.queued_lend = 1;
     return sizes;
 }
 
@@ -947,8 +968,8 @@ static void open_small(void) {
     open_kernel(&sizes, events, sizes.reuse == 0 ? events : 1 + events / from_to(1, 10), 1);
 }
 
-static void open_largest(uint32_t reuse, uint64_t part) {
-    lot_sizes sizes = largest_sizes(reuse, reuse);
+static void open_largest(uint32_t options, uint64_t part) {
+    lot_sizes sizes = largest_sizes(options);
     uint64_t events = 1 + events_wanted / part;
     open_kernel(&sizes, events, events, 1000);
 }
@@ -990,6 +1011,12 @@ static void say_reasons(void) {
     printf("given again: %llu tickets, %llu currencies, %llu threads; full in spite of that: %llu\n",
            (unsigned long long)machine.free_tickets.taken, (unsigned long long)machine.free_currencies.taken,
            (unsigned long long)machine.free_threads.taken, (unsigned long long)total.full);
+    const struct servers *it = &machine.servers;
+    printf("queued calls that lent: %llu; ports that got another server: %llu, and that lost theirs by a call: %llu, "
+           "by a lock: %llu, by an exit: %llu, by a kill: %llu\n",
+           (unsigned long long)it->lent_to, (unsigned long long)it->changed, (unsigned long long)it->gone_by_call,
+           (unsigned long long)it->gone_by_lock, (unsigned long long)it->gone_by_exit,
+           (unsigned long long)it->gone_by_kill);
     printf("born without a name: %llu threads, with a plain one: %llu\n", (unsigned long long)total.unnamed,
            (unsigned long long)total.plain);
     printf("no event: %llu, by bad names: %llu, and %llu where names are plain\n", (unsigned long long)total.no_events,
@@ -1017,6 +1044,10 @@ static void check_all_seen(void) {
     check(is_seen(total.reasons, LOT_TRAP_REFUSAL_NOTHING_TO_REPLY, REASONS - 1), "each refusal of a trap came up");
     check(machine.free_tickets.taken != 0 && machine.free_currencies.taken != 0 && machine.free_threads.taken != 0 &&
               total.full != 0, "numbers are given again, and kernels that do so are full");
+    const struct servers *it = &machine.servers;
+    check(it->lent_to != 0 && it->changed != 0 && it->gone_by_call != 0 && it->gone_by_lock != 0 &&
+              it->gone_by_exit != 0 && it->gone_by_kill != 0,
+          "queued calls lend, and ports lose their servers in each way");
     check(total.unnamed != 0 && total.plain != 0 && total.bad_names[0] != 0 && total.bad_names[1] != 0,
           "threads have no name and plain ones, and names are bad");
 }

@@ -23,7 +23,7 @@
 //
 // VERSION. Header and library go together if lot_version() and LOT_VERSION have the same major and minor number, so
 // compare `lot_version() >> 8` with `LOT_VERSION >> 8`. Another patch number changes no struct, no number and no call.
-// Another minor number may, as long as the major one is 0. The soname of liblot.so has both numbers: liblot.so.0.3.
+// Another minor number may, as long as the major one is 0. The soname of liblot.so has both numbers: liblot.so.0.4.
 //
 // WHAT THE LIBRARY CHECKS. Struct arguments may have any bytes in any field: a nonexistent kind, a name that is too
 // long or has invalid bytes, sizes out of their bounds, a seed out of its range, and a lot_kernel without a kernel each
@@ -55,9 +55,9 @@
 // event later.
 //
 // MEMORY. lot_kernel_new allocates all the memory that a kernel will ever use: 11 kilobytes for 16 threads, 4.3
-// megabytes at the largest sizes, and with `reuse` 4 bytes more for each ticket, currency and thread, 4.6 megabytes at
-// most. lot_kernel_bytes gives the number of bytes for any sizes. Events, rows and counts allocate nothing.
-// lot_kernel_free frees the memory. No other call allocates.
+// megabytes at the largest sizes. With `reuse` it takes 4 bytes more for each ticket, currency and thread, and with
+// `queued_lend` 97 more for each port: 4.7 megabytes at most. lot_kernel_bytes gives the number of bytes for any sizes.
+// Events, rows and counts allocate nothing. lot_kernel_free frees the memory. No other call allocates.
 //
 // STACK. Measured on x86-64 and aarch64 by bindings/c/stack_tests.c: an event takes at most 1.7 kilobytes of stack at
 // any size of the kernel, a row 0.6, lot_kernel_settle and lot_winner 0.3, lot_kernel_new 11.5, lot_kernel_free 5.5.
@@ -70,7 +70,8 @@
 // Tickets of base keep their values. So a draw, a sleep and a wake take half a microsecond among 4095 threads of base,
 // and 210 among 4095 threads of one currency. The longest event took 1.6 milliseconds: a draw that computed 61440
 // tickets. (All measured on one machine, of x86-64.) An event that funds a currency also looks for a cycle, and an
-// unlock at each thread that waits.
+// unlock at each thread that waits. With `queued_lend` a call that is queued also looks for a cycle of lends, and an
+// exit at each port.
 //
 // SYMBOLS. The archive's member lot_c.o calls memcpy and memset, __udivti3 and __umodti3 (divisions of 128 bits, in the
 // compiler's own library), and the three functions at the end of this header. Its member heap.o defines these three,
@@ -143,8 +144,17 @@
 // A SERVER WITHOUT TICKETS never reaches its first LOT_RECEIVE: nobody lends to it yet, so it weighs nothing, and no
 // draw picks it. Give it a ticket. Once it waits at its port it needs none, since each client lends to it while it is
 // served. From then on it replies and takes the next call in one trap, LOT_SERVE. But clients in the port's queue lend
-// nothing, so a rich client behind a poor one waits as long as the poor one would. If that matters, leave the server
-// tickets of its own.
+// nothing, so a rich client behind a poor one waits as long as the poor one would. If that matters, set `queued_lend`,
+// or leave the server tickets of its own.
+//
+// QUEUED CALLS. Set `queued_lend` of lot_sizes: then a thread whose call is queued at a port lends to the port's
+// server, the thread that took the last call there, as the call came, by LOT_RECEIVE or by LOT_SERVE. So a server that
+// works for a poor client has the funding of the rich ones whose calls wait. Where several threads serve a port, one
+// of them is its server at a time. A port has no server before a thread takes a call there, and after its server has
+// exited or was killed. Callers in its queue lend to nobody then, until another thread takes a call. Two traps take a
+// port's server away, since nothing may be lent in a circle: a call that is queued there, if lends lead from the
+// server to the caller, as when a server calls its own port; and a lock whose wait would close a cycle through the
+// port. Such a lock isn't refused, since another thread may receive there and end the wait.
 //
 // ENUMS. Fields and return values are uint32_t, which has one size for every compiler, and each has an enum of its
 // values. Switch over the enum without a default: then the compiler names any missing case (-Wswitch, part of -Wall).
@@ -179,8 +189,8 @@ extern "C" {
 
 // ---- the version
 
-// The version of this header, 0.3.0: major << 16 | minor << 8 | patch. VERSION above says what has to agree.
-#define LOT_VERSION 0x000300u
+// The version of this header, 0.4.0: major << 16 | minor << 8 | patch. VERSION above says what has to agree.
+#define LOT_VERSION 0x000400u
 
 // Returns the version of the library.
 uint32_t lot_version(void);
@@ -308,12 +318,15 @@ typedef struct lot_sizes {
                          // exists at once. The kernel keeps it as 0 or 1
     uint32_t plain_names; // 0 if a name is a letter a to z, followed by letters a to z, digits, '_' or '-'. Otherwise
                           // it may have any printable ASCII but the space. The kernel keeps it as 0 or 1
+    uint32_t queued_lend; // 0 if a thread whose call is queued lends to nobody. Otherwise it lends to the port's
+                          // server: QUEUED CALLS above. The kernel keeps it as 0 or 1
 } lot_sizes;
 
 // Returns sizes to begin with, for 16 threads: 64 tickets, 16 currencies, 2 ports, mutexes and processors, 1 script, a
-// quantum of 100 ticks and a unit of 1; no number is given again, and no plain names. Change any of them.
+// quantum of 100 ticks and a unit of 1; no number is given again, no plain names, and queued calls lend nothing. Change
+// any of them.
 static inline lot_sizes lot_sizes_small(void) {
-    lot_sizes sizes = {64, 16, 16, 2, 2, 2, 1, 100, 1, 0, 0};
+    lot_sizes sizes = {64, 16, 16, 2, 2, 2, 1, 100, 1, 0, 0, 0};
     return sizes;
 }
 
@@ -713,7 +726,7 @@ typedef enum lot_refusal LOT_OF_UINT32 {
     LOT_TRAP_REFUSAL_NO_MUTEX = 33,         // 0 or above the number of mutexes
     LOT_TRAP_REFUSAL_NOT_OWNER = 34,        // the thread doesn't own the mutex
     LOT_TRAP_REFUSAL_ALREADY_OWNER = 35,    // the thread owns the mutex
-    LOT_TRAP_REFUSAL_LOCK_CYCLE = 36        // the wait would close a cycle: a deadlock
+    LOT_TRAP_REFUSAL_LOCK_CYCLE = 36        // the wait would close a cycle through no port's queue: a deadlock
 } lot_refusal;
 
 // Returns the reason in words, for printing: a static string, "unknown refusal" for any other number.

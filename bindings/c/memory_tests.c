@@ -94,10 +94,24 @@ static uint64_t takes_what_it_says(const lot_sizes *sizes) {
     return bytes;
 }
 
-// To give numbers again takes 4 bytes for each ticket, currency and thread, and for base. Plain names take nothing.
+// The bytes that a mutex takes.
+static uint64_t bytes_of_mutex(lot_sizes sizes) {
+    uint64_t none = 0, one = 0;
+    sizes.mutexes = 0;
+    CHECK(lot_kernel_bytes(&sizes, &none) == LOT_DONE);
+    sizes.mutexes = 1;
+    CHECK(lot_kernel_bytes(&sizes, &one) == LOT_DONE);
+    return one - none;
+}
+
+// If queued calls lend, each port takes as much more as a mutex. To give numbers again takes 4 bytes for each ticket,
+// currency and thread, and for base. Plain names take nothing.
 static void takes_as_much(lot_sizes sizes) {
-    sizes.reuse = sizes.plain_names = 0;
+    sizes.reuse = sizes.plain_names = sizes.queued_lend = 0;
     uint64_t once = takes_what_it_says(&sizes);
+    sizes.queued_lend = UINT32_MAX;
+    CHECK(takes_what_it_says(&sizes) == once + sizes.ports * bytes_of_mutex(sizes));
+    sizes.queued_lend = 0;
     sizes.plain_names = UINT32_MAX;
     CHECK(takes_what_it_says(&sizes) == once);
     sizes.reuse = UINT32_MAX;
@@ -106,9 +120,9 @@ static void takes_as_much(lot_sizes sizes) {
 
 // The smallest sizes, those of lot_sizes_small, some between and the largest; none for sizes out of their bounds.
 static void bytes_of_kernels(void) {
-    const lot_sizes least = {1, 1, 1, 0, 0, 1, 0, 1, 1, 0, 0}, small = lot_sizes_small();
-    const lot_sizes between = {3001, 77, 1023, 5, 19, 7, 256, 1000, 256, 0, 0};
-    const lot_sizes largest = {65535, 4096, 4096, 256, 256, 64, 256, 1000, 256, 0, 0};
+    const lot_sizes least = {1, 1, 1, 0, 0, 1, 0, 1, 1, 0, 0, 0}, small = lot_sizes_small();
+    const lot_sizes between = {3001, 77, 1023, 5, 19, 7, 256, 1000, 256, 0, 0, 0};
+    const lot_sizes largest = {65535, 4096, 4096, 256, 256, 64, 256, 1000, 256, 0, 0, 0};
     lot_sizes bad = small;
     uint64_t bytes = 77;
     bad.threads = 4097;

@@ -212,30 +212,42 @@ static bool is_live(uint32_t thread) {
     return machine.threads[thread].status == LOT_STATUS_READY || machine.threads[thread].status == LOT_STATUS_RUNNING;
 }
 
-// ---- lends (Lends)
+// ---- lends (Lends, Servers)
 
-uint32_t borrower_of(uint32_t thread) {
+// Which lends count: all, or all but those of threads whose calls are queued.
+enum lends { ALL_LENDS, UNQUEUED_LENDS };
+
+// The thread that this one lends to by one of these lends, 0 for none.
+static uint32_t borrower_by(enum lends lends, uint32_t thread) {
     const struct thread *it = &machine.threads[thread];
     switch (it->status) {
     case LOT_STATUS_SERVED: return it->place;
     case LOT_STATUS_WAITING: return machine.mutexes[it->place].owner;
+    case LOT_STATUS_QUEUED: return lends == ALL_LENDS ? machine.ports[it->place].server : 0;
     case LOT_STATUS_READY:
     case LOT_STATUS_RUNNING:
     case LOT_STATUS_RECEIVING:
-    case LOT_STATUS_QUEUED:
     case LOT_STATUS_DEAD:
     case LOT_STATUS_ASLEEP: break;
     }
     return 0;
 }
 
-// Whether a chain of one lend or more leads from one thread to the other.
-static bool lends_on_to(uint32_t from, uint32_t to) {
-    uint32_t thread = borrower_of(from);
-    while (thread != 0 && thread != to) {
-        thread = borrower_of(thread);
+uint32_t borrower_of(uint32_t thread) {
+    return borrower_by(ALL_LENDS, thread);
+}
+
+// Whether a chain of these lends, perhaps empty, leads from one thread to the other; from none it leads nowhere.
+static bool lends_lead(enum lends lends, uint32_t from, uint32_t to) {
+    while (from != 0 && from != to) {
+        from = borrower_by(lends, from);
     }
-    return thread != 0;
+    return from != 0;
+}
+
+// Whether a chain of one lend or more leads from one thread to the other.
+static bool lends_on_to(enum lends lends, uint32_t from, uint32_t to) {
+    return lends_lead(lends, borrower_by(lends, from), to);
 }
 
 static bool is_backed(uint32_t thread) {
@@ -826,6 +838,27 @@ static struct list *list_of(uint32_t thread) {
     return NULL;
 }
 
+// The thread has taken a call at the port, so it is the port's server.
+static void take_over(uint32_t port, uint32_t thread) {
+    uint32_t server = machine.ports[port].server;
+    if (machine.sizes.queued_lend != 0) {
+        machine.servers.changed += server != 0 && server != thread;
+        machine.ports[port].server = thread;
+    }
+}
+
+// The ports that have this server have none. Returns how many.
+static uint32_t leave_ports(uint32_t server) {
+    uint32_t left = 0;
+    for (uint32_t port = 1; port <= machine.sizes.ports; port++) {
+        if (machine.ports[port].server == server) {
+            machine.ports[port].server = 0;
+            left++;
+        }
+    }
+    return left;
+}
+
 // A thread that waits is ready; its compensation stays.
 static void release(uint32_t thread) {
     take_out(list_of(thread), waiting_threads, thread);
@@ -880,6 +913,7 @@ static uint32_t kill_thread_of(uint32_t thread, lot_reply *reply) {
     end(thread);
     release_clients(thread);
     bequeath_all(thread);
+    machine.servers.gone_by_kill += leave_ports(thread);
     reply->kind = LOT_REPLY_DONE;
     return 0;
 }
@@ -1065,24 +1099,37 @@ static struct after fall_asleep(uint32_t thread, const lot_event *event, lot_rep
     return leaves(LOT_STATUS_ASLEEP, 0);
 }
 
+// It keeps its mutexes and its clients, and serves no port (Servers.left_by).
 static struct after end_itself(uint32_t thread, const lot_event *event, lot_reply *reply) {
-    (void)thread, (void)event;
+    (void)event;
+    machine.servers.gone_by_exit += leave_ports(thread);
     reply->outcome = LOT_OUTCOME_EXITED;
     return (struct after){ENDS, LOT_STATUS_DEAD, 0};
+}
+
+// The call waits. If lends lead from the port's server to the caller, the port has none from then on.
+static struct after queue_call(uint32_t thread, const lot_event *event, lot_reply *reply) {
+    struct port *port = &machine.ports[event->object];
+    if (lends_lead(ALL_LENDS, port->server, thread)) {
+        port->server = 0;
+        machine.servers.gone_by_call++;
+    }
+    machine.servers.lent_to += port->server != 0;
+    machine.threads[thread].sent = event->sent;
+    append(&port->calls, waiting_threads, thread);
+    reply->outcome = LOT_OUTCOME_QUEUED;
+    return leaves(LOT_STATUS_QUEUED, event->object);
 }
 
 static struct after call(uint32_t thread, const lot_event *event, lot_reply *reply) {
     if (is_no_port(event->object)) {
         return refuse(LOT_TRAP_REFUSAL_NO_PORT, reply);
     }
-    struct port *port = &machine.ports[event->object];
-    uint32_t server = port->receivers.first;
+    uint32_t server = machine.ports[event->object].receivers.first;
     if (server == 0) {
-        machine.threads[thread].sent = event->sent;
-        append(&port->calls, waiting_threads, thread);
-        reply->outcome = LOT_OUTCOME_QUEUED;
-        return leaves(LOT_STATUS_QUEUED, event->object);
+        return queue_call(thread, event, reply);
     }
+    take_over(event->object, server);
     deliver(server, event->sent);
     append(&machine.threads[server].clients, waiting_threads, thread);
     reply->outcome = LOT_OUTCOME_SERVED_BY;
@@ -1101,6 +1148,7 @@ static struct after receive(uint32_t thread, const lot_event *event, lot_reply *
         reply->outcome = LOT_OUTCOME_WAITS;
         return leaves(LOT_STATUS_RECEIVING, event->object);
     }
+    take_over(event->object, thread);
     take_out(&port->calls, waiting_threads, client);
     append(&machine.threads[thread].clients, waiting_threads, client);
     set_status(client, LOT_STATUS_SERVED, thread);
@@ -1138,6 +1186,19 @@ static struct after serve(uint32_t thread, const lot_event *event, lot_reply *re
     return after;
 }
 
+// The ports whose servers' lends lead to the thread have none: its wait would close a cycle through one of them
+// (Servers.before_lock). All are found before one of them is taken away.
+static void cut_cycle(uint32_t thread) {
+    bool leads[MOST_PORTS + 1];
+    for (uint32_t port = 1; port <= machine.sizes.ports; port++) {
+        leads[port] = lends_lead(ALL_LENDS, machine.ports[port].server, thread);
+    }
+    for (uint32_t port = 1; port <= machine.sizes.ports; port++) {
+        machine.ports[port].server = leads[port] ? 0 : machine.ports[port].server;
+        machine.servers.gone_by_lock += leads[port];
+    }
+}
+
 static struct after lock(uint32_t thread, const lot_event *event, lot_reply *reply) {
     if (is_no_mutex(event->object)) {
         return refuse(LOT_TRAP_REFUSAL_NO_MUTEX, reply);
@@ -1146,13 +1207,16 @@ static struct after lock(uint32_t thread, const lot_event *event, lot_reply *rep
     if (owner == thread) {
         return refuse(LOT_TRAP_REFUSAL_ALREADY_OWNER, reply);
     }
-    if (owner != 0 && lends_on_to(owner, thread)) {
+    if (owner != 0 && lends_on_to(UNQUEUED_LENDS, owner, thread)) {
         return refuse(LOT_TRAP_REFUSAL_LOCK_CYCLE, reply);
     }
     if (owner == 0) {
         set_owner(event->object, thread);
         reply->outcome = LOT_OUTCOME_LOCKED;
         return goes_on();
+    }
+    if (lends_on_to(ALL_LENDS, owner, thread)) {
+        cut_cycle(thread);
     }
     append(&machine.mutexes[event->object].waiters, waiting_threads, thread);
     reply->outcome = LOT_OUTCOME_WAITS;

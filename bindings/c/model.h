@@ -91,11 +91,18 @@ struct thread {
 struct port {
     struct list calls; // their callers
     struct list receivers;
+    uint32_t server; // 0 for none, and unless queued calls lend
 };
 
 struct mutex {
     uint32_t owner; // 0 for none
     struct list waiters;
+};
+
+// How often, in all kernels, a queued call lent to a port's server, a port got another server than it had, and one was
+// taken away by a call, a lock, an exit or a kill.
+struct servers {
+    uint64_t lent_to, changed, gone_by_call, gone_by_lock, gone_by_exit, gone_by_kill;
 };
 
 // Tables are numbered as the kernel numbers, base being currency 0.
@@ -114,6 +121,7 @@ struct machine {
     struct stack free_tickets, free_currencies, free_threads; // empty unless numbers are given again
     uint64_t lotteries, held; // of all kernels, and those that the model held itself
     uint64_t every;           // it holds one in as many itself
+    struct servers servers;
 };
 
 extern struct machine machine;

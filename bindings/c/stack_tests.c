@@ -143,11 +143,12 @@ static size_t taken_by_kill(void) {
 
 int main(void) {
     sizes = lot_sizes_small();
+    sizes.queued_lend = 1;
     must_be_at_most("lot_kernel_new", taken_by(new_kernel), 14 * 1024);
     must_be_at_most("lot_kernel_event", taken_by_events(), 3 * 1024);
     must_be_at_most("lot_kernel_thread_row", taken_by(read_row), 2 * 1024);
     must_be_at_most("lot_kernel_free", taken_by(free_kernel), 6 * 1024);
-    sizes = (lot_sizes){65535, 4096, 4096, 256, 256, 64, 256, 1000, 256, 1, 1};
+    sizes = (lot_sizes){65535, 4096, 4096, 256, 256, 64, 256, 1000, 256, 1, 1, 1};
     must_be_at_most("lot_kernel_new, largest", taken_by(new_kernel), 14 * 1024);
     must_be_at_most("lot_kernel_event, largest", taken_by_chain(), 3 * 1024);
     must_be_at_most("lot_kernel_thread_row, largest", taken_by(read_row), 2 * 1024);

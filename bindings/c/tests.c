@@ -259,7 +259,7 @@ static void numbered(void) {
 
 // Sizes for two tickets, currencies and threads at once. The next one gets the number that was given up last.
 static void given_again(void) {
-    const lot_sizes sizes = {2, 2, 2, 0, 0, 1, 1, 100, 1, 1, 0};
+    const lot_sizes sizes = {2, 2, 2, 0, 0, 1, 1, 100, 1, 1, 0, 0};
     const lot_name c = lot_name_of("c"), d = lot_name_of("d");
     lot_kernel kernel = made(&sizes);
     CHECK(funded(&kernel, 10, "base", "a").thread == 1 && funded(&kernel, 5, "base", "b").thread == 2);
@@ -324,7 +324,7 @@ static void no_names(void) {
 
 // Room for two threads: the first one stays, and a thousand without a name come and go.
 static void no_names_given_again(void) {
-    const lot_sizes sizes = {2, 1, 2, 0, 0, 1, 1, 100, 1, 1, 0};
+    const lot_sizes sizes = {2, 1, 2, 0, 0, 1, 1, 100, 1, 1, 0, 0};
     lot_kernel kernel = made(&sizes);
     CHECK(funded(&kernel, 3, "base", "stays").thread == 1);
     for (int i = 0; i < 1000; i++) {
@@ -1168,6 +1168,137 @@ static void server_without_tickets(void) {
     puts("ok: server without tickets");
 }
 
+// A server without tickets serves a client of 1 ticket, while the calls of one of 1 and of one of 1000 wait. Thread 5
+// has 1000 too. The server weighs 100 for each ticket that it has or is lent, since it blocked after one tick.
+static lot_kernel with_queue(uint32_t queued_lend) {
+    lot_sizes sizes = SMALL;
+    sizes.queued_lend = queued_lend;
+    lot_kernel kernel = made(&sizes);
+    CHECK(answer(&kernel, lot_make_thread(lot_name_of("server"), 1)).thread == 1);
+    CHECK(funded(&kernel, 1, "base", "served").thread == 2 && funded(&kernel, 1, "base", "poor").thread == 3);
+    CHECK(funded(&kernel, 1000, "base", "rich").thread == 4 && funded(&kernel, 1000, "base", "other").thread == 5);
+    CHECK(answer(&kernel, lot_make_ticket_in(1, 0)).ticket == 5);
+    CHECK(answer(&kernel, lot_fund_thread(5, 1)).kind == LOT_REPLY_DONE);
+    CHECK(has_won(drawn(&kernel, 1, 0), 1, 0, 2003));
+    CHECK(came_to(answer(&kernel, lot_receive(1, 0, 1)), 1, LOT_OUTCOME_WAITS, 0));
+    CHECK(answer(&kernel, lot_unfund(5)).kind == LOT_REPLY_DONE);
+    CHECK(has_won(drawn(&kernel, 1, 0), 2, 0, 2002));
+    CHECK(came_to(answer(&kernel, lot_call(1, 0, 1, 7)), 2, LOT_OUTCOME_SERVED_BY, 1));
+    CHECK(has_won(drawn(&kernel, 1, 100), 3, 100, 2101));
+    CHECK(came_to(answer(&kernel, lot_call(1, 0, 1, 8)), 3, LOT_OUTCOME_QUEUED, 0));
+    CHECK(has_won(drawn(&kernel, 1, 200), 4, 200, queued_lend != 0 ? 2200 : 2100));
+    CHECK(came_to(answer(&kernel, lot_call(1, 0, 1, 9)), 4, LOT_OUTCOME_QUEUED, 0));
+    return kernel;
+}
+
+// If queued calls lend, the server that works for a poor client has the rich one's tickets already. Once it is killed
+// they count for nobody, it may be removed, and the next thread that takes a call has them.
+static void queued_calls(void) {
+    lot_kernel lends = with_queue(7), keeps = with_queue(0);
+    lot_sizes sizes;
+    CHECK(lot_kernel_limits(&lends, &sizes) == LOT_DONE && sizes.queued_lend == 1 && sizes.plain_names == 0);
+    CHECK(is_worth(&lends, 1, 1002) && is_worth(&lends, 3, 1) && is_worth(&lends, 4, 1000));
+    CHECK(is_worth(&keeps, 1, 1) && is_worth(&keeps, 3, 0) && is_worth(&keeps, 4, 0));
+    CHECK(has_won(drawn(&lends, 1, 0), 1, 0, 101200) && has_won(drawn(&keeps, 1, 0), 1, 0, 1100));
+    lot_reply reply = answer(&lends, lot_serve(1, 49, 1, 5));
+    CHECK(came_to(reply, 1, LOT_OUTCOME_REPLIED_THEN_RECEIVED, 3) && reply.replied_to == 2 && reply.sent == 8);
+    CHECK(is_worth(&lends, 1, 1001) && is_worth(&lends, 2, 1));
+    CHECK(answer(&lends, lot_kill_numbered(1)).kind == LOT_REPLY_DONE);
+    CHECK(is_worth(&lends, 3, 1) && is_worth(&lends, 4, 0));
+    CHECK(answer(&lends, lot_remove_thread_numbered(1)).kind == LOT_REPLY_DONE && is_gone(&lends, 1));
+    CHECK(has_won(drawn(&lends, 1, 200), 5, 200, 1200));
+    CHECK(came_to(answer(&lends, lot_receive(1, 0, 1)), 5, LOT_OUTCOME_RECEIVED, 4) && is_worth(&lends, 5, 2000));
+    CHECK(lot_kernel_free(&lends) == LOT_DONE && lot_kernel_free(&keeps) == LOT_DONE);
+    puts("ok: queued calls");
+}
+
+// A server that calls its own port lends to nobody there, and neither does its client. Another thread that receives
+// the call has what both are worth.
+static void queued_at_own_port(void) {
+    lot_sizes sizes = SMALL;
+    sizes.queued_lend = 1;
+    lot_kernel kernel = made(&sizes);
+    funded(&kernel, 10, "base", "server");
+    funded(&kernel, 20, "base", "client");
+    funded(&kernel, 5, "base", "other");
+    CHECK(has_won(drawn(&kernel, 1, 0), 1, 0, 35));
+    CHECK(came_to(answer(&kernel, lot_receive(1, 0, 1)), 1, LOT_OUTCOME_WAITS, 0));
+    CHECK(has_won(drawn(&kernel, 1, 0), 2, 0, 25));
+    CHECK(came_to(answer(&kernel, lot_call(1, 0, 1, 5)), 2, LOT_OUTCOME_SERVED_BY, 1));
+    CHECK(has_won(drawn(&kernel, 1, 0), 1, 0, 3005));
+    CHECK(came_to(answer(&kernel, lot_call(1, 0, 1, 6)), 1, LOT_OUTCOME_QUEUED, 0));
+    CHECK(is_worth(&kernel, 1, 0) && is_worth(&kernel, 2, 0) && is_worth(&kernel, 3, 5));
+    CHECK(has_won(drawn(&kernel, 1, 0), 3, 0, 5));
+    CHECK(came_to(answer(&kernel, lot_receive(1, 0, 1)), 3, LOT_OUTCOME_RECEIVED, 1));
+    CHECK(is_worth(&kernel, 1, 30) && is_worth(&kernel, 2, 20) && is_worth(&kernel, 3, 35));
+    CHECK(lot_kernel_free(&kernel) == LOT_DONE);
+    puts("ok: queued at its own port");
+}
+
+// A server locks the mutex of a thread whose call waits at its port. It waits, and the port has no server then. Another
+// thread that receives the call has what all of them are worth. What holds a port's server is no mutex.
+static void lock_through_a_port(void) {
+    lot_sizes sizes = SMALL;
+    sizes.queued_lend = 1;
+    lot_kernel kernel = made(&sizes);
+    funded(&kernel, 10, "base", "client");
+    funded(&kernel, 20, "base", "server");
+    funded(&kernel, 30, "base", "owner");
+    funded(&kernel, 5, "base", "other");
+    CHECK(has_won(drawn(&kernel, 1, 0), 1, 0, 65));
+    CHECK(came_to(answer(&kernel, lot_call(1, 0, 1, 7)), 1, LOT_OUTCOME_QUEUED, 0));
+    CHECK(has_won(drawn(&kernel, 1, 0), 2, 0, 55));
+    CHECK(came_to(answer(&kernel, lot_receive(1, 0, 1)), 2, LOT_OUTCOME_RECEIVED, 1));
+    CHECK(has_won(drawn(&kernel, 2, 0), 3, 0, 35));
+    CHECK(came_to(answer(&kernel, lot_lock(2, 0, 1)), 3, LOT_OUTCOME_LOCKED, 0));
+    CHECK(came_to(answer(&kernel, lot_call(2, 0, 1, 8)), 3, LOT_OUTCOME_QUEUED, 0));
+    CHECK(is_worth(&kernel, 1, 10) && is_worth(&kernel, 2, 60) && is_worth(&kernel, 3, 30));
+    CHECK(is_trap_refused(answer(&kernel, lot_lock(1, 0, 3)), LOT_TRAP_REFUSAL_NO_MUTEX));
+    CHECK(is_trap_refused(answer(&kernel, lot_unlock(1, 0, 3, lot_wide_of(0))), LOT_TRAP_REFUSAL_NO_MUTEX));
+    CHECK(came_to(answer(&kernel, lot_lock(1, 0, 1)), 2, LOT_OUTCOME_WAITS, 0));
+    CHECK(is_worth(&kernel, 1, 0) && is_worth(&kernel, 2, 0) && is_worth(&kernel, 3, 0) && is_worth(&kernel, 4, 5));
+    CHECK(has_won(drawn(&kernel, 2, 0), 4, 0, 5));
+    CHECK(came_to(answer(&kernel, lot_receive(2, 0, 1)), 4, LOT_OUTCOME_RECEIVED, 3));
+    CHECK(is_worth(&kernel, 1, 10) && is_worth(&kernel, 2, 30) && is_worth(&kernel, 3, 60) && is_worth(&kernel, 4, 65));
+    CHECK(lot_kernel_free(&kernel) == LOT_DONE);
+    puts("ok: a lock through a port");
+}
+
+// The cycle of a lock passes two ports: the owner's call waits at port 2, whose server's call waits at port 1. Both
+// ports have no server then. So the thread that takes the call at port 1 has what the server of port 2 and its client
+// are worth, and not what waits there.
+static void lock_through_two_ports(void) {
+    lot_sizes sizes = SMALL;
+    sizes.queued_lend = 1;
+    lot_kernel kernel = made(&sizes);
+    static const uint64_t amounts[6] = {20, 40, 10, 50, 30, 5};
+    for (uint32_t i = 0; i < 6; i++) {
+        CHECK(answer(&kernel, lot_make_funded_in(amounts[i], 0, lot_no_name(), 1)).thread == i + 1);
+    }
+    CHECK(has_won(drawn(&kernel, 1, 0), 1, 0, 155));
+    CHECK(came_to(answer(&kernel, lot_receive(1, 0, 2)), 1, LOT_OUTCOME_WAITS, 0));
+    CHECK(has_won(drawn(&kernel, 1, 0), 2, 0, 135));
+    CHECK(came_to(answer(&kernel, lot_call(1, 0, 2, 1)), 2, LOT_OUTCOME_SERVED_BY, 1));
+    CHECK(has_won(drawn(&kernel, 1, 6000), 3, 6000, 6095));
+    CHECK(came_to(answer(&kernel, lot_receive(1, 0, 1)), 3, LOT_OUTCOME_WAITS, 0));
+    CHECK(has_won(drawn(&kernel, 1, 6000), 4, 6000, 6085));
+    CHECK(came_to(answer(&kernel, lot_call(1, 0, 1, 2)), 4, LOT_OUTCOME_SERVED_BY, 3));
+    CHECK(has_won(drawn(&kernel, 1, 0), 1, 0, 12035));
+    CHECK(came_to(answer(&kernel, lot_call(1, 0, 1, 3)), 1, LOT_OUTCOME_QUEUED, 0) && is_worth(&kernel, 3, 120));
+    CHECK(has_won(drawn(&kernel, 1, 12000), 5, 12000, 12035));
+    CHECK(came_to(answer(&kernel, lot_lock(1, 0, 1)), 5, LOT_OUTCOME_LOCKED, 0));
+    CHECK(came_to(answer(&kernel, lot_call(1, 0, 2, 4)), 5, LOT_OUTCOME_QUEUED, 0) && is_worth(&kernel, 3, 150));
+    CHECK(has_won(drawn(&kernel, 1, 0), 3, 0, 15005));
+    CHECK(came_to(answer(&kernel, lot_lock(1, 0, 1)), 3, LOT_OUTCOME_WAITS, 0));
+    CHECK(has_won(drawn(&kernel, 1, 0), 6, 0, 5));
+    CHECK(came_to(answer(&kernel, lot_receive(1, 0, 1)), 6, LOT_OUTCOME_RECEIVED, 1));
+    CHECK(is_worth(&kernel, 1, 60) && is_worth(&kernel, 3, 0) && is_worth(&kernel, 5, 0) && is_worth(&kernel, 6, 65));
+    CHECK(came_to(answer(&kernel, lot_receive(1, 0, 2)), 6, LOT_OUTCOME_RECEIVED, 5));
+    CHECK(is_worth(&kernel, 3, 60) && is_worth(&kernel, 5, 90) && is_worth(&kernel, 6, 155));
+    CHECK(lot_kernel_free(&kernel) == LOT_DONE);
+    puts("ok: a lock through two ports");
+}
+
 // A settled kernel shows its rows to calls that only read, until an event leaves a value stale.
 static void settled_rows(void) {
     lot_kernel kernel = made(&SMALL);
@@ -1535,6 +1666,10 @@ int main(int argc, char **argv) {
     sleep_with_a_client();
     owner_without_tickets();
     server_without_tickets();
+    queued_calls();
+    queued_at_own_port();
+    lock_through_a_port();
+    lock_through_two_ports();
     settled_rows();
     no_kernel();
     limits();

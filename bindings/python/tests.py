@@ -209,6 +209,22 @@ class Worked(unittest.TestCase):
         self.assertIs(dataclasses.replace(lot.Sizes(1, 1, 1, 0, 0, 1, 0, 1, 1), plain_names=2).plain_names, True)
         self.assertRaises(TypeError, lot.Kernel, plain_names="yes")
 
+    def test_queued_lend(self):
+        """The server used 1 of 100 ticks, and has 10 and c's 20. If queued calls lend, it has d's 30 too."""
+        for lends, total in [(True, 6000), (False, 3000)]:
+            with funded(lot.Kernel(queued_lend=lends), ("server", 10), ("c", 20), ("d", 30)) as kernel:
+                self.assertIs(kernel.sizes().queued_lend, lends)
+                kernel.draw(1, 0)
+                self.assertEqual(kernel.receive(1, port=1), trapped(1, 1, Outcome.WAITS))
+                kernel.draw(1, 0)
+                self.assertEqual(kernel.call(1, port=1, sent=5), trapped(2, 1, Outcome.SERVED_BY, other=1))
+                kernel.draw(1, 3000)
+                self.assertEqual(kernel.call(1, port=1, sent=6), trapped(3, 1, Outcome.QUEUED))
+                winner = Reply(ReplyKind.WINNER, thread=1, number=0, total=total, sent=5)
+                self.assertEqual(kernel.draw(1, 0), winner)
+        self.assertIs(dataclasses.replace(lot.Sizes(1, 1, 1, 0, 0, 1, 0, 1, 1), queued_lend=2).queued_lend, True)
+        self.assertRaises(TypeError, lot.Kernel, queued_lend="yes")
+
     def test_numbered(self):
         """Commands by number, where 1 is a currency and a thread. 100 of base back alice, whose 40 are a's and b's."""
         done = Reply(ReplyKind.DONE)
@@ -741,6 +757,9 @@ class Taken(unittest.TestCase):
         self.assertLess(lot.Kernel.bytes_of(sizes), 2560)
         again = dataclasses.replace(sizes, reuse=True)
         self.assertEqual(lot.Kernel.bytes_of(again), lot.Kernel.bytes_of(sizes) + 16)
+        ports = dataclasses.replace(sizes, ports=2)
+        lends, mutexes = dataclasses.replace(ports, queued_lend=True), dataclasses.replace(ports, mutexes=2)
+        self.assertEqual(lot.Kernel.bytes_of(lends), lot.Kernel.bytes_of(mutexes))
         self.assertEqual(self.status_of(lot.ParkMiller, 0), Status.BAD_SEED)
 
     def test_closed(self):

@@ -1,6 +1,6 @@
 # CMake's package of the release. It finds everything from the folder that it lies in, so a clone may lie anywhere:
 #
-#     find_package(lot 0.3 CONFIG REQUIRED PATHS /the/clone/dist)
+#     find_package(lot 0.4 CONFIG REQUIRED PATHS /the/clone/dist)
 #     target_link_libraries(program PRIVATE lot::lot)
 #
 # The target's processor is CMAKE_SYSTEM_PROCESSOR. Where there is no archive for it, the package isn't found. The

@@ -32,7 +32,7 @@ from .lottery import ParkMiller, weight, winner
 from .numbers import EventKind, Outcome, Refusal, ReplyKind, Status, TargetKind, ThreadState
 from .records import CurrencyRow, Drawn, Meter, Reply, Runner, Sizes, ThreadRow, ThreadStatus, TicketRow
 
-__version__ = "0.3.0"
+__version__ = "0.4.0"
 
 __all__ = [
     "CurrencyRow",

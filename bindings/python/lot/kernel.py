@@ -99,9 +99,10 @@ class Kernel:
         unit: int = 1,
         reuse: bool = False,
         plain_names: bool = False,
+        queued_lend: bool = False,
         check: bool = True,
     ) -> None:
-        flags = reuse, plain_names
+        flags = reuse, plain_names, queued_lend
         sizes = Sizes(tickets, currencies, threads, ports, mutexes, processors, scripts, quantum, unit, *flags)
         self.check = check
         self._lock = threading.Lock()
@@ -114,7 +115,8 @@ class Kernel:
     def bytes_of(sizes: Sizes) -> int:
         """The total of bytes that the library allocates for a kernel with these sizes, without Python's own objects.
 
-        With `reuse` it is 4 more for each ticket, currency and thread, and for base.
+        With `reuse` it is 4 more for each ticket, currency and thread, and for base. With `queued_lend` it is as much
+        more for each port as for a mutex.
 
         Raises `LotError` with `Status.BAD_LIMITS` for sizes out of their bounds.
         """
@@ -404,6 +406,8 @@ class Kernel:
         self, processor: int, port: int, sent: int, ticks: int = 0, *, check: Optional[bool] = None
     ) -> TrappedReply:
         """The running thread calls the port with a number, and lends to the thread that serves it until the reply.
+
+        With `queued_lend` it also lends while its call is queued, to the thread that took the last call at the port.
 
         Replies `TRAPPED` with `SERVED_BY` or `QUEUED`. Refused: BAD_PROCESSOR, NOT_RUNNING, BAD_TICKS; NO_PORT.
         """

@@ -78,6 +78,7 @@ class RawSizes(Structure):
         ("unit", c_uint32),
         ("reuse", c_uint32),
         ("plain_names", c_uint32),
+        ("queued_lend", c_uint32),
     ]
 
     def set(self, sizes: records.Sizes) -> None:
@@ -358,7 +359,7 @@ def library_version() -> str:
     """The version of the shared object.
 
     >>> library_version()
-    '0.3.0'
+    '0.4.0'
     """
     version = calls.lot_version()
     return f"{version >> 16}.{version >> 8 & 255}.{version & 255}"

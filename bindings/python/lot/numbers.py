@@ -149,7 +149,7 @@ class Refusal(Number):
     NO_MUTEX = 33  # 0 or above the number of mutexes
     NOT_OWNER = 34  # the thread doesn't own the mutex
     ALREADY_OWNER = 35  # the thread owns it
-    LOCK_CYCLE = 36  # waiting would close a cycle of lends
+    LOCK_CYCLE = 36  # waiting would close a cycle of lends through no port's queue
 
 
 class TargetKind(Number):

@@ -25,6 +25,9 @@ class Sizes:
     With `plain_names` a name may have any printable ASCII but the space. Otherwise it is a letter a to z, followed by
     letters a to z, digits, '_' or '-'.
 
+    With `queued_lend` a thread whose call is queued lends to the port's server, the thread that took the last call
+    there. So a server that works for a poor client has the funding of the rich ones whose calls wait.
+
     Values are whole numbers, rounded down: a ticket of a currency is worth 0 if the currency's value times the ticket's
     amount is below the currency's active amount, and a thread that is worth 0 wins no draw. So give tickets of base
     amounts of a million: it costs nothing.
@@ -43,11 +46,12 @@ class Sizes:
     unit: int  # the value of one of base: 1, or 256 for finer shares
     reuse: bool = False  # whether numbers are given again; any number but 0 counts as `True`
     plain_names: bool = False  # whether there are plain names; likewise
+    queued_lend: bool = False  # whether queued calls lend; likewise
 
     def __post_init__(self) -> None:
         for field in dataclasses.fields(self):
             value = getattr(self, field.name)
-            if field.name not in ("reuse", "plain_names"):
+            if field.name not in ("reuse", "plain_names", "queued_lend"):
                 value = checked(value, NARROW, field.name)
             elif not isinstance(value, bool):
                 value = checked(value, NARROW, field.name) != 0

@@ -135,7 +135,7 @@ pub struct Drawn {
 
 // The sizes in lot.h of the structs of one call, and of those that have grown.
 const _: () = assert!(size_of::<Event>() == 96 && size_of::<Reply>() == 80);
-const _: () = assert!(size_of::<Sizes>() == 44 && size_of::<TicketRow>() == 64);
+const _: () = assert!(size_of::<Sizes>() == 48 && size_of::<TicketRow>() == 64);
 
 // A `u128` lies in memory as a `Wide` does, so a slice of them crosses as it is.
 const _: () = assert!(cfg!(target_endian = "little") && size_of::<Wide>() == size_of::<u128>());

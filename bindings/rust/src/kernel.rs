@@ -58,8 +58,8 @@ const _: () = {
 
 impl Kernel {
     /// Makes a kernel with base alone. This allocates all the memory that it will ever use: 11 kilobytes for 16
-    /// threads, 4.3 megabytes at the largest sizes, and with `reuse` 4 bytes more for each ticket, currency and thread.
-    /// [`Kernel::bytes`] returns the number for any sizes.
+    /// threads, 4.3 megabytes at the largest sizes, with `reuse` 4 bytes more for each ticket, currency and thread, and
+    /// with `queued_lend` 97 more for each port. [`Kernel::bytes`] returns the number for any sizes.
     ///
     /// ```
     /// use lot::{Error, Kernel, Sizes};

@@ -32,7 +32,7 @@ pub use sizes::Sizes;
 /// The version of the archive: the major number times 65536, the minor times 256, and the patch.
 ///
 /// ```
-/// assert_eq!(lot::version(), 0x00_03_00); // 0.3.0
+/// assert_eq!(lot::version(), 0x00_04_00); // 0.4.0
 /// ```
 #[must_use]
 pub fn version() -> u32 {

@@ -206,7 +206,8 @@ numbered! {
         NotOwner = 34,
         /// The thread owns the mutex already.
         AlreadyOwner = 35,
-        /// The owner already waits for the thread, perhaps through others, so the wait would close a cycle.
+        /// The owner already waits for the thread, perhaps through others, so the wait would close a cycle. Calls that
+        /// are queued at a port don't count.
         LockCycle = 36,
     }
 }

@@ -3,7 +3,8 @@
 /// The sizes of a kernel. It never grows.
 ///
 /// The default is enough for a first try: 64 tickets, 16 currencies and 16 threads, 2 ports, 2 mutexes, 2 processors,
-/// 1 script, a quantum of 100 ticks and a unit of 1; no number is given again, and there are no plain names.
+/// 1 script, a quantum of 100 ticks and a unit of 1; no number is given again, there are no plain names, and queued
+/// calls lend nothing.
 ///
 /// ```
 /// use lot::Sizes;
@@ -67,6 +68,30 @@ pub struct Sizes {
     /// # Ok::<(), lot::Error>(())
     /// ```
     pub plain_names: u32,
+    /// 0 if a thread whose call is queued lends to nobody. Otherwise it lends to the port's server: the thread that
+    /// took the last call there. So a server that works for a poor client has the funding of the rich ones whose calls
+    /// wait. A port has no server before a thread takes a call there, and after its server has exited or was killed.
+    /// Nothing is lent in a circle: a queued call, or a lock, that would make one takes the port's server away. The
+    /// kernel keeps it as 0 or 1.
+    ///
+    /// ```
+    /// use lot::{Action, Event, Kernel, Name, Sizes};
+    ///
+    /// let mut kernel = Kernel::new(Sizes { queued_lend: 1, ..Sizes::default() })?;
+    /// for (amount, action) in [
+    ///     (10, Action::Receive { port: 1 }),
+    ///     (20, Action::Call { port: 1, number: 5 }),
+    ///     (30, Action::Call { port: 1, number: 6 }),
+    /// ] {
+    ///     kernel.event(&Event::make_funded(amount, Name::BASE, None, 1)).ok()?;
+    ///     // The greatest number is the last thread's.
+    ///     kernel.event(&Event::draw(1, if amount == 30 { 3029 } else { 0 })).ok()?;
+    ///     kernel.event(&Event::Trap { processor: 1, ticks: 0, action }).ok()?;
+    /// }
+    /// assert_eq!(kernel.thread_row(1).map(|row| row.value), Some(60));
+    /// # Ok::<(), Box<dyn std::error::Error>>(())
+    /// ```
+    pub queued_lend: u32,
 }
 
 impl Sizes {
@@ -83,6 +108,7 @@ impl Sizes {
         unit: 1,
         reuse: 0,
         plain_names: 0,
+        queued_lend: 0,
     };
 }
 

@@ -211,6 +211,27 @@ fn no_names() {
     }
 }
 
+// The server used 1 tick of its 100, and has 10 and the 20 that it serves. If queued calls lend, it has the third
+// thread's 30 too.
+#[test]
+fn queued_lend() {
+    for (queued_lend, total) in [(7, 6000), (0, 3000)] {
+        let mut kernel = Kernel::new(Sizes { queued_lend, ..Sizes::SMALL }).expect("small");
+        assert_eq!(kernel.sizes().queued_lend, u32::from(queued_lend != 0));
+        for (amount, thread) in [(10, "server"), (20, "c"), (30, "d")] {
+            fund_thread(&mut kernel, amount, "base", thread);
+        }
+        draw(&mut kernel, 0);
+        assert_eq!(trap(&mut kernel, 0, Action::Receive { port: 1 }), trapped(1, 1, Outcome::Waits, false));
+        draw(&mut kernel, 0);
+        let served = trapped(2, 1, Outcome::ServedBy(1), false);
+        assert_eq!(trap(&mut kernel, 0, Action::Call { port: 1, number: 5 }), served);
+        draw(&mut kernel, 3000);
+        assert_eq!(trap(&mut kernel, 0, Action::Call { port: 1, number: 6 }), trapped(3, 1, Outcome::Queued, false));
+        assert_eq!(draw(&mut kernel, 0), Reply::Winner { thread: 1, number: 0, total, delivered: Some(5) });
+    }
+}
+
 // A kernel with plain names takes them, and one without refuses each event that has one.
 #[test]
 fn plain_names() {

@@ -59,6 +59,7 @@ fn opened(alloc: Global) -> Option<Kernel> {
         plain_names: false,
         without_compensation: false,
         without_lending: false,
+        queued_lend: false,
     })?;
     let mut kernel = Kernel::new(alloc, limits).ok()?;
     make_user(&mut kernel, 1, "alice", 2000)?;

@@ -104,5 +104,6 @@ pub(crate) fn smallest_limits(workload: Workload) -> Option<Limits> {
         plain_names: false,
         without_compensation: false,
         without_lending: false,
+        queued_lend: false,
     })
 }

@@ -24,6 +24,7 @@ use Rattle.lot_machine.specs.Named.{processor_of, thread_in}
 use Rattle.lot_machine.specs.Numbered.{at_number, numbers, option_any}
 use Rattle.lot_machine.specs.Order.{IsInOrder}
 use Rattle.lot_machine.specs.Ports.{port_at}
+use Rattle.lot_machine.specs.Servers.{before_lock}
 use Rattle.lot_machine.specs.State.{State, QueuedCall, change_record, is_ready, ready_threads, status_of, thread_on, weight_of}
 use Rattle.lot_machine.specs.Step.{Effect, checked_effect, draw, ends_quantum, event_effect, event_refusal, stopped, finish_trap, is_bad_processor, started, step, thread_there, trap_effect, trap_refusal, used_there}
 use Rattle.lot_machine.specs.Traps.{after_trap, compensation_for, with_ticks}
@@ -85,9 +86,9 @@ effect-agrees s t (Serve port number) = at (port_at s.ports port).calls refl
     at : (o : List QueuedCall) → (port_at s.ports port).calls ≡ o → Agrees (trap_effect s t (Serve port number))
     at [] is = rw is refl
     at (first ∷ others) is = rw is refl
-effect-agrees s t (Lock m) = at (mutex_at s.mutexes m).owner refl
+effect-agrees s t (Lock m) = at (mutex_at (before_lock s t m) m).owner refl
   where
-    at : (o : Option ℕ) → (mutex_at s.mutexes m).owner ≡ o → Agrees (trap_effect s t (Lock m))
+    at : (o : Option ℕ) → (mutex_at (before_lock s t m) m).owner ≡ o → Agrees (trap_effect s t (Lock m))
     at None is = rw is refl
     at (Some owner) is = rw is refl
 effect-agrees s t (Unlock m d) = at (mutex_at s.mutexes m).waiters refl

@@ -47,7 +47,7 @@ pub record Opens (sizes : PlainSizes) (status : ℕ) (old new : Option Snapshot)
 
 -- the bytes of a kernel itself, in addition to those of its tables
 abbrev pub box_bytes : ℕ
-box_bytes = 1408
+box_bytes = 1456
 
 -- the status and the bytes of a kernel with these sizes, if they are within their bounds
 pub record TellsBytes (sizes : PlainSizes) (status before after : ℕ) : Type 0 where

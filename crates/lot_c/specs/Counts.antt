@@ -21,6 +21,7 @@ plain_sizes s = record {
   unit = s.unit;
   reuse = if s.reuse then 1 else 0;
   plain_names = if s.plain_names then 1 else 0;
+  queued_lend = if s.queued_lend then 1 else 0;
 }
 
 -- the sizes in these fields
@@ -39,6 +40,7 @@ sizes_meant s = record {
   plain_names = not (s.plain_names == 0);
   without_compensation = false;
   without_lending = false;
+  queued_lend = not (s.queued_lend == 0);
 }
 
 -- the counts of a kernel in plain fields

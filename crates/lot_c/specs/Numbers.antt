@@ -18,9 +18,9 @@ use Rattle.lot_c.specs.declared.status.Status.{Status}
 use Rattle.lot_c.specs.declared.status.Status.TheVariants as status
 use Rattle.lot_c.specs.Kinds.{EventKind}
 
--- the version of the library, 0.3.0
+-- the version of the library, 0.4.0
 abbrev pub version : ℕ
-version = 0 * 2 ^ 16 + 3 * 2 ^ 8 + 0
+version = 0 * 2 ^ 16 + 4 * 2 ^ 8 + 0
 
 -- the number of a call's status
 abbrev pub code : Status → ℕ

@@ -24,6 +24,8 @@ pub struct PlainSizes {
     pub reuse: u32,
     /// 0 if names are good names, otherwise any printable ASCII but the space is good in a name.
     pub plain_names: u32,
+    /// 0 if a thread whose call is queued lends to nobody, otherwise it lends to the port's server.
+    pub queued_lend: u32,
 }
 
 impl PlainSizes {
@@ -46,6 +48,7 @@ impl PlainSizes {
             plain_names: self.plain_names != 0,
             without_compensation: false,
             without_lending: false,
+            queued_lend: self.queued_lend != 0,
         })
     }
 
@@ -65,6 +68,7 @@ impl PlainSizes {
             unit: limits.unit,
             reuse: u32::from(limits.reuse),
             plain_names: u32::from(limits.plain_names),
+            queued_lend: u32::from(limits.queued_lend),
         }
     }
 }

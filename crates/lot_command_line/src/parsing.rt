@@ -24,7 +24,7 @@ const CURRENCIES_TITLE: &str = "Who has run how long";
 const EMPTY_INTERVAL: &str = "the interval is empty: '--from <A>' has to be less than '--to <B>'";
 
 /// The version of the program, which is that of the library.
-const VERSION: &str = "0.3.0";
+const VERSION: &str = "0.4.0";
 
 /// The text for seeds that aren't from one to another.
 const WRONG_SEEDS: &str =

@@ -755,7 +755,7 @@ fn command_lines(rt: HostRuntime) {
 #[test]
 fn version(rt: HostRuntime) {
     let ended = ended_on(&rt, rt.alloc(), &["lot_sim", "--version"], "");
-    check_same(&rt, &ended.found("lot_sim 0.3.0\n"), &(0, true, false));
+    check_same(&rt, &ended.found("lot_sim 0.4.0\n"), &(0, true, false));
 }
 
 /// Words that are refused, and what is told of them up to the line that says how to get help.

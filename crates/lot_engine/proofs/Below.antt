@@ -207,7 +207,7 @@ pub below-reached : (s : State) (c t : ℕ) → HasNoCycle (funding_of s) → Fu
 below-reached s c t no_cycle funds_there low there =
     let f = funding_of s in
     let below : c < length f.currencies = omega (arith, low, length-map s.currencies (λ (x : Option (List ℕ)). is_some x)) in
-    let thread : IsBetween 1 (length f.lends) t = (there.0, omega (arith, there.1, length-map s.records (λ (r : Record). lend_of s.limits.without_lending r.status))) in (
+    let thread : IsBetween 1 (length f.lends) t = (there.0, omega (arith, there.1, length-map s.records (λ (r : Record). lend_of s.limits r.status))) in (
       λ h. below-way f c t (to-below f no_cycle funds_there c below t thread h),
       λ (way, is). from-below f no_cycle funds_there c below t thread (way-below f c way t is),
     )

@@ -7,7 +7,7 @@ use Rattle.lot_machine.specs.declared.event.Event.{Event}
 use Rattle.lot_machine.specs.declared.event.Event.TheVariants as event
 use Rattle.lot_machine.specs.declared.sizes.Sizes.{Sizes}
 use Rattle.lot_machine.specs.Change.{PutMutex}
-use Rattle.lot_machine.specs.State.{State}
+use Rattle.lot_machine.specs.State.{State, holders}
 use Rattle.lot_machine.specs.Step.{step}
 use Rattle.lot_machine.proofs.StepChanges.{By, Keeps, by_event, kept, step-leads}
 use Rattle.lot_graph.specs.declared.layout.Layout.{Layout}
@@ -42,13 +42,13 @@ module _ (program : Program) where
   after-mutexes w [] count has = has
   after-mutexes w (actor ∷ actors) count has = after-mutexes (system_turn program w actor).world actors count (turn-mutexes w actor count has)
 
-  run-mutexes : (history : List ℕ) → length (system_run program history).state.mutexes ≡ program.limits.mutexes
-  run-mutexes history = after-mutexes (opening_world program) history program.limits.mutexes (length-replicate program.limits.mutexes (record { owner = None; waiters = [] }))
+  run-mutexes : (history : List ℕ) → length (system_run program history).state.mutexes ≡ holders program.limits
+  run-mutexes history = after-mutexes (opening_world program) history (holders program.limits) (length-replicate (holders program.limits) (record { owner = None; waiters = [] }))
 
   -- the layout of a kernel in the state after a run is the program's
   module _ (history : List ℕ) (s : State) (is : s ≡ (system_run program history).state) (limits : s.limits ≡ program.limits) (above : FoundNodes) where
     layout-is : record { tickets = s.limits.tickets; currencies = s.limits.currencies; threads = s.limits.threads; mutexes = length s.mutexes }
-        ≡ (let l : Layout = record { tickets = program.limits.tickets; currencies = program.limits.currencies; threads = program.limits.threads; mutexes = program.limits.mutexes } in l)
+        ≡ (let l : Layout = record { tickets = program.limits.tickets; currencies = program.limits.currencies; threads = program.limits.threads; mutexes = holders program.limits } in l)
     layout-is =
         ap₂ (λ (l : Sizes) (m : ℕ). let layout : Layout = record { tickets = l.tickets; currencies = l.currencies; threads = l.threads; mutexes = m } in layout) limits
         (ap (λ (x : State). length x.mutexes) is ∙ run-mutexes history)

@@ -1,13 +1,13 @@
 -- Searches for the currencies above a thread of a system.
 use Rattle.std.specs.Prelude.{◌≡◌, ◌↔◌, ℕ, ◌<◌, IsTrue, length}
-use Rattle.lot_machine.specs.State.{State}
+use Rattle.lot_machine.specs.State.{State, holders}
 use Rattle.lot_above.specs.Found.{FoundNodes, HasFound}
 use Rattle.lot_simulation.specs.Below.{stands_below}
 use Rattle.lot_simulation.specs.World.{Program}
 
 -- the search has room for the graphs of the program's states: it has their layout, whatever turns were made
 abbrev pub HasLayoutFor : Program → FoundNodes → Type 0
-HasLayoutFor program above = above.layout ≡ record { tickets = program.limits.tickets; currencies = program.limits.currencies; threads = program.limits.threads; mutexes = program.limits.mutexes }
+HasLayoutFor program above = above.layout ≡ record { tickets = program.limits.tickets; currencies = program.limits.currencies; threads = program.limits.threads; mutexes = holders program.limits }
 
 -- of the currencies that have had numbers, the search has found exactly those that the thread stands below
 abbrev pub HasThoseAbove : State → ℕ → FoundNodes → Type 0

@@ -60,7 +60,7 @@ flat-same f g same (n ∷ ns) = ap (λ xs. xs ++ flat_map f ns) (same n) ∙ ap 
 
 -- ---- rows depend on records only by what threads lend, and by who is live
 
-module _ (s : State) (records : List Record) (lent : map (λ (r : Record). lend_of s.limits.without_lending r.status) records ≡ map (λ (r : Record). lend_of s.limits.without_lending r.status) s.records)
+module _ (s : State) (records : List Record) (lent : map (λ (r : Record). lend_of s.limits r.status) records ≡ map (λ (r : Record). lend_of s.limits r.status) s.records)
     (live : map (λ (r : Record). is_live_status r.status) records ≡ map (λ (r : Record). is_live_status r.status) s.records) where
   abbrev after : State
   after = record s { records = records }
@@ -115,7 +115,7 @@ module _ (style : LineStyle) (unit actor : ℕ) (s : State) where
   started-same : (p t : ℕ) → status_of s.records t ≡ Some Ready → funding_text style unit actor (record s { records = change_record (started p) s.records t }) ≡ funding_text style unit actor s
   started-same p t ready =
       text-same s (change_record (started p) s.records t)
-      (changed-same (λ (r : Record). lend_of s.limits.without_lending r.status) (started p) s.records t (λ r is. sym (ap (lend_of s.limits.without_lending) (status-is r is))))
+      (changed-same (λ (r : Record). lend_of s.limits r.status) (started p) s.records t (λ r is. sym (ap (lend_of s.limits) (status-is r is))))
       (changed-same (λ (r : Record). is_live_status r.status) (started p) s.records t (λ r is. sym (ap is_live_status (status-is r is)))) style unit actor
     where
       status-is : (r : Record) → at_number s.records t ≡ Some r → r.status ≡ Ready

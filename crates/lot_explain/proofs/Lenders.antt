@@ -30,10 +30,11 @@ module _ (s : State) where
       at None = refl
       at (Some mutex) = refl
 
-  borrower-is : (now : Status) → borrower (funding_of s) (lend_of false now) ≡ lends_to s now
-  borrower-is (Served server) = refl
-  borrower-is (Waiting m) = owner-is m
-  borrower-is other = refl
+  -- who is told to lend to somebody lends to nobody else
+  borrower-is : (now : Status) (to : ℕ) → s.limits.without_lending ≡ false → lends_to s now ≡ Some to → borrower (funding_of s) (lend_of s.limits now) ≡ lends_to s now
+  borrower-is (Served server) to on is = rw on refl
+  borrower-is (Waiting m) to on is = rw on (owner-is m)
+  borrower-is other to on is = cc
 
   -- a blocked thread isn't live
   not-live : (now : Status) (to : ℕ) → lends_to s now ≡ Some to → is_live_status now ≡ false
@@ -43,8 +44,7 @@ module _ (s : State) where
 
   -- without lending nobody has a borrower
   nobody : s.limits.without_lending ≡ true → (u : ℕ) → borrower_of (funding_of s) u ≡ None
-  nobody off u =
-      subst (λ (without : Bool). option_and_then (borrower (funding_of s)) (at_number (map (λ (r : Record). lend_of without r.status) s.records) u) ≡ None) (sym off) (lends-to-nobody (funding_of s) s.records u)
+  nobody off u = lends-to-nobody s.limits off (funding_of s) s.records u
 
   -- a thread with a row
   row-lent : (t : ℕ) (o : Option ThreadRow) → thread_row s t ≡ o → All (IsLent s) (loan_in s t o)
@@ -57,10 +57,8 @@ module _ (s : State) where
       value-is : row.value ≡ value_of s t
       value-is = let (r, there, same) = rows-record s t row is in sym (ap (λ (x : ThreadRow). x.value) same)
 
-      lends : s.limits.without_lending ≡ false → borrower_of (funding_of s) t ≡ lends_to s row.status
-      lends on =
-          ap (option_and_then (borrower (funding_of s))) (lend-at s.limits.without_lending s.records t row.status status-is)
-          ∙ ap (λ (without : Bool). borrower (funding_of s) (lend_of without row.status)) on ∙ borrower-is row.status
+      lends : (to : ℕ) → s.limits.without_lending ≡ false → lends_to s row.status ≡ Some to → borrower_of (funding_of s) t ≡ lends_to s row.status
+      lends to on is = ap (option_and_then (borrower (funding_of s))) (lend-at s.limits s.records t row.status status-is) ∙ borrower-is row.status to on is
 
       -- without lending a blocked thread is worth nothing
       worthless-then : s.limits.without_lending ≡ true → (to : ℕ) → lends_to s row.status ≡ Some to → row.value ≡ 0
@@ -86,7 +84,7 @@ module _ (s : State) where
             where
               at : (b : Bool) → s.limits.without_lending ≡ b → ¬ (row.value ≡ 0) → All (IsLent s) (loan ∷ [])
               at true off some = absurd (some (worthless-then off to to_is))
-              at false on some = All-cons (IsLent s) loan [] (record { lends = lends on ∙ to_is; value = value-is; some = omega (arith, some) }) (All-nil (IsLent s))
+              at false on some = All-cons (IsLent s) loan [] (record { lends = lends to on to_is ∙ to_is; value = value-is; some = omega (arith, some) }) (All-nil (IsLent s))
 
   loans-lent : (ts : List ℕ) → All (IsLent s) (flat_map (loan_of s) ts)
   loans-lent [] = All-nil (IsLent s)

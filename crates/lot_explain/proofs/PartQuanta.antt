@@ -24,7 +24,8 @@ use Rattle.lot_machine.specs.Mutexes.{lock, mutex_at, unlock}
 use Rattle.lot_machine.specs.Numbered.{at_number}
 use Rattle.lot_machine.specs.Places.{placed}
 use Rattle.lot_machine.specs.Ports.{call, first_client, port_at, receive, reply}
-use Rattle.lot_machine.specs.State.{State, Port, QueuedCall, change_each, change_record, free_threads, ready_threads, value_of, weight_of}
+use Rattle.lot_machine.specs.Servers.{before_lock}
+use Rattle.lot_machine.specs.State.{State, Mutex, Port, QueuedCall, change_each, change_record, free_threads, ready_threads, value_of, weight_of}
 use Rattle.lot_machine.specs.Step.{checked_effect, draw, event_effect, event_refusal, step, thread_there, trap_effect, trap_refusal, used_there}
 use Rattle.lot_machine.specs.Traps.{after_trap, compensation_for, with_ticks}
 use Rattle.lot_machine.specs.declared.sizes.Sizes.{Sizes}
@@ -107,10 +108,10 @@ module _ (quantum : ℕ) where
   reply-parts s server number parts =
       change-parts (λ r. record r { status = status.Ready; delivered = Some number }) (λ r part. part) s.records (unwrap_or (first_client s.clients server) 0) parts
 
-  lock-parts : (s : State) (t m : ℕ) → AreParts quantum s.records → AreParts quantum (lock s.records s.mutexes t m).records
-  lock-parts s t m parts = at (mutex_at s.mutexes m).owner refl
+  lock-parts : (records : List Record) (mutexes : List Mutex) (t m : ℕ) → AreParts quantum records → AreParts quantum (lock records mutexes t m).records
+  lock-parts records mutexes t m parts = at (mutex_at mutexes m).owner refl
     where
-      at : (o : Option ℕ) → (mutex_at s.mutexes m).owner ≡ o → AreParts quantum (lock s.records s.mutexes t m).records
+      at : (o : Option ℕ) → (mutex_at mutexes m).owner ≡ o → AreParts quantum (lock records mutexes t m).records
       at None is = rw is parts
       at (Some owner) is = rw is parts
 
@@ -131,7 +132,7 @@ module _ (quantum : ℕ) where
   effect-parts s t (Serve port number) parts =
       let first = reply s.records s.clients s.ports t number in
       receive-parts first.records first.clients first.ports t port (reply-parts s t number parts)
-  effect-parts s t (Lock m) parts = lock-parts s t m parts
+  effect-parts s t (Lock m) parts = lock-parts s.records (before_lock s t m) t m parts
   effect-parts s t (Unlock m d) parts = unlock-parts s (value_of s) m d parts
   effect-parts s t Sleep parts = parts
   effect-parts s t Exit parts = parts

@@ -41,7 +41,7 @@ use Rattle.lot_kernel.specs.Snapshots.{IsTargetThere, MakesStale, Snapshot, thre
 -- a target that is there, and isn't base, may be funded
 pub target-funded : (s : State) (to : Target) → IsTargetThere s to → is_currency 0 to ≡ false → IsTarget (funding_of s) to
 target-funded s Unfunded there other = there
-target-funded s (Thread t) there other = (there.0, omega (arith, there.1, length-map s.records (λ (r : Record). lend_of s.limits.without_lending r.status)))
+target-funded s (Thread t) there other = (there.0, omega (arith, there.1, length-map s.records (λ (r : Record). lend_of s.limits r.status)))
 target-funded s (Currency zero) there other = cc
 target-funded s (Currency (suc c)) there other = (omega arith, there)
 
@@ -176,13 +176,13 @@ module _ (old issued added funded : Snapshot) (new : Ticket) (script n t : ℕ) 
   nobody : (place : ℕ) → slice_get (free_threads old.state) 0 ≡ Some place → slice_get (graph-of old).lends place ≡ Some Nobody
   nobody place is =
       let dead = free-dead old.state order.gaps order.removed place is in
-      sym (at_number-suc (graph-of old).lends place) ∙ lend-at old.state.limits.without_lending old.state.records (suc place) Dead dead
+      sym (at_number-suc (graph-of old).lends place) ∙ lend-at old.state.limits old.state.records (suc place) Dead dead
 
   added-edges : (edge : Edge) → weighed_of (graph-of added) edge ≡ weighed_of (graph-of old) edge
   added-edges edge =
       ap (λ (x : State). weighed_of (funding_of x) edge) (second ∙ ap (λ (x : Snapshot). with_thread x.state name script) first)
       ∙ unfunded-edges (funding_of (with_thread old.state name script)) (free_tickets old.state) new unfunded (ticket-gap old.state order) edge
-      ∙ ap (λ (ls : List Lend). weighed_of (record (graph-of old) { lends = ls }) edge) (map-placed (λ (r : Record). lend_of old.state.limits.without_lending r.status) old.state.records (free_threads old.state) newborn)
+      ∙ ap (λ (ls : List Lend). weighed_of (record (graph-of old) { lends = ls }) edge) (map-placed (λ (r : Record). lend_of old.state.limits r.status) old.state.records (free_threads old.state) newborn)
       ∙ placed-edges (graph-of old) (free_threads old.state) nobody edge
 
   pub makes-funded : MakesStale issued added → MakesStale added funded → MakesStale old funded

@@ -53,6 +53,6 @@ module _ (s : State) (p d : ℕ) (good : is_bad_processor s p ≡ false) (free :
 pub start-fresh : (v new : Threaded) (p t : ℕ) → v.stale ≡ [] → status_of v.records t ≡ Some Ready → new ≡ with_records v (change_record (started p) v.records t) new.stale → MakesStaleIn v new → new.stale ≡ []
 start-fresh v new p t settled ready is makes =
     let (r, there, now) = record-of v.records t Ready ready in
-    let lends = same-seen (λ (x : Record). lend_of v.without_lending x.status) (started p) v.records t r there (sym (ap (lend_of v.without_lending) now)) in
+    let lends = same-seen (λ (x : Record). lend_of v.lending x.status) (started p) v.records t r there (sym (ap (lend_of v.lending) now)) in
     let lives = same-seen (λ (x : Record). is_live_status x.status) (started p) v.records t r there (sym (ap is_live_status now)) in
     stays-fresh v new settled (ap funding_in is ∙ ap (λ (ls : List Lend). record (funding_in v) { lends = ls }) lends) (ap (λ (x : Threaded). live_in x.records) is ∙ lives) makes

@@ -67,7 +67,7 @@ module _ (s : State) (stale : List Node) (meter : Meter) (trap : Trap) (before :
       by true is = rw is (record { there = there; timely = (timely.0, ltb-true trap.used s.limits.quantum is); lend = tt; run = (processor, λ u more runs. alone u more runs) })
       by false is = rw is (record { there = there; timely = (tt, tt); lend = tt; run = tt })
 
-  can-leave : (status : Status) → ((p used : ℕ) → ¬ (status ≡ Running p used)) → CanLend (funding_of s) trap.thread.number (lend_of s.limits.without_lending status) → CanChange (threads_of s stale meter) trap.thread.number (finished s trap (Leaves status) before)
+  can-leave : (status : Status) → ((p used : ℕ) → ¬ (status ≡ Running p used)) → CanLend (funding_of s) trap.thread.number (lend_of s.limits status) → CanChange (threads_of s stale meter) trap.thread.number (finished s trap (Leaves status) before)
   can-leave status stops lend = record { there = there; timely = (by (nat_lt trap.used s.limits.quantum), stops-below s.limits.quantum status stops); lend = lend; run = stops-run s stale meter trap.thread.number status stops }
     where
       compensated : (b : Bool) → IfSome (if b then None else Some trap.used) (λ n. 0 < n)
@@ -79,7 +79,7 @@ module _ (s : State) (stale : List Node) (meter : Meter) (trap : Trap) (before :
       by false = tt
 
   -- the thread may have the record that the trap leaves it with
-  pub can-finish : (after : After) → StopsIfLeaves after → ((status : Status) → after ≡ Leaves status → CanLend (funding_of s) trap.thread.number (lend_of s.limits.without_lending status)) → CanChange (threads_of s stale meter) trap.thread.number (finished s trap after before)
+  pub can-finish : (after : After) → StopsIfLeaves after → ((status : Status) → after ≡ Leaves status → CanLend (funding_of s) trap.thread.number (lend_of s.limits status)) → CanChange (threads_of s stale meter) trap.thread.number (finished s trap after before)
   can-finish GoesOn stops lend = can-go
   can-finish (Leaves status) stops lend = can-leave status stops (lend status refl)
   can-finish Ends stops lend = record { there = there; timely = (tt, tt); lend = tt; run = tt }
@@ -95,20 +95,20 @@ finish-order s t p before ticks used action order runs some within =
 module _ (s mid : State) (t p before ticks used : ℕ) (action : Action) (order : IsInOrder s) (runs : status_of s.records t ≡ Some (Running p before)) (some : 0 < ticks) (within : ticks ≤ used)
     (effect : mid ≡ (effect_of s t action).state) (runs_on : status_of mid.records t ≡ Some (Running p before)) where
   -- what it lends as it leaves makes no cycle
-  pub may-leave : (status : Status) → (effect_of s t action).after ≡ Leaves status → ((node : Node) → lend_node (lend_of mid.limits.without_lending status) ≡ Some node → IsBorrower (funding_of mid) (lend_of mid.limits.without_lending status)) → CanLend (funding_of mid) t (lend_of mid.limits.without_lending status)
+  pub may-leave : (status : Status) → (effect_of s t action).after ≡ Leaves status → ((node : Node) → lend_node (lend_of mid.limits status) ≡ Some node → IsBorrower (funding_of mid) (lend_of mid.limits status)) → CanLend (funding_of mid) t (lend_of mid.limits status)
   may-leave status leaves there =
       let ends = finish-order s t p before ticks used action order runs some within in
-      let alone = lend-at mid.limits.without_lending mid.records t (Running p before) runs_on in
-      let same : funding_of (finish_trap s p t ticks used (effect_of s t action)).state ≡ record (funding_of mid) { lends = set_number (funding_of mid).lends t (lend_of mid.limits.without_lending status) } = final in
-      may-lend (funding_of mid) t (lend_of mid.limits.without_lending status) alone (subst HasNoCycle same ends.no_cycle) (subst FundsThere same ends.funds_there) there
+      let alone = lend-at mid.limits mid.records t (Running p before) runs_on in
+      let same : funding_of (finish_trap s p t ticks used (effect_of s t action)).state ≡ record (funding_of mid) { lends = set_number (funding_of mid).lends t (lend_of mid.limits status) } = final in
+      may-lend (funding_of mid) t (lend_of mid.limits status) alone (subst HasNoCycle same ends.no_cycle) (subst FundsThere same ends.funds_there) there
     where
       change : After → Record → Record
       change after r = with_ticks ticks (after_trap after p used s.limits r)
 
-      lends : (r : Record) → at_number mid.records t ≡ Some r → map (λ (x : Record). lend_of mid.limits.without_lending x.status) (change_record (change (Leaves status)) mid.records t) ≡ set_number (funding_of mid).lends t (lend_of mid.limits.without_lending status)
-      lends r is = rw is (map-set (λ (x : Record). lend_of mid.limits.without_lending x.status) mid.records (t - 1) (change (Leaves status) r))
+      lends : (r : Record) → at_number mid.records t ≡ Some r → map (λ (x : Record). lend_of mid.limits x.status) (change_record (change (Leaves status)) mid.records t) ≡ set_number (funding_of mid).lends t (lend_of mid.limits status)
+      lends r is = rw is (map-set (λ (x : Record). lend_of mid.limits x.status) mid.records (t - 1) (change (Leaves status) r))
 
-      final : funding_of (finish_trap s p t ticks used (effect_of s t action)).state ≡ record (funding_of mid) { lends = set_number (funding_of mid).lends t (lend_of mid.limits.without_lending status) }
+      final : funding_of (finish_trap s p t ticks used (effect_of s t action)).state ≡ record (funding_of mid) { lends = set_number (funding_of mid).lends t (lend_of mid.limits status) }
       final =
           let there_record = record-of mid.records t (Running p before) runs_on in
           let now : (finish_trap s p t ticks used (effect_of s t action)).state ≡ record mid { records = change_record (change (Leaves status)) mid.records t } = rw (← effect, leaves) refl in

@@ -20,7 +20,6 @@ use Rattle.lot_queues.specs.QueueLists.{QueueLists, IsThere, IsNowhere, waiters_
 use Rattle.lot_threads.specs.Threaded.{Threaded, IsThreadOf, MakesStaleIn, with_records}
 use Rattle.lot_threads.proofs.TwoChanges.{makes-each}
 use Rattle.lot_mutex.specs.Listed.{next_from, owners_of, passed_from}
-use Rattle.lot_kernel.specs.Memory.{AreSized}
 use Rattle.lot_kernel.specs.Snapshots.{held}
 use Rattle.lot_kernel.proofs.Holding.{IsHeld}
 
@@ -83,16 +82,6 @@ records-same s q t order clients mutexes =
 -- the queues after all
 abbrev pub queues_killed : QueueLists → ℕ → QueueLists
 queues_killed q t = record q { clients = set_number (map (without t) q.clients) t []; ports = map (port_without t) q.ports; mutexes = map (passed_from t) (waiters_without q.mutexes t) }
-
--- a death leaves how many ports and mutexes there are
-pub killed-sized : (sizes : Sizes) (q : QueueLists) (t : ℕ) (left : QueueLists) → left ≡ queues_killed q t → AreSized sizes q → AreSized sizes left
-killed-sized sizes q t left is has =
-    subst (AreSized sizes) (sym is)
-    (record {
-      room = has.room;
-      ports = length-map q.ports (port_without t) ∙ has.ports;
-      mutexes = length-map (waiters_without q.mutexes t) (passed_from t) ∙ length-map q.mutexes _ ∙ has.mutexes;
-    })
 
 module _ (sizes : Sizes) (freed : Freed) (names : List (Option (List ℕ))) (v : Threaded) (q : QueueLists) (t : ℕ) (was : IsHeld sizes freed names v q) (new : Threaded) (left : QueueLists)
     (threads : new ≡ record (with_records v (records_killed q v.records t) new.stale) { owners = owners_of (map (passed_from t) (waiters_without q.mutexes t)) }) (queues : left ≡ queues_killed q t) where
@@ -207,8 +196,8 @@ module _ (v : Threaded) (q : QueueLists) (t : ℕ) (out : QueueLists) (taken : o
 
         pub all-stale : MakesStaleIn v v1 → MakesStaleIn v1 v2 → MakesStaleIn v2 v3 → MakesStaleIn v v3
         all-stale one two three =
-            makes-each v v2 v3 (ap (λ (x : Threaded). x.without_lending) v2-is, sym (ap (λ (x : Threaded). x.without_lending) ended_threads)) (ap (λ (x : Threaded). x.tickets) v2-is) (λ m. inr (inl (ap (λ (x : Threaded). at_number x.owners m) (sym ended_threads)))) ends
-            (makes-each v v1 v2 (ap (λ (x : Threaded). x.without_lending) v1-is, sym (ap (λ (x : Threaded). x.without_lending) passed_threads)) (ap (λ (x : Threaded). x.tickets) v1-is) (λ m. inl (ap (λ (x : Threaded). at_number x.owners m) v1-is)) between one two) three
+            makes-each v v2 v3 (ap (λ (x : Threaded). x.lending) v2-is, sym (ap (λ (x : Threaded). x.lending) ended_threads)) (ap (λ (x : Threaded). x.tickets) v2-is) (λ m. inr (inl (ap (λ (x : Threaded). at_number x.owners m) (sym ended_threads)))) ends
+            (makes-each v v1 v2 (ap (λ (x : Threaded). x.lending) v1-is, sym (ap (λ (x : Threaded). x.lending) passed_threads)) (ap (λ (x : Threaded). x.tickets) v1-is) (λ m. inl (ap (λ (x : Threaded). at_number x.owners m) v1-is)) between one two) three
           where
             between : (u : ℕ) → (at_number v1.records u ≡ at_number v.records u) ⊎ (at_number v1.records u ≡ at_number v2.records u)
             between u = from (each-between released (λ r. refl) v.records clients nexts u)

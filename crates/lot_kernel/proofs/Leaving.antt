@@ -15,6 +15,7 @@ use Rattle.lot_machine.specs.Mutexes.{mutex_at, lock, unlock}
 use Rattle.lot_machine.specs.Numbered.{at_number}
 use Rattle.lot_machine.specs.Order.{IsQueue, HasQueues}
 use Rattle.lot_machine.specs.Ports.{first_client, port_at, call, receive, reply, serve}
+use Rattle.lot_machine.specs.Servers.{before_lock}
 use Rattle.lot_machine.specs.State.{State, QueuedCall, Port, Mutex, status_of, value_of}
 use Rattle.lot_machine.specs.Step.{checked_effect, trap_effect, trap_refusal}
 use Rattle.lot_machine.proofs.CommandsKept.{all-pass}
@@ -25,6 +26,14 @@ use Rattle.lot_machine.specs.Traps.{after_trap}
 use Rattle.lot_machine.specs.declared.sizes.Sizes.{Sizes}
 use Rattle.lot_ports.proofs.Serving.{record-other}
 use Rattle.lot_kernel.specs.Trapped.{effect_of}
+
+-- a lock changes no record
+lock-leaves : (records : List Record) (mutexes : List Mutex) (t m : ℕ) → at_number (lock records mutexes t m).records t ≡ at_number records t
+lock-leaves records mutexes t m = by (mutex_at mutexes m).owner refl
+  where
+    by : (o : Option ℕ) → (mutex_at mutexes m).owner ≡ o → at_number (lock records mutexes t m).records t ≡ at_number records t
+    by None is = rw is refl
+    by (Some owner) is = rw is refl
 
 module _ (records : List Record) (t p used : ℕ) (runs : status_of records t ≡ Some (Running p used)) where
   -- who has another status is another thread
@@ -104,13 +113,6 @@ module _ (records : List Record) (t p used : ℕ) (runs : status_of records t �
         by (Some client) is e =
             rw is (record-other (λ r. record r { status = Ready; delivered = Some number }) records client t (differ client (Served t) (not-served t) ((queue-clients records clients ports mutexes queues t).each 0 client is)))
 
-    lock-leaves : (m : ℕ) → at_number (lock records mutexes t m).records t ≡ at_number records t
-    lock-leaves m = by (mutex_at mutexes m).owner refl
-      where
-        by : (o : Option ℕ) → (mutex_at mutexes m).owner ≡ o → at_number (lock records mutexes t m).records t ≡ at_number records t
-        by None is = rw is refl
-        by (Some owner) is = rw is refl
-
     unlock-leaves : (value : ℕ → ℕ) (m d : ℕ) → at_number (unlock records mutexes value m d).records t ≡ at_number records t
     unlock-leaves value m d = by (mutex_at mutexes m).waiters refl
       where
@@ -141,7 +143,7 @@ effect-leaves s t p used action runs queues = checked (trap_refusal s t action) 
     passed (ReplyTo number) allowed = reply-leaves s.records t p used runs s.clients s.ports s.mutexes queues number (all-pass ((is_none (first_client s.clients t), NothingToReply) ∷ []) allowed).0
     passed (Serve port number) allowed =
         serve-leaves s.limits s.records t p used runs s.clients s.ports s.mutexes queues port number (all-pass ((is_none (at_number s.ports port), NoPort) ∷ (is_none (first_client s.clients t), NothingToReply) ∷ []) allowed).1.0
-    passed (Lock m) allowed = lock-leaves s.records t p used runs s.clients s.ports s.mutexes queues m
+    passed (Lock m) allowed = lock-leaves s.records (before_lock s t m) t m
     passed (Unlock m d) allowed = unlock-leaves s.records t p used runs s.clients s.ports s.mutexes queues (value_of s) m d
     passed Sleep allowed = refl
     passed Exit allowed = refl

@@ -5,6 +5,9 @@ pub mod Leaving
 pub mod Finishing
 pub mod Trapping
 pub mod PortTraps
+pub mod Serving
+pub mod PastPorts
+pub mod Cutting
 pub mod Metering
 pub mod TrapEnds
 pub mod Drawing

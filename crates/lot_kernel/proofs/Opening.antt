@@ -1,12 +1,16 @@
 -- At the start the threads are those of the state.
-use Rattle.std.proofs.Common.{◌≡◌, ◌∙◌, ℕ, zero, suc, true, Option, Some, None, List, [], ◌∷◌, map, replicate, codes, ap, sym, refl, subst}
+use Rattle.std.proofs.Common.{◌≡◌, ◌∙◌, ℕ, zero, suc, true, Option, Some, None, List, [], ◌∷◌, map, replicate, slice_get, codes, ap, sym, refl, subst}
+use Rattle.std.proofs.lemmas.List.{length-replicate}
 use Rattle.lot_machine.specs.declared.sizes.Sizes.{Sizes}
-use Rattle.lot_machine.specs.State.{Freed, Mutex, opening}
+use Rattle.lot_machine.specs.Mutexes.{mutex_at}
+use Rattle.lot_machine.specs.State.{Freed, Mutex, holders, opening}
+use Rattle.lot_machine.proofs.Tickets.{at_number-suc}
 use Rattle.lot_queues.specs.QueueLists.{QueueLists, empty_queues}
 use Rattle.lot_threads.specs.Threaded.{Threaded}
 use Rattle.lot_kernel.specs.FreePlaces.{none_free}
-use Rattle.lot_kernel.specs.Snapshots.{starting, threads_of}
+use Rattle.lot_kernel.specs.Snapshots.{HasHolders, starting, threads_of}
 use Rattle.lot_kernel.proofs.Holding.{IsHeld, snapshot_of}
+use Rattle.lot_kernel.proofs.Serving.{waiters_in}
 
 owners-free : (n : ℕ) → map (λ (m : Mutex). m.owner) (replicate n (record { owner = None; waiters = [] })) ≡ replicate n None
 owners-free zero = refl
@@ -17,14 +21,14 @@ abbrev pub opening_threads : Sizes → Threaded
 opening_threads sizes = record {
   currencies = true ∷ [];
   tickets = [];
-  owners = replicate sizes.mutexes None;
+  owners = replicate (holders sizes) None;
   ticket_limit = sizes.tickets;
   currency_limit = sizes.currencies;
   thread_limit = sizes.threads;
   unit = sizes.unit;
   quantum = sizes.quantum;
   processors = sizes.processors;
-  without_lending = sizes.without_lending;
+  lending = sizes;
   threads = [];
   records = [];
   stale = [];
@@ -34,9 +38,9 @@ opening_threads sizes = record {
 module _ (sizes : Sizes) (v : Threaded) where
   -- they are the threads of the opening state
   pub opens-threads : v ≡ opening_threads sizes → v ≡ threads_of (opening sizes) [] (starting sizes).meter
-  opens-threads is = is ∙ ap (λ os. record (opening_threads sizes) { owners = os }) (sym (owners-free sizes.mutexes))
+  opens-threads is = is ∙ ap (λ os. record (opening_threads sizes) { owners = os }) (sym (owners-free (holders sizes)))
 
-  module _ (names : List (Option (List ℕ))) (q : QueueLists) (named : names ≡ Some (codes "base") ∷ []) (is : v ≡ threads_of (opening sizes) [] (starting sizes).meter) (queues : q ≡ empty_queues sizes.ports sizes.mutexes sizes.threads) where
+  module _ (names : List (Option (List ℕ))) (q : QueueLists) (named : names ≡ Some (codes "base") ∷ []) (is : v ≡ threads_of (opening sizes) [] (starting sizes).meter) (queues : q ≡ empty_queues sizes.ports (holders sizes) sizes.threads) where
     pub opening-held : (freed : Freed) → IsHeld sizes freed names v q
     opening-held freed =
         subst (λ ns. IsHeld sizes freed ns v q) (sym named)
@@ -48,4 +52,17 @@ module _ (sizes : Sizes) (v : Threaded) where
     opening-starts freed free =
         ap (λ (f : Freed). snapshot_of sizes f names q v) free ∙ ap (λ ns. snapshot_of sizes none_free ns q v) named
         ∙ ap (λ (l : QueueLists). snapshot_of sizes none_free (Some (codes "base") ∷ []) l v) queues
-        ∙ ap (snapshot_of sizes none_free (Some (codes "base") ∷ []) (empty_queues sizes.ports sizes.mutexes sizes.threads)) is
+        ∙ ap (snapshot_of sizes none_free (Some (codes "base") ∷ []) (empty_queues sizes.ports (holders sizes) sizes.threads)) is
+
+-- nobody waits for a holder then
+free-waits : (n k : ℕ) → waiters_in (slice_get (replicate n (record { owner = None; waiters = [] })) k) ≡ []
+free-waits zero k = refl
+free-waits (suc n) zero = refl
+free-waits (suc n) (suc k) = free-waits n k
+
+pub opening-holders : (sizes : Sizes) (q : QueueLists) → q ≡ empty_queues sizes.ports (holders sizes) sizes.threads → HasHolders sizes q
+opening-holders sizes q is = subst (HasHolders sizes) (sym is) (record { ports = length-replicate sizes.ports _; mutexes = length-replicate (holders sizes) _; unwaited = λ m above. by m })
+  where
+    by : (m : ℕ) → (mutex_at (replicate (holders sizes) (record { owner = None; waiters = [] })) m).waiters ≡ []
+    by zero = refl
+    by (suc k) = ap waiters_in (at_number-suc (replicate (holders sizes) (record { owner = None; waiters = [] })) k) ∙ free-waits (holders sizes) k

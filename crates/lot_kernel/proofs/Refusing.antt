@@ -23,7 +23,7 @@ use Rattle.lot_machine.specs.Commands.{Step, command_effect, command_refusal, co
 use Rattle.lot_machine.specs.Lends.{is_live}
 use Rattle.lot_machine.specs.Numbered.{at_number, option_any}
 use Rattle.lot_machine.specs.State.{State, is_live_status, live_of, thread_on, used_by}
-use Rattle.lot_machine.specs.Step.{checked_effect, event_effect, event_refusal, expire, finish_trap, is_bad_processor, overrun, step, stopped, thread_there, trap, trap_effect, trap_refusal, used_there}
+use Rattle.lot_machine.specs.Step.{checked_effect, event_effect, event_refusal, expire, finish_trap, is_bad_processor, is_no_mutex, overrun, step, stopped, thread_there, trap, trap_effect, trap_refusal, used_there}
 use Rattle.lot_machine.specs.Traps.{compensation_for}
 use Rattle.lot_machine.proofs.TrapCycles.{at_number-map}
 use Rattle.lot_queues.specs.QueueLists.{IsThere}
@@ -113,7 +113,7 @@ number-missing xs n false there is = by (is_none (at_number xs n)) refl
     by true e = e
     by false e = let never : false ≡ true = is (number-within xs n e) in cc
 
-le-of : (a b : ℕ) → nat_le a b ≡ true → a ≤ b
+pub le-of : (a b : ℕ) → nat_le a b ≡ true → a ≤ b
 le-of a b is = grind (arith, nat_tests)
 
 le-true : (a b : ℕ) → a ≤ b → nat_le a b ≡ true
@@ -125,6 +125,28 @@ within-count xs n count some is low = (some, omega (arith, is, le-of n count low
 
 pub tested-count : {A : Type 0} (xs : List A) (n count : ℕ) → 0 < n → count ≡ length xs → is_none (at_number xs n) ≡ not (nat_le n count)
 tested-count xs n count some is = number-missing xs n (nat_le n count) (within-count xs n count some is) (λ (there : IsThere xs n). le-true n count (omega (arith, is, there.1)))
+
+-- no mutex has a number above their count, though a holder may have it
+pub tested-mutex : (s : State) (m count : ℕ) → 0 < m → count ≡ s.limits.mutexes → s.limits.mutexes ≤ length s.mutexes → is_no_mutex s m ≡ not (nat_le m count)
+tested-mutex s m count some is many = by (nat_le m count) refl
+  where
+    over : (a b : ℕ) → nat_le a b ≡ false → nat_lt b a ≡ true
+    over a b high = grind (arith, nat_tests)
+
+    under : (a b : ℕ) → a ≤ b → nat_lt b a ≡ false
+    under a b low = grind (arith, nat_tests)
+
+    either : (b : Bool) → (b || true) ≡ true
+    either true = refl
+    either false = refl
+
+    by : (b : Bool) → nat_le m count ≡ b → is_no_mutex s m ≡ not b
+    by true low = let within = le-of m count low in rw (number-there s.mutexes m (some, omega (arith, within, is, many)), under m s.limits.mutexes (omega (arith, within, is))) refl
+    by false high = ap (λ b. is_none (at_number s.mutexes m) || b) (ap (λ n. nat_lt n m) (sym is) ∙ over m count high) ∙ either (is_none (at_number s.mutexes m))
+
+pub mutex-zero : (s : State) (m : ℕ) → m ≤ 0 → is_no_mutex s m ≡ not (nat_lt 0 m)
+mutex-zero s zero low = refl
+mutex-zero s (suc m) low = absurd (omega (arith, low))
 
 -- no element has the number 0
 pub tested-zero : {A : Type 0} (xs : List A) (n : ℕ) → n ≤ 0 → is_none (at_number xs n) ≡ not (nat_lt 0 n)
@@ -168,6 +190,10 @@ not-live s t r live there is =
 pub missing : {A : Type 0} (o : Option A) → false ≡ is_some o → is_none o ≡ true
 missing None is = refl
 missing (Some x) is = cc
+
+pub no-record : {A : Type 0} (found o : Option A) → found ≡ o → is_some found ≡ false → o ≡ None
+no-record None o is none = sym is
+no-record (Some x) o is none = cc
 
 pub present : {A : Type 0} (o : Option A) → true ≡ is_some o → is_none o ≡ false
 present None is = cc

@@ -1,6 +1,7 @@
 -- The rooms of the tables, by the limits.
 use Rattle.std.proofs.Common.{◌≡◌, ◌∙◌, ◌+◌, ◌*◌, ◌≤◌, ℕ, Bool, true, false, cond, length, ap, arith}
 use Rattle.std.proofs.lemmas.List.{length-map}
+use Rattle.lot_machine.specs.State.{holders, sizes_of}
 use Rattle.lot_threads.specs.Threaded.{Threaded}
 use Rattle.lot_kernel.specs.contracts.tables.Tables.{the_invariant}
 use Rattle.lot_kernel.specs.declared.tables.Tables.TheInside.{Inside}
@@ -16,7 +17,7 @@ pub record AreRooms (i : Inside) : Type 0 where
   pub tickets : i.threads.ticket_limit ≡ i.limits.tickets
   pub currencies : i.threads.currency_limit ≡ i.limits.currencies
   pub threads : i.threads.thread_limit ≡ i.limits.threads
-  pub owners : length i.threads.owners ≡ i.limits.mutexes
+  pub owners : length i.threads.owners ≡ holders (sizes_of i.limits)
   pub processors : i.threads.processors ≡ i.limits.processors
   pub free : 4 * (i.freed.tickets.room + i.freed.currencies.room + i.freed.threads.room) ≡ cond {A = ℕ} i.limits.reuse (4 * (i.limits.tickets + i.limits.currencies + i.limits.threads) + 4) 0
   pub few : i.freed.tickets.room + i.freed.currencies.room + i.freed.threads.room ≤ i.limits.tickets + i.limits.currencies + i.limits.threads + 1
@@ -29,7 +30,7 @@ rooms-are i inv =
       tickets = ap (λ (v : Threaded). v.ticket_limit) inv.threads;
       currencies = ap (λ (v : Threaded). v.currency_limit) inv.threads;
       threads = ap (λ (v : Threaded). v.thread_limit) inv.threads;
-      owners = ap (λ (v : Threaded). length v.owners) inv.threads ∙ length-map i.queues.mutexes _ ∙ inv.queue_sizes.mutexes;
+      owners = ap (λ (v : Threaded). length v.owners) inv.threads ∙ length-map i.queues.mutexes _ ∙ inv.holders.mutexes;
       processors = ap (λ (v : Threaded). v.processors) inv.threads;
       free = free.0;
       few = free.1;

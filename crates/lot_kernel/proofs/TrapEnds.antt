@@ -1,5 +1,5 @@
 -- How a whole trap goes: what it does, and then how its thread goes on or leaves.
-use Rattle.std.proofs.Common.{◌≡◌, ◌∙◌, ℕ, ◌-◌, Bool, true, false, Option, Some, None, List, [], ◌∷◌, ◌++◌, length, map, ap, sym, refl, subst, arith}
+use Rattle.std.proofs.Common.{◌≡◌, ◌∙◌, ℕ, ◌+◌, ◌-◌, ◌<◌, nat_le, Bool, true, false, ◌&&◌, cond, Option, Some, None, is_none, List, [], ◌∷◌, ◌++◌, length, map, ap, sym, refl, subst, arith}
 use Rattle.std.proofs.Math.ListN.{length-set}
 use Rattle.std.proofs.lemmas.List.{length-map}
 use Rattle.lot_machine.specs.declared.action.Action.{Action}
@@ -7,22 +7,27 @@ use Rattle.lot_machine.specs.declared.action.Action.TheVariants.{Yield, Call, Re
 use Rattle.lot_machine.specs.declared.after.After.{After}
 use Rattle.lot_machine.specs.declared.after.After.TheVariants.{GoesOn, Leaves, Ends}
 use Rattle.lot_machine.specs.declared.funding.Lend.{Lend}
-use Rattle.lot_machine.specs.declared.funding.Lend.TheVariants.{Nobody}
+use Rattle.lot_machine.specs.declared.funding.Lend.TheVariants.{Nobody, ToThread, ToMutex}
 use Rattle.lot_machine.specs.declared.funding.Node.{Node}
 use Rattle.lot_machine.specs.declared.record.Record.{Record}
 use Rattle.lot_machine.specs.declared.record.Status.{Status}
 use Rattle.lot_machine.specs.declared.record.Status.TheVariants.{Ready, Running, Receiving, Queued, Served, Waiting, Asleep}
 use Rattle.lot_machine.specs.declared.refusal.TrapRefusal.{TrapRefusal}
+use Rattle.lot_machine.specs.declared.refusal.TrapRefusal.TheVariants.{NoPort}
 use Rattle.lot_machine.specs.declared.reply.Outcome.{Outcome}
+use Rattle.lot_machine.specs.declared.reply.Outcome.TheVariants as outcome
+use Rattle.lot_machine.specs.declared.sizes.Sizes.{Sizes}
 use Rattle.lot_machine.specs.declared.reply.Reply.TheVariants.{Trapped}
 use Rattle.lot_machine.specs.Funding.{Funding, lend_node}
 use Rattle.lot_machine.specs.Mutexes.{mutex_at}
 use Rattle.lot_machine.specs.Numbered.{at_number, set_number}
 use Rattle.lot_machine.specs.Order.{IsInOrder, IsQueue}
 use Rattle.lot_machine.specs.Ports.{port_at}
-use Rattle.lot_machine.specs.State.{State, Mutex, QueuedCall, change_record, funding_of, lend_of, status_of}
+use Rattle.lot_machine.specs.Servers.{before_lock, served_at}
+use Rattle.lot_machine.specs.State.{State, Mutex, QueuedCall, change_record, funding_of, holder_of, holders, lend_of, status_of}
 use Rattle.lot_machine.specs.Step.{Effect, ends_quantum, finish_trap, trap_effect, trap_refusal}
 use Rattle.lot_machine.specs.Traps.{after_trap, with_ticks}
+use Rattle.lot_machine.proofs.CommandsKept.{all-pass}
 use Rattle.lot_machine.proofs.RecordsKept.{RunsAlone, runs-alone}
 use Rattle.lot_machine.proofs.StepsKept.{IsApart, effect-apart}
 use Rattle.lot_graph.specs.Graphs.{IsBorrower}
@@ -32,7 +37,9 @@ use Rattle.lot_threads.proofs.Last.{makes-last}
 use Rattle.lot_kernel.specs.Snapshots.{Snapshot, MakesStale, threads_of}
 use Rattle.lot_kernel.specs.Trapped.{effect_of}
 use Rattle.lot_kernel.proofs.Leaving.{receivers-queue}
-use Rattle.lot_kernel.proofs.Trapping.{change-count, lock-there, status-there}
+use Rattle.lot_kernel.proofs.Refusing.{le-of}
+use Rattle.lot_kernel.proofs.Serving.{before-count, served-count}
+use Rattle.lot_kernel.proofs.Trapping.{change-count, lock-there, number-within, status-there}
 
 -- a trap leaves the limits
 pub effect-limits : (s : State) (t : ℕ) (action : Action) → (effect_of s t action).state.limits ≡ s.limits
@@ -68,7 +75,7 @@ effect-runs s t p used action order runs = by (trap_refusal s t action) refl
 
 -- whoever leaves this way lends to somebody that is there, or to nobody
 abbrev LendsThere : State → After → Type 0
-LendsThere s after = (status : Status) → after ≡ Leaves status → (node : Node) → lend_node (lend_of s.limits.without_lending status) ≡ Some node → IsBorrower (funding_of s) (lend_of s.limits.without_lending status)
+LendsThere s after = (status : Status) → after ≡ Leaves status → (node : Node) → lend_node (lend_of s.limits status) ≡ Some node → IsBorrower (funding_of s) (lend_of s.limits status)
 
 leaves-same : (now then : Status) → Leaves now ≡ Leaves then → now ≡ then
 leaves-same now then e = cc
@@ -80,88 +87,108 @@ ends-nowhere : (status : Status) → ¬ (Ends ≡ Leaves status)
 ends-nowhere status e = cc
 
 -- who leaves this way lends to nobody
-lends-nothing : (without : Bool) (now status : Status) → lend_of without now ≡ Nobody → Leaves now ≡ Leaves status → (node : Node) → ¬ (lend_node (lend_of without status) ≡ Some node)
-lends-nothing without now status nobody e node to =
-    let none : None ≡ Some node = ap lend_node (sym nobody ∙ ap (lend_of without) (leaves-same now status e)) ∙ to in
+lends-nothing : (limits : Sizes) (now status : Status) → lend_of limits now ≡ Nobody → Leaves now ≡ Leaves status → (node : Node) → ¬ (lend_node (lend_of limits status) ≡ Some node)
+lends-nothing limits now status nobody e node to =
+    let none : None ≡ Some node = ap lend_node (sym nobody ∙ ap (lend_of limits) (leaves-same now status e)) ∙ to in
     cc
 
 -- or to a thread or a mutex that is there
-served-there : (without : Bool) (f : Funding) (records : List Record) (server : ℕ) → IsThere records server → f.lends ≡ map (λ r. lend_of without r.status) records
-    → (status : Status) → Leaves (Served server) ≡ Leaves status → (node : Node) → lend_node (lend_of without status) ≡ Some node → IsBorrower f (lend_of without status)
-served-there without f records server there lends status e =
-    subst (λ (now : Status). (node : Node) → lend_node (lend_of without now) ≡ Some node → IsBorrower f (lend_of without now)) (leaves-same (Served server) status e) (by without count)
+served-there : (limits : Sizes) (f : Funding) (records : List Record) (server : ℕ) → IsThere records server → f.lends ≡ map (λ r. lend_of limits r.status) records
+    → (status : Status) → Leaves (Served server) ≡ Leaves status → (node : Node) → lend_node (lend_of limits status) ≡ Some node → IsBorrower f (lend_of limits status)
+served-there limits f records server there lends status e =
+    subst (λ (now : Status). (node : Node) → lend_node (lend_of limits now) ≡ Some node → IsBorrower f (lend_of limits now)) (leaves-same (Served server) status e) (by limits.without_lending count)
   where
     count : length f.lends ≡ length records
-    count = ap (λ (ls : List Lend). length ls) lends ∙ length-map records (λ (r : Record). lend_of without r.status)
+    count = ap (λ (ls : List Lend). length ls) lends ∙ length-map records (λ (r : Record). lend_of limits r.status)
 
-    by : (b : Bool) → length f.lends ≡ length records → (node : Node) → lend_node (lend_of b (Served server)) ≡ Some node → IsBorrower f (lend_of b (Served server))
+    by : (b : Bool) → length f.lends ≡ length records → (node : Node) → lend_node (cond b Nobody (ToThread server)) ≡ Some node → IsBorrower f (cond b Nobody (ToThread server))
     by true many node to = cc
     by false many node to = (there.0, omega (arith, there.1, many))
 
-waits-there : (without : Bool) (f : Funding) (mutexes : List Mutex) (m : ℕ) → IsThere mutexes m → f.owners ≡ map (λ x. x.owner) mutexes
-    → (status : Status) → Leaves (Waiting m) ≡ Leaves status → (node : Node) → lend_node (lend_of without status) ≡ Some node → IsBorrower f (lend_of without status)
-waits-there without f mutexes m there owners status e =
-    subst (λ (now : Status). (node : Node) → lend_node (lend_of without now) ≡ Some node → IsBorrower f (lend_of without now)) (leaves-same (Waiting m) status e) (by without)
+waits-there : (limits : Sizes) (f : Funding) (mutexes : List Mutex) (m : ℕ) → IsThere mutexes m → f.owners ≡ map (λ x. x.owner) mutexes
+    → (status : Status) → Leaves (Waiting m) ≡ Leaves status → (node : Node) → lend_node (lend_of limits status) ≡ Some node → IsBorrower f (lend_of limits status)
+waits-there limits f mutexes m there owners status e =
+    subst (λ (now : Status). (node : Node) → lend_node (lend_of limits now) ≡ Some node → IsBorrower f (lend_of limits now)) (leaves-same (Waiting m) status e) (by limits.without_lending)
   where
-    by : (b : Bool) → (node : Node) → lend_node (lend_of b (Waiting m)) ≡ Some node → IsBorrower f (lend_of b (Waiting m))
+    by : (b : Bool) → (node : Node) → lend_node (cond b Nobody (ToMutex m)) ≡ Some node → IsBorrower f (cond b Nobody (ToMutex m))
     by true node to = cc
     by false node to = (there.0, omega (arith, there.1, ap (λ (os : List (Option ℕ)). length os) owners, length-map mutexes (λ (x : Mutex). x.owner)))
 
-module _ (s : State) (t p used : ℕ) (order : IsInOrder s) (runs : status_of s.records t ≡ Some (Running p used)) where
-  call-there : (port number : ℕ) → LendsThere (trap_effect s t (Call port number)).state (trap_effect s t (Call port number)).after
-  call-there port number = by (port_at s.ports port).receivers refl
+-- or to the holder of a port's server, if there is one for each port
+queued-there : (limits : Sizes) (f : Funding) (mutexes : List Mutex) (port : ℕ) → 0 < port → length mutexes ≡ holders limits → f.owners ≡ map (λ x. x.owner) mutexes
+    → (status : Status) → Leaves (Queued port) ≡ Leaves status → (node : Node) → lend_node (lend_of limits status) ≡ Some node → IsBorrower f (lend_of limits status)
+queued-there limits f mutexes port some many owners status e =
+    subst (λ (now : Status). (node : Node) → lend_node (lend_of limits now) ≡ Some node → IsBorrower f (lend_of limits now)) (leaves-same (Queued port) status e)
+    (by limits.without_lending limits.queued_lend (nat_le port limits.ports) refl refl)
+  where
+    count : length f.owners ≡ holders limits
+    count = ap (λ (os : List (Option ℕ)). length os) owners ∙ length-map mutexes (λ (x : Mutex). x.owner) ∙ many
+
+    by : (without lends below : Bool) → limits.queued_lend ≡ lends → nat_le port limits.ports ≡ below → (node : Node)
+        → lend_node (cond without Nobody (cond (lends && below) (ToMutex (holder_of limits port)) Nobody)) ≡ Some node → IsBorrower f (cond without Nobody (cond (lends && below) (ToMutex (holder_of limits port)) Nobody))
+    by true lends below on low node to = cc
+    by false false below on low node to = cc
+    by false true false on low node to = cc
+    by false true true on low node to = (omega (arith, some), omega (arith, count, ap (λ b. limits.mutexes + cond b limits.ports 0) on, le-of port limits.ports low))
+
+module _ (s : State) (t p used : ℕ) (order : IsInOrder s) (runs : status_of s.records t ≡ Some (Running p used)) (many : length s.mutexes ≡ holders s.limits) where
+  call-there : (port number : ℕ) → IsThere s.ports port → LendsThere (trap_effect s t (Call port number)).state (trap_effect s t (Call port number)).after
+  call-there port number at_port = by (port_at s.ports port).receivers refl
     where
       by : (o : List ℕ) → (port_at s.ports port).receivers ≡ o → LendsThere (trap_effect s t (Call port number)).state (trap_effect s t (Call port number)).after
-      by [] is = rw is (λ status e node to. absurd (lends-nothing s.limits.without_lending (Queued port) status refl e node to))
+      by [] is = rw is (queued-there s.limits (funding_of (record s { mutexes = served_at s t port outcome.Queued })) (served_at s t port outcome.Queued) port at_port.0 (served-count s t port outcome.Queued ∙ many) refl)
       by (server ∷ others) is =
           let queue : IsQueue s.records (Receiving port) (server ∷ others) = subst (λ ts. IsQueue s.records (Receiving port) ts) is (receivers-queue s.records t p used runs s.clients s.ports s.mutexes order.queues port) in
           let there = status-there s.records server (Receiving port) (queue.each 0 server refl) in
           let count = change-count (λ r. record r { status = Ready; delivered = Some number }) s.records server in
-          rw is (served-there s.limits.without_lending (record (funding_of s) { lends = map (λ r. lend_of s.limits.without_lending r.status) (change_record (λ r. record r { status = Ready; delivered = Some number }) s.records server) }) (change_record (λ r. record r { status = Ready; delivered = Some number }) s.records server) server (there.0, omega (arith, there.1, count)) refl)
+          rw is (served-there s.limits (funding_of (record s { records = change_record (λ r. record r { status = Ready; delivered = Some number }) s.records server; mutexes = served_at s t port (outcome.ServedBy server) })) (change_record (λ r. record r { status = Ready; delivered = Some number }) s.records server) server (there.0, omega (arith, there.1, count)) refl)
 
   receive-there : (port : ℕ) → LendsThere (trap_effect s t (Receive port)).state (trap_effect s t (Receive port)).after
   receive-there port = by (port_at s.ports port).calls refl
     where
       by : (o : List QueuedCall) → (port_at s.ports port).calls ≡ o → LendsThere (trap_effect s t (Receive port)).state (trap_effect s t (Receive port)).after
-      by [] is = rw is (λ status e node to. absurd (lends-nothing s.limits.without_lending (Receiving port) status refl e node to))
+      by [] is = rw is (λ status e node to. absurd (lends-nothing s.limits (Receiving port) status refl e node to))
       by (first ∷ others) is = rw is (λ status e. absurd (goes-nowhere status e))
 
   serve-there : (port number : ℕ) → LendsThere (trap_effect s t (Serve port number)).state (trap_effect s t (Serve port number)).after
   serve-there port number = by (port_at s.ports port).calls refl
     where
       by : (o : List QueuedCall) → (port_at s.ports port).calls ≡ o → LendsThere (trap_effect s t (Serve port number)).state (trap_effect s t (Serve port number)).after
-      by [] is = rw is (λ status e node to. absurd (lends-nothing s.limits.without_lending (Receiving port) status refl e node to))
+      by [] is = rw is (λ status e node to. absurd (lends-nothing s.limits (Receiving port) status refl e node to))
       by (first ∷ others) is = rw is (λ status e. absurd (goes-nowhere status e))
 
   lock-lends : (m : ℕ) → trap_refusal s t (Lock m) ≡ None → LendsThere (trap_effect s t (Lock m)).state (trap_effect s t (Lock m)).after
-  lock-lends m allowed = by (mutex_at s.mutexes m).owner refl
+  lock-lends m allowed = by (mutex_at before m).owner refl
     where
-      by : (o : Option ℕ) → (mutex_at s.mutexes m).owner ≡ o → LendsThere (trap_effect s t (Lock m)).state (trap_effect s t (Lock m)).after
+      before : List Mutex
+      before = before_lock s t m
+
+      by : (o : Option ℕ) → (mutex_at before m).owner ≡ o → LendsThere (trap_effect s t (Lock m)).state (trap_effect s t (Lock m)).after
       by None is = rw is (λ status e. absurd (goes-nowhere status e))
       by (Some owner) is =
-          let there = lock-there s t m allowed in
-          let new : Mutex = record { owner = Some owner; waiters = (mutex_at s.mutexes m).waiters ++ t ∷ [] } in
-          rw is (waits-there s.limits.without_lending (record (funding_of s) { owners = map (λ x. x.owner) (set_number s.mutexes m new) }) (set_number s.mutexes m new) m (there.0, omega (arith, there.1, length-set s.mutexes (m - 1) new)) refl)
+          let there = (lock-there s t m allowed).0 in
+          let new : Mutex = record { owner = Some owner; waiters = (mutex_at before m).waiters ++ t ∷ [] } in
+          rw is (waits-there s.limits (record (funding_of s) { owners = map (λ x. x.owner) (set_number before m new) }) (set_number before m new) m (there.0, omega (arith, there.1, length-set before (m - 1) new, before-count s t m)) refl)
 
   unlock-there : (m d : ℕ) → LendsThere (trap_effect s t (Unlock m d)).state (trap_effect s t (Unlock m d)).after
   unlock-there m d = by (mutex_at s.mutexes m).waiters refl
     where
       by : (o : List ℕ) → (mutex_at s.mutexes m).waiters ≡ o → LendsThere (trap_effect s t (Unlock m d)).state (trap_effect s t (Unlock m d)).after
       by [] is = rw is (λ status e. absurd (goes-nowhere status e))
-      by (w ∷ ws) is = rw is (λ status e node to. absurd (lends-nothing s.limits.without_lending Ready status refl e node to))
+      by (w ∷ ws) is = rw is (λ status e node to. absurd (lends-nothing s.limits Ready status refl e node to))
 
   pub lends-there : (action : Action) → LendsThere (effect_of s t action).state (effect_of s t action).after
   lends-there action = by (trap_refusal s t action) refl
     where
       done : (a : Action) → trap_refusal s t a ≡ None → LendsThere (trap_effect s t a).state (trap_effect s t a).after
-      done Yield allowed = λ status e node to. absurd (lends-nothing s.limits.without_lending Ready status refl e node to)
-      done (Call port number) allowed = call-there port number
+      done Yield allowed = λ status e node to. absurd (lends-nothing s.limits Ready status refl e node to)
+      done (Call port number) allowed = call-there port number (number-within s.ports port (all-pass ((is_none (at_number s.ports port), NoPort) ∷ []) allowed).0)
       done (Receive port) allowed = receive-there port
       done (ReplyTo number) allowed = λ status e. absurd (goes-nowhere status e)
       done (Serve port number) allowed = serve-there port number
       done (Lock m) allowed = lock-lends m allowed
       done (Unlock m d) allowed = unlock-there m d
-      done Sleep allowed = λ status e node to. absurd (lends-nothing s.limits.without_lending Asleep status refl e node to)
+      done Sleep allowed = λ status e node to. absurd (lends-nothing s.limits Asleep status refl e node to)
       done Exit allowed = λ status e. absurd (ends-nowhere status e)
 
       by : (o : Option TrapRefusal) → trap_refusal s t action ≡ o → LendsThere (effect_of s t action).state (effect_of s t action).after
@@ -181,7 +208,7 @@ finished-reply s p t ticks used e came after ends same_outcome same is =
     ap (λ o. Trapped t ticks o ends) same_outcome ∙ ap (Trapped t ticks e.outcome) (is ∙ ap (λ a. ends_quantum a used s.limits.quantum) same)
 
 -- what a trap makes stale, and its thread's last change
-pub makes-trap : (old mid new : Snapshot) → mid.state.limits.without_lending ≡ old.state.limits.without_lending → (t : ℕ) (change : Record → Record) (was : Record) → at_number old.state.records t ≡ Some was → at_number mid.state.records t ≡ Some was
+pub makes-trap : (old mid new : Snapshot) → mid.state.limits ≡ old.state.limits → (t : ℕ) (change : Record → Record) (was : Record) → at_number old.state.records t ≡ Some was → at_number mid.state.records t ≡ Some was
     → new.state ≡ record mid.state { records = change_record change mid.state.records t } → MakesStale old mid → MakesStale mid new → MakesStale old new
 makes-trap old mid new lending t change was left there is =
     makes-last (threads_of old.state old.stale old.meter) (threads_of mid.state mid.stale mid.meter) (threads_of new.state new.stale mid.meter) lending t was (change was) left there last

@@ -1,8 +1,8 @@
 -- What a trap's checks say, and what it leaves in the tables.
-use Rattle.std.proofs.Common.{◌≡◌, ◌≢◌, ◌∙◌, ◌↔◌, ℕ, zero, suc, ◌-◌, ◌<◌, ◌≤◌, ne_eqb, Bool, true, false, Option, Some, None, is_none, List, [], ◌∷◌, length, slice_get, unwrap_or, ap, sym, refl, subst, arith, if◌then◌else◌}
+use Rattle.std.proofs.Common.{◌≡◌, ◌≢◌, ◌∙◌, ◌↔◌, ℕ, zero, suc, ◌-◌, ◌<◌, ◌≤◌, ne_eqb, nat_lt, Bool, true, false, ◌||◌, Option, Some, None, is_none, List, [], ◌∷◌, length, slice_get, option_and_then, unwrap_or, ap, sym, refl, subst, arith, if◌then◌else◌}
 use Rattle.std.proofs.Math.ListN.{length-set}
 use Rattle.std.specs.Prelude.{IsTrue}
-use Rattle.std.proofs.lemmas.Bool.{eq-eqb}
+use Rattle.std.proofs.lemmas.Bool.{eq-eqb, le-ltb, ltb-false}
 use Rattle.lot_machine.specs.declared.action.Action.TheVariants as action
 use Rattle.lot_machine.specs.declared.after.After.TheVariants.{GoesOn}
 use Rattle.lot_machine.specs.declared.record.Record.{Record}
@@ -15,13 +15,15 @@ use Rattle.lot_machine.specs.Commands.{first_failing}
 use Rattle.lot_machine.specs.declared.funding.Node.TheVariants as node
 use Rattle.lot_machine.specs.Facts.{HasNoCycle}
 use Rattle.lot_machine.specs.Funding.{Funding}
-use Rattle.lot_machine.specs.Lends.{LendsLead, borrower_of, lends_lead, lends_on_to}
+use Rattle.lot_machine.specs.declared.funding.Lend.{Lend}
+use Rattle.lot_machine.specs.Lends.{LendsLead, borrower, borrower_of, lends_lead, lends_on_to}
 use Rattle.lot_machine.specs.Mutexes.{MutexTrap, mutex_at, lock, unlock}
 use Rattle.lot_machine.specs.Numbered.{at_number, option_any}
 use Rattle.lot_machine.specs.Order.{IsInOrder}
 use Rattle.lot_machine.specs.Ports.{PortTrap, call, receive, reply, serve, first_client, port_at}
-use Rattle.lot_machine.specs.State.{Freed, State, Mutex, Port, QueuedCall, change_record, funding_of, status_of, value_of}
-use Rattle.lot_machine.specs.Step.{of_mutexes, of_ports, owns, trap_refusal}
+use Rattle.lot_machine.specs.State.{Freed, State, Mutex, Port, QueuedCall, change_record, status_of, value_of}
+use Rattle.lot_machine.specs.Servers.{before_lock, without_servers}
+use Rattle.lot_machine.specs.Step.{at_port, is_no_mutex, of_mutexes, of_ports, owns, trap_refusal}
 use Rattle.lot_machine.proofs.LendDepth.{lends_lead-exact}
 use Rattle.lot_machine.proofs.Queues.{record-of}
 use Rattle.lot_machine.proofs.Tickets.{at_number-suc}
@@ -33,7 +35,6 @@ use Rattle.lot_threads.proofs.Leads.{reaches-leads}
 use Rattle.lot_ports.specs.Traps.{with_ports}
 use Rattle.lot_value.specs.declared.meter.Meter.{Meter}
 use Rattle.lot_mutex.specs.Listed.{with_mutexes}
-use Rattle.lot_kernel.specs.Memory.{AreSized}
 use Rattle.lot_kernel.specs.Snapshots.{held}
 use Rattle.lot_kernel.specs.Trapped.{IsRunning, effect_of}
 use Rattle.lot_kernel.proofs.Holding.{IsHeld, held-records}
@@ -74,40 +75,54 @@ running-nowhere sizes freed names v q t order (processor, (used, runs)) = nowher
 -- ---- what isn't refused
 
 module _ (s : State) (t : ℕ) where
-  pub call-done : (p number : ℕ) → IsThere s.ports p → effect_of s t (action.Call p number) ≡ of_ports s (call s.records s.clients s.ports t p number)
+  pub call-done : (p number : ℕ) → IsThere s.ports p → effect_of s t (action.Call p number) ≡ at_port s t p (call s.records s.clients s.ports t p number)
   call-done p number there = rw (number-there s.ports p there) refl
 
-  pub receive-done : (p : ℕ) → IsThere s.ports p → effect_of s t (action.Receive p) ≡ of_ports s (receive s.records s.clients s.ports t p)
+  pub receive-done : (p : ℕ) → IsThere s.ports p → effect_of s t (action.Receive p) ≡ at_port s t p (receive s.records s.clients s.ports t p)
   receive-done p there = rw (number-there s.ports p there) refl
 
   pub reply-done : (client number : ℕ) → first_client s.clients t ≡ Some client → effect_of s t (action.Reply number) ≡ of_ports s (reply s.records s.clients s.ports t number)
   reply-done client number some = rw some refl
 
-  pub serve-done : (p client number : ℕ) → IsThere s.ports p → first_client s.clients t ≡ Some client → effect_of s t (action.Serve p number) ≡ of_ports s (serve s.records s.clients s.ports t p number)
+  pub serve-done : (p client number : ℕ) → IsThere s.ports p → first_client s.clients t ≡ Some client → effect_of s t (action.Serve p number) ≡ at_port s t p (serve s.records s.clients s.ports t p number)
   serve-done p client number there some = rw (number-there s.ports p there, some) refl
 
   -- a port that is there, but no client
   pub serve-refused : (p number : ℕ) → IsThere s.ports p → first_client s.clients t ≡ None → effect_of s t (action.Serve p number) ≡ record { state = s; outcome = Refused NothingToReply; after = GoesOn }
   serve-refused p number there none = rw (number-there s.ports p there, none) refl
 
-  pub lock-done : (m : ℕ) → trap_refusal s t (action.Lock m) ≡ None → effect_of s t (action.Lock m) ≡ of_mutexes s (lock s.records s.mutexes t m)
+  pub lock-done : (m : ℕ) → trap_refusal s t (action.Lock m) ≡ None → effect_of s t (action.Lock m) ≡ of_mutexes s (lock s.records (before_lock s t m) t m)
   lock-done m none = rw none refl
 
-  pub unlock-done : (m d : ℕ) → IsThere s.mutexes m → (mutex_at s.mutexes m).owner ≡ Some t → effect_of s t (action.Unlock m d) ≡ of_mutexes s (unlock s.records s.mutexes (value_of s) m d)
-  unlock-done m d there owned = rw (number-there s.mutexes m there, owned, eq-eqb t t refl) refl
+  -- a mutex that is there
+  mutex-there : (m : ℕ) → IsThere s.mutexes m → m ≤ s.limits.mutexes → is_no_mutex s m ≡ false
+  mutex-there m there low = rw (number-there s.mutexes m there, le-ltb s.limits.mutexes m low) refl
+
+  pub unlock-done : (m d : ℕ) → IsThere s.mutexes m → m ≤ s.limits.mutexes → (mutex_at s.mutexes m).owner ≡ Some t → effect_of s t (action.Unlock m d) ≡ of_mutexes s (unlock s.records s.mutexes (value_of s) m d)
+  unlock-done m d there low owned = rw (mutex-there m there low, owned, eq-eqb t t refl) refl
 
   -- nothing is refused only if the mutex is there
-  pub lock-there : (m : ℕ) → trap_refusal s t (action.Lock m) ≡ None → IsThere s.mutexes m
-  lock-there m none = at (is_none (at_number s.mutexes m)) refl none
+  pub lock-there : (m : ℕ) → trap_refusal s t (action.Lock m) ≡ None → IsThere s.mutexes m × (m ≤ s.limits.mutexes)
+  lock-there m none = at (is_none (at_number s.mutexes m)) (nat_lt s.limits.mutexes m) refl refl none
     where
-      at : (b : Bool) → is_none (at_number s.mutexes m) ≡ b → (if b then Some NoMutex else first_failing ((owns s t m, AlreadyOwner) ∷ (option_any (λ owner. lends_on_to (funding_of s) owner t) (mutex_at s.mutexes m).owner, LockCycle) ∷ [])) ≡ None → IsThere s.mutexes m
-      at true is e = cc
-      at false is e = number-within s.mutexes m is
+      at : (a b : Bool) → is_none (at_number s.mutexes m) ≡ a → nat_lt s.limits.mutexes m ≡ b
+          → (if a || b then Some NoMutex else first_failing ((owns s t m, AlreadyOwner) ∷ (option_any (λ owner. lends_on_to (without_servers s) owner t) (mutex_at s.mutexes m).owner, LockCycle) ∷ [])) ≡ None
+          → IsThere s.mutexes m × (m ≤ s.limits.mutexes)
+      at true b is high e = cc
+      at false true is high e = cc
+      at false false is low e = (number-within s.mutexes m is, omega (arith, ltb-false s.limits.mutexes m low))
 
-  -- an owned mutex is refused if its owner's lends lead on to the thread
-  pub lock-checked : (m owner : ℕ) (cycle : Bool) → IsThere s.mutexes m → (mutex_at s.mutexes m).owner ≡ Some owner → (owner ≡ t → ⊥) → lends_on_to (funding_of s) owner t ≡ cycle
+  -- nor does the thread own it then
+  pub lock-unowned : (m : ℕ) → trap_refusal s t (action.Lock m) ≡ None → (mutex_at s.mutexes m).owner ≢ Some t
+  lock-unowned m none owned =
+      let there = lock-there m none in
+      let again : trap_refusal s t (action.Lock m) ≡ Some AlreadyOwner = rw (mutex-there m there.0 there.1, owned, eq-eqb t t refl) refl in
+      let never : None ≡ Some AlreadyOwner = sym none ∙ again in cc
+
+  -- an owned mutex is refused if its owner's lends lead on to the thread and pass no port
+  pub lock-checked : (m owner : ℕ) (cycle : Bool) → IsThere s.mutexes m → m ≤ s.limits.mutexes → (mutex_at s.mutexes m).owner ≡ Some owner → (owner ≡ t → ⊥) → lends_on_to (without_servers s) owner t ≡ cycle
       → trap_refusal s t (action.Lock m) ≡ (if cycle then Some LockCycle else None)
-  lock-checked m owner cycle there owned other is = rw (number-there s.mutexes m there, owned, ne_eqb owner t other, is) refl
+  lock-checked m owner cycle there low owned other is = rw (mutex-there m there low, owned, ne_eqb owner t other, is) refl
 
 -- ---- what traps leave in the tables
 
@@ -166,25 +181,6 @@ unlock-count records mutexes value m d = by (mutex_at mutexes m).waiters refl
     by [] is = rw is refl
     by (w ∷ ws) is = rw is (change-count _ records _)
 
--- and how many mutexes
-pub lock-mutexes : (records : List Record) (mutexes : List Mutex) (t m : ℕ) → length (lock records mutexes t m).mutexes ≡ length mutexes
-lock-mutexes records mutexes t m = by (mutex_at mutexes m).owner refl
-  where
-    by : (o : Option ℕ) → (mutex_at mutexes m).owner ≡ o → length (lock records mutexes t m).mutexes ≡ length mutexes
-    by None is = rw is (length-set mutexes (m - 1) _)
-    by (Some owner) is = rw is (length-set mutexes (m - 1) _)
-
-pub unlock-mutexes : (records : List Record) (mutexes : List Mutex) (value : ℕ → ℕ) (m d : ℕ) → length (unlock records mutexes value m d).mutexes ≡ length mutexes
-unlock-mutexes records mutexes value m d = by (mutex_at mutexes m).waiters refl
-  where
-    by : (o : List ℕ) → (mutex_at mutexes m).waiters ≡ o → length (unlock records mutexes value m d).mutexes ≡ length mutexes
-    by [] is = rw is (length-set mutexes (m - 1) _)
-    by (w ∷ ws) is = rw is (length-set mutexes (m - 1) _)
-
--- queues with as many mutexes as before have the same sizes
-pub mutexes-sized : (sizes : Sizes) (q left : QueueLists) (mutexes : List Mutex) → left ≡ record q { mutexes = mutexes } → length mutexes ≡ length q.mutexes → AreSized sizes q → AreSized sizes left
-mutexes-sized sizes q left mutexes is same has = subst (AreSized sizes) (sym is) (record { room = has.room; ports = has.ports; mutexes = same ∙ has.mutexes })
-
 module _ (sizes : Sizes) (freed : Freed) (names : List (Option (List ℕ))) (v new : Threaded) (q left : QueueLists) (was : IsHeld sizes freed names v q) where
   pub ports-held : (trap : PortTrap) → new ≡ with_records v trap.records new.stale → left ≡ with_ports q trap → IsHeld sizes freed names new left
   ports-held trap is left_is = subst (λ (l : QueueLists). IsHeld sizes freed names new l) (sym left_is) (held-records sizes freed names v new q was trap.records is)
@@ -203,20 +199,34 @@ module _ (sizes : Sizes) (freed : Freed) (names : List (Option (List ℕ))) (v n
 pub unlock-same : (sizes : Sizes) (freed : Freed) (names : List (Option (List ℕ))) (v : Threaded) (q : QueueLists) → IsHeld sizes freed names v q → (m d : ℕ) → unlock v.records q.mutexes (worth_in v) m d ≡ unlock v.records q.mutexes (value_of (held sizes freed names v q)) m d
 unlock-same sizes freed names v q was m d = ap (λ (w : Threaded). unlock v.records q.mutexes (worth_in w) m d) was
 
--- whether a thread's lends lead on to another is whether it reaches it
-module _ (f : Funding) (no_cycle : HasNoCycle f) (t u : ℕ) (other : t ≢ u) where
-  on-from : LendsLead f t u → lends_on_to f t u ≡ true
-  on-from ([], same) = absurd (other same)
-  on-from (s ∷ rest, (lends, leads)) = ap (option_any (λ v. lends_lead f v u)) lends ∙ (lends_lead-exact f no_cycle.lends s u).1 (rest, leads)
-
-  on-to : (o : Option ℕ) → borrower_of f t ≡ o → option_any (λ v. lends_lead f v u) o ≡ true → LendsLead f t u
-  on-to None is e = cc
-  on-to (Some s) is e = let (chain, leads) = (lends_lead-exact f no_cycle.lends s u).0 e in (s ∷ chain, (is, leads))
-
-  pub reaches-on : (found : Bool) → (IsTrue found ↔ Reaches f (node.Thread t) (node.Thread u)) → found ≡ lends_on_to f t u
-  reaches-on true is = sym (on-from ((reaches-leads f t u).0 (is.0 refl)))
-  reaches-on false is = by (lends_on_to f t u) refl
+-- whether a thread's lends lead to another is whether it reaches it
+module _ (f : Funding) (no_cycle : HasNoCycle f) (t u : ℕ) where
+  pub reaches-lead : (found : Bool) → (IsTrue found ↔ Reaches f (node.Thread t) (node.Thread u)) → found ≡ lends_lead f t u
+  reaches-lead true is = sym ((lends_lead-exact f no_cycle.lends t u).1 ((reaches-leads f t u).0 (is.0 refl)))
+  reaches-lead false is = by (lends_lead f t u) refl
     where
-      by : (b : Bool) → lends_on_to f t u ≡ b → false ≡ lends_on_to f t u
-      by true on = let never : false ≡ true = is.1 ((reaches-leads f t u).1 (on-to (borrower_of f t) refl on)) in cc
-      by false off = sym off
+      by : (b : Bool) → lends_lead f t u ≡ b → false ≡ b
+      by true on = let never : false ≡ true = is.1 ((reaches-leads f t u).1 ((lends_lead-exact f no_cycle.lends t u).0 on)) in cc
+      by false off = refl
+
+  module _ (other : t ≢ u) where
+    on-from : LendsLead f t u → lends_on_to f t u ≡ true
+    on-from ([], same) = absurd (other same)
+    on-from (s ∷ rest, (lends, leads)) = ap (option_any (λ v. lends_lead f v u)) lends ∙ (lends_lead-exact f no_cycle.lends s u).1 (rest, leads)
+
+    on-to : (o : Option ℕ) → borrower_of f t ≡ o → option_any (λ v. lends_lead f v u) o ≡ true → LendsLead f t u
+    on-to None is e = cc
+    on-to (Some s) is e = let (chain, leads) = (lends_lead-exact f no_cycle.lends s u).0 e in (s ∷ chain, (is, leads))
+
+    -- those of another thread lead on to it
+    pub lead-on : lends_lead f t u ≡ lends_on_to f t u
+    lead-on = by (lends_lead f t u) (lends_on_to f t u) refl refl
+      where
+        by : (a b : Bool) → lends_lead f t u ≡ a → lends_on_to f t u ≡ b → a ≡ b
+        by true b on is = sym (on-from ((lends_lead-exact f no_cycle.lends t u).0 on)) ∙ is
+        by false true off is = sym off ∙ (lends_lead-exact f no_cycle.lends t u).1 (on-to (borrower_of f t) refl is)
+        by false false off is = refl
+
+    -- who isn't there lends to nobody
+    pub lead-nobody : at_number f.lends t ≡ None → lends_lead f t u ≡ false
+    lead-nobody none = lead-on ∙ ap (λ (o : Option Lend). option_any (λ v. lends_lead f v u) (option_and_then (borrower f) o)) none

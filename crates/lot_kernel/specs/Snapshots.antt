@@ -1,10 +1,11 @@
 -- The kernel as its contracts see it.
-use Rattle.std.specs.Prelude.{◌≡◌, ◌⊎◌, ℕ, true, Option, Some, List, [], Contains, is_some, map, slice_get}
+use Rattle.std.specs.Prelude.{◌≡◌, ◌⊎◌, ℕ, ◌<◌, true, Option, Some, List, [], Contains, is_some, length, map, slice_get}
 use Rattle.lot_machine.specs.declared.funding.Node.{Node}
 use Rattle.lot_machine.specs.declared.sizes.Sizes.{Sizes}
 use Rattle.lot_machine.specs.declared.ticket.Target.{Target}
 use Rattle.lot_machine.specs.declared.ticket.Target.TheVariants.{Unfunded, Currency, Thread}
-use Rattle.lot_machine.specs.State.{State, Freed, Mutex, funding_of, opening}
+use Rattle.lot_machine.specs.Mutexes.{mutex_at}
+use Rattle.lot_machine.specs.State.{State, Freed, Mutex, funding_of, holders, opening}
 use Rattle.lot_machine.specs.Touched.{PathLeads, Touches}
 use Rattle.lot_queues.specs.QueueLists.{QueueLists, IsThere}
 use Rattle.lot_value.specs.declared.meter.Meter.{Meter}
@@ -38,7 +39,7 @@ threads_of s stale meter = record {
   unit = s.limits.unit;
   quantum = s.limits.quantum;
   processors = s.limits.processors;
-  without_lending = s.limits.without_lending;
+  lending = s.limits;
   threads = s.threads;
   records = s.records;
   stale = stale;
@@ -58,6 +59,12 @@ held sizes freed currencies threads queues = record {
   limits = sizes;
   freed = freed;
 }
+
+-- these are the ports and the mutexes of a kernel with these sizes, and nobody waits for a holder of a port's server
+pub record HasHolders (sizes : Sizes) (q : QueueLists) : Type 0 where
+  pub ports : length q.ports ≡ sizes.ports
+  pub mutexes : length q.mutexes ≡ holders sizes
+  pub unwaited : (m : ℕ) → sizes.mutexes < m → (mutex_at q.mutexes m).waiters ≡ []
 
 -- the target exists: it is a currency, base included, or a thread
 abbrev pub IsTargetThere : State → Target → Type 0

@@ -1,8 +1,10 @@
 -- A trap that has passed the checks of its event.
-use Rattle.std.specs.Prelude.{◌≡◌, ℕ, Some, List}
+use Rattle.std.specs.Prelude.{◌≡◌, ℕ, Option, Some, None, List}
 use Rattle.lot_machine.specs.declared.action.Action.{Action}
 use Rattle.lot_machine.specs.declared.record.Record.{Record}
 use Rattle.lot_machine.specs.declared.record.Status.TheVariants.{Running}
+use Rattle.lot_machine.specs.declared.reply.Outcome.{Outcome}
+use Rattle.lot_machine.specs.declared.reply.Outcome.TheVariants.{ServedBy, Received, RepliedThenReceived}
 use Rattle.lot_machine.specs.State.{State, status_of}
 use Rattle.lot_machine.specs.Commands.{Step}
 use Rattle.lot_machine.specs.Step.{Effect, trap_refusal, trap_effect, checked_effect, finish_trap}
@@ -23,3 +25,10 @@ effect_of s t action = checked_effect s (trap_refusal s t action) (trap_effect s
 -- the step of the trap: its effect, its ticks counted, and its thread staying or leaving
 abbrev pub trapped : State → Trap → Action → Step
 trapped s trap action = finish_trap s trap.processor.number trap.thread.number trap.ticks trap.used (effect_of s trap.thread.number action)
+
+-- who took a call by the thread's trap with this outcome
+abbrev pub taker : ℕ → Outcome → Option ℕ
+taker t (ServedBy server) = Some server
+taker t (Received client number) = Some t
+taker t (RepliedThenReceived to client number) = Some t
+taker t other = None

@@ -286,7 +286,8 @@ impl Kernel {
         self.tables.thread_meant(thread)
     }
 
-    /// The number of the thread that owns the mutex, or `None` if it is free or doesn't exist.
+    /// The number of the thread that owns the mutex, or `None` if it is free or doesn't exist. If queued calls lend,
+    /// the number of mutexes and a port's number together stand for the port, whose owner is its server.
     pub fn owner(&self, mutex: MutexNumber) -> Option<u32>
         ensures { result ≡ (mutex_at self.now.state.mutexes mutex.number).owner }
     {

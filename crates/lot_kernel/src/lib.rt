@@ -7,6 +7,7 @@ mod ending;
 mod free_places;
 mod freed;
 mod kernel;
+mod leads;
 mod names;
 mod tables;
 

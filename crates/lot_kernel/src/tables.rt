@@ -2,7 +2,7 @@
 ghost use Rattle.std.specs.Prelude.{◌≡◌, ◌<◌, ◌≤◌, ◌+◌, ◌^◌, ◌∷◌, [], IfOk, Some, codes, length};
 ghost use Rattle.lot_machine.specs.Mutexes.{mutex_at};
 ghost use Rattle.lot_machine.specs.Order.{IsInOrder};
-ghost use Rattle.lot_machine.specs.State.{opening, sizes_of};
+ghost use Rattle.lot_machine.specs.State.{holders, opening, sizes_of};
 ghost use Rattle.lot_machine.specs.Step.{step};
 ghost use Rattle.lot_queues.specs.QueueLists.{empty_queues};
 ghost use Rattle.lot_kernel.specs.Counted.{Counts};
@@ -12,9 +12,11 @@ ghost use Rattle.lot_kernel.specs.Snapshots.{MakesStale, starting, threads_of};
 
 mod above;
 mod commands;
+mod cycles;
 mod processors;
 mod references;
 mod rows;
+mod servers;
 mod stops;
 mod traps;
 
@@ -56,9 +58,8 @@ impl Model for Tables {
     ghost use Rattle.std.specs.Prelude.{◌≡◌, ◌+◌, ◌≤◌, false, length};
     ghost use Rattle.lot_machine.specs.State.{sizes_of};
     ghost use Rattle.lot_kernel.specs.FreePlaces.{none_free, freed_in, HasRoomFor};
-    ghost use Rattle.lot_kernel.specs.Memory.{AreSized};
     ghost use Rattle.lot_kernel.specs.Names.{IsIndexOf, names_of};
-    ghost use Rattle.lot_kernel.specs.Snapshots.{Snapshot, held, threads_of};
+    ghost use Rattle.lot_kernel.specs.Snapshots.{Snapshot, HasHolders, held, threads_of};
 
     ghost Value = { Snapshot };
 
@@ -81,10 +82,11 @@ impl Model for Tables {
       currency_places : k.currency_index.nodes ≡ k.limits.currencies + 1;
       thread_index : IsIndexOf k.thread_index (names_of k.threads.threads);
       thread_places : k.thread_index.nodes ≡ k.limits.threads;
-      queue_sizes : AreSized (sizes_of k.limits) k.queues;
+      queue_room : k.queues.room ≡ k.limits.threads;
       lottery_room : k.lottery.room ≡ k.limits.threads;
       freed_room : HasRoomFor (sizes_of k.limits) k.freed;
       none_freed : k.limits.reuse ≡ false → freed_in k.freed ≡ none_free;
+      holders : HasHolders (sizes_of k.limits) k.queues;
     } };
 }
 
@@ -117,7 +119,7 @@ impl Tables {
     {
         NAME_BYTES * (limits.currencies as u64 + 1)
             + Threads::bytes(limits)
-            + Queues::bytes(limits.ports, limits.mutexes, limits.threads)
+            + Queues::bytes(limits.ports, limits.holders(), limits.threads)
             + NameIndex::bytes(limits.currencies + 1)
             + NameIndex::bytes(limits.threads)
             + Lottery::bytes(limits.threads)
@@ -176,7 +178,7 @@ impl Tables {
         }
     }
 
-    /// The thread that owns the mutex, or `None` if it is free or doesn't exist.
+    /// The thread that owns the mutex, or `None` if it is free or doesn't exist. A port's server has the port's holder.
     pub(crate) fn owner(&self, mutex: MutexNumber) -> Option<u32>
         ensures { result ≡ (mutex_at self.now.state.mutexes mutex.number).owner }
     {
@@ -250,10 +252,10 @@ fn opening_threads(alloc: Global, limits: &Limits) -> Result<(Threads, NameIndex
 /// Empty ports and free mutexes, and memory for the lotteries of the mutexes.
 fn opening_queues(alloc: Global, limits: &Limits) -> Result<(Queues, Lottery), AllocError>
     ensures queues { IfOk result (λ made. made.0
-        ≡ empty_queues limits.now.ports limits.now.mutexes limits.now.threads) }
+        ≡ empty_queues limits.now.ports (holders (sizes_of limits.now)) limits.now.threads) }
     ensures room { IfOk result (λ made. made.1.room ≡ limits.now.threads) }
 {
     let lottery = Lottery::new(alloc, limits.threads)?;
-    let queues = Queues::new(alloc, limits.ports, limits.mutexes, limits.threads)?;
+    let queues = Queues::new(alloc, limits.ports, limits.holders(), limits.threads)?;
     Ok((queues, lottery))
 }

@@ -370,6 +370,7 @@ fn largest_limits(quantum: u32, unit: u32) -> Option<Limits> {
         plain_names: false,
         without_compensation: false,
         without_lending: false,
+        queued_lend: false,
     })
 }
 

@@ -366,7 +366,7 @@ run-limits s (e ∷ events) = run-limits (step s e).state events ∙ step-limits
 pub still-there : (s : State) (events : List Event) (node : Node) → HasEquation (funding_of s) node → HasEquation (funding_of (state_after s events)) node
 still-there s events (Currency c) has = has
 still-there s events (Thread t) has =
-    (has.0, omega (arith, has.1, run-threads s events, length-map s.records (λ (r : Record). lend_of s.limits.without_lending r.status), length-map (state_after s events).records (λ (r : Record). lend_of (state_after s events).limits.without_lending r.status)))
+    (has.0, omega (arith, has.1, run-threads s events, length-map s.records (λ (r : Record). lend_of s.limits r.status), length-map (state_after s events).records (λ (r : Record). lend_of (state_after s events).limits r.status)))
 still-there s events (Mutex m) has = tt
 
 -- what a node is worth after a run, with the limits before it

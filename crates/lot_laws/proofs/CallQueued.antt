@@ -24,9 +24,9 @@ use Rattle.lot_machine.proofs.Changes.{number-kept}
 use Rattle.lot_machine.proofs.Queues.{number-set_same, record-of}
 use Rattle.lot_machine.proofs.TrapCycles.{at_number-map}
 use Rattle.lot_machine.proofs.OrderKept.{step-order}
-use Rattle.lot_laws.specs.Transfers.{QueuesCall, TakesQueuedCall, with_ready}
+use Rattle.lot_laws.specs.Transfers.{LendsServed, QueuesCall, TakesQueuedCall, with_ready}
 use Rattle.lot_machine.proofs.StepSizes.{change-length, step-limits}
-use Rattle.lot_laws.proofs.Trapped.{IsDone, trap-done}
+use Rattle.lot_laws.proofs.Trapped.{port-off, IsDone, trap-done}
 use Rattle.lot_laws.proofs.Lending.{lending}
 use Rattle.lot_laws.proofs.Blocked.{lends_in}
 use Rattle.lot_laws.proofs.CallReceived as received
@@ -53,14 +53,14 @@ twice-kept v change again records t r there same =
 -- ---- the state
 
 -- the state after a call was queued
-abbrev queued : State → ℕ → ℕ → ℕ → ℕ → ℕ → ℕ → State
+abbrev pub queued : State → ℕ → ℕ → ℕ → ℕ → ℕ → ℕ → State
 queued s p ran used port number caller = record s {
   records = change_record (λ r. with_ticks (ran + 1) (after_trap (Leaves (QueuedAt port)) p used s.limits r)) s.records caller;
   clients = s.clients;
   ports = (call s.records s.clients s.ports caller port number).ports;
 }
 
-call-queued : (s : State) (p ran used port number caller : ℕ) → (call s.records s.clients s.ports caller port number).outcome ≡ Queued
+pub call-queued : (s : State) (p ran used port number caller : ℕ) → (call s.records s.clients s.ports caller port number).outcome ≡ Queued
     → (finish_trap s p caller (ran + 1) used (of_ports s (call s.records s.clients s.ports caller port number))).state ≡ queued s p ran used port number caller
 call-queued s p ran used port number caller = at (port_at s.ports port).receivers refl
   where
@@ -74,11 +74,11 @@ module _ (s : State) (p ran used before port number caller : ℕ) (runs : status
   records_ready : List Record
   records_ready = change_record (λ r. record r { status = Ready }) (queued s p ran used port number caller).records caller
 
-  lends-kept : lends_in s.limits.without_lending records_ready ≡ lends_in s.limits.without_lending s.records
+  lends-kept : lends_in s.limits records_ready ≡ lends_in s.limits s.records
   unfolding records_ready
   lends-kept =
       let (r, there, status) = record-of s.records caller (Running p before) runs in
-      twice-kept (λ (x : Record). lend_of s.limits.without_lending x.status) (λ r. with_ticks (ran + 1) (after_trap (Leaves (QueuedAt port)) p used s.limits r)) (λ r. record r { status = Ready }) s.records caller r there (sym (ap (lend_of s.limits.without_lending) status))
+      twice-kept (λ (x : Record). lend_of s.limits x.status) (λ r. with_ticks (ran + 1) (after_trap (Leaves (QueuedAt port)) p used s.limits r)) (λ r. record r { status = Ready }) s.records caller r there (sym (ap (lend_of s.limits) status))
 
   live-kept : live_in records_ready ≡ live_in s.records
   unfolding records_ready
@@ -108,38 +108,38 @@ module _ (s : State) (p ran used before port number caller : ℕ) (runs : status
 
 -- ---- the event
 
-after-queued : (P : State → Type 0) (s : State) (e : Event) (caller : ℕ) → QueuesCall s e caller
+after-queued : (P : State → Type 0) (s : State) → s.limits.queued_lend ≡ false → (e : Event) (caller : ℕ) → QueuesCall s e caller
     → ((p ran used before port number : ℕ) → status_of s.records caller ≡ Some (Running p before) → P (queued s p ran used port number caller)) → P (step s e).state
-after-queued P s e caller (p, ran, port, number, ticks, ends, is, replied) holds =
+after-queued P s off e caller (p, ran, port, number, ticks, ends, is, replied) holds =
     by (trap-done s p ran (Call port number) caller ticks Queued ends (λ refusal same. cc) (ap (λ x. (step s x).reply) (sym is) ∙ replied))
   where
     by : IsDone s p ran (Call port number) caller Queued (step s (Trap p ran (Call port number))).state → P (step s e).state
     by done =
-        let here : (step s e).state ≡ queued s p ran done.used port number caller = ap (λ x. (step s x).state) is ∙ done.state ∙ call-queued s p ran done.used port number caller done.came in
+        let here : (step s e).state ≡ queued s p ran done.used port number caller = ap (λ x. (step s x).state) is ∙ done.state ∙ ap (λ x. (finish_trap s p caller (ran + 1) done.used x).state) (port-off s caller port (call s.records s.clients s.ports caller port number) off) ∙ call-queued s p ran done.used port number caller done.came in
         subst P (sym here) (holds p ran done.used done.before port number done.runs)
 
-pub ready-worth : (s : State) (e : Event) (caller v : ℕ) → QueuesCall s e caller → value_of (with_ready (step s e).state caller) v ≡ value_of s v
-ready-worth s e caller v queues =
-    after-queued (λ x. value_of (with_ready x caller) v ≡ value_of s v) s e caller queues (λ p ran used before port number runs. queued-worth s p ran used before port number caller runs v)
+pub ready-worth : (s : State) → s.limits.queued_lend ≡ false → (e : Event) (caller v : ℕ) → QueuesCall s e caller → value_of (with_ready (step s e).state caller) v ≡ value_of s v
+ready-worth s off e caller v queues =
+    after-queued (λ x. value_of (with_ready x caller) v ≡ value_of s v) s off e caller queues (λ p ran used before port number runs. queued-worth s p ran used before port number caller runs v)
 
-pub ready-together : (s : State) (e : Event) (caller : ℕ) → QueuesCall s e caller → live_value (with_ready (step s e).state caller) ≡ live_value s
-ready-together s e caller queues =
-    after-queued (λ x. live_value (with_ready x caller) ≡ live_value s) s e caller queues (λ p ran used before port number runs. queued-together s p ran used before port number caller runs)
+pub ready-together : (s : State) → s.limits.queued_lend ≡ false → (e : Event) (caller : ℕ) → QueuesCall s e caller → live_value (with_ready (step s e).state caller) ≡ live_value s
+ready-together s off e caller queues =
+    after-queued (λ x. live_value (with_ready x caller) ≡ live_value s) s off e caller queues (λ p ran used before port number runs. queued-together s p ran used before port number caller runs)
 
 -- ---- both events
 
-pub server-gets : (s : State) (e next : Event) (caller server : ℕ) → IsInOrder s → s.limits.without_lending ≡ false → QueuesCall s e caller → TakesQueuedCall (step s e).state next caller server
+pub server-gets : (s : State) (e next : Event) (caller server : ℕ) → IsInOrder s → LendsServed s → QueuesCall s e caller → TakesQueuedCall (step s e).state next caller server
     → value_of (step (step s e).state next).state server ≡ value_of s server + value_of s caller
 server-gets s e next caller server order lends queues takes =
-    received.server-gets (step s e).state next caller server (step-order s e order) (ap (λ (l : Sizes). l.without_lending) (step-limits s e) ∙ lends) takes
-    ∙ ap (λ w. w + value_of (with_ready (step s e).state caller) caller) (ready-worth s e caller server queues) ∙ ap (λ w. value_of s server + w) (ready-worth s e caller caller queues)
+    received.server-gets (step s e).state next caller server (step-order s e order) (ap (λ (l : Sizes). l.without_lending) (step-limits s e) ∙ lends.0, ap (λ (l : Sizes). l.queued_lend) (step-limits s e) ∙ lends.1) takes
+    ∙ ap (λ w. w + value_of (with_ready (step s e).state caller) caller) (ready-worth s lends.1 e caller server queues) ∙ ap (λ w. value_of s server + w) (ready-worth s lends.1 e caller caller queues)
 
-pub others-keep : (s : State) (e next : Event) (caller server other : ℕ) → IsInOrder s → s.limits.without_lending ≡ false → QueuesCall s e caller → TakesQueuedCall (step s e).state next caller server → other ≢ server
+pub others-keep : (s : State) (e next : Event) (caller server other : ℕ) → IsInOrder s → LendsServed s → QueuesCall s e caller → TakesQueuedCall (step s e).state next caller server → other ≢ server
     → value_of (step (step s e).state next).state other ≡ value_of s other
 others-keep s e next caller server other order lends queues takes differs =
-    received.others-keep (step s e).state next caller server other (step-order s e order) (ap (λ (l : Sizes). l.without_lending) (step-limits s e) ∙ lends) takes differs ∙ ready-worth s e caller other queues
+    received.others-keep (step s e).state next caller server other (step-order s e order) (ap (λ (l : Sizes). l.without_lending) (step-limits s e) ∙ lends.0, ap (λ (l : Sizes). l.queued_lend) (step-limits s e) ∙ lends.1) takes differs ∙ ready-worth s lends.1 e caller other queues
 
-pub together-same : (s : State) (e next : Event) (caller server : ℕ) → IsInOrder s → s.limits.without_lending ≡ false → QueuesCall s e caller → TakesQueuedCall (step s e).state next caller server
+pub together-same : (s : State) (e next : Event) (caller server : ℕ) → IsInOrder s → LendsServed s → QueuesCall s e caller → TakesQueuedCall (step s e).state next caller server
     → live_value (step (step s e).state next).state ≡ live_value s
 together-same s e next caller server order lends queues takes =
-    received.together-same (step s e).state next caller server (step-order s e order) (ap (λ (l : Sizes). l.without_lending) (step-limits s e) ∙ lends) takes ∙ ready-together s e caller queues
+    received.together-same (step s e).state next caller server (step-order s e order) (ap (λ (l : Sizes). l.without_lending) (step-limits s e) ∙ lends.0, ap (λ (l : Sizes). l.queued_lend) (step-limits s e) ∙ lends.1) takes ∙ ready-together s lends.1 e caller queues

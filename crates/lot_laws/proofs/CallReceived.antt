@@ -1,6 +1,7 @@
 -- The receipt of a queued call: what threads are worth then, against the same state with the caller Ready.
 use Rattle.std.proofs.Common.{◌≡◌, ◌≢◌, ℕ, ◌+◌, Bool, true, false, cond, is_none, ◌⊎◌, inl, inr, Option, Some, None, List, [], ◌∷◌, length, map, option_map, option_and_then, refl, sym, ◌∙◌, ap, subst, arith}
 use Rattle.std.proofs.lemmas.Bool.{cases_eq}
+use Rattle.lot_machine.specs.declared.sizes.Sizes.{Sizes}
 use Rattle.lot_machine.specs.declared.record.Record.{Record}
 use Rattle.lot_machine.specs.declared.record.Status.{Status}
 use Rattle.lot_machine.specs.declared.record.Status.TheVariants.{Ready, Running, Receiving, Queued as QueuedAt, Served, Waiting, Asleep, Dead}
@@ -25,6 +26,7 @@ use Rattle.lot_machine.specs.Step.{of_ports, finish_trap, step}
 use Rattle.lot_machine.specs.Facts.{HasNoCycle, FundsThere, live_value}
 use Rattle.lot_machine.specs.Order.{IsQueue, IsInOrder}
 use Rattle.lot_machine.proofs.Sums.{sum-filter, sum-same, sum-nothing}
+use Rattle.lot_machine.proofs.Unserved.{lends-off}
 use Rattle.lot_machine.proofs.Tickets.{some-injective}
 use Rattle.lot_machine.proofs.Tickets as tickets
 use Rattle.lot_machine.proofs.Unlent.{is_thread-is}
@@ -35,9 +37,9 @@ use Rattle.lot_machine.proofs.LendDepth.{lends_lead-exact, is_backed-exact}
 use Rattle.lot_machine.proofs.ValueDepth.{ticket_value-unfolds}
 use Rattle.lot_machine.proofs.CountsOnce.{counts-once}
 use Rattle.lot_machine.proofs.OrderKept.{step-order}
-use Rattle.lot_laws.specs.Transfers.{TakesQueuedCall, OwnsNothing, with_ready}
+use Rattle.lot_laws.specs.Transfers.{LendsServed, TakesQueuedCall, OwnsNothing, with_ready}
 use Rattle.lot_machine.proofs.StepSizes.{change-length}
-use Rattle.lot_laws.proofs.Trapped.{IsDone, trap-done, lend-is, live-is}
+use Rattle.lot_laws.proofs.Trapped.{port-off, IsDone, trap-done, lend-is, live-is}
 use Rattle.lot_laws.proofs.Lending.{same-borrower, leads-itself, worth-nothing, comes-alone}
 use Rattle.lot_laws.proofs.Blocked.{lends_in, lead-itself, lead-other, lends-nobody, is-live, not-live, blocked-worth, blocked-own, served-lends}
 use Rattle.lot_laws.proofs.CallTaken.{port-there}
@@ -46,14 +48,14 @@ use Rattle.lot_laws.proofs.Replied.{lends-on, lives-on}
 -- ---- the state
 
 -- the records after the server took the call, and after it went on
-abbrev taken : State → ℕ → ℕ → List Record
+abbrev pub taken : State → ℕ → ℕ → List Record
 taken s caller server = change_record (λ r. record r { status = Served server }) s.records caller
 
-abbrev gone_on : State → ℕ → ℕ → ℕ → ℕ → ℕ → List Record
+abbrev pub gone_on : State → ℕ → ℕ → ℕ → ℕ → ℕ → List Record
 gone_on s p ran used caller server = change_record (λ r. with_ticks (ran + 1) (after_trap GoesOn p used s.limits r)) (taken s caller server) server
 
 -- the state after a receipt
-abbrev received : State → ℕ → ℕ → ℕ → ℕ → List QueuedCall → ℕ → ℕ → State
+abbrev pub received : State → ℕ → ℕ → ℕ → ℕ → List QueuedCall → ℕ → ℕ → State
 received s p ran used port others caller server = record s {
   records = gone_on s p ran used caller server;
   clients = with_client s.clients server caller;
@@ -65,7 +67,7 @@ abbrev IsReceived : State → ℕ → ℕ → ℕ → ℕ → ℕ → ℕ → Li
 IsReceived s p ran used port caller server calls after =
     (first : QueuedCall) × (others : List QueuedCall) × (calls ≡ first ∷ others) × (first.caller ≡ caller) × (after ≡ received s p ran used port others caller server)
 
-call-received : (s : State) (p ran used port number caller server : ℕ) → (receive s.records s.clients s.ports server port).outcome ≡ Received caller number
+pub call-received : (s : State) (p ran used port number caller server : ℕ) → (receive s.records s.clients s.ports server port).outcome ≡ Received caller number
     → IsReceived s p ran used port caller server (port_at s.ports port).calls (finish_trap s p server (ran + 1) used (of_ports s (receive s.records s.clients s.ports server port))).state
 call-received s p ran used port number caller server = at (port_at s.ports port).calls refl
   where
@@ -77,7 +79,7 @@ call-received s p ran used port number caller server = at (port_at s.ports port)
 
 -- ---- what a blocked thread is worth that lends to nobody
 
-live-nobody : (without : Bool) (status : Status) → is_live_status status ≡ true → lend_of without status ≡ Nobody
+pub live-nobody : (without : Sizes) (status : Status) → is_live_status status ≡ true → lend_of without status ≡ Nobody
 live-nobody without Ready e = refl
 live-nobody without (Running p used) e = refl
 live-nobody without (Receiving port) e = cc
@@ -95,7 +97,7 @@ live-alone s u alive = by (status_of s.records u) refl
     by None is = let never : None ≡ Some true = sym (ap (option_map is_live_status) is) ∙ sym (live-is s.records u) ∙ alive in cc
     by (Some status) is =
         let live : is_live_status status ≡ true = some-injective (is_live_status status) true (sym (ap (option_map is_live_status) is) ∙ sym (live-is s.records u) ∙ alive) in
-        lends-nobody s u status is (live-nobody s.limits.without_lending status live)
+        lends-nobody s u status is (live-nobody s.limits status live)
 
 module _ (s : State) (t : ℕ) (no_cycle : HasNoCycle (funding_of s)) (there : FundsThere (funding_of s)) (nobody : borrower_of (funding_of s) t ≡ None) (blocked : ¬ IsLive (live_of s) t) where
   -- a chain from a thread that leads there ends there, and so leads to no live thread
@@ -182,9 +184,9 @@ module _ (s : State) (order : IsInOrder s) (p ran used before port caller server
       ∙ status-other (λ r. record r { status = Served server }) s.records caller u one
       ∙ sym (status-other (λ r. record r { status = Ready }) s.records caller u one)
 
-  server-lend : option_map (lend_of s.limits.without_lending) (status_of records_now server) ≡ Some Nobody
+  server-lend : option_map (lend_of s.limits) (status_of records_now server) ≡ Some Nobody
   unfolding records_now
-  server-lend = lends-on s.limits.without_lending (taken s caller server) server p used (ran + 1) s.limits before server-then
+  server-lend = lends-on s.limits (taken s caller server) server p used (ran + 1) s.limits before server-then
 
   server-live : option_map is_live_status (status_of records_now server) ≡ Some true
   unfolding records_now
@@ -197,12 +199,12 @@ module _ (s : State) (order : IsInOrder s) (p ran used before port caller server
       ∙ change-length (λ r. record r { status = Served server }) s.records caller
       ∙ sym (change-length (λ r. record r { status = Ready }) s.records caller)
 
-  lends-same : (u : ℕ) → u ≢ caller → option_map (lend_of s.limits.without_lending) (status_of records_now u) ≡ option_map (lend_of s.limits.without_lending) (status_of records_ready u)
+  lends-same : (u : ℕ) → u ≢ caller → option_map (lend_of s.limits) (status_of records_now u) ≡ option_map (lend_of s.limits) (status_of records_ready u)
   lends-same u differs = by (cases_eq u server)
     where
-      by : (u ≡ server) ⊎ (¬ (u ≡ server)) → option_map (lend_of s.limits.without_lending) (status_of records_now u) ≡ option_map (lend_of s.limits.without_lending) (status_of records_ready u)
-      by (inl same) = ap (λ x. option_map (lend_of s.limits.without_lending) (status_of records_now x)) same ∙ server-lend ∙ sym (ap (option_map (lend_of s.limits.without_lending)) server-ready) ∙ ap (λ x. option_map (lend_of s.limits.without_lending) (status_of records_ready x)) (sym same)
-      by (inr other) = ap (option_map (lend_of s.limits.without_lending)) (other-now u differs other)
+      by : (u ≡ server) ⊎ (¬ (u ≡ server)) → option_map (lend_of s.limits) (status_of records_now u) ≡ option_map (lend_of s.limits) (status_of records_ready u)
+      by (inl same) = ap (λ x. option_map (lend_of s.limits) (status_of records_now x)) same ∙ server-lend ∙ sym (ap (option_map (lend_of s.limits)) server-ready) ∙ ap (λ x. option_map (lend_of s.limits) (status_of records_ready x)) (sym same)
+      by (inr other) = ap (option_map (lend_of s.limits)) (other-now u differs other)
 
   lives-same : (u : ℕ) → u ≢ caller → option_map is_live_status (status_of records_now u) ≡ option_map is_live_status (status_of records_ready u)
   lives-same u differs = by (cases_eq u server)
@@ -257,50 +259,50 @@ module _ (s : State) (order : IsInOrder s) (p ran used before port caller server
           let never : None ≡ Some server = sym (lends-nobody (with_ready s caller) caller Ready caller-ready refl) ∙ ap (borrower_of (funding_of (with_ready s caller))) (sym same) ∙ lends in cc
       by u lends (inr differs) =
           ap (option_and_then (borrower (funding_of s)))
-          (lend-is s.limits.without_lending s.records u ∙ ap (option_map (lend_of s.limits.without_lending)) (sym (status-other (λ r. record r { status = Ready }) s.records caller u differs)) ∙ sym (lend-is s.limits.without_lending records_ready u))
-          ∙ sym (same-borrower (funding_of s) (lends_in s.limits.without_lending records_ready) (at_number (lends_in s.limits.without_lending records_ready) u)) ∙ lends
+          (lend-is s.limits s.records u ∙ ap (option_map (lend_of s.limits)) (sym (status-other (λ r. record r { status = Ready }) s.records caller u differs)) ∙ sym (lend-is s.limits records_ready u))
+          ∙ sym (same-borrower (funding_of s) (lends_in s.limits records_ready) (at_number (lends_in s.limits records_ready) u)) ∙ lends
 
-  pub caller-nothing : value_of s caller ≡ 0
-  caller-nothing = blocked-nothing s caller order.no_cycle order.funds_there (lends-nobody s caller (QueuedAt port) queued refl) (not-live s.records caller (QueuedAt port) queued refl)
+  pub caller-nothing : s.limits.queued_lend ≡ false → value_of s caller ≡ 0
+  caller-nothing off = blocked-nothing s caller order.no_cycle order.funds_there (lends-nobody s caller (QueuedAt port) queued (lends-off s.limits port off)) (not-live s.records caller (QueuedAt port) queued refl)
 
 -- ---- the event
 
 -- what holds of the state then, if it holds of each state after a receipt
-after-receipt : (P : State → Type 0) (s : State) (e : Event) (caller server : ℕ) → IsInOrder s → TakesQueuedCall s e caller server
+after-receipt : (P : State → Type 0) (s : State) → s.limits.queued_lend ≡ false → (e : Event) (caller server : ℕ) → IsInOrder s → TakesQueuedCall s e caller server
     → ((p ran used before port : ℕ) (first : QueuedCall) (others : List QueuedCall) → status_of s.records server ≡ Some (Running p before) → at_number s.ports port ≡ Some (port_at s.ports port)
     → (port_at s.ports port).calls ≡ first ∷ others → first.caller ≡ caller → HasNoCycle (funding_of (received s p ran used port others caller server)) → P (received s p ran used port others caller server))
     → P (step s e).state
-after-receipt P s e caller server order (p, ran, port, number, ticks, ends_now, is, replied) holds =
+after-receipt P s off e caller server order (p, ran, port, number, ticks, ends_now, is, replied) holds =
     by (trap-done s p ran (Receive port) server ticks (Received caller number) ends_now (λ refusal same. cc) (ap (λ x. (step s x).reply) (sym is) ∙ replied))
   where
     by : IsDone s p ran (Receive port) server (Received caller number) (step s (Trap p ran (Receive port))).state → P (step s e).state
     by done =
         let (first, others, calls, caller_is, state) = call-received s p ran done.used port number caller server done.came in
-        let here : (step s e).state ≡ received s p ran done.used port others caller server = ap (λ x. (step s x).state) is ∙ done.state ∙ state in
+        let here : (step s e).state ≡ received s p ran done.used port others caller server = ap (λ x. (step s x).state) is ∙ done.state ∙ ap (λ x. (finish_trap s p server (ran + 1) done.used x).state) (port-off s server port (receive s.records s.clients s.ports server port) off) ∙ state in
         let now : HasNoCycle (funding_of (step s e).state) = (step-order s e order).no_cycle in
         subst P (sym here) (holds p ran done.used done.before port first others done.runs (port-there s port (all-pass ((is_none (at_number s.ports port), NoPort) ∷ []) done.passed).0) calls caller_is (subst (λ x. HasNoCycle (funding_of x)) here now))
 
-pub server-gets : (s : State) (e : Event) (caller server : ℕ) → IsInOrder s → s.limits.without_lending ≡ false → TakesQueuedCall s e caller server → value_of (step s e).state server ≡ value_of (with_ready s caller) server + value_of (with_ready s caller) caller
+pub server-gets : (s : State) (e : Event) (caller server : ℕ) → IsInOrder s → LendsServed s → TakesQueuedCall s e caller server → value_of (step s e).state server ≡ value_of (with_ready s caller) server + value_of (with_ready s caller) caller
 server-gets s e caller server order lends takes =
-    after-receipt (λ x. value_of x server ≡ value_of (with_ready s caller) server + value_of (with_ready s caller) caller) s e caller server order takes
-    (λ p ran used before port first others runs there calls caller_is now. receipt-server s order p ran used before port caller server first others runs there calls caller_is now lends)
+    after-receipt (λ x. value_of x server ≡ value_of (with_ready s caller) server + value_of (with_ready s caller) caller) s lends.1 e caller server order takes
+    (λ p ran used before port first others runs there calls caller_is now. receipt-server s order p ran used before port caller server first others runs there calls caller_is now lends.0)
 
-pub alone-gets : (s : State) (e : Event) (caller server : ℕ) → IsInOrder s → s.limits.without_lending ≡ false → TakesQueuedCall s e caller server → OwnsNothing s server → value_of (step s e).state server ≡ value_of (with_ready s caller) caller
+pub alone-gets : (s : State) (e : Event) (caller server : ℕ) → IsInOrder s → LendsServed s → TakesQueuedCall s e caller server → OwnsNothing s server → value_of (step s e).state server ≡ value_of (with_ready s caller) caller
 alone-gets s e caller server order lends takes owns =
-    after-receipt (λ x. value_of x server ≡ value_of (with_ready s caller) caller) s e caller server order takes
-    (λ p ran used before port first others runs there calls caller_is now. receipt-alone s order p ran used before port caller server first others runs there calls caller_is now lends owns)
+    after-receipt (λ x. value_of x server ≡ value_of (with_ready s caller) caller) s lends.1 e caller server order takes
+    (λ p ran used before port first others runs there calls caller_is now. receipt-alone s order p ran used before port caller server first others runs there calls caller_is now lends.0 owns)
 
-pub others-keep : (s : State) (e : Event) (caller server other : ℕ) → IsInOrder s → s.limits.without_lending ≡ false → TakesQueuedCall s e caller server → other ≢ server → value_of (step s e).state other ≡ value_of (with_ready s caller) other
+pub others-keep : (s : State) (e : Event) (caller server other : ℕ) → IsInOrder s → LendsServed s → TakesQueuedCall s e caller server → other ≢ server → value_of (step s e).state other ≡ value_of (with_ready s caller) other
 others-keep s e caller server other order lends takes differs =
-    after-receipt (λ x. value_of x other ≡ value_of (with_ready s caller) other) s e caller server order takes
-    (λ p ran used before port first others runs there calls caller_is now. receipt-others s order p ran used before port caller server first others runs there calls caller_is now lends other differs)
+    after-receipt (λ x. value_of x other ≡ value_of (with_ready s caller) other) s lends.1 e caller server order takes
+    (λ p ran used before port first others runs there calls caller_is now. receipt-others s order p ran used before port caller server first others runs there calls caller_is now lends.0 other differs)
 
-pub together-same : (s : State) (e : Event) (caller server : ℕ) → IsInOrder s → s.limits.without_lending ≡ false → TakesQueuedCall s e caller server → live_value (step s e).state ≡ live_value (with_ready s caller)
+pub together-same : (s : State) (e : Event) (caller server : ℕ) → IsInOrder s → LendsServed s → TakesQueuedCall s e caller server → live_value (step s e).state ≡ live_value (with_ready s caller)
 together-same s e caller server order lends takes =
-    after-receipt (λ x. live_value x ≡ live_value (with_ready s caller)) s e caller server order takes
-    (λ p ran used before port first others runs there calls caller_is now. receipt-together s order p ran used before port caller server first others runs there calls caller_is now lends)
+    after-receipt (λ x. live_value x ≡ live_value (with_ready s caller)) s lends.1 e caller server order takes
+    (λ p ran used before port first others runs there calls caller_is now. receipt-together s order p ran used before port caller server first others runs there calls caller_is now lends.0)
 
-pub waits-for-nothing : (s : State) (e : Event) (caller server : ℕ) → IsInOrder s → TakesQueuedCall s e caller server → value_of s caller ≡ 0
-waits-for-nothing s e caller server order takes =
-    after-receipt (λ x. value_of s caller ≡ 0) s e caller server order takes
-    (λ p ran used before port first others runs there calls caller_is now. caller-nothing s order p ran used before port caller server first others runs there calls caller_is now)
+pub waits-for-nothing : (s : State) (e : Event) (caller server : ℕ) → IsInOrder s → s.limits.queued_lend ≡ false → TakesQueuedCall s e caller server → value_of s caller ≡ 0
+waits-for-nothing s e caller server order off takes =
+    after-receipt (λ x. value_of s caller ≡ 0) s off e caller server order takes
+    (λ p ran used before port first others runs there calls caller_is now. caller-nothing s order p ran used before port caller server first others runs there calls caller_is now off)

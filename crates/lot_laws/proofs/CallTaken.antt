@@ -22,9 +22,9 @@ use Rattle.lot_machine.proofs.CommandsKept.{all-pass, some-of}
 use Rattle.lot_machine.proofs.Queues.{status-now, status-other}
 use Rattle.lot_machine.proofs.CountsOnce.{counts-once}
 use Rattle.lot_machine.proofs.OrderKept.{step-order}
-use Rattle.lot_laws.specs.Transfers.{TakesCall, OwnsNothing}
+use Rattle.lot_laws.specs.Transfers.{LendsServed, TakesCall, OwnsNothing}
 use Rattle.lot_machine.proofs.StepSizes.{change-length}
-use Rattle.lot_laws.proofs.Trapped.{IsDone, trap-done}
+use Rattle.lot_laws.proofs.Trapped.{port-off, IsDone, trap-done}
 use Rattle.lot_laws.proofs.Lending.{worth-nothing}
 use Rattle.lot_laws.proofs.Blocked.{lead-itself, lead-other, lends-nobody, is-live, woken-worth, woken-own, served-lends}
 
@@ -36,14 +36,14 @@ port-there s port some =
 -- ---- the state
 
 -- the records after the server woke, and after the caller left
-abbrev woken : State → ℕ → ℕ → List Record
+abbrev pub woken : State → ℕ → ℕ → List Record
 woken s number server = change_record (λ r. record r { status = Ready; delivered = Some number }) s.records server
 
-abbrev left : State → ℕ → ℕ → ℕ → ℕ → ℕ → ℕ → List Record
+abbrev pub left : State → ℕ → ℕ → ℕ → ℕ → ℕ → ℕ → List Record
 left s p ran used number server caller = change_record (λ r. with_ticks (ran + 1) (after_trap (Leaves (Served server)) p used s.limits r)) (woken s number server) caller
 
 -- the state after a call was taken
-abbrev called : State → ℕ → ℕ → ℕ → ℕ → ℕ → List ℕ → ℕ → ℕ → State
+abbrev pub called : State → ℕ → ℕ → ℕ → ℕ → ℕ → List ℕ → ℕ → ℕ → State
 called s p ran used port number others server caller = record s {
   records = left s p ran used number server caller;
   clients = with_client s.clients server caller;
@@ -51,11 +51,11 @@ called s p ran used port number others server caller = record s {
 }
 
 -- the first of these receivers took the call, and this is the state then
-abbrev IsCalled : State → ℕ → ℕ → ℕ → ℕ → ℕ → ℕ → ℕ → List ℕ → State → Type 0
+abbrev pub IsCalled : State → ℕ → ℕ → ℕ → ℕ → ℕ → ℕ → ℕ → List ℕ → State → Type 0
 IsCalled s p ran used port number caller server receivers after =
     (others : List ℕ) × (receivers ≡ server ∷ others) × (after ≡ called s p ran used port number others server caller)
 
-call-taken : (s : State) (p ran used port number caller server : ℕ) → (call s.records s.clients s.ports caller port number).outcome ≡ ServedBy server
+pub call-taken : (s : State) (p ran used port number caller server : ℕ) → (call s.records s.clients s.ports caller port number).outcome ≡ ServedBy server
     → IsCalled s p ran used port number caller server (port_at s.ports port).receivers (finish_trap s p caller (ran + 1) used (of_ports s (call s.records s.clients s.ports caller port number))).state
 call-taken s p ran used port number caller server = at (port_at s.ports port).receivers refl
   where
@@ -105,12 +105,12 @@ module _ (s : State) (order : IsInOrder s) (lends : s.limits.without_lending ≡
       change-length (λ r. with_ticks (ran + 1) (after_trap (Leaves (Served server)) p used s.limits r)) (woken s number server) caller
       ∙ change-length (λ r. record r { status = Ready; delivered = Some number }) s.records server
 
-  lends-same : (u : ℕ) → u ≢ caller → option_map (lend_of s.limits.without_lending) (status_of records_now u) ≡ option_map (lend_of s.limits.without_lending) (status_of s.records u)
+  lends-same : (u : ℕ) → u ≢ caller → option_map (lend_of s.limits) (status_of records_now u) ≡ option_map (lend_of s.limits) (status_of s.records u)
   lends-same u differs = by (cases_eq u server)
     where
-      by : (u ≡ server) ⊎ (¬ (u ≡ server)) → option_map (lend_of s.limits.without_lending) (status_of records_now u) ≡ option_map (lend_of s.limits.without_lending) (status_of s.records u)
-      by (inl same) = ap (λ x. option_map (lend_of s.limits.without_lending) (status_of records_now x)) same ∙ ap (option_map (lend_of s.limits.without_lending)) server-now ∙ sym (ap (option_map (lend_of s.limits.without_lending)) receives) ∙ ap (λ x. option_map (lend_of s.limits.without_lending) (status_of s.records x)) (sym same)
-      by (inr other) = ap (option_map (lend_of s.limits.without_lending)) (other-now u differs other)
+      by : (u ≡ server) ⊎ (¬ (u ≡ server)) → option_map (lend_of s.limits) (status_of records_now u) ≡ option_map (lend_of s.limits) (status_of s.records u)
+      by (inl same) = ap (λ x. option_map (lend_of s.limits) (status_of records_now x)) same ∙ ap (option_map (lend_of s.limits)) server-now ∙ sym (ap (option_map (lend_of s.limits)) receives) ∙ ap (λ x. option_map (lend_of s.limits) (status_of s.records x)) (sym same)
+      by (inr other) = ap (option_map (lend_of s.limits)) (other-now u differs other)
 
   lives-same : (u : ℕ) → u ≢ caller → u ≢ server → option_map is_live_status (status_of records_now u) ≡ option_map is_live_status (status_of s.records u)
   lives-same u first second = ap (option_map is_live_status) (other-now u first second)
@@ -142,31 +142,31 @@ module _ (s : State) (order : IsInOrder s) (lends : s.limits.without_lending ≡
 -- ---- the event
 
 -- what holds of the state then, if it holds of each state of a call that is taken
-after-call : (P : State → Type 0) (s : State) (e : Event) (caller server : ℕ) → IsInOrder s → TakesCall s e caller server
+after-call : (P : State → Type 0) (s : State) → s.limits.queued_lend ≡ false → (e : Event) (caller server : ℕ) → IsInOrder s → TakesCall s e caller server
     → ((p ran used before port number : ℕ) (others : List ℕ) → status_of s.records caller ≡ Some (Running p before) → at_number s.ports port ≡ Some (port_at s.ports port)
     → (port_at s.ports port).receivers ≡ server ∷ others → HasNoCycle (funding_of (called s p ran used port number others server caller)) → P (called s p ran used port number others server caller))
     → P (step s e).state
-after-call P s e caller server order (p, ran, port, number, ticks, ends, is, replied) holds =
+after-call P s off e caller server order (p, ran, port, number, ticks, ends, is, replied) holds =
     by (trap-done s p ran (Call port number) caller ticks (ServedBy server) ends (λ refusal same. cc) (ap (λ x. (step s x).reply) (sym is) ∙ replied))
   where
     by : IsDone s p ran (Call port number) caller (ServedBy server) (step s (Trap p ran (Call port number))).state → P (step s e).state
     by done =
         let (others, receivers, state) = call-taken s p ran done.used port number caller server done.came in
-        let here : (step s e).state ≡ called s p ran done.used port number others server caller = ap (λ x. (step s x).state) is ∙ done.state ∙ state in
+        let here : (step s e).state ≡ called s p ran done.used port number others server caller = ap (λ x. (step s x).state) is ∙ done.state ∙ ap (λ x. (finish_trap s p caller (ran + 1) done.used x).state) (port-off s caller port (call s.records s.clients s.ports caller port number) off) ∙ state in
         let now : HasNoCycle (funding_of (step s e).state) = (step-order s e order).no_cycle in
         subst P (sym here) (holds p ran done.used done.before port number others done.runs (port-there s port (all-pass ((is_none (at_number s.ports port), NoPort) ∷ []) done.passed).0) receivers (subst (λ x. HasNoCycle (funding_of x)) here now))
 
-pub server-gets : (s : State) (e : Event) (caller server : ℕ) → IsInOrder s → s.limits.without_lending ≡ false → TakesCall s e caller server → OwnsNothing s server → value_of (step s e).state server ≡ value_of s caller
+pub server-gets : (s : State) (e : Event) (caller server : ℕ) → IsInOrder s → LendsServed s → TakesCall s e caller server → OwnsNothing s server → value_of (step s e).state server ≡ value_of s caller
 server-gets s e caller server order lends takes owns =
-    after-call (λ x. value_of x server ≡ value_of s caller) s e caller server order takes
-    (λ p ran used before port number others runs there receivers now. call-server s order lends p ran used before port number server caller others runs there receivers owns now)
+    after-call (λ x. value_of x server ≡ value_of s caller) s lends.1 e caller server order takes
+    (λ p ran used before port number others runs there receivers now. call-server s order lends.0 p ran used before port number server caller others runs there receivers owns now)
 
-pub others-keep : (s : State) (e : Event) (caller server other : ℕ) → IsInOrder s → s.limits.without_lending ≡ false → TakesCall s e caller server → OwnsNothing s server → other ≢ server → value_of (step s e).state other ≡ value_of s other
+pub others-keep : (s : State) (e : Event) (caller server other : ℕ) → IsInOrder s → LendsServed s → TakesCall s e caller server → OwnsNothing s server → other ≢ server → value_of (step s e).state other ≡ value_of s other
 others-keep s e caller server other order lends takes owns differs =
-    after-call (λ x. value_of x other ≡ value_of s other) s e caller server order takes
-    (λ p ran used before port number others runs there receivers now. call-others s order lends p ran used before port number server caller others runs there receivers owns now other differs)
+    after-call (λ x. value_of x other ≡ value_of s other) s lends.1 e caller server order takes
+    (λ p ran used before port number others runs there receivers now. call-others s order lends.0 p ran used before port number server caller others runs there receivers owns now other differs)
 
-pub together-same : (s : State) (e : Event) (caller server : ℕ) → IsInOrder s → s.limits.without_lending ≡ false → TakesCall s e caller server → OwnsNothing s server → live_value (step s e).state ≡ live_value s
+pub together-same : (s : State) (e : Event) (caller server : ℕ) → IsInOrder s → LendsServed s → TakesCall s e caller server → OwnsNothing s server → live_value (step s e).state ≡ live_value s
 together-same s e caller server order lends takes owns =
-    after-call (λ x. live_value x ≡ live_value s) s e caller server order takes
-    (λ p ran used before port number others runs there receivers now. call-together s order lends p ran used before port number server caller others runs there receivers owns now)
+    after-call (λ x. live_value x ≡ live_value s) s lends.1 e caller server order takes
+    (λ p ran used before port number others runs there receivers now. call-together s order lends.0 p ran used before port number server caller others runs there receivers owns now)

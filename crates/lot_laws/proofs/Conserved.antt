@@ -229,7 +229,7 @@ module _ (s : State) (no_cycle : HasNoCycle (funding_of s)) (there : FundsThere 
       by (v, ([], same), alive) = let r = live-thread s no_cycle v alive in (omega (arith, same, r.0), omega (arith, same, r.1))
       by (v, (w ∷ rest, (lends, more)), alive) =
           let (i, same, low) = lender_within (funding_of s) u w lends in
-          (omega (arith, same), omega (arith, same, low, length-map s.records (λ (r : Record). lend_of s.limits.without_lending r.status)))
+          (omega (arith, same), omega (arith, same, low, length-map s.records (λ (r : Record). lend_of s.limits r.status)))
 
   goes : (i : ℕ) (t : Ticket) → slice_get s.tickets i ≡ Some (Some t) → worth t ≤ to-threads t + to-currencies t
   unfolding worth backed users to-threads to-currencies

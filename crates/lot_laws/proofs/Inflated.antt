@@ -406,12 +406,12 @@ module _ (s : State) (amount c : ℕ) (currency : CurrencyRef) (name : List ℕ)
 
   -- the edge of a thread with this status
   abbrev lend-edge : ℕ → Option Status → Option (Node × Node)
-  lend-edge t o = option_and_then (λ (lend : Lend). option_map (λ (to : Node). (Thread t, to)) (lend_node lend)) (option_map (lend_of s.limits.without_lending) o)
+  lend-edge t o = option_and_then (λ (lend : Lend). option_map (λ (to : Node). (Thread t, to)) (lend_node lend)) (option_map (lend_of s.limits) o)
 
-  lender-is : (records : List Record) (t : ℕ) → option_and_then (λ (lend : Lend). option_map (λ (to : Node). (Thread t, to)) (lend_node lend)) (at_number (map (λ (r : Record). lend_of s.limits.without_lending r.status) records) t) ≡ lend-edge t (status_of records t)
-  lender-is records t = ap (option_and_then (λ (lend : Lend). option_map (λ (to : Node). (Thread t, to)) (lend_node lend))) (at_number-map (λ (r : Record). lend_of s.limits.without_lending r.status) records t ∙ twice (at_number records t))
+  lender-is : (records : List Record) (t : ℕ) → option_and_then (λ (lend : Lend). option_map (λ (to : Node). (Thread t, to)) (lend_node lend)) (at_number (map (λ (r : Record). lend_of s.limits r.status) records) t) ≡ lend-edge t (status_of records t)
+  lender-is records t = ap (option_and_then (λ (lend : Lend). option_map (λ (to : Node). (Thread t, to)) (lend_node lend))) (at_number-map (λ (r : Record). lend_of s.limits r.status) records t ∙ twice (at_number records t))
     where
-      twice : (o : Option Record) → option_map (λ (r : Record). lend_of s.limits.without_lending r.status) o ≡ option_map (lend_of s.limits.without_lending) (option_map (λ (r : Record). r.status) o)
+      twice : (o : Option Record) → option_map (λ (r : Record). lend_of s.limits r.status) o ≡ option_map (lend_of s.limits) (option_map (λ (r : Record). r.status) o)
       twice None = refl
       twice (Some r) = refl
 

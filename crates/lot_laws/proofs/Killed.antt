@@ -1,5 +1,5 @@
 -- What is left of a killed thread, and of those who waited for it.
-use Rattle.std.proofs.Common.{◌≡◌, ℕ, zero, suc, ◌-◌, ◌<◌, ◌≤◌, ◌==◌, Bool, true, false, ◌⊎◌, inl, inr, Option, Some, None, is_none, List, [], ◌∷◌, Contains, length, map, drop, filter_map, refl, sym, ◌∙◌, ap, subst, arith, cond, option_map, unwrap_or, get_or, slice_get}
+use Rattle.std.proofs.Common.{◌≡◌, ℕ, zero, suc, ◌-◌, ◌<◌, ◌≤◌, ◌==◌, Bool, true, false, ◌⊎◌, inl, inr, Option, Some, None, is_none, List, [], ◌∷◌, Contains, length, map, drop, filter_map, refl, sym, ◌∙◌, ap, subst, arith, cond, option_map, unwrap_or, get_or, slice_get, if◌then◌else◌}
 use Rattle.std.specs.Option.{option_flatten}
 use Rattle.std.proofs.lemmas.Bool.{eqb-true, eq-eqb}
 use Rattle.std.proofs.lemmas.Option.{slice_get_cases}
@@ -17,7 +17,7 @@ use Rattle.lot_machine.specs.declared.sizes.Sizes.{Sizes}
 use Rattle.lot_machine.specs.Numbered.{at_number, set_number, option_any}
 use Rattle.lot_machine.specs.Funding.{owner_of}
 use Rattle.lot_machine.specs.Lends.{borrower, LendsTo}
-use Rattle.lot_machine.specs.State.{State, Port, Mutex, opening, funding_of, lend_of, status_of, change_each}
+use Rattle.lot_machine.specs.State.{State, holder_of, lends_at, Port, Mutex, opening, funding_of, lend_of, status_of, change_each}
 use Rattle.lot_machine.specs.Commands.{Step, first_failing, unless_refused, thread_meant, is_dead_in}
 use Rattle.lot_machine.specs.Ports.{clients_of}
 use Rattle.lot_machine.specs.Kill.{without, port_without, is_owned_by, passed_on, mutex_without, heir, released_by, released, ended, killed}
@@ -26,8 +26,8 @@ use Rattle.lot_machine.specs.Order.{IsInOrder}
 use Rattle.lot_machine.proofs.Tickets.{at_number-suc, some-injective}
 use Rattle.lot_machine.proofs.Changes.{number-set}
 use Rattle.lot_machine.proofs.Queues.{IsAbsent, number-set_same}
-use Rattle.lot_machine.specs.declared.funding.Lend.TheVariants.{ToThread, ToMutex}
-use Rattle.lot_machine.proofs.TrapCycles.{at_number-map, lent-to}
+use Rattle.lot_machine.specs.declared.funding.Lend.TheVariants.{Nobody, ToThread, ToMutex}
+use Rattle.lot_machine.proofs.TrapCycles.{at_number-map, lent-to, lent-if}
 use Rattle.lot_machine.proofs.EachOnce.{place-in, contains-at}
 use Rattle.lot_machine.proofs.Killed.{IsAmong, IsHeir, among-append_left, heir-released, released-why, without-absent, calls-absent, record-now, record-other, each-record, each-record_either, each-record_other, owner-either, without-other}
 use Rattle.lot_machine.proofs.KillKept.{lends-by, number-mapped}
@@ -309,15 +309,18 @@ kill-lends s thread t u reachable kills lends = from (lends-by (after_kill s thr
         mine None there owner = cc
         mine (Some mutex) there owner = kill-owns s thread t m mutex kills there owner
 
-    by : (now : Status) → status_of (after_kill s thread).records u ≡ Some now → borrower (funding_of (after_kill s thread)) (lend_of (after_kill s thread).limits.without_lending now) ≡ Some t → ⊥
+    by : (now : Status) → status_of (after_kill s thread).records u ≡ Some now → borrower (funding_of (after_kill s thread)) (lend_of (after_kill s thread).limits now) ≡ Some t → ⊥
     by status.Ready is to = cc
     by (status.Running p used) is to = cc
     by (status.Receiving p) is to = cc
-    by (status.Queued p) is to = cc
+    by (status.Queued p) is to =
+        let limits = (after_kill s thread).limits in
+        let funding = funding_of (after_kill s thread) in
+        owned (holder_of limits p) (lent-if funding (lends_at limits p) (ToMutex (holder_of limits p)) t (lent-to funding limits.without_lending (if lends_at limits p then ToMutex (holder_of limits p) else Nobody) t to))
     by (status.Served server) is to = served server (some-injective server t (lent-to (funding_of (after_kill s thread)) (after_kill s thread).limits.without_lending (ToThread server) t to)) is
     by (status.Waiting m) is to = owned m (lent-to (funding_of (after_kill s thread)) (after_kill s thread).limits.without_lending (ToMutex m) t to)
     by status.Asleep is to = cc
     by status.Dead is to = cc
 
-    from : ((now : Status) × (status_of (after_kill s thread).records u ≡ Some now) × (borrower (funding_of (after_kill s thread)) (lend_of (after_kill s thread).limits.without_lending now) ≡ Some t)) → ⊥
+    from : ((now : Status) × (status_of (after_kill s thread).records u ≡ Some now) × (borrower (funding_of (after_kill s thread)) (lend_of (after_kill s thread).limits now) ≡ Some t)) → ⊥
     from (now, is, to) = by now is to

@@ -33,13 +33,17 @@ same-borrower f lends (Some Nobody) = refl
 same-borrower f lends (Some (ToThread u)) = refl
 same-borrower f lends (Some (ToMutex m)) = refl
 
-same-chain : (f : Funding) (lends : List Lend) (n : ℕ) (rest : List ℕ) (to : Target) → IsChain f n rest to → IsChain (lending f lends) n rest to
-same-chain f lends n [] to is = is
-same-chain f lends n (m ∷ rest) to is = (is.0, same-chain f lends m rest to is.1)
+-- the same tickets, with other lends and owners
+abbrev pub relent : Funding → List Lend → List (Option ℕ) → Funding
+relent f lends owners = record f { lends = lends; owners = owners }
 
-chain-same : (f : Funding) (lends : List Lend) (n : ℕ) (rest : List ℕ) (to : Target) → IsChain (lending f lends) n rest to → IsChain f n rest to
-chain-same f lends n [] to is = is
-chain-same f lends n (m ∷ rest) to is = (is.0, chain-same f lends m rest to is.1)
+same-chain : (f : Funding) (lends : List Lend) (owners : List (Option ℕ)) (n : ℕ) (rest : List ℕ) (to : Target) → IsChain f n rest to → IsChain (relent f lends owners) n rest to
+same-chain f lends owners n [] to is = is
+same-chain f lends owners n (m ∷ rest) to is = (is.0, same-chain f lends owners m rest to is.1)
+
+chain-same : (f : Funding) (lends : List Lend) (owners : List (Option ℕ)) (n : ℕ) (rest : List ℕ) (to : Target) → IsChain (relent f lends owners) n rest to → IsChain f n rest to
+chain-same f lends owners n [] to is = is
+chain-same f lends owners n (m ∷ rest) to is = (is.0, chain-same f lends owners m rest to is.1)
 
 -- the last ticket of a chain
 chain-last : (f : Funding) (n : ℕ) (rest : List ℕ) (to : Target) → IsChain f n rest to → (m : ℕ) × (target_of f m ≡ Some to)
@@ -97,6 +101,60 @@ split false true joins leads w to on through both = let no : false ≡ true = on
 split false false true true w to on through both = let no : false ≡ true = through refl refl in cc
 split false false true false w to on through both = omega arith
 split false false false leads w to on through both = omega arith
+
+-- ---- the same tickets are active
+
+-- if each thread that has a ticket is backed in the one as in the other
+module _ (f : Funding) (lends : List Lend) (owners : List (Option ℕ)) (no_cycle : HasNoCycle f) (no_cycle_now : HasNoCycle (relent f lends owners)) (live now : List Bool) (there : FundsThere f)
+    (backed-on : (u : ℕ) → IsBacked f live u → IsBacked (relent f lends owners) now u) (backed-back : (u : ℕ) → (backing_thread f u ≡ []) ⊎ (IsBacked (relent f lends owners) now u → IsBacked f live u)) where
+  active-same : (i : ℕ) (ticket : Ticket) → slice_get f.tickets i ≡ Some (Some ticket) → is_active f live ticket ≡ is_active (relent f lends owners) now ticket
+  active-same i ticket at =
+      same-bool (is_active f live ticket) (is_active (relent f lends owners) now ticket) (λ on. exact_now.1 (to (exact.0 on))) (λ on. exact.1 (back (exact_now.0 on)))
+    where
+      here : ticket_at f (suc i) ≡ Some ticket
+      here = ticket_in-suc f.tickets i ∙ ap option_flatten at
+
+      exact : (is_active f live ticket ≡ true) ↔ IsActive f live (suc i)
+      exact = is_active-exact f no_cycle there live (suc i) ticket here
+
+      exact_now : (is_active (relent f lends owners) now ticket ≡ true) ↔ IsActive (relent f lends owners) now (suc i)
+      exact_now = is_active-exact (relent f lends owners) no_cycle_now there now (suc i) ticket here
+
+      to : IsActive f live (suc i) → IsActive (relent f lends owners) now (suc i)
+      to (rest, u, is, backed) = (rest, u, same-chain f lends owners (suc i) rest (target.Thread u) is, backed-on u backed)
+
+      back : IsActive (relent f lends owners) now (suc i) → IsActive f live (suc i)
+      back (rest, u, is, backed) =
+          let before = chain-same f lends owners (suc i) rest (target.Thread u) is in
+          let last = chain-last f (suc i) rest (target.Thread u) before in
+          (rest, u, before, by last (backed-back u))
+        where
+          by : (m : ℕ) × (target_of f m ≡ Some (target.Thread u)) → (backing_thread f u ≡ []) ⊎ (IsBacked (relent f lends owners) now u → IsBacked f live u) → IsBacked f live u
+          by (m, funds) (inl none) = absurd (not-funded f u m none funds)
+          by last (inr from) = from backed
+
+  amount-same : (c : ℕ) → active_amount f live c ≡ active_amount (relent f lends owners) now c
+  amount-same c =
+      sum-filter (λ (x : Ticket). x.amount) (is_active f live) (issued_in f c)
+      ∙ tickets.sum-same (λ x. cond (is_active f live x) x.amount 0) (λ x. cond (is_active (relent f lends owners) now x) x.amount 0) (λ x. x.issuer == c) f.tickets (λ i x at issued. ap (λ on. cond on x.amount 0) (active-same i x at))
+      ∙ sym (sum-filter (λ (x : Ticket). x.amount) (is_active (relent f lends owners) now) (issued_in f c))
+
+  module _ (unit : ℕ) where
+    within-same : (k i : ℕ) (ticket : Ticket) → slice_get f.tickets i ≡ Some (Some ticket) → ticket_value_within k unit f live ticket ≡ ticket_value_within k unit (relent f lends owners) now ticket
+    within-same zero i ticket at = ap (λ on. if on then (if ticket.issuer == 0 then ticket.amount * unit else 0) else 0) (active-same i ticket at)
+    within-same (suc k) i ticket at =
+        let funds : sum_by (ticket_value_within k unit f live) (backing_currency f ticket.issuer) ≡ sum_by (ticket_value_within k unit (relent f lends owners) now) (backing_currency f ticket.issuer) =
+        tickets.sum-same (ticket_value_within k unit f live) (ticket_value_within k unit (relent f lends owners) now) (λ x. is_currency ticket.issuer x.target) f.tickets (λ j x there_at passes. within-same k j x there_at) in
+        ap (λ on. if on then (if ticket.issuer == 0 then ticket.amount * unit else sum_by (ticket_value_within k unit f live) (backing_currency f ticket.issuer) * ticket.amount / active_amount f live ticket.issuer) else 0) (active-same i ticket at)
+        ∙ ap (λ w. if is_active (relent f lends owners) now ticket then (if ticket.issuer == 0 then ticket.amount * unit else w * ticket.amount / active_amount f live ticket.issuer) else 0) funds
+        ∙ ap (λ a. if is_active (relent f lends owners) now ticket then (if ticket.issuer == 0 then ticket.amount * unit else sum_by (ticket_value_within k unit (relent f lends owners) now) (backing_currency f ticket.issuer) * ticket.amount / a) else 0) (amount-same ticket.issuer)
+
+    pub own-same : (u : ℕ) → own_value unit f live u ≡ own_value unit (relent f lends owners) now u
+    own-same u = tickets.sum-same (ticket_value unit f live) (ticket_value unit (relent f lends owners) now) (λ x. is_thread u x.target) f.tickets (λ i x at passes. within-same _ i x at)
+
+-- a thread's value, as a sum over all threads
+pub spread : (unit : ℕ) (g : Funding) (alive : List Bool) (v : ℕ) → thread_value unit g alive v ≡ sum_by (λ u. cond (lends_lead g u v) (own_value unit g alive u) 0) (numbers g.lends)
+spread unit g alive v = sum-filter (own_value unit g alive) (λ u. lends_lead g u v) (numbers g.lends)
 
 -- ---- one thread more lends
 
@@ -176,54 +234,13 @@ module _ (f : Funding) (lends : List Lend) (t b : ℕ) (many : length lends ≡ 
   -- if each thread that has a ticket is backed in the one as in the other
   module _ (live now : List Bool) (there : FundsThere f) (backed-on : (u : ℕ) → IsBacked f live u → IsBacked (lending f lends) now u)
       (backed-back : (u : ℕ) → (backing_thread f u ≡ []) ⊎ (IsBacked (lending f lends) now u → IsBacked f live u)) where
-    active-same : (i : ℕ) (ticket : Ticket) → slice_get f.tickets i ≡ Some (Some ticket) → is_active f live ticket ≡ is_active (lending f lends) now ticket
-    active-same i ticket at =
-        same-bool (is_active f live ticket) (is_active (lending f lends) now ticket) (λ on. exact_now.1 (to (exact.0 on))) (λ on. exact.1 (back (exact_now.0 on)))
-      where
-        here : ticket_at f (suc i) ≡ Some ticket
-        here = ticket_in-suc f.tickets i ∙ ap option_flatten at
-
-        exact : (is_active f live ticket ≡ true) ↔ IsActive f live (suc i)
-        exact = is_active-exact f no_cycle there live (suc i) ticket here
-
-        exact_now : (is_active (lending f lends) now ticket ≡ true) ↔ IsActive (lending f lends) now (suc i)
-        exact_now = is_active-exact (lending f lends) no_cycle_now there now (suc i) ticket here
-
-        to : IsActive f live (suc i) → IsActive (lending f lends) now (suc i)
-        to (rest, u, is, backed) = (rest, u, same-chain f lends (suc i) rest (target.Thread u) is, backed-on u backed)
-
-        back : IsActive (lending f lends) now (suc i) → IsActive f live (suc i)
-        back (rest, u, is, backed) =
-            let before = chain-same f lends (suc i) rest (target.Thread u) is in
-            let last = chain-last f (suc i) rest (target.Thread u) before in
-            (rest, u, before, by last (backed-back u))
-          where
-            by : (m : ℕ) × (target_of f m ≡ Some (target.Thread u)) → (backing_thread f u ≡ []) ⊎ (IsBacked (lending f lends) now u → IsBacked f live u) → IsBacked f live u
-            by (m, funds) (inl none) = absurd (not-funded f u m none funds)
-            by last (inr from) = from backed
-
-    amount-same : (c : ℕ) → active_amount f live c ≡ active_amount (lending f lends) now c
-    amount-same c =
-        sum-filter (λ (x : Ticket). x.amount) (is_active f live) (issued_in f c)
-        ∙ tickets.sum-same (λ x. cond (is_active f live x) x.amount 0) (λ x. cond (is_active (lending f lends) now x) x.amount 0) (λ x. x.issuer == c) f.tickets (λ i x at issued. ap (λ on. cond on x.amount 0) (active-same i x at))
-        ∙ sym (sum-filter (λ (x : Ticket). x.amount) (is_active (lending f lends) now) (issued_in f c))
-
     module _ (unit : ℕ) where
-      within-same : (k i : ℕ) (ticket : Ticket) → slice_get f.tickets i ≡ Some (Some ticket) → ticket_value_within k unit f live ticket ≡ ticket_value_within k unit (lending f lends) now ticket
-      within-same zero i ticket at = ap (λ on. if on then (if ticket.issuer == 0 then ticket.amount * unit else 0) else 0) (active-same i ticket at)
-      within-same (suc k) i ticket at =
-          let funds : sum_by (ticket_value_within k unit f live) (backing_currency f ticket.issuer) ≡ sum_by (ticket_value_within k unit (lending f lends) now) (backing_currency f ticket.issuer) =
-          tickets.sum-same (ticket_value_within k unit f live) (ticket_value_within k unit (lending f lends) now) (λ x. is_currency ticket.issuer x.target) f.tickets (λ j x there_at passes. within-same k j x there_at) in
-          ap (λ on. if on then (if ticket.issuer == 0 then ticket.amount * unit else sum_by (ticket_value_within k unit f live) (backing_currency f ticket.issuer) * ticket.amount / active_amount f live ticket.issuer) else 0) (active-same i ticket at)
-          ∙ ap (λ w. if is_active (lending f lends) now ticket then (if ticket.issuer == 0 then ticket.amount * unit else w * ticket.amount / active_amount f live ticket.issuer) else 0) funds
-          ∙ ap (λ a. if is_active (lending f lends) now ticket then (if ticket.issuer == 0 then ticket.amount * unit else sum_by (ticket_value_within k unit (lending f lends) now) (backing_currency f ticket.issuer) * ticket.amount / a) else 0) (amount-same ticket.issuer)
-
-      own-same : (u : ℕ) → own_value unit f live u ≡ own_value unit (lending f lends) now u
-      own-same u = tickets.sum-same (ticket_value unit f live) (ticket_value unit (lending f lends) now) (λ x. is_thread u x.target) f.tickets (λ i x at passes. within-same _ i x at)
+      own-each : (u : ℕ) → own_value unit f live u ≡ own_value unit (lending f lends) now u
+      own-each = own-same f lends f.owners no_cycle no_cycle_now live now there backed-on backed-back unit
 
       -- what backed threads own is the same together
       backed-each : (u : ℕ) → cond (is_backed (lending f lends) now u) (own_value unit (lending f lends) now u) 0 ≡ cond (is_backed f live u) (own_value unit f live u) 0
-      backed-each u = ap (λ w. cond (is_backed (lending f lends) now u) w 0) (sym (own-same u)) ∙ by (backed-back u)
+      backed-each u = ap (λ w. cond (is_backed (lending f lends) now u) w 0) (sym (own-each u)) ∙ by (backed-back u)
         where
           both : (x y : Bool) (w : ℕ) → w ≡ 0 → cond x w 0 ≡ cond y w 0
           both true true w none = refl
@@ -244,21 +261,17 @@ module _ (f : Funding) (lends : List Lend) (t b : ℕ) (many : length lends ≡ 
           ∙ sum-same (λ u. cond (is_backed (lending f lends) now u) (own_value unit (lending f lends) now u) 0) (λ u. cond (is_backed f live u) (own_value unit f live u) 0) us backed-each
           ∙ sym (sum-filter (own_value unit f live) (is_backed f live) us)
 
-      -- a thread's value, as a sum over all threads
-      spread : (g : Funding) (alive : List Bool) (v : ℕ) → thread_value unit g alive v ≡ sum_by (λ u. cond (lends_lead g u v) (own_value unit g alive u) 0) (numbers g.lends)
-      spread g alive v = sum-filter (own_value unit g alive) (λ u. lends_lead g u v) (numbers g.lends)
-
       -- those to whom b leads are worth as much more as the thread was worth, and all others what they were
       pub lent-worth : (v : ℕ) → thread_value unit (lending f lends) now v ≡ thread_value unit f live v + cond (lends_lead f b v) (thread_value unit f live t) 0
       lent-worth v =
           let us = numbers f.lends in
           let own = own_value unit f live in
-          spread (lending f lends) now v ∙ ap (λ n. sum_by (λ u. cond (lends_lead (lending f lends) u v) (own_value unit (lending f lends) now u) 0) (range_with_len 1 n)) many
+          spread unit (lending f lends) now v ∙ ap (λ n. sum_by (λ u. cond (lends_lead (lending f lends) u v) (own_value unit (lending f lends) now u) 0) (range_with_len 1 n)) many
           ∙ sum-same (λ u. cond (lends_lead (lending f lends) u v) (own_value unit (lending f lends) now u) 0) (λ u. cond (lends_lead f u v) (own u) 0 + cond (lends_lead f b v) (cond (lends_lead f u t) (own u) 0) 0) us
-          (λ u. ap (λ w. cond (lends_lead (lending f lends) u v) w 0) (sym (own-same u)) ∙ each-lends u v (own u))
+          (λ u. ap (λ w. cond (lends_lead (lending f lends) u v) w 0) (sym (own-each u)) ∙ each-lends u v (own u))
           ∙ sum-plus (λ u. cond (lends_lead f u v) (own u) 0) (λ u. cond (lends_lead f b v) (cond (lends_lead f u t) (own u) 0) 0) us
-          ∙ ap (λ w. w + sum_by (λ u. cond (lends_lead f b v) (cond (lends_lead f u t) (own u) 0) 0) us) (sym (spread f live v))
-          ∙ ap (λ w. thread_value unit f live v + w) (sum-under (lends_lead f b v) (λ u. cond (lends_lead f u t) (own u) 0) us ∙ ap (λ w. cond (lends_lead f b v) w 0) (sym (spread f live t)))
+          ∙ ap (λ w. w + sum_by (λ u. cond (lends_lead f b v) (cond (lends_lead f u t) (own u) 0) 0) us) (sym (spread unit f live v))
+          ∙ ap (λ w. thread_value unit f live v + w) (sum-under (lends_lead f b v) (λ u. cond (lends_lead f u t) (own u) 0) us ∙ ap (λ w. cond (lends_lead f b v) w 0) (sym (spread unit f live t)))
 
   -- ---- who is backed
 
@@ -327,3 +340,42 @@ worth-nothing f live unit t no_cycle no_ticket no_lender =
 -- with nothing of its own it is worth what comes to it
 pub comes-alone : (whole own more : ℕ) → whole ≡ own + more → own ≡ 0 → whole ≡ more
 comes-alone whole own more is none = omega (arith, is, none)
+
+-- ---- each thread lends as before, through other lends and owners
+
+-- then nothing is lent in a circle if nothing is so
+pub untangled-same : (f : Funding) (lends : List Lend) (owners : List (Option ℕ)) → ((u : ℕ) → borrower_of (relent f lends owners) u ≡ borrower_of f u) → HasNoCycle (relent f lends owners) → HasNoCycle f
+untangled-same f lends owners to_same no_cycle = record { funding = no_cycle.funding; lends = λ t (u, first, (chain, is)). no_cycle.lends t (u, to_same t ∙ first, (chain, chain-on u chain t is)) }
+  where
+    chain-on : (u : ℕ) (chain : List ℕ) (v : ℕ) → IsLendChain f u chain v → IsLendChain (relent f lends owners) u chain v
+    chain-on u [] v is = is
+    chain-on u (w ∷ rest) v (first, more) = (to_same u ∙ first, chain-on w rest v more)
+
+-- each lends to the same thread, and lives as before
+module _ (f : Funding) (lends : List Lend) (owners : List (Option ℕ)) (live now : List Bool) (many : length lends ≡ length f.lends) (no_cycle : HasNoCycle f) (no_cycle_now : HasNoCycle (relent f lends owners)) (there : FundsThere f)
+    (to_same : (u : ℕ) → borrower_of (relent f lends owners) u ≡ borrower_of f u) (lives : (u : ℕ) → at_number now u ≡ at_number live u) where
+  chain-to : (u : ℕ) (chain : List ℕ) (v : ℕ) → IsLendChain f u chain v → IsLendChain (relent f lends owners) u chain v
+  chain-to u [] v is = is
+  chain-to u (w ∷ rest) v (first, more) = (to_same u ∙ first, chain-to w rest v more)
+
+  chain-from : (u : ℕ) (chain : List ℕ) (v : ℕ) → IsLendChain (relent f lends owners) u chain v → IsLendChain f u chain v
+  chain-from u [] v is = is
+  chain-from u (w ∷ rest) v (first, more) = (sym (to_same u) ∙ first, chain-from w rest v more)
+
+  same-lead : (u v : ℕ) → lends_lead (relent f lends owners) u v ≡ lends_lead f u v
+  same-lead u v =
+      let exact = lends_lead-exact f no_cycle.lends u v in
+      let exact_now = lends_lead-exact (relent f lends owners) no_cycle_now.lends u v in
+      same-bool (lends_lead (relent f lends owners) u v) (lends_lead f u v) (λ on. let lead = exact_now.0 on in exact.1 (lead.0, chain-from u lead.0 v lead.1)) (λ on. let lead = exact.0 on in exact_now.1 (lead.0, chain-to u lead.0 v lead.1))
+
+  pub same-worth : (unit v : ℕ) → thread_value unit (relent f lends owners) now v ≡ thread_value unit f live v
+  same-worth unit v =
+      spread unit (relent f lends owners) now v ∙ ap (λ n. sum_by (λ u. cond (lends_lead (relent f lends owners) u v) (own_value unit (relent f lends owners) now u) 0) (range_with_len 1 n)) many
+      ∙ sum-same (λ u. cond (lends_lead (relent f lends owners) u v) (own_value unit (relent f lends owners) now u) 0) (λ u. cond (lends_lead f u v) (own_value unit f live u) 0) (numbers f.lends)
+      (λ u. ap (λ b. cond b (own_value unit (relent f lends owners) now u) 0) (same-lead u v) ∙ ap (λ w. cond (lends_lead f u v) w 0) (sym (owns u)))
+      ∙ sym (spread unit f live v)
+    where
+      owns : (u : ℕ) → own_value unit f live u ≡ own_value unit (relent f lends owners) now u
+      owns =
+          own-same f lends owners no_cycle no_cycle_now live now there (λ u (v, (chain, is), alive). (v, (chain, chain-to u chain v is), lives v ∙ alive))
+          (λ u. inr (λ (v, (chain, is), alive). (v, (chain, chain-from u chain v is), sym (lives v) ∙ alive))) unit

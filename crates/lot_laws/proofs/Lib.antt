@@ -14,6 +14,11 @@ pub mod CallTaken
 pub mod Replied
 pub mod CallReceived
 pub mod CallQueued
+pub mod CallLends
+pub mod LendersReady
+pub mod MutexWaiters
+pub mod QueueMoves
+pub mod ServingMoves
 pub mod MutexWait
 pub mod WaitingServer
 pub mod Enclosed
@@ -24,5 +29,10 @@ pub mod StayOut
 pub mod FullRefused
 pub mod Sleepers
 pub mod Listed
+pub mod WaitsListed
+pub mod PortQueues
+pub mod CallAlone
+pub mod QueueGathers
+pub mod ServingGathers
 pub mod Killed
 pub mod Issuers

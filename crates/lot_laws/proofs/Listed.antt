@@ -1,6 +1,5 @@
 -- In a reachable state each thread that is served is among the clients of its server.
-use Rattle.std.proofs.Common.{◌≡◌, ℕ, zero, suc, ◌+◌, ◌-◌, ◌<◌, ◌≤◌, ◌==◌, cond, Bool, true, false, not, ◌⊎◌, inl, inr, Option, Some, None, is_none, List, [], ◌∷◌, ◌++◌, length, map, drop, refl, sym, ◌∙◌, ap, subst, arith, nat_lt, option_map, unwrap_or, get_or, slice_get, slice_index}
-use Rattle.std.proofs.lemmas.Bool.{eqb-true}
+use Rattle.std.proofs.Common.{◌≡◌, ℕ, zero, suc, ◌+◌, ◌-◌, ◌<◌, ◌≤◌, cond, Bool, true, false, ◌⊎◌, inl, inr, Option, Some, None, is_none, List, [], ◌∷◌, ◌++◌, length, map, drop, refl, sym, ◌∙◌, ap, subst, arith, nat_lt, option_map, unwrap_or, get_or, slice_get, slice_index}
 use Rattle.std.proofs.lemmas.List.{length-append}
 use Rattle.std.proofs.lemmas.Option.{slice_get_cases}
 use Rattle.std.proofs.Math.ListN.{length-set}
@@ -23,10 +22,11 @@ use Rattle.lot_machine.specs.Change.{NewThread, PutRecord, PutClients}
 use Rattle.lot_machine.specs.Numbered.{at_number, set_number, option_any}
 use Rattle.lot_machine.specs.Lottery.{winner}
 use Rattle.lot_machine.specs.Places.{next_place, placed}
-use Rattle.lot_machine.specs.State.{State, Port, QueuedCall, opening, free_threads, status_of, thread_on, ready_threads, change_record, change_each, value_of, weight_of}
+use Rattle.lot_machine.specs.State.{State, Mutex, Port, QueuedCall, opening, free_threads, status_of, thread_on, ready_threads, change_record, change_each, value_of, weight_of}
 use Rattle.lot_machine.specs.Commands.{thread_meant, is_dead_in, command_refusal, command_effect, command_step, newborn}
 use Rattle.lot_machine.specs.Traps.{after_trap, compensation_for, with_ticks}
 use Rattle.lot_machine.specs.Ports.{clients_of, port_at, first_client, call, receive, reply}
+use Rattle.lot_machine.specs.Servers.{before_lock}
 use Rattle.lot_machine.specs.Mutexes.{mutex_at, lock, unlock}
 use Rattle.lot_machine.specs.Kill.{without, released_by, released, ended, killed}
 use Rattle.lot_machine.specs.Step.{Effect, of_ports, of_mutexes, is_bad_processor, started, draw, stopped, trap, trap_refusal, trap_effect, checked_effect, thread_there, used_there, event_effect, step, state_after}
@@ -44,6 +44,7 @@ use Rattle.lot_machine.proofs.OrderKept.{step-order, opening-order, meant-number
 use Rattle.lot_machine.proofs.Killed.{IsAmong, among-append_left, among-append_right, killed-either, killed-dead, each-now, client-waits}
 use Rattle.lot_machine.proofs.StepChanges.{By, Keeps, kept, by_event, step-leads}
 use Rattle.lot_laws.specs.Reachable.{IsReachable}
+use Rattle.lot_laws.proofs.WaitsListed.{left-threads}
 
 -- as many lists of clients as records
 abbrev HasLists : State → Type 0
@@ -214,10 +215,10 @@ module _ (finish : After → Record → Record) (leaves : (now : Status) (r : Re
   own-list : (these : List ℕ) × (at_number s.clients t ≡ Some these)
   own-list = list-there s t (status.Running p used) lists runs
 
-  lock-listed : (m : ℕ) → Done (of_mutexes s (lock s.records s.mutexes t m))
-  lock-listed m = at (mutex_at s.mutexes m).owner refl
+  lock-listed : (mutexes : List Mutex) (m : ℕ) → Done (of_mutexes s (lock s.records mutexes t m))
+  lock-listed mutexes m = at (mutex_at mutexes m).owner refl
     where
-      at : (o : Option ℕ) → (mutex_at s.mutexes m).owner ≡ o → Done (of_mutexes s (lock s.records s.mutexes t m))
+      at : (o : Option ℕ) → (mutex_at mutexes m).owner ≡ o → Done (of_mutexes s (lock s.records mutexes t m))
       at None is = rw is (keep-change (finish GoesOn) s.records s.clients t stays listed)
       at (Some owner) is = rw is (keep-change (finish (Leaves (status.Waiting m))) s.records s.clients t (leaves-other (status.Waiting m) (λ v e. cc)) listed)
 
@@ -246,7 +247,7 @@ module _ (finish : After → Record → Record) (leaves : (now : Status) (r : Re
   effect-listed (Serve port number) allowed =
       let passed = all-pass ((is_none (at_number s.ports port), NoPort) ∷ (is_none (first_client s.clients t), NothingToReply) ∷ []) allowed in
       receive-listed (of_ports s (reply s.records s.clients s.ports t number)).state port (drop 1 (clients_of s.clients t)) (number-set_same s.clients t (drop 1 (clients_of s.clients t)) own-list.0 own-list.1) (replied-listed number passed.1.0)
-  effect-listed (Lock m) allowed = lock-listed m
+  effect-listed (Lock m) allowed = lock-listed (before_lock s t m) m
   effect-listed (Unlock m d) allowed = unlock-listed (value_of s) m d
 
   checked-listed : (action : Action) (o : Option TrapRefusal) → trap_refusal s t action ≡ o → Done (checked_effect s o (trap_effect s t action))
@@ -309,28 +310,12 @@ keep-kill s t number listed u v is = from (killed-either s t u)
         status-other ended (change_each released s.records (released_by s t)) t u (other same) ∙ each-now released status.Ready (λ r. refl) s.records (released_by s t) here.0 u (status.Served v) here.1 (before same) in
         let never : Some status.Ready ≡ Some (status.Served v) = sym ready ∙ is in cc
 
-    left : (xs : List ℕ) → ¬ (u ≡ t) → IsAmong xs u → IsAmong (without t xs) u
-    left [] differs (place, e) = (place, e)
-    left (x ∷ xs) differs (zero, e) = first (x == t) refl
-      where
-        same : x ≡ u
-        same = some-injective x u e
-
-        first : (b : Bool) → (x == t) ≡ b → IsAmong (cond (not b) (x ∷ without t xs) (without t xs)) u
-        first true at = absurd (differs (sym same ∙ eqb-true x t at))
-        first false at = (zero, e)
-    left (x ∷ xs) differs (suc place, e) = next (x == t) (left xs differs (place, e))
-      where
-        next : (b : Bool) → IsAmong (without t xs) u → IsAmong (cond (not b) (x ∷ without t xs) (without t xs)) u
-        next true (i, h) = (i, h)
-        next false (i, h) = (suc i, h)
-
     among : status_of (killed s t).records u ≡ status_of s.records u → IsAmong (clients_of (set_number (map (without t) s.clients) t []) v) u
     among same = place (set-clients (map (without t) s.clients) t v [])
       where
         mapped : (o : Option (List ℕ)) → IsAmong (unwrap_or o []) u → IsAmong (unwrap_or (option_map (without t) o) []) u
         mapped None (i, h) = (i, h)
-        mapped (Some xs) there = left xs (other same) there
+        mapped (Some xs) there = left-threads t xs u (other same) there
 
         place : (clients_of (set_number (map (without t) s.clients) t []) v ≡ clients_of (map (without t) s.clients) v) ⊎ ((v ≡ suc (t - 1)) × (clients_of (set_number (map (without t) s.clients) t []) v ≡ []))
             → IsAmong (clients_of (set_number (map (without t) s.clients) t []) v) u

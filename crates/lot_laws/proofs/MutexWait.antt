@@ -1,22 +1,25 @@
 -- A thread that waits for a mutex: what threads are worth then.
-use Rattle.std.proofs.Common.{◌≡◌, ◌≢◌, ℕ, ◌+◌, Bool, true, false, cond, is_none, Option, Some, None, List, [], ◌∷◌, ◌++◌, length, map, filter, option_map, unwrap_or, sum_by, refl, sym, ◌∙◌, ap, subst, arith}
+use Rattle.std.proofs.Common.{◌≡◌, ◌≢◌, ℕ, ◌+◌, Bool, true, false, cond, nat_lt, is_none, Option, Some, None, List, [], ◌∷◌, ◌++◌, length, map, filter, option_map, unwrap_or, sum_by, refl, sym, ◌∙◌, ap, subst, arith, if◌then◌else◌}
 use Rattle.std.specs.Option.{option_flatten}
+use Rattle.std.proofs.lemmas.Bool.{or_parts}
 use Rattle.lot_machine.specs.declared.record.Record.{Record}
 use Rattle.lot_machine.specs.declared.record.Status.TheVariants.{Running, Waiting}
 use Rattle.lot_machine.specs.declared.action.Action.TheVariants.{Lock}
 use Rattle.lot_machine.specs.declared.event.Event.{Event}
+use Rattle.lot_machine.specs.declared.funding.Lend.TheVariants.{Nobody, ToMutex}
 use Rattle.lot_machine.specs.declared.event.Event.TheVariants.{Trap}
 use Rattle.lot_machine.specs.declared.reply.Outcome.TheVariants.{Waits}
 use Rattle.lot_machine.specs.declared.refusal.TrapRefusal.TheVariants.{NoMutex, AlreadyOwner, LockCycle}
 use Rattle.lot_machine.specs.declared.after.After.TheVariants.{Leaves}
 use Rattle.lot_machine.specs.Numbered.{at_number, set_number, numbers, option_any}
-use Rattle.lot_machine.specs.Funding.{owner_of}
-use Rattle.lot_machine.specs.Lends.{borrower, IsBacked, LendsLead, lends_lead, lends_on_to, is_backed}
+use Rattle.lot_machine.specs.Funding.{Funding, owner_of}
+use Rattle.lot_machine.specs.Lends.{borrower, borrower_of, IsBacked, LendsLead, lends_lead, lends_on_to, is_backed}
 use Rattle.lot_machine.specs.Value.{own_value, thread_value}
 use Rattle.lot_machine.specs.State.{State, Mutex, funding_of, live_of, live_in, lend_of, is_live_status, status_of, value_of, change_record}
 use Rattle.lot_machine.specs.Traps.{after_trap, with_ticks}
 use Rattle.lot_machine.specs.Mutexes.{mutex_at, lock}
-use Rattle.lot_machine.specs.Step.{of_mutexes, owns, finish_trap, step}
+use Rattle.lot_machine.specs.Servers.{without_servers, before_lock, unserved, port_holders}
+use Rattle.lot_machine.specs.Step.{is_no_mutex, of_mutexes, owns, finish_trap, step}
 use Rattle.lot_machine.specs.Facts.{HasNoCycle, live_value}
 use Rattle.lot_machine.specs.Order.{IsInOrder}
 use Rattle.lot_machine.proofs.CommandsKept.{all-pass, some-of}
@@ -24,9 +27,10 @@ use Rattle.lot_machine.proofs.Queues.{status-now, status-other}
 use Rattle.lot_machine.proofs.Tickets.{some-injective}
 use Rattle.lot_machine.proofs.TrapCycles.{at_number-map}
 use Rattle.lot_machine.proofs.CountsOnce.{counts-once}
+use Rattle.lot_machine.proofs.Unserved.{locks-off}
 use Rattle.lot_machine.proofs.LendDepth.{lends_lead-exact}
 use Rattle.lot_machine.proofs.OrderKept.{step-order}
-use Rattle.lot_laws.specs.Transfers.{WaitsFor}
+use Rattle.lot_laws.specs.Transfers.{MayWait, WaitsFor}
 use Rattle.lot_machine.proofs.StepSizes.{change-length}
 use Rattle.lot_laws.proofs.Trapped.{IsDone, trap-done}
 use Rattle.lot_laws.proofs.Lending.{lending}
@@ -80,11 +84,11 @@ module _ (s : State) (order : IsInOrder s) (lends : s.limits.without_lending ≡
   owners-kept : map (λ (x : Mutex). x.owner) (waiting s p ran used m owner t).mutexes ≡ map (λ (x : Mutex). x.owner) s.mutexes
   owners-kept = map-kept (λ (x : Mutex). x.owner) s.mutexes m mutex (record { owner = Some owner; waiters = (mutex_at s.mutexes m).waiters ++ t ∷ [] }) there (sym owned)
 
-  funding-now : funding_of (waiting s p ran used m owner t) ≡ lending (funding_of s) (lends_in s.limits.without_lending records_now)
+  funding-now : funding_of (waiting s p ran used m owner t) ≡ lending (funding_of s) (lends_in s.limits records_now)
   unfolding records_now
-  funding-now = ap (λ owners. record (lending (funding_of s) (lends_in s.limits.without_lending records_now)) { owners = owners }) owners-kept
+  funding-now = ap (λ owners. record (lending (funding_of s) (lends_in s.limits records_now)) { owners = owners }) owners-kept
 
-  no_cycle_then : HasNoCycle (lending (funding_of s) (lends_in s.limits.without_lending records_now))
+  no_cycle_then : HasNoCycle (lending (funding_of s) (lends_in s.limits records_now))
   no_cycle_then = subst HasNoCycle funding-now no_cycle_now
 
   -- those to whom the owner leads are worth as much more as the thread was worth
@@ -92,7 +96,7 @@ module _ (s : State) (order : IsInOrder s) (lends : s.limits.without_lending ≡
   unfolding records_now
   wait-worth v =
       ap (λ f. thread_value s.limits.unit f (live_in records_now) v) funding-now
-      ∙ blocked-worth s records_now t owner (Running p before) (Waiting m) many runs refl refl t-now refl (ap (λ (without : Bool). borrower (funding_of s) (lend_of without (Waiting m))) lends ∙ owner_is) (λ u differs. ap (option_map (lend_of s.limits.without_lending)) (other-now u differs)) order.no_cycle order.funds_there no_cycle_then
+      ∙ blocked-worth s records_now t owner (Running p before) (Waiting m) many runs refl refl t-now refl (ap (λ (without : Bool). borrower (funding_of s) (if without then Nobody else ToMutex m)) lends ∙ owner_is) (λ u differs. ap (option_map (lend_of s.limits)) (other-now u differs)) order.no_cycle order.funds_there no_cycle_then
       (λ u differs. ap (option_map is_live_status) (other-now u differs)) backed v
 
   pub wait-together : live_value (waiting s p ran used m owner t) ≡ live_value s
@@ -100,7 +104,7 @@ module _ (s : State) (order : IsInOrder s) (lends : s.limits.without_lending ≡
   wait-together =
       counts-once (waiting s p ran used m owner t) no_cycle_now
       ∙ ap (λ f. sum_by (own_value s.limits.unit f (live_in records_now)) (filter (is_backed f (live_in records_now)) (numbers records_now))) funding-now
-      ∙ blocked-own s records_now t owner (Running p before) (Waiting m) many runs refl refl t-now refl (ap (λ (without : Bool). borrower (funding_of s) (lend_of without (Waiting m))) lends ∙ owner_is) (λ u differs. ap (option_map (lend_of s.limits.without_lending)) (other-now u differs)) order.no_cycle order.funds_there no_cycle_then
+      ∙ blocked-own s records_now t owner (Running p before) (Waiting m) many runs refl refl t-now refl (ap (λ (without : Bool). borrower (funding_of s) (if without then Nobody else ToMutex m)) lends ∙ owner_is) (λ u differs. ap (option_map (lend_of s.limits)) (other-now u differs)) order.no_cycle order.funds_there no_cycle_then
       (λ u differs. ap (option_map is_live_status) (other-now u differs)) backed
       ∙ sym (counts-once s order.no_cycle)
 
@@ -113,45 +117,72 @@ owner-seen s m owner u mutex there seen has =
     let found : owner_of (funding_of s) m ≡ mutex.owner = ap option_flatten (at_number-map (λ (x : Mutex). x.owner) s.mutexes m ∙ ap (option_map (λ (x : Mutex). x.owner)) there) in
     (sym found ∙ seen, some-injective u owner (sym has ∙ ap (λ (x : Mutex). x.owner) at ∙ sym found ∙ seen))
 
-after-wait : (P : State → Type 0) (s : State) (e : Event) (t owner : ℕ) → IsInOrder s → WaitsFor s e t owner
+-- the lock takes no server away
+kept-lock : (s : State) (t m owner : ℕ) → HasNoCycle (funding_of s) → owner_of (funding_of s) m ≡ Some owner → MayWait s t owner → before_lock s t m ≡ s.mutexes
+kept-lock s t m owner no_cycle seen may = by s.limits.queued_lend refl
+  where
+    f : Funding
+    f = funding_of s
+
+    has : (o : Option Mutex) → option_flatten (option_map (λ (x : Mutex). x.owner) o) ≡ Some owner → (unwrap_or o (record { owner = None; waiters = [] })).owner ≡ Some owner
+    has None e = cc
+    has (Some mutex) e = e
+
+    owner-is : (mutex_at s.mutexes m).owner ≡ Some owner
+    owner-is = has (at_number s.mutexes m) (sym (ap option_flatten (at_number-map (λ (x : Mutex). x.owner) s.mutexes m)) ∙ seen)
+
+    leads : (o : Option ℕ) → borrower_of f owner ≡ o → option_any (λ x. lends_lead f x t) o ≡ true → LendsLead f owner t
+    leads None is e = cc
+    leads (Some b) is e = let lead = (lends_lead-exact f no_cycle.lends b t).0 e in (b ∷ lead.0, (is, lead.1))
+
+    tested : s.limits.queued_lend ≡ true → (b : Bool) → option_any (λ o. lends_on_to f o t) (mutex_at s.mutexes m).owner ≡ b
+        → cond b (unserved (λ server. lends_lead f server t) s.mutexes (port_holders s.limits)) s.mutexes ≡ s.mutexes
+    tested on false is = refl
+    tested on true is = absurd (may on (leads (borrower_of f owner) refl (sym (ap (option_any (λ o. lends_on_to f o t)) owner-is) ∙ is)))
+
+    by : (b : Bool) → s.limits.queued_lend ≡ b → before_lock s t m ≡ s.mutexes
+    by false off = locks-off s t m off
+    by true on = tested on (option_any (λ o. lends_on_to f o t) (mutex_at s.mutexes m).owner) refl
+
+after-wait : (P : State → Type 0) (s : State) (e : Event) (t owner : ℕ) → IsInOrder s → WaitsFor s e t owner → MayWait s t owner
     → ((p ran used before m : ℕ) (mutex : Mutex) → status_of s.records t ≡ Some (Running p before) → at_number s.mutexes m ≡ Some mutex → mutex.owner ≡ Some owner → owner_of (funding_of s) m ≡ Some owner
     → HasNoCycle (funding_of (waiting s p ran used m owner t)) → P (waiting s p ran used m owner t))
     → P (step s e).state
-after-wait P s e t owner order (p, ran, m, ticks, ends, is, replied, seen) holds =
+after-wait P s e t owner order (p, ran, m, ticks, ends, is, replied, seen) may holds =
     by (trap-done s p ran (Lock m) t ticks Waits ends (λ refusal same. cc) (ap (λ x. (step s x).reply) (sym is) ∙ replied))
   where
     by : IsDone s p ran (Lock m) t Waits (step s (Trap p ran (Lock m))).state → P (step s e).state
     by done =
-        let passed = all-pass ((is_none (at_number s.mutexes m), NoMutex) ∷ (owns s t m, AlreadyOwner)
-        ∷ (option_any (λ u. lends_on_to (funding_of s) u t) (mutex_at s.mutexes m).owner, LockCycle) ∷ []) done.passed in
-        let (mutex, there) = some-of (at_number s.mutexes m) passed.0 in
-        let (u, has, state) = lock-waits s p ran done.used m t done.came in
+        let passed = all-pass ((is_no_mutex s m, NoMutex) ∷ (owns s t m, AlreadyOwner)
+        ∷ (option_any (λ u. lends_on_to (without_servers s) u t) (mutex_at s.mutexes m).owner, LockCycle) ∷ []) done.passed in
+        let (mutex, there) = some-of (at_number s.mutexes m) (or_parts (is_none (at_number s.mutexes m)) (nat_lt s.limits.mutexes m) passed.0).0 in
+        let (u, has, state) = lock-waits s p ran done.used m t (ap (λ mutexes. (lock s.records mutexes t m).outcome) (sym (kept-lock s t m owner order.no_cycle seen may)) ∙ done.came) in
         let (owned, same) = owner-seen s m owner u mutex there seen has in
-        let here : (step s e).state ≡ waiting s p ran done.used m owner t = ap (λ x. (step s x).state) is ∙ done.state ∙ state ∙ ap (λ x. waiting s p ran done.used m x t) same in
+        let here : (step s e).state ≡ waiting s p ran done.used m owner t = ap (λ x. (step s x).state) is ∙ done.state ∙ ap (λ mutexes. (finish_trap s p t (ran + 1) done.used (of_mutexes s (lock s.records mutexes t m))).state) (kept-lock s t m owner order.no_cycle seen may) ∙ state ∙ ap (λ x. waiting s p ran done.used m x t) same in
         let now : HasNoCycle (funding_of (step s e).state) = (step-order s e order).no_cycle in
         subst P (sym here) (holds p ran done.used done.before m mutex done.runs there owned seen (subst (λ x. HasNoCycle (funding_of x)) here now))
 
-pub worth-then : (s : State) (e : Event) (t owner v : ℕ) → IsInOrder s → s.limits.without_lending ≡ false → WaitsFor s e t owner → IsBacked (funding_of s) (live_of s) owner
+pub worth-then : (s : State) (e : Event) (t owner v : ℕ) → IsInOrder s → s.limits.without_lending ≡ false → WaitsFor s e t owner → MayWait s t owner → IsBacked (funding_of s) (live_of s) owner
     → value_of (step s e).state v ≡ value_of s v + cond (lends_lead (funding_of s) owner v) (value_of s t) 0
-worth-then s e t owner v order lends waits backed =
-    after-wait (λ x. value_of x v ≡ value_of s v + cond (lends_lead (funding_of s) owner v) (value_of s t) 0) s e t owner order waits
+worth-then s e t owner v order lends waits may backed =
+    after-wait (λ x. value_of x v ≡ value_of s v + cond (lends_lead (funding_of s) owner v) (value_of s t) 0) s e t owner order waits may
     (λ p ran used before m mutex runs there owned seen now. wait-worth s order lends p ran used before m owner t runs mutex there owned seen now backed v)
 
-pub leads-gets : (s : State) (e : Event) (t owner v : ℕ) → IsInOrder s → s.limits.without_lending ≡ false → WaitsFor s e t owner → IsBacked (funding_of s) (live_of s) owner → LendsLead (funding_of s) owner v
+pub leads-gets : (s : State) (e : Event) (t owner v : ℕ) → IsInOrder s → s.limits.without_lending ≡ false → WaitsFor s e t owner → MayWait s t owner → IsBacked (funding_of s) (live_of s) owner → LendsLead (funding_of s) owner v
     → value_of (step s e).state v ≡ value_of s v + value_of s t
-leads-gets s e t owner v order lends waits backed leads =
-    worth-then s e t owner v order lends waits backed ∙ ap (λ b. value_of s v + cond b (value_of s t) 0) ((lends_lead-exact (funding_of s) order.no_cycle.lends owner v).1 leads)
+leads-gets s e t owner v order lends waits may backed leads =
+    worth-then s e t owner v order lends waits may backed ∙ ap (λ b. value_of s v + cond b (value_of s t) 0) ((lends_lead-exact (funding_of s) order.no_cycle.lends owner v).1 leads)
 
-pub others-keep : (s : State) (e : Event) (t owner v : ℕ) → IsInOrder s → s.limits.without_lending ≡ false → WaitsFor s e t owner → IsBacked (funding_of s) (live_of s) owner → ¬ LendsLead (funding_of s) owner v
+pub others-keep : (s : State) (e : Event) (t owner v : ℕ) → IsInOrder s → s.limits.without_lending ≡ false → WaitsFor s e t owner → MayWait s t owner → IsBacked (funding_of s) (live_of s) owner → ¬ LendsLead (funding_of s) owner v
     → value_of (step s e).state v ≡ value_of s v
-others-keep s e t owner v order lends waits backed apart =
-    worth-then s e t owner v order lends waits backed ∙ ap (λ b. value_of s v + cond b (value_of s t) 0) (off (lends_lead (funding_of s) owner v) refl) ∙ omega arith
+others-keep s e t owner v order lends waits may backed apart =
+    worth-then s e t owner v order lends waits may backed ∙ ap (λ b. value_of s v + cond b (value_of s t) 0) (off (lends_lead (funding_of s) owner v) refl) ∙ omega arith
   where
     off : (b : Bool) → lends_lead (funding_of s) owner v ≡ b → b ≡ false
     off false is = refl
     off true is = absurd (apart ((lends_lead-exact (funding_of s) order.no_cycle.lends owner v).0 is))
 
-pub together-same : (s : State) (e : Event) (t owner : ℕ) → IsInOrder s → s.limits.without_lending ≡ false → WaitsFor s e t owner → IsBacked (funding_of s) (live_of s) owner → live_value (step s e).state ≡ live_value s
-together-same s e t owner order lends waits backed =
-    after-wait (λ x. live_value x ≡ live_value s) s e t owner order waits
+pub together-same : (s : State) (e : Event) (t owner : ℕ) → IsInOrder s → s.limits.without_lending ≡ false → WaitsFor s e t owner → MayWait s t owner → IsBacked (funding_of s) (live_of s) owner → live_value (step s e).state ≡ live_value s
+together-same s e t owner order lends waits may backed =
+    after-wait (λ x. live_value x ≡ live_value s) s e t owner order waits may
     (λ p ran used before m mutex runs there owned seen now. wait-together s order lends p ran used before m owner t runs mutex there owned seen now backed)

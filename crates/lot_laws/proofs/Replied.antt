@@ -1,5 +1,5 @@
 -- A reply: what threads are worth then.
-use Rattle.std.proofs.Common.{◌≡◌, ◌≢◌, ℕ, ◌+◌, true, false, cond, is_none, ◌⊎◌, inl, inr, Option, Some, None, List, [], ◌∷◌, length, drop, option_map, option_and_then, unwrap_or, refl, sym, ◌∙◌, ap, subst, arith, Bool}
+use Rattle.std.proofs.Common.{◌≡◌, ◌≢◌, ℕ, ◌+◌, true, false, cond, is_none, ◌⊎◌, inl, inr, Option, Some, None, List, [], ◌∷◌, length, drop, option_map, option_and_then, unwrap_or, refl, sym, ◌∙◌, ap, subst, arith}
 use Rattle.std.proofs.lemmas.Bool.{cases_eq}
 use Rattle.lot_machine.specs.declared.sizes.Sizes.{Sizes}
 use Rattle.lot_machine.specs.declared.record.Record.{Record}
@@ -30,7 +30,7 @@ use Rattle.lot_laws.proofs.Trapped.{IsDone, trap-done, lend-is, live-is, goes-on
 use Rattle.lot_laws.proofs.Blocked.{lead-itself, lead-other, blocked-worth, blocked-own, served-lends}
 
 -- a thread that goes on after its trap: what it lends to, and that it is live
-pub lends-on : (without : Bool) (records : List Record) (t p used ticks : ℕ) (limits : Sizes) (before : ℕ) → status_of records t ≡ Some (Running p before)
+pub lends-on : (without : Sizes) (records : List Record) (t p used ticks : ℕ) (limits : Sizes) (before : ℕ) → status_of records t ≡ Some (Running p before)
     → option_map (lend_of without) (status_of (change_record (λ r. with_ticks ticks (after_trap GoesOn p used limits r)) records t) t) ≡ Some Nobody
 lends-on without records t p used ticks limits before is =
     let (r, there, status) = record-of records t (Running p before) is in
@@ -40,7 +40,7 @@ pub lives-on : (records : List Record) (t p used ticks : ℕ) (limits : Sizes) (
     → option_map is_live_status (status_of (change_record (λ r. with_ticks ticks (after_trap GoesOn p used limits r)) records t) t) ≡ Some true
 lives-on records t p used ticks limits before is =
     let (r, there, status) = record-of records t (Running p before) is in
-    ap (option_map is_live_status) (status-set (λ r. with_ticks ticks (after_trap GoesOn p used limits r)) records t r there) ∙ ap Some (goes-on true ticks p used limits r).1
+    ap (option_map is_live_status) (status-set (λ r. with_ticks ticks (after_trap GoesOn p used limits r)) records t r there) ∙ ap Some (goes-on limits ticks p used limits r).1
 
 -- ---- the state
 
@@ -97,9 +97,9 @@ module _ (s : State) (order : IsInOrder s) (lends : s.limits.without_lending ≡
       sym (status-other (λ r. with_ticks (ran + 1) (after_trap GoesOn p used s.limits r)) (woken s number caller) server u second_apart
       ∙ status-other (λ r. record r { status = Ready; delivered = Some number }) s.records caller u first_apart)
 
-  server-lend : option_map (lend_of s.limits.without_lending) (status_of records_now server) ≡ Some Nobody
+  server-lend : option_map (lend_of s.limits) (status_of records_now server) ≡ Some Nobody
   unfolding records_now
-  server-lend = lends-on s.limits.without_lending (woken s number caller) server p used (ran + 1) s.limits before server-then
+  server-lend = lends-on s.limits (woken s number caller) server p used (ran + 1) s.limits before server-then
 
   server-live : option_map is_live_status (status_of records_now server) ≡ Some true
   unfolding records_now
@@ -111,12 +111,12 @@ module _ (s : State) (order : IsInOrder s) (lends : s.limits.without_lending ≡
       sym (change-length (λ r. with_ticks (ran + 1) (after_trap GoesOn p used s.limits r)) (woken s number caller) server
       ∙ change-length (λ r. record r { status = Ready; delivered = Some number }) s.records caller)
 
-  lends-same : (u : ℕ) → u ≢ caller → option_map (lend_of s.limits.without_lending) (status_of s.records u) ≡ option_map (lend_of s.limits.without_lending) (status_of records_now u)
+  lends-same : (u : ℕ) → u ≢ caller → option_map (lend_of s.limits) (status_of s.records u) ≡ option_map (lend_of s.limits) (status_of records_now u)
   lends-same u differs = by (cases_eq u server)
     where
-      by : (u ≡ server) ⊎ (¬ (u ≡ server)) → option_map (lend_of s.limits.without_lending) (status_of s.records u) ≡ option_map (lend_of s.limits.without_lending) (status_of records_now u)
-      by (inl same) = ap (λ x. option_map (lend_of s.limits.without_lending) (status_of s.records x)) same ∙ ap (option_map (lend_of s.limits.without_lending)) runs ∙ sym server-lend ∙ ap (λ x. option_map (lend_of s.limits.without_lending) (status_of records_now x)) (sym same)
-      by (inr other) = ap (option_map (lend_of s.limits.without_lending)) (other-now u differs other)
+      by : (u ≡ server) ⊎ (¬ (u ≡ server)) → option_map (lend_of s.limits) (status_of s.records u) ≡ option_map (lend_of s.limits) (status_of records_now u)
+      by (inl same) = ap (λ x. option_map (lend_of s.limits) (status_of s.records x)) same ∙ ap (option_map (lend_of s.limits)) runs ∙ sym server-lend ∙ ap (λ x. option_map (lend_of s.limits) (status_of records_now x)) (sym same)
+      by (inr other) = ap (option_map (lend_of s.limits)) (other-now u differs other)
 
   lives-same : (u : ℕ) → u ≢ caller → option_map is_live_status (status_of s.records u) ≡ option_map is_live_status (status_of records_now u)
   lives-same u differs = by (cases_eq u server)
@@ -131,7 +131,7 @@ module _ (s : State) (order : IsInOrder s) (lends : s.limits.without_lending ≡
 
   server-alone : borrower_of (funding_of (replied s p ran used number caller server)) server ≡ None
   unfolding records_now
-  server-alone = ap (option_and_then (borrower (funding_of (replied s p ran used number caller server)))) (lend-is s.limits.without_lending records_now server ∙ server-lend)
+  server-alone = ap (option_and_then (borrower (funding_of (replied s p ran used number caller server)))) (lend-is s.limits records_now server ∙ server-lend)
 
   -- what was lent to the server
   pub reply-worth : (v : ℕ) → value_of s v ≡ value_of (replied s p ran used number caller server) v

@@ -15,6 +15,7 @@ use Rattle.lot_machine.specs.Lends.{IsBacked, lends_lead}
 use Rattle.lot_machine.specs.State.{State, QueuedCall, funding_of, live_of, lend_of, is_live_status, status_of, value_of, change_record}
 use Rattle.lot_machine.specs.Traps.{after_trap, with_ticks}
 use Rattle.lot_machine.specs.Ports.{port_at, clients_of, first_client, with_client, serve}
+use Rattle.lot_machine.specs.Servers.{served_at}
 use Rattle.lot_machine.specs.Step.{of_ports, finish_trap, step}
 use Rattle.lot_machine.specs.Facts.{HasNoCycle, live_value}
 use Rattle.lot_machine.specs.Order.{IsQueue, IsInOrder}
@@ -24,9 +25,9 @@ use Rattle.lot_machine.proofs.Queues.{status-now, status-other, queue-clients}
 use Rattle.lot_machine.proofs.TrapCycles.{cycle-nobody}
 use Rattle.lot_machine.proofs.CountsOnce.{counts-once}
 use Rattle.lot_machine.proofs.OrderKept.{step-order}
-use Rattle.lot_laws.specs.Transfers.{RepliesThenWaits, RepliesThenReceives, OwnsNothing, with_ready}
+use Rattle.lot_laws.specs.Transfers.{LendsServed, RepliesThenWaits, RepliesThenReceives, OwnsNothing, with_ready}
 use Rattle.lot_machine.proofs.StepSizes.{change-length}
-use Rattle.lot_laws.proofs.Trapped.{IsDone, trap-done}
+use Rattle.lot_laws.proofs.Trapped.{port-stays, port-off, IsDone, trap-done}
 use Rattle.lot_laws.proofs.Lending.{worth-nothing, comes-alone}
 use Rattle.lot_laws.proofs.Blocked.{lead-itself, lead-other, lends-nobody, is-live, woken-worth, woken-own, blocked-worth, blocked-own, served-lends}
 use Rattle.lot_laws.proofs.CallTaken.{port-there}
@@ -52,7 +53,7 @@ taken s number caller next server = change_record (λ r. record r { status = Ser
 abbrev gone_on : State → ℕ → ℕ → ℕ → ℕ → ℕ → ℕ → ℕ → List Record
 gone_on s p ran used number caller next server = change_record (λ r. with_ticks (ran + 1) (after_trap GoesOn p used s.limits r)) (taken s number caller next server) server
 
-abbrev serving : State → ℕ → ℕ → ℕ → ℕ → ℕ → List QueuedCall → ℕ → ℕ → ℕ → State
+abbrev pub serving : State → ℕ → ℕ → ℕ → ℕ → ℕ → List QueuedCall → ℕ → ℕ → ℕ → State
 serving s p ran used port number others caller next server = record s {
   records = gone_on s p ran used number caller next server;
   clients = with_client (set_number s.clients server (drop 1 (clients_of s.clients server))) server next;
@@ -69,11 +70,11 @@ serve-waits s p ran used port number caller server = at (port_at s.ports port).c
     at (first ∷ others) is = rw is (λ came. cc)
 
 -- the first of these calls was the next caller's, and this is the state then
-abbrev IsServing : State → ℕ → ℕ → ℕ → ℕ → ℕ → ℕ → ℕ → ℕ → List QueuedCall → State → Type 0
+abbrev pub IsServing : State → ℕ → ℕ → ℕ → ℕ → ℕ → ℕ → ℕ → ℕ → List QueuedCall → State → Type 0
 IsServing s p ran used port number caller next server calls after =
     (first : QueuedCall) × (others : List QueuedCall) × (calls ≡ first ∷ others) × (first.caller ≡ next) × (unwrap_or (first_client s.clients server) 0 ≡ caller) × (after ≡ serving s p ran used port number others caller next server)
 
-serve-receives : (s : State) (p ran used port number caller next got server : ℕ) → (serve s.records s.clients s.ports server port number).outcome ≡ RepliedThenReceived caller next got
+pub serve-receives : (s : State) (p ran used port number caller next got server : ℕ) → (serve s.records s.clients s.ports server port number).outcome ≡ RepliedThenReceived caller next got
     → IsServing s p ran used port number caller next server (port_at s.ports port).calls (finish_trap s p server (ran + 1) used (of_ports s (serve s.records s.clients s.ports server port number))).state
 serve-receives s p ran used port number caller next got server = at (port_at s.ports port).calls refl
   where
@@ -126,12 +127,12 @@ module _ (s : State) (order : IsInOrder s) (lends : s.limits.without_lending ≡
         sym (change-length (λ r. with_ticks (ran + 1) (after_trap (Leaves (Receiving port)) p used s.limits r)) (woken s number caller) server
         ∙ change-length (λ r. record r { status = Ready; delivered = Some number }) s.records caller)
 
-    lends-left : (u : ℕ) → u ≢ caller → option_map (lend_of s.limits.without_lending) (status_of s.records u) ≡ option_map (lend_of s.limits.without_lending) (status_of records_left u)
+    lends-left : (u : ℕ) → u ≢ caller → option_map (lend_of s.limits) (status_of s.records u) ≡ option_map (lend_of s.limits) (status_of records_left u)
     lends-left u differs = by (cases_eq u server)
       where
-        by : (u ≡ server) ⊎ (¬ (u ≡ server)) → option_map (lend_of s.limits.without_lending) (status_of s.records u) ≡ option_map (lend_of s.limits.without_lending) (status_of records_left u)
-        by (inl same) = ap (λ x. option_map (lend_of s.limits.without_lending) (status_of s.records x)) same ∙ ap (option_map (lend_of s.limits.without_lending)) runs ∙ sym (ap (option_map (lend_of s.limits.without_lending)) server-left) ∙ ap (λ x. option_map (lend_of s.limits.without_lending) (status_of records_left x)) (sym same)
-        by (inr other) = ap (option_map (lend_of s.limits.without_lending)) (other-left u differs other)
+        by : (u ≡ server) ⊎ (¬ (u ≡ server)) → option_map (lend_of s.limits) (status_of s.records u) ≡ option_map (lend_of s.limits) (status_of records_left u)
+        by (inl same) = ap (λ x. option_map (lend_of s.limits) (status_of s.records x)) same ∙ ap (option_map (lend_of s.limits)) runs ∙ sym (ap (option_map (lend_of s.limits)) server-left) ∙ ap (λ x. option_map (lend_of s.limits) (status_of records_left x)) (sym same)
+        by (inr other) = ap (option_map (lend_of s.limits)) (other-left u differs other)
 
     lives-left : (u : ℕ) → u ≢ caller → u ≢ server → option_map is_live_status (status_of s.records u) ≡ option_map is_live_status (status_of records_left u)
     lives-left u one two = ap (option_map is_live_status) (other-left u one two)
@@ -241,9 +242,9 @@ module _ (s : State) (order : IsInOrder s) (lends : s.limits.without_lending ≡
         ∙ status-other (λ r. record r { status = Served server }) (woken s number caller) next u two
         ∙ status-other (λ r. record r { status = Ready; delivered = Some number }) s.records caller u one
 
-    server-lend : option_map (lend_of s.limits.without_lending) (status_of records_now server) ≡ Some Nobody
+    server-lend : option_map (lend_of s.limits) (status_of records_now server) ≡ Some Nobody
     unfolding records_now
-    server-lend = lends-on s.limits.without_lending (taken s number caller next server) server p used (ran + 1) s.limits before server-then
+    server-lend = lends-on s.limits (taken s number caller next server) server p used (ran + 1) s.limits before server-then
 
     server-live : option_map is_live_status (status_of records_now server) ≡ Some true
     unfolding records_now
@@ -257,15 +258,15 @@ module _ (s : State) (order : IsInOrder s) (lends : s.limits.without_lending ≡
         ∙ change-length (λ r. record r { status = Ready; delivered = Some number }) s.records caller
         ∙ sym (change-length (λ r. record r { status = Ready }) (change_record (λ r. record r { status = Ready }) s.records caller) next ∙ change-length (λ r. record r { status = Ready }) s.records caller)
 
-    lends-now : (u : ℕ) → u ≢ next → option_map (lend_of s.limits.without_lending) (status_of records_now u) ≡ option_map (lend_of s.limits.without_lending) (status_of records_ready u)
+    lends-now : (u : ℕ) → u ≢ next → option_map (lend_of s.limits) (status_of records_now u) ≡ option_map (lend_of s.limits) (status_of records_ready u)
     lends-now u differs = by (cases_eq u server) (cases_eq u caller)
       where
-        by : (u ≡ server) ⊎ (¬ (u ≡ server)) → (u ≡ caller) ⊎ (¬ (u ≡ caller)) → option_map (lend_of s.limits.without_lending) (status_of records_now u) ≡ option_map (lend_of s.limits.without_lending) (status_of records_ready u)
+        by : (u ≡ server) ⊎ (¬ (u ≡ server)) → (u ≡ caller) ⊎ (¬ (u ≡ caller)) → option_map (lend_of s.limits) (status_of records_now u) ≡ option_map (lend_of s.limits) (status_of records_ready u)
         by (inl same) which =
-            ap (λ x. option_map (lend_of s.limits.without_lending) (status_of records_now x)) same ∙ server-lend ∙ sym (ap (option_map (lend_of s.limits.without_lending)) server-ready) ∙ ap (λ x. option_map (lend_of s.limits.without_lending) (status_of records_ready x)) (sym same)
+            ap (λ x. option_map (lend_of s.limits) (status_of records_now x)) same ∙ server-lend ∙ sym (ap (option_map (lend_of s.limits)) server-ready) ∙ ap (λ x. option_map (lend_of s.limits) (status_of records_ready x)) (sym same)
         by (inr other) (inl same) =
-            ap (λ x. option_map (lend_of s.limits.without_lending) (status_of records_now x)) same ∙ ap (option_map (lend_of s.limits.without_lending)) (caller-now ∙ sym caller-ready) ∙ ap (λ x. option_map (lend_of s.limits.without_lending) (status_of records_ready x)) (sym same)
-        by (inr other) (inr another) = ap (option_map (lend_of s.limits.without_lending)) (other-now u another differs other ∙ sym (other-ready u another differs))
+            ap (λ x. option_map (lend_of s.limits) (status_of records_now x)) same ∙ ap (option_map (lend_of s.limits)) (caller-now ∙ sym caller-ready) ∙ ap (λ x. option_map (lend_of s.limits) (status_of records_ready x)) (sym same)
+        by (inr other) (inr another) = ap (option_map (lend_of s.limits)) (other-now u another differs other ∙ sym (other-ready u another differs))
 
     lives-now : (u : ℕ) → u ≢ next → option_map is_live_status (status_of records_now u) ≡ option_map is_live_status (status_of records_ready u)
     lives-now u differs = by (cases_eq u server) (cases_eq u caller)
@@ -321,15 +322,15 @@ after-wait P s e caller server order (p, ran, port, number, ticks, ends, is, rep
     by done =
         let (same, state) = serve-waits s p ran done.used port number caller server done.came in
         let checks = all-pass ((is_none (at_number s.ports port), NoPort) ∷ (is_none (first_client s.clients server), NothingToReply) ∷ []) done.passed in
-        let here : (step s e).state ≡ waiting s p ran done.used port number caller server = ap (λ x. (step s x).state) is ∙ done.state ∙ state in
+        let here : (step s e).state ≡ waiting s p ran done.used port number caller server = ap (λ x. (step s x).state) is ∙ done.state ∙ ap (λ x. (finish_trap s p server (ran + 1) done.used x).state) (port-stays s server port (serve s.records s.clients s.ports server port number) (ap (served_at s server port) done.came)) ∙ state in
         let now : HasNoCycle (funding_of (step s e).state) = (step-order s e order).no_cycle in
         subst P (sym here) (holds p ran done.used done.before port number done.runs (caller-first s caller server same checks.1.0) (subst (λ x. HasNoCycle (funding_of x)) here now))
 
-after-serve : (P : State → Type 0) (s : State) (e : Event) (caller next server : ℕ) → IsInOrder s → RepliesThenReceives s e caller next server
+after-serve : (P : State → Type 0) (s : State) → s.limits.queued_lend ≡ false → (e : Event) (caller next server : ℕ) → IsInOrder s → RepliesThenReceives s e caller next server
     → ((p ran used before port number : ℕ) (queued : QueuedCall) (others : List QueuedCall) → status_of s.records server ≡ Some (Running p before) → first_client s.clients server ≡ Some caller
     → at_number s.ports port ≡ Some (port_at s.ports port) → (port_at s.ports port).calls ≡ queued ∷ others → queued.caller ≡ next
     → HasNoCycle (funding_of (serving s p ran used port number others caller next server)) → P (serving s p ran used port number others caller next server)) → P (step s e).state
-after-serve P s e caller next server order (p, ran, port, number, got, ticks, ends, is, replies) holds =
+after-serve P s off e caller next server order (p, ran, port, number, got, ticks, ends, is, replies) holds =
     by (trap-done s p ran (Serve port number) server ticks (RepliedThenReceived caller next got) ends (λ refusal same. cc) (ap (λ x. (step s x).reply) (sym is) ∙ replies))
   where
     by : IsDone s p ran (Serve port number) server (RepliedThenReceived caller next got) (step s (Trap p ran (Serve port number))).state → P (step s e).state
@@ -337,7 +338,7 @@ after-serve P s e caller next server order (p, ran, port, number, got, ticks, en
         let (queued, others, calls, next_is, same, state) = serve-receives s p ran done.used port number caller next got server done.came in
         let checks = all-pass ((is_none (at_number s.ports port), NoPort) ∷ (is_none (first_client s.clients server), NothingToReply) ∷ []) done.passed in
         let there : at_number s.ports port ≡ Some (port_at s.ports port) = port-there s port checks.0 in
-        let here : (step s e).state ≡ serving s p ran done.used port number others caller next server = ap (λ x. (step s x).state) is ∙ done.state ∙ state in
+        let here : (step s e).state ≡ serving s p ran done.used port number others caller next server = ap (λ x. (step s x).state) is ∙ done.state ∙ ap (λ x. (finish_trap s p server (ran + 1) done.used x).state) (port-off s server port (serve s.records s.clients s.ports server port number) off) ∙ state in
         let now : HasNoCycle (funding_of (step s e).state) = (step-order s e order).no_cycle in
         subst P (sym here) (holds p ran done.used done.before port number queued others done.runs (caller-first s caller server same checks.1.0) there calls next_is (subst (λ x. HasNoCycle (funding_of x)) here now))
 
@@ -357,18 +358,18 @@ waits-together s e caller server order lends replies =
     after-wait (λ x. OwnsNothing x server → live_value x ≡ live_value s) s e caller server order replies
     (λ p ran used before port number runs first now owns. left-together s order lends p before caller server runs first ran used port number now owns)
 
-pub serves-server : (s : State) (e : Event) (caller next server : ℕ) → IsInOrder s → s.limits.without_lending ≡ false → RepliesThenReceives s e caller next server
+pub serves-server : (s : State) (e : Event) (caller next server : ℕ) → IsInOrder s → LendsServed s → RepliesThenReceives s e caller next server
     → value_of (step s e).state server ≡ value_of (with_ready (with_ready s caller) next) server + value_of (with_ready (with_ready s caller) next) next
 serves-server s e caller next server order lends replies =
-    after-serve (λ x. value_of x server ≡ value_of (with_ready (with_ready s caller) next) server + value_of (with_ready (with_ready s caller) next) next) s e caller next server order replies
-    (λ p ran used before port number queued others runs first there calls next_is now. serve-server s order lends p before caller server runs first ran used port number next queued others there calls next_is now)
+    after-serve (λ x. value_of x server ≡ value_of (with_ready (with_ready s caller) next) server + value_of (with_ready (with_ready s caller) next) next) s lends.1 e caller next server order replies
+    (λ p ran used before port number queued others runs first there calls next_is now. serve-server s order lends.0 p before caller server runs first ran used port number next queued others there calls next_is now)
 
-pub serves-others : (s : State) (e : Event) (caller next server other : ℕ) → IsInOrder s → s.limits.without_lending ≡ false → RepliesThenReceives s e caller next server → other ≢ server → value_of (step s e).state other ≡ value_of (with_ready (with_ready s caller) next) other
+pub serves-others : (s : State) (e : Event) (caller next server other : ℕ) → IsInOrder s → LendsServed s → RepliesThenReceives s e caller next server → other ≢ server → value_of (step s e).state other ≡ value_of (with_ready (with_ready s caller) next) other
 serves-others s e caller next server other order lends replies differs =
-    after-serve (λ x. value_of x other ≡ value_of (with_ready (with_ready s caller) next) other) s e caller next server order replies
-    (λ p ran used before port number queued others runs first there calls next_is now. serve-others s order lends p before caller server runs first ran used port number next queued others there calls next_is now other differs)
+    after-serve (λ x. value_of x other ≡ value_of (with_ready (with_ready s caller) next) other) s lends.1 e caller next server order replies
+    (λ p ran used before port number queued others runs first there calls next_is now. serve-others s order lends.0 p before caller server runs first ran used port number next queued others there calls next_is now other differs)
 
-pub serves-together : (s : State) (e : Event) (caller next server : ℕ) → IsInOrder s → s.limits.without_lending ≡ false → RepliesThenReceives s e caller next server → live_value (step s e).state ≡ live_value (with_ready (with_ready s caller) next)
+pub serves-together : (s : State) (e : Event) (caller next server : ℕ) → IsInOrder s → LendsServed s → RepliesThenReceives s e caller next server → live_value (step s e).state ≡ live_value (with_ready (with_ready s caller) next)
 serves-together s e caller next server order lends replies =
-    after-serve (λ x. live_value x ≡ live_value (with_ready (with_ready s caller) next)) s e caller next server order replies
-    (λ p ran used before port number queued others runs first there calls next_is now. serve-together s order lends p before caller server runs first ran used port number next queued others there calls next_is now)
+    after-serve (λ x. live_value x ≡ live_value (with_ready (with_ready s caller) next)) s lends.1 e caller next server order replies
+    (λ p ran used before port number queued others runs first there calls next_is now. serve-together s order lends.0 p before caller server runs first ran used port number next queued others there calls next_is now)

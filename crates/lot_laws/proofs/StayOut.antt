@@ -1,5 +1,5 @@
 -- Nothing refers to a thread that was removed: tickets, lends and owners that an event makes name a thread that is there.
-use Rattle.std.proofs.Common.{◌≡◌, ◌≢◌, cond, slice_set, ℕ, zero, suc, ◌+◌, ◌-◌, ◌⊎◌, inl, inr, Bool, true, false, not, Option, Some, None, is_none, List, [], ◌∷◌, ◌++◌, Contains, length, map, position, refl, sym, ◌∙◌, ap, subst, arith, nat_lt, option_map, option_and_then, unwrap_or, get_or, slice_get, slice_index, ◌||◌, is_some}
+use Rattle.std.proofs.Common.{◌≡◌, ◌≢◌, cond, slice_set, ℕ, zero, suc, ◌+◌, ◌-◌, ◌⊎◌, inl, inr, Bool, true, false, not, Option, Some, None, is_none, List, [], ◌∷◌, ◌++◌, Contains, length, map, position, refl, sym, ◌∙◌, ap, subst, arith, nat_lt, option_map, option_and_then, unwrap_or, get_or, slice_get, slice_index, ◌||◌, is_some, ◌==◌, if◌then◌else◌}
 use Rattle.std.specs.Prelude.{remove}
 use Rattle.std.specs.Option.{option_flatten, option_or}
 use Rattle.std.proofs.lemmas.Bool.{ltb-false}
@@ -16,6 +16,7 @@ use Rattle.lot_machine.specs.declared.record.Status.TheVariants as status
 use Rattle.lot_machine.specs.declared.funding.Node.{Node}
 use Rattle.lot_machine.specs.declared.funding.Node.TheVariants.{Currency, Thread, Mutex as MutexNode}
 use Rattle.lot_machine.specs.declared.funding.Lend.{Lend}
+use Rattle.lot_machine.specs.declared.funding.Lend.TheVariants.{Nobody, ToThread, ToMutex}
 use Rattle.lot_machine.specs.declared.funding.Edge.{Edge}
 use Rattle.lot_machine.specs.declared.funding.Edge.TheVariants.{OfTicket, OfLender, OfMutex}
 use Rattle.lot_machine.specs.declared.action.Action.{Action}
@@ -39,12 +40,16 @@ use Rattle.lot_machine.specs.Places.{next_place, placed}
 use Rattle.lot_machine.specs.Funding.{Funding, ticket_in, ticket_at, target_node, lend_node, ends_of, edge_count_into, with_target, retargeted, with_amount, reissued}
 use Rattle.lot_machine.specs.Equations.{edges_into}
 use Rattle.lot_machine.specs.Lottery.{winner}
-use Rattle.lot_machine.specs.State.{State, free_tickets, free_threads, next_thread, Mutex, QueuedCall, opening, funding_of, lend_of, status_of, thread_at, thread_on, ready_threads, change_record, value_of, weight_of}
+use Rattle.lot_machine.specs.State.{State, free_tickets, free_threads, next_thread, Mutex, QueuedCall, holder_of, lends_at, opening, funding_of, lend_of, status_of, thread_at, thread_on, ready_threads, change_record, value_of, weight_of}
 use Rattle.lot_machine.specs.Commands.{is_meant_by, currency_meant, currency_named, thread_meant, thread_named, target_meant, target_named, currency_or_base, is_dead_in, is_thread_in_use, newborn, with_thread, drop_thread, command_refusal, command_effect, unless_refused, command_step}
 use Rattle.lot_machine.specs.Traps.{after_trap, compensation_for, with_ticks}
-use Rattle.lot_machine.specs.Ports.{port_at, first_client, call, receive, reply}
+use Rattle.lot_machine.specs.Ports.{port_at, first_client, call, receive, reply, serve}
 use Rattle.lot_machine.specs.Mutexes.{mutex_at, lock, unlock}
 use Rattle.lot_machine.specs.Kill.{without, is_owned_by, mutex_without, killed}
+use Rattle.lot_machine.specs.Lends.{lends_lead, lends_on_to}
+use Rattle.lot_machine.specs.declared.reply.Outcome.{Outcome}
+use Rattle.lot_machine.specs.declared.reply.Outcome.TheVariants as outcome
+use Rattle.lot_machine.specs.Servers.{held_by, with_server, leads_back, served_at, port_holders, unserved_at, unserved, before_lock}
 use Rattle.lot_machine.specs.Step.{Effect, of_ports, of_mutexes, is_bad_processor, started, draw, stopped, trap, wake, trap_refusal, trap_effect, checked_effect, thread_there, used_there, event_effect, step, state_after, replies}
 use Rattle.lot_machine.specs.Order.{IsQueue, IsInOrder}
 use Rattle.lot_machine.proofs.Tickets.{at_number-suc, some-injective}
@@ -110,7 +115,7 @@ ticket-edge f n t ticket at is =
 
 lend-edge : (s : State) (u t : ℕ) → s.limits.without_lending ≡ false → status_of s.records u ≡ Some (status.Served t) → ends_of (funding_of s) (OfLender u) ≡ Some (pair (Thread u) (Thread t))
 lend-edge s u t on is =
-    ap (option_and_then (λ (lend : Lend). option_map (pair (Thread u)) (lend_node lend))) (lend-at s.limits.without_lending s.records u (status.Served t) is ∙ ap (λ (without : Bool). Some (lend_of without (status.Served t))) on)
+    ap (option_and_then (λ (lend : Lend). option_map (pair (Thread u)) (lend_node lend))) (lend-at s.limits s.records u (status.Served t) is ∙ ap (λ (without : Bool). Some (if without then Nobody else ToThread t)) on)
 
 owner-edge : (s : State) (m t : ℕ) (mutex : Mutex) → at_number s.mutexes m ≡ Some mutex → mutex.owner ≡ Some t → ends_of (funding_of s) (OfMutex m) ≡ Some (pair (MutexNode m) (Thread t))
 owner-edge s m t mutex at is =
@@ -130,26 +135,37 @@ target-thread target.Unfunded t e = cc
 target-thread (target.Currency c) t e = cc
 target-thread (target.Thread u) t e = let same : Thread u ≡ Thread t = some-injective (Thread u) (Thread t) e in let number : u ≡ t = cc in ap target.Thread number
 
-served-thread : (without : Bool) (now : Status) (t : ℕ) → lend_node (lend_of without now) ≡ Some (Thread t) → (without ≡ false) × (now ≡ status.Served t)
+served-thread : (without : Sizes) (now : Status) (t : ℕ) → lend_node (lend_of without now) ≡ Some (Thread t) → (without.without_lending ≡ false) × (now ≡ status.Served t)
 served-thread without status.Ready t e = cc
 served-thread without (status.Running p used) t e = cc
 served-thread without (status.Receiving p) t e = cc
-served-thread without (status.Queued p) t e = cc
-served-thread true (status.Served u) t e = cc
-served-thread false (status.Served u) t e = let same : Thread u ≡ Thread t = some-injective (Thread u) (Thread t) e in let number : u ≡ t = cc in (refl, ap status.Served number)
-served-thread true (status.Waiting m) t e = cc
-served-thread false (status.Waiting m) t e = cc
+served-thread without (status.Queued p) t e = absurd (by without.without_lending (lends_at without p) e)
+  where
+    by : (b c : Bool) → lend_node (if b then Nobody else (if c then ToMutex (holder_of without p) else Nobody)) ≡ Some (Thread t) → ⊥
+    by true c e = cc
+    by false true e = cc
+    by false false e = cc
+served-thread without (status.Served u) t e = by without.without_lending refl e
+  where
+    by : (b : Bool) → without.without_lending ≡ b → lend_node (if b then Nobody else ToThread u) ≡ Some (Thread t) → (without.without_lending ≡ false) × (status.Served u ≡ status.Served t)
+    by true is e = cc
+    by false is e = let same : Thread u ≡ Thread t = some-injective (Thread u) (Thread t) e in let number : u ≡ t = cc in (is, ap status.Served number)
+served-thread without (status.Waiting m) t e = absurd (by without.without_lending e)
+  where
+    by : (b : Bool) → lend_node (if b then Nobody else ToMutex m) ≡ Some (Thread t) → ⊥
+    by true e = cc
+    by false e = cc
 served-thread without status.Asleep t e = cc
 served-thread without status.Dead t e = cc
 
 edges-from : (s : State) → RefersIn s → NothingLeadsToRemoved s
 edges-from s refers t gone from (edge, ends) = by edge (ends-are (funding_of s) edge from (Thread t) ends)
   where
-    lent : (u : ℕ) (lend : Lend) → lend_node lend ≡ Some (Thread t) → (o : Option Record) → at_number s.records u ≡ o → option_map (λ (r : Record). lend_of s.limits.without_lending r.status) o ≡ Some lend → ⊥
+    lent : (u : ℕ) (lend : Lend) → lend_node lend ≡ Some (Thread t) → (o : Option Record) → at_number s.records u ≡ o → option_map (λ (r : Record). lend_of s.limits r.status) o ≡ Some lend → ⊥
     lent u lend to None at e = cc
     lent u lend to (Some r) at e =
-        let same : lend_of s.limits.without_lending r.status ≡ lend = some-injective (lend_of s.limits.without_lending r.status) lend e in
-        let (on, serves) = served-thread s.limits.without_lending r.status t (ap lend_node same ∙ to) in
+        let same : lend_of s.limits r.status ≡ lend = some-injective (lend_of s.limits r.status) lend e in
+        let (on, serves) = served-thread s.limits r.status t (ap lend_node same ∙ to) in
         refers.1 u t (ap (option_map (λ (x : Record). x.status)) at ∙ ap Some serves) on gone
 
     owned : (m owner : ℕ) → Thread t ≡ Thread owner → (o : Option Mutex) → at_number s.mutexes m ≡ o → option_flatten (option_map (λ (x : Mutex). x.owner) o) ≡ Some owner → ⊥
@@ -158,7 +174,7 @@ edges-from s refers t gone from (edge, ends) = by edge (ends-are (funding_of s) 
 
     by : (edge : Edge) → EndsAre (funding_of s) edge from (Thread t) → ⊥
     by (OfTicket n) (ticket, at, first, to) = refers.0 n t ticket at (target-thread ticket.target t to) gone
-    by (OfLender u) (lend, at, first, to) = lent u lend to (at_number s.records u) refl (sym (at_number-map (λ (r : Record). lend_of s.limits.without_lending r.status) s.records u) ∙ at)
+    by (OfLender u) (lend, at, first, to) = lent u lend to (at_number s.records u) refl (sym (at_number-map (λ (r : Record). lend_of s.limits r.status) s.records u) ∙ at)
     by (OfMutex m) (owner, at, first, to) =
         owned m owner to (at_number s.mutexes m) refl (sym (ap option_flatten (at_number-map (λ (x : Mutex). x.owner) s.mutexes m)) ∙ at)
 
@@ -261,14 +277,85 @@ module _ (s : State) (order : IsInOrder s) where
         by None at e = cc
         by (Some mutex) at e = owned m t mutex at e
 
-    lock-good : (t m : ℕ) → IsIn s.threads t → IsGood (of_mutexes s (lock s.records s.mutexes t m))
-    lock-good t m here = at (mutex_at s.mutexes m).owner refl
+    owner-in : (mutexes : List Mutex) → Owned (IsIn s.threads) mutexes → (m t : ℕ) → (mutex_at mutexes m).owner ≡ Some t → IsIn s.threads t
+    owner-in mutexes owns m t = by (at_number mutexes m) refl
       where
-        at : (o : Option ℕ) → (mutex_at s.mutexes m).owner ≡ o → IsGood (of_mutexes s (lock s.records s.mutexes t m))
+        by : (o : Option Mutex) → at_number mutexes m ≡ o → (unwrap_or o (record { owner = None; waiters = [] })).owner ≡ Some t → IsIn s.threads t
+        by None at e = cc
+        by (Some mutex) at e = owns m t mutex at e
+
+    -- ports get servers that are there, or none
+    owned-server : (port : ℕ) (server : Option ℕ) → ((u : ℕ) → server ≡ Some u → IsIn s.threads u) → Owned (IsIn s.threads) (with_server s.limits s.mutexes port server)
+    owned-server port server here = by s.limits.queued_lend
+      where
+        by : (b : Bool) → Owned (IsIn s.threads) (cond b (set_number s.mutexes (holder_of s.limits port) (held_by server)) s.mutexes)
+        by true = owned-set (IsIn s.threads) s.mutexes (holder_of s.limits port) (held_by server) here owned
+        by false = owned
+
+    owned-served : (t port : ℕ) (o : Outcome) → IsIn s.threads t → ((server : ℕ) → o ≡ outcome.ServedBy server → IsIn s.threads server) → Owned (IsIn s.threads) (served_at s t port o)
+    owned-served t port o here served = by o served
+      where
+        it : Owned (IsIn s.threads) (with_server s.limits s.mutexes port (Some t))
+        it = owned-server port (Some t) (λ u e. subst (IsIn s.threads) (some-injective t u e) here)
+
+        back : (b : Bool) → Owned (IsIn s.threads) (cond b (with_server s.limits s.mutexes port None) s.mutexes)
+        back true = owned-server port None (λ u e. cc)
+        back false = owned
+
+        by : (o : Outcome) → ((server : ℕ) → o ≡ outcome.ServedBy server → IsIn s.threads server) → Owned (IsIn s.threads) (served_at s t port o)
+        by (outcome.ServedBy server) is_in = owned-server port (Some server) (λ u e. subst (IsIn s.threads) (some-injective server u e) (is_in server refl))
+        by outcome.Queued is_in = back (leads_back s t port)
+        by (outcome.Received client number) is_in = it
+        by (outcome.RepliedThenReceived to client number) is_in = it
+        by other is_in = owned
+
+    owned-unserved : (test : ℕ → Bool) (mutexes : List Mutex) (ns : List ℕ) → Owned (IsIn s.threads) mutexes → Owned (IsIn s.threads) (unserved test mutexes ns)
+    owned-unserved test mutexes [] owns = owns
+    owned-unserved test mutexes (n ∷ ns) owns = owned-unserved test (unserved_at test mutexes n) ns (by (option_any test (mutex_at mutexes n).owner))
+      where
+        by : (b : Bool) → Owned (IsIn s.threads) (cond b (set_number mutexes n (held_by None)) mutexes)
+        by true = owned-set (IsIn s.threads) mutexes n (held_by None) (λ u e. cc) owns
+        by false = owns
+
+    owned-before : (t m : ℕ) → Owned (IsIn s.threads) (before_lock s t m)
+    owned-before t m = by (option_any (λ owner. lends_on_to (funding_of s) owner t) (mutex_at s.mutexes m).owner)
+      where
+        by : (b : Bool) → Owned (IsIn s.threads) (cond b (unserved (λ server. lends_lead (funding_of s) server t) s.mutexes (port_holders s.limits)) s.mutexes)
+        by true = owned-unserved (λ server. lends_lead (funding_of s) server t) s.mutexes (port_holders s.limits) owned
+        by false = owned
+
+    -- who takes a call at once is there
+    call-server : (t port number server : ℕ) → (call s.records s.clients s.ports t port number).outcome ≡ outcome.ServedBy server → IsIn s.threads server
+    call-server t port number server = at (port_at s.ports port).receivers refl
+      where
+        at : (o : List ℕ) → (port_at s.ports port).receivers ≡ o → (call s.records s.clients s.ports t port number).outcome ≡ outcome.ServedBy server → IsIn s.threads server
+        at [] is = rw is (λ e. cc)
+        at (first ∷ others) is =
+            rw is (λ e. let same : first ≡ server = cc in
+            subst (IsIn s.threads) same (alive-in first (receiver-alive s.records s.clients s.ports s.mutexes order.queues port first others is)))
+
+    receive-server : (a : State) (t port server : ℕ) → ¬ ((receive a.records a.clients a.ports t port).outcome ≡ outcome.ServedBy server)
+    receive-server a t port server = at (port_at a.ports port).calls refl
+      where
+        at : (o : List QueuedCall) → (port_at a.ports port).calls ≡ o → ¬ ((receive a.records a.clients a.ports t port).outcome ≡ outcome.ServedBy server)
+        at [] is = rw is (λ e. cc)
+        at (first ∷ others) is = rw is (λ e. cc)
+
+    serve-server : (t port number server : ℕ) → ¬ ((serve s.records s.clients s.ports t port number).outcome ≡ outcome.ServedBy server)
+    serve-server t port number server = at (port_at s.ports port).calls refl
+      where
+        at : (o : List QueuedCall) → (port_at s.ports port).calls ≡ o → ¬ ((serve s.records s.clients s.ports t port number).outcome ≡ outcome.ServedBy server)
+        at [] is = rw is (λ e. cc)
+        at (first ∷ others) is = rw is (λ e. cc)
+
+    lock-good : (a : State) (t m : ℕ) → Owned (IsIn s.threads) a.mutexes → IsIn s.threads t → IsGood (of_mutexes s (lock s.records a.mutexes t m))
+    lock-good a t m owned here = at (mutex_at a.mutexes m).owner refl
+      where
+        at : (o : Option ℕ) → (mutex_at a.mutexes m).owner ≡ o → IsGood (of_mutexes s (lock s.records a.mutexes t m))
         at None is =
-            rw is (lent, owned-set (IsIn s.threads) s.mutexes m (record { owner = Some t; waiters = (mutex_at s.mutexes m).waiters }) (λ u e. subst (IsIn s.threads) (some-injective t u e) here) owned, λ u e. cc)
+            rw is (lent, owned-set (IsIn s.threads) a.mutexes m (record { owner = Some t; waiters = (mutex_at a.mutexes m).waiters }) (λ u e. subst (IsIn s.threads) (some-injective t u e) here) owned, λ u e. cc)
         at (Some owner) is =
-            rw is (lent, owned-set (IsIn s.threads) s.mutexes m (record { owner = Some owner; waiters = (mutex_at s.mutexes m).waiters ++ t ∷ [] }) (λ u e. owner-kept m u (is ∙ e)) owned, λ u e. cc)
+            rw is (lent, owned-set (IsIn s.threads) a.mutexes m (record { owner = Some owner; waiters = (mutex_at a.mutexes m).waiters ++ t ∷ [] }) (λ u e. owner-in a.mutexes owned m u (is ∙ e)) owned, λ u e. cc)
 
     unlock-good : (value : ℕ → ℕ) (m d : ℕ) → IsGood (of_mutexes s (unlock s.records s.mutexes value m d))
     unlock-good value m d = at (mutex_at s.mutexes m).waiters refl
@@ -284,14 +371,19 @@ module _ (s : State) (order : IsInOrder s) where
 
     effect-good : (t : ℕ) (action : Action) → IsIn s.threads t → IsGood (trap_effect s t action)
     effect-good t Yield here = (lent, owned, λ u e. cc)
-    effect-good t (Call port number) here = call-good t port number
-    effect-good t (Receive port) here = receive-good s t port here lent owned
+    effect-good t (Call port number) here =
+        let good = call-good t port number in (good.0, owned-served t port (call s.records s.clients s.ports t port number).outcome here (call-server t port number), good.2)
+    effect-good t (Receive port) here =
+        let good = receive-good s t port here lent owned in (good.0, owned-served t port (receive s.records s.clients s.ports t port).outcome here (λ server e. absurd (receive-server s t port server e)), good.2)
     effect-good t (ReplyTo number) here = reply-good t number
-    effect-good t (Serve port number) here = let replied = reply-good t number in receive-good (of_ports s (reply s.records s.clients s.ports t number)).state t port here replied.0 replied.1
-    effect-good t (Lock m) here = lock-good t m here
+    effect-good t (Serve port number) here =
+        let replied = reply-good t number in
+        let good = receive-good (of_ports s (reply s.records s.clients s.ports t number)).state t port here replied.0 replied.1 in
+        (good.0, owned-served t port (serve s.records s.clients s.ports t port number).outcome here (λ server e. absurd (serve-server t port number server e)), good.2)
+    effect-good t (Lock m) here = lock-good (record s { mutexes = before_lock s t m }) t m (owned-before t m) here
     effect-good t (Unlock m d) here = unlock-good (value_of s) m d
     effect-good t Sleep here = (lent, owned, λ u e. cc)
-    effect-good t Exit here = (lent, owned, λ u e. cc)
+    effect-good t Exit here = (lent, owned-unserved (λ server. server == t) s.mutexes (port_holders s.limits) owned, λ u e. cc)
 
     checked-good : (t : ℕ) (action : Action) (o : Option TrapRefusal) → IsIn s.threads t → IsGood (checked_effect s o (trap_effect s t action))
     checked-good t action None here = effect-good t action here

@@ -17,10 +17,13 @@ use Rattle.lot_machine.specs.Numbered.{at_number}
 use Rattle.lot_machine.specs.State.{State, live_in, lend_of, is_live_status, status_of, thread_on}
 use Rattle.lot_machine.specs.Commands.{Step, unless_refused}
 use Rattle.lot_machine.specs.Traps.{after_trap, with_ticks}
-use Rattle.lot_machine.specs.Step.{is_bad_processor, trap_refusal, trap_effect, checked_effect, finish_trap, thread_there, used_there, event_refusal, event_effect, step}
+use Rattle.lot_machine.specs.Ports.{PortTrap}
+use Rattle.lot_machine.specs.Servers.{served_at}
+use Rattle.lot_machine.specs.Step.{at_port, of_ports, is_bad_processor, trap_refusal, trap_effect, checked_effect, finish_trap, thread_there, used_there, event_refusal, event_effect, step}
 use Rattle.lot_machine.proofs.CommandsKept.{all-pass}
 use Rattle.lot_machine.proofs.TrapCycles.{at_number-map}
 use Rattle.lot_machine.proofs.Idle.{there-runs}
+use Rattle.lot_machine.proofs.Unserved.{served-off}
 
 -- the thread ran on the processor, its trap wasn't refused and had this outcome, and this is the state then
 pub record IsDone (s : State) (p ran : ℕ) (action : Action) (t : ℕ) (outcome : Outcome) (after : State) : Type 0 where
@@ -65,7 +68,7 @@ module _ (s : State) (p ran : ℕ) (action : Action) (t ticks : ℕ) (outcome : 
 
 -- ---- what records say
 
-pub lend-is : (without : Bool) (records : List Record) (u : ℕ) → at_number (map (λ (r : Record). lend_of without r.status) records) u ≡ option_map (lend_of without) (status_of records u)
+pub lend-is : (without : Sizes) (records : List Record) (u : ℕ) → at_number (map (λ (r : Record). lend_of without r.status) records) u ≡ option_map (lend_of without) (status_of records u)
 lend-is without records u = at_number-map (λ (r : Record). lend_of without r.status) records u ∙ by (at_number records u)
   where
     by : (o : Option Record) → option_map (λ (r : Record). lend_of without r.status) o ≡ option_map (lend_of without) (option_map (λ (r : Record). r.status) o)
@@ -80,9 +83,17 @@ live-is records u = at_number-map (λ (r : Record). is_live_status r.status) rec
     by (Some r) = refl
 
 -- a thread that goes on after its trap lends to nobody, and is live
-pub goes-on : (without : Bool) (ticks p used : ℕ) (limits : Sizes) (r : Record) → (lend_of without (with_ticks ticks (after_trap GoesOn p used limits r)).status ≡ Nobody) × (is_live_status (with_ticks ticks (after_trap GoesOn p used limits r)).status ≡ true)
+pub goes-on : (without : Sizes) (ticks p used : ℕ) (limits : Sizes) (r : Record) → (lend_of without (with_ticks ticks (after_trap GoesOn p used limits r)).status ≡ Nobody) × (is_live_status (with_ticks ticks (after_trap GoesOn p used limits r)).status ≡ true)
 goes-on without ticks p used limits r = by (nat_lt used limits.quantum) refl
   where
     by : (b : Bool) → nat_lt used limits.quantum ≡ b → (lend_of without (with_ticks ticks (after_trap GoesOn p used limits r)).status ≡ Nobody) × (is_live_status (with_ticks ticks (after_trap GoesOn p used limits r)).status ≡ true)
     by true is = rw is (refl, refl)
     by false is = rw is (refl, refl)
+
+-- a trap at a port that changes no server
+pub port-stays : (s : State) (t port : ℕ) (e : PortTrap) → served_at s t port e.outcome ≡ s.mutexes → at_port s t port e ≡ of_ports s e
+port-stays s t port e same = ap (λ mutexes. record { state = record (of_ports s e).state { mutexes = mutexes }; outcome = e.outcome; after = e.after }) same
+
+-- as none does if queued calls don't lend
+pub port-off : (s : State) (t port : ℕ) (e : PortTrap) → s.limits.queued_lend ≡ false → at_port s t port e ≡ of_ports s e
+port-off s t port e off = port-stays s t port e (served-off s t port e.outcome off)

@@ -8,6 +8,7 @@ pub mod insulation;
 pub mod kills;
 pub mod named;
 pub mod pauses;
+pub mod queues;
 pub mod reachable;
 pub mod removed;
 pub mod reused;

@@ -26,17 +26,17 @@ use Rattle.lot_machine.proofs.Killed.{filter-was, passed-first, IsAmong, IsHeir,
 -- ---- lends
 
 -- who lends to a thread has a status that says so
-pub lends-by : (s : State) (u v : ℕ) → LendsTo (funding_of s) u v → (now : Status) × (status_of s.records u ≡ Some now) × (borrower (funding_of s) (lend_of s.limits.without_lending now) ≡ Some v)
-lends-by s u v lends = from (at_number s.records u) refl (ap (option_and_then (borrower (funding_of s))) (sym (at_number-map (λ (r : Record). lend_of s.limits.without_lending r.status) s.records u)) ∙ lends)
+pub lends-by : (s : State) (u v : ℕ) → LendsTo (funding_of s) u v → (now : Status) × (status_of s.records u ≡ Some now) × (borrower (funding_of s) (lend_of s.limits now) ≡ Some v)
+lends-by s u v lends = from (at_number s.records u) refl (ap (option_and_then (borrower (funding_of s))) (sym (at_number-map (λ (r : Record). lend_of s.limits r.status) s.records u)) ∙ lends)
   where
-    from : (o : Option Record) → at_number s.records u ≡ o → option_and_then (borrower (funding_of s)) (option_map (λ (r : Record). lend_of s.limits.without_lending r.status) o) ≡ Some v
-        → (now : Status) × (status_of s.records u ≡ Some now) × (borrower (funding_of s) (lend_of s.limits.without_lending now) ≡ Some v)
+    from : (o : Option Record) → at_number s.records u ≡ o → option_and_then (borrower (funding_of s)) (option_map (λ (r : Record). lend_of s.limits r.status) o) ≡ Some v
+        → (now : Status) × (status_of s.records u ≡ Some now) × (borrower (funding_of s) (lend_of s.limits now) ≡ Some v)
     from None is e = cc
     from (Some r) is e = (r.status, ap (option_map (λ (x : Record). x.status)) is, e)
 
 -- and the other way round
-pub lends-of : (s : State) (u v : ℕ) (now : Status) → status_of s.records u ≡ Some now → borrower (funding_of s) (lend_of s.limits.without_lending now) ≡ Some v → LendsTo (funding_of s) u v
-lends-of s u v now is to = ap (option_and_then (borrower (funding_of s))) (lend-at s.limits.without_lending s.records u now is) ∙ to
+pub lends-of : (s : State) (u v : ℕ) (now : Status) → status_of s.records u ≡ Some now → borrower (funding_of s) (lend_of s.limits now) ≡ Some v → LendsTo (funding_of s) u v
+lends-of s u v now is to = ap (option_and_then (borrower (funding_of s))) (lend-at s.limits s.records u now is) ∙ to
 
 module _ (s : State) (t : ℕ) where
   -- an heir is Ready, if it is there
@@ -65,9 +65,9 @@ module _ (s : State) (t : ℕ) where
   heir-ends : (u : ℕ) → IsHeir s t u → IsEnd (LendsTo (funding_of (killed s t))) u
   heir-ends u why v lends = from (lends-by (killed s t) u v lends) (heir-idle u why)
     where
-      from : ((now : Status) × (status_of (killed s t).records u ≡ Some now) × (borrower (funding_of (killed s t)) (lend_of s.limits.without_lending now) ≡ Some v))
+      from : ((now : Status) × (status_of (killed s t).records u ≡ Some now) × (borrower (funding_of (killed s t)) (lend_of s.limits now) ≡ Some v))
           → (status_of (killed s t).records u ≡ Some status.Ready) ⊎ (status_of (killed s t).records u ≡ None) → ⊥
-      from (now, is, to) (inl ready) = let same : now ≡ status.Ready = some-injective now status.Ready (sym is ∙ ready) in let none : None ≡ Some v = sym (ap (λ x. borrower (funding_of (killed s t)) (lend_of s.limits.without_lending x)) same) ∙ to in cc
+      from (now, is, to) (inl ready) = let same : now ≡ status.Ready = some-injective now status.Ready (sym is ∙ ready) in let none : None ≡ Some v = sym (ap (λ x. borrower (funding_of (killed s t)) (lend_of s.limits x)) same) ∙ to in cc
       from (now, is, to) (inr none) = let never : None ≡ Some now = sym none ∙ is in cc
 
   -- whoever gets a lend got it before, or is an heir
@@ -93,17 +93,17 @@ module _ (s : State) (t : ℕ) where
   lends-either : (u v : ℕ) → LendsTo (funding_of (killed s t)) u v → LendsTo (funding_of s) u v ⊎ IsEnd (LendsTo (funding_of (killed s t))) v
   lends-either u v lends = from (lends-by (killed s t) u v lends) (killed-either s t u)
     where
-      nobody : (now other : Status) → lend_of s.limits.without_lending other ≡ Nobody → status_of (killed s t).records u ≡ Some now → status_of (killed s t).records u ≡ Some other → ¬ (borrower (funding_of (killed s t)) (lend_of s.limits.without_lending now) ≡ Some v)
+      nobody : (now other : Status) → lend_of s.limits other ≡ Nobody → status_of (killed s t).records u ≡ Some now → status_of (killed s t).records u ≡ Some other → ¬ (borrower (funding_of (killed s t)) (lend_of s.limits now) ≡ Some v)
       nobody now other none is new to =
-          let same : lend_of s.limits.without_lending now ≡ Nobody = ap (lend_of s.limits.without_lending) (some-injective now other (sym is ∙ new)) ∙ none in
+          let same : lend_of s.limits now ≡ Nobody = ap (lend_of s.limits) (some-injective now other (sym is ∙ new)) ∙ none in
           let never : None ≡ Some v = sym (ap (borrower (funding_of (killed s t))) same) ∙ to in cc
 
-      from : ((now : Status) × (status_of (killed s t).records u ≡ Some now) × (borrower (funding_of (killed s t)) (lend_of s.limits.without_lending now) ≡ Some v))
+      from : ((now : Status) × (status_of (killed s t).records u ≡ Some now) × (borrower (funding_of (killed s t)) (lend_of s.limits now) ≡ Some v))
           → (status_of (killed s t).records u ≡ status_of s.records u) ⊎ ((status_of (killed s t).records u ≡ Some status.Ready) ⊎ (status_of (killed s t).records u ≡ Some status.Dead))
           → LendsTo (funding_of s) u v ⊎ IsEnd (LendsTo (funding_of (killed s t))) v
-      from (now, is, to) (inl same) = to_whom (borrower-either (lend_of s.limits.without_lending now) v to)
+      from (now, is, to) (inl same) = to_whom (borrower-either (lend_of s.limits now) v to)
         where
-          to_whom : (borrower (funding_of s) (lend_of s.limits.without_lending now) ≡ Some v) ⊎ IsHeir s t v → LendsTo (funding_of s) u v ⊎ IsEnd (LendsTo (funding_of (killed s t))) v
+          to_whom : (borrower (funding_of s) (lend_of s.limits now) ≡ Some v) ⊎ IsHeir s t v → LendsTo (funding_of s) u v ⊎ IsEnd (LendsTo (funding_of (killed s t))) v
           to_whom (inl old) = inl (lends-of s u v now (sym same ∙ is) old)
           to_whom (inr why) = inr (heir-ends v why)
       from (now, is, to) (inr (inl ready)) = absurd (nobody now status.Ready refl is ready to)

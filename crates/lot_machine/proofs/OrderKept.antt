@@ -1,6 +1,7 @@
 -- A state that is in order stays so through each event, and is sound.
-use Rattle.std.proofs.Common.{◌≡◌, ℕ, zero, suc, ◌+◌, ◌-◌, ◌^◌, ◌<◌, ◌≤◌, Bool, true, false, not, ◌⊎◌, inl, inr, Option, Some, None, is_some, is_none, List, [], ◌∷◌, length, map, position, replicate, refl, sym, ◌∙◌, ap, subst, arith, nat_lt, nat_le, option_map, option_and_then, unwrap_or, get_or, slice_get, slice_index}
+use Rattle.std.proofs.Common.{◌≡◌, ℕ, zero, suc, ◌+◌, ◌-◌, ◌^◌, ◌<◌, ◌≤◌, ◌==◌, Bool, true, false, not, ◌⊎◌, inl, inr, Option, Some, None, is_some, is_none, List, [], ◌∷◌, length, map, position, replicate, refl, sym, ◌∙◌, ap, subst, arith, nat_lt, nat_le, option_map, option_and_then, unwrap_or, get_or, slice_get, slice_index}
 use Rattle.std.specs.Option.{option_flatten}
+use Rattle.std.proofs.lemmas.Bool.{or_parts}
 use Rattle.std.proofs.lemmas.List.{get_or_past}
 use Rattle.std.proofs.lemmas.List.Elements.{All-nil}
 use Rattle.std.proofs.lemmas.List.Quantifiers.{position-Some}
@@ -32,15 +33,16 @@ use Rattle.lot_machine.specs.Numbered.{at_number, numbers, option_any}
 use Rattle.lot_machine.specs.Funding.{target_of, issuer_of}
 use Rattle.lot_machine.specs.Lends.{lends_on_to, LendsTo, borrower}
 use Rattle.lot_machine.specs.Lottery.{winner}
-use Rattle.lot_machine.specs.State.{State, Port, Mutex, QueuedCall, opening, funding_of, is_asleep, lend_of, status_of, is_ready, ready_threads, thread_at, thread_on, change_record, value_of, weight_of}
+use Rattle.lot_machine.specs.State.{State, Port, Mutex, QueuedCall, holders, opening, funding_of, is_asleep, lend_of, status_of, is_ready, ready_threads, thread_at, thread_on, change_record, value_of, weight_of}
 use Rattle.lot_machine.specs.Commands.{is_meant_by, thread_meant, is_dead_in, command_effect, command_step}
 use Rattle.lot_machine.specs.Kill.{killed}
 use Rattle.lot_machine.specs.declared.after.After.{After}
 use Rattle.lot_machine.specs.Traps.{after_trap, compensation_for, with_ticks}
 use Rattle.lot_machine.specs.declared.after.After.TheVariants.{GoesOn, Leaves, Ends}
-use Rattle.lot_machine.specs.Ports.{clients_of, first_client, reply}
+use Rattle.lot_machine.specs.Ports.{clients_of, first_client, call, receive, reply, serve}
 use Rattle.lot_machine.specs.Mutexes.{mutex_at}
-use Rattle.lot_machine.specs.Step.{Effect, is_bad_processor, started, draw, stopped, wake, owns, trap_refusal, trap_effect, checked_effect, trap, thread_there, used_there, event_effect, step, state_after}
+use Rattle.lot_machine.specs.Servers.{port_holders, without_servers, before_lock, left_by}
+use Rattle.lot_machine.specs.Step.{Effect, is_bad_processor, started, draw, stopped, wake, owns, trap_refusal, trap_effect, checked_effect, trap, is_no_mutex, thread_there, used_there, event_effect, step, state_after}
 use Rattle.lot_machine.specs.Facts.{HasNoCycle, FundsThere, IsSound}
 use Rattle.lot_machine.specs.Equations.{HasEachOnce}
 use Rattle.lot_machine.specs.Order.{IsQueue, HasQueues, IsGap, IsInOrder}
@@ -53,7 +55,8 @@ use Rattle.lot_machine.proofs.StepChanges.{By, On, Leads, kept, Apart, Queues, H
 use Rattle.lot_machine.proofs.KillKept.{kill-cycle, kill-queues, killed-idle}
 use Rattle.lot_machine.proofs.Queues.{queue-empty, queues-changed, queues-live}
 use Rattle.lot_machine.proofs.TrapQueues.{nowhere-from, stay-queues, call-queues, receive-queues, reply-queues, replied-queues, lock-queues, unlock-queues}
-use Rattle.lot_machine.proofs.TrapCycles.{cycle-nobody, call-cycle, receive-cycle, reply-cycle, replied-cycle, lock-cycle, unlock-cycle}
+use Rattle.lot_machine.proofs.TrapCycles.{cycle-nobody, call-cycle, receive-cycle, reply-cycle, replied-cycle, lock-cycle, unlock-cycle, cycle-unserved_each, serve-server}
+use Rattle.lot_machine.proofs.Servers.{queues-unserved, queues-served, lock-there, lock-queues_then, lock-fails, lock-untied, lock-apart}
 use Rattle.lot_machine.proofs.Serving.{checked-clients}
 use Rattle.lot_machine.proofs.BaseKept.{base-bounded}
 use Rattle.lot_machine.proofs.Bounded.{sound}
@@ -198,10 +201,10 @@ module _ (s : State) (order : IsInOrder s) (t p before ticks used : ℕ) (runs :
   finish after r = with_ticks ticks (after_trap after p used s.limits r)
 
   -- one that goes on lends to nobody
-  goes-on : (r : Record) → lend_of s.limits.without_lending (finish GoesOn r).status ≡ Nobody
+  goes-on : (r : Record) → lend_of s.limits (finish GoesOn r).status ≡ Nobody
   goes-on r = at (nat_lt used s.limits.quantum) refl
     where
-      at : (b : Bool) → nat_lt used s.limits.quantum ≡ b → lend_of s.limits.without_lending (finish GoesOn r).status ≡ Nobody
+      at : (b : Bool) → nat_lt used s.limits.quantum ≡ b → lend_of s.limits (finish GoesOn r).status ≡ Nobody
       at true is = rw is refl
       at false is = rw is refl
 
@@ -210,22 +213,32 @@ module _ (s : State) (order : IsInOrder s) (t p before ticks used : ℕ) (runs :
   finished e = record e.state { records = change_record (finish e.after) e.state.records t }
 
   -- one that changes nothing besides
-  nothing-else : (after : After) → ((r : Record) → lend_of s.limits.without_lending (finish after r).status ≡ Nobody) → IsUntangled (record s { records = change_record (finish after) s.records t })
+  nothing-else : (after : After) → ((r : Record) → lend_of s.limits (finish after r).status ≡ Nobody) → IsUntangled (record s { records = change_record (finish after) s.records t })
   nothing-else after nobody =
       (cycle-nobody s (finish after) t nobody order.no_cycle, stay-queues finish (λ st r. refl) s.records s.clients s.ports s.mutexes order.queues t p before runs after)
 
   effect-untangled : (action : Action) → trap_refusal s t action ≡ None → IsUntangled (finished (trap_effect s t action))
   effect-untangled Yield allowed = nothing-else (Leaves status.Ready) (λ r. refl)
   effect-untangled Sleep allowed = nothing-else (Leaves status.Asleep) (λ r. refl)
-  effect-untangled Exit allowed = nothing-else Ends (λ r. refl)
+  effect-untangled Exit allowed =
+      let gone : State = record s { mutexes = left_by s t } in (
+        cycle-nobody gone (finish Ends) t (λ r. refl) (cycle-unserved_each (λ server. server == t) s (port_holders s.limits) order.no_cycle),
+        stay-queues finish (λ st r. refl) s.records s.clients s.ports gone.mutexes (queues-unserved s.records s.clients s.ports (λ server. server == t) s.mutexes (port_holders s.limits) order.queues) t p before runs Ends,
+      )
   effect-untangled (Call port number) allowed =
       let passed = all-pass ((is_none (at_number s.ports port), NoPort) ∷ []) allowed in
       let there = default-of (at_number s.ports port) (record { calls = []; receivers = [] }) passed.0 in
-      (call-cycle finish (λ st r. refl) s goes-on order.no_cycle order.queues t p before runs port number there, call-queues finish (λ st r. refl) s.records s.clients s.ports s.mutexes order.queues t p before runs port number there)
+      let called = call s.records s.clients s.ports t port number in (
+        call-cycle finish (λ st r. refl) s goes-on order.no_cycle order.queues t p before runs port number there,
+        queues-served (change_record (finish called.after) called.records t) called.clients called.ports s t port called.outcome (call-queues finish (λ st r. refl) s.records s.clients s.ports s.mutexes order.queues t p before runs port number there),
+      )
   effect-untangled (Receive port) allowed =
       let passed = all-pass ((is_none (at_number s.ports port), NoPort) ∷ []) allowed in
       let there = default-of (at_number s.ports port) (record { calls = []; receivers = [] }) passed.0 in
-      (receive-cycle finish (λ st r. refl) s goes-on order.no_cycle order.queues t p before runs port there, receive-queues finish (λ st r. refl) s.records s.clients s.ports s.mutexes order.queues t p before runs port there)
+      let received = receive s.records s.clients s.ports t port in (
+        receive-cycle finish (λ st r. refl) s goes-on order.no_cycle order.queues t p before runs port there,
+        queues-served (change_record (finish received.after) received.records t) received.clients received.ports s t port received.outcome (receive-queues finish (λ st r. refl) s.records s.clients s.ports s.mutexes order.queues t p before runs port there),
+      )
   effect-untangled (ReplyTo number) allowed =
       let passed = all-pass ((is_none (first_client s.clients t), NothingToReply) ∷ []) allowed in
       (reply-cycle finish (λ st r. refl) s goes-on order.no_cycle order.queues t p before runs number, reply-queues finish (λ st r. refl) s.records s.clients s.ports s.mutexes order.queues t p before runs number passed.0)
@@ -236,15 +249,25 @@ module _ (s : State) (order : IsInOrder s) (t p before ticks used : ℕ) (runs :
       let middle : State = record s { records = replied.records; clients = replied.clients; ports = replied.ports } in
       let left = replied-queues finish (λ st r. refl) s.records s.clients s.ports s.mutexes order.queues t p before runs number passed.1.0 in
       let no_cycle = replied-cycle finish (λ st r. refl) s goes-on order.no_cycle order.queues t p before runs number in
-      (receive-cycle finish (λ st r. refl) middle goes-on no_cycle left.0 t p before left.1 port there, receive-queues finish (λ st r. refl) replied.records replied.clients replied.ports s.mutexes left.0 t p before left.1 port there)
+      let served = serve s.records s.clients s.ports t port number in (
+        subst (λ mutexes. HasNoCycle (funding_of (record s { records = change_record (finish served.after) served.records t; mutexes = mutexes }))) (sym (serve-server s t port number))
+            (receive-cycle finish (λ st r. refl) middle goes-on no_cycle left.0 t p before left.1 port there),
+        queues-served (change_record (finish served.after) served.records t) served.clients served.ports s t port served.outcome (receive-queues finish (λ st r. refl) replied.records replied.clients replied.ports s.mutexes left.0 t p before left.1 port there),
+      )
   effect-untangled (Lock m) allowed =
-      let passed = all-pass ((is_none (at_number s.mutexes m), NoMutex) ∷ (owns s t m, AlreadyOwner)
-      ∷ (option_any (λ owner. lends_on_to (funding_of s) owner t) (mutex_at s.mutexes m).owner, LockCycle) ∷ []) allowed in
-      let there = default-of (at_number s.mutexes m) (record { owner = None; waiters = [] }) passed.0 in
-      (lock-cycle finish (λ st r. refl) s goes-on order.no_cycle order.queues t p before runs m there passed.1.0 passed.1.1.0, lock-queues finish (λ st r. refl) s.records s.clients s.ports s.mutexes order.queues t p before runs m there passed.1.0)
+      let passed = all-pass ((is_no_mutex s m, NoMutex) ∷ (owns s t m, AlreadyOwner)
+      ∷ (option_any (λ owner. lends_on_to (without_servers s) owner t) (mutex_at s.mutexes m).owner, LockCycle) ∷ []) allowed in
+      let exists = (or_parts (is_none (at_number s.mutexes m)) (nat_lt s.limits.mutexes m) passed.0).0 in
+      let there = default-of (at_number (before_lock s t m) m) (record { owner = None; waiters = [] }) (lock-there s order.no_cycle t m exists) in
+      let locking : State = record s { mutexes = before_lock s t m } in
+      let queues = lock-queues_then s order.no_cycle t m order.queues in
+      let other = lock-fails s order.no_cycle t m (λ owner. owner == t) passed.1.0 in (
+        lock-cycle finish (λ st r. refl) locking goes-on (lock-untied s order.no_cycle t m) queues t p before runs m there other (lock-apart s order.no_cycle t m passed.1.1.0),
+        lock-queues finish (λ st r. refl) s.records s.clients s.ports (before_lock s t m) queues t p before runs m there other,
+      )
   effect-untangled (Unlock m d) allowed =
-      let passed = all-pass ((is_none (at_number s.mutexes m), NoMutex) ∷ (not (owns s t m), NotOwner) ∷ []) allowed in
-      let there = default-of (at_number s.mutexes m) (record { owner = None; waiters = [] }) passed.0 in
+      let passed = all-pass ((is_no_mutex s m, NoMutex) ∷ (not (owns s t m), NotOwner) ∷ []) allowed in
+      let there = default-of (at_number s.mutexes m) (record { owner = None; waiters = [] }) (or_parts (is_none (at_number s.mutexes m)) (nat_lt s.limits.mutexes m) passed.0).0 in
       (unlock-cycle finish (λ st r. refl) s goes-on order.no_cycle order.queues t p before runs (value_of s) m d, unlock-queues finish (λ st r. refl) s.records s.clients s.ports s.mutexes order.queues t p before runs (value_of s) m d there)
 
   checked-untangled : (action : Action) (o : Option TrapRefusal) → trap_refusal s t action ≡ o → IsUntangled (finished (checked_effect s o (trap_effect s t action)))
@@ -307,7 +330,7 @@ place-replicate zero x y i e = cc
 place-replicate (suc count) x y zero e = some-injective y x (sym e)
 place-replicate (suc count) x y (suc i) e = place-replicate count x y i e
 
-number-replicate : {A : Type 0} (count : ℕ) (x y : A) (n : ℕ) → at_number (replicate count x) n ≡ Some y → y ≡ x
+pub number-replicate : {A : Type 0} (count : ℕ) (x y : A) (n : ℕ) → at_number (replicate count x) n ≡ Some y → y ≡ x
 number-replicate count x y zero e = cc
 number-replicate count x y (suc i) e = place-replicate count x y i (sym (at_number-suc (replicate count x) i) ∙ e)
 
@@ -319,11 +342,11 @@ opening-order limits bounds = record {
   queues = record {
     receivers = λ p port there. subst (λ (x : Port). IsQueue [] (status.Receiving p) x.receivers) (sym (number-replicate limits.ports (record { calls = []; receivers = [] }) port p there)) (queue-empty [] (status.Receiving p));
     callers = λ p port there. subst (λ (x : Port). IsQueue [] (status.Queued p) (map (λ (call : QueuedCall). call.caller) x.calls)) (sym (number-replicate limits.ports (record { calls = []; receivers = [] }) port p there)) (queue-empty [] (status.Queued p));
-    waiters = λ m mutex there. subst (λ (x : Mutex). IsQueue [] (status.Waiting m) x.waiters) (sym (number-replicate limits.mutexes (record { owner = None; waiters = [] }) mutex m there)) (queue-empty [] (status.Waiting m));
+    waiters = λ m mutex there. subst (λ (x : Mutex). IsQueue [] (status.Waiting m) x.waiters) (sym (number-replicate (holders limits) (record { owner = None; waiters = [] }) mutex m there)) (queue-empty [] (status.Waiting m));
     served = λ server threads there. absurd (no-client server threads there);
     own_clients = λ server threads there. absurd (no-client server threads there);
     own_waiters = λ m owner mutex there owned.
-        let free : None ≡ Some owner = sym (ap (λ (x : Mutex). x.owner) (number-replicate limits.mutexes (record { owner = None; waiters = [] }) mutex m there)) ∙ owned in absurd (unowned owner free);
+        let free : None ≡ Some owner = sym (ap (λ (x : Mutex). x.owner) (number-replicate (holders limits) (record { owner = None; waiters = [] }) mutex m there)) ∙ owned in absurd (unowned owner free);
   };
   removed = λ t there. absurd (nobody t there);
   idle = λ t there. absurd (nobody t there);

@@ -29,14 +29,18 @@ use Rattle.lot_machine.specs.Numbered.{at_number, set_number, option_any}
 use Rattle.lot_machine.specs.Funding.{ticket_in, with_target, retargeted, reissued, issued_in, backing_currency, is_currency, currency_funded}
 use Rattle.lot_machine.specs.Bounds.{IsWithinBounds}
 use Rattle.lot_machine.specs.Lottery.{winner}
-use Rattle.lot_machine.specs.State.{State, Port, Mutex, funding_of, is_dead, is_asleep, lend_of, QueuedCall, status_of, thread_at, used_on, used_by, thread_on, ready_threads, change_record, change_each, value_of, weight_of, given_again, free_tickets, free_currencies, free_threads, next_thread}
+use Rattle.lot_machine.specs.State.{State, Port, Mutex, holder_of, funding_of, is_dead, is_asleep, lend_of, QueuedCall, status_of, thread_at, used_on, used_by, thread_on, ready_threads, change_record, change_each, value_of, weight_of, given_again, free_tickets, free_currencies, free_threads, next_thread}
 use Rattle.lot_machine.specs.Commands.{currency_meant, thread_meant, target_meant, currency_or_base, is_thread_name, is_taken, is_no_script, is_bad_amount, are_tickets_full, are_threads_full, is_in_use, is_dead_in, is_thread_in_use, is_dead_thread, is_funding, is_cycle, command_effect, command_step, newborn}
 use Rattle.lot_machine.specs.Places.{is_none_free, placed}
 use Rattle.lot_machine.specs.Traps.{after_trap, compensation_for, with_ticks}
-use Rattle.lot_machine.specs.Ports.{clients_of, port_at, first_client, call, receive, reply}
+use Rattle.lot_machine.specs.Ports.{PortTrap, clients_of, port_at, first_client, call, receive, reply, serve}
 use Rattle.lot_machine.specs.Mutexes.{mutex_at, lock, unlock}
+use Rattle.lot_machine.specs.Lends.{lends_lead, lends_on_to}
+use Rattle.lot_machine.specs.declared.reply.Outcome.{Outcome}
+use Rattle.lot_machine.specs.declared.reply.Outcome.TheVariants as outcome
+use Rattle.lot_machine.specs.Servers.{held_by, with_server, leads_back, served_at, port_holders, unserved_at, unserved, before_lock}
 use Rattle.lot_machine.specs.Kill.{without, port_without, mutex_without, released_by, released, ended, killed}
-use Rattle.lot_machine.specs.Step.{Effect, of_ports, of_mutexes, is_bad_processor, started, draw, stopped, wake, trap_refusal, trap_effect, checked_effect, thread_there, used_there, event_effect, step}
+use Rattle.lot_machine.specs.Step.{Effect, of_ports, at_port, of_mutexes, is_bad_processor, started, draw, stopped, wake, trap_refusal, trap_effect, checked_effect, thread_there, used_there, event_effect, step}
 use Rattle.lot_machine.specs.Equations.{HasEachOnce}
 use Rattle.lot_machine.specs.Facts.{HasNoCycle, FundsThere, RunsApart}
 use Rattle.lot_machine.specs.Order.{HasQueues, IsGap, HasFreeGaps}
@@ -583,7 +587,7 @@ change-funded s a (DropCurrency c) (console, unused, _) (no_cycle, there) = (
   subst (λ xs. FundsThere (record (funding_of a) { currencies = xs })) (sym (map-set is_some a.currencies c None)) (FundsThere-removed (funding_of a) c unused there),
 )
 change-funded s a (NewThread t) allowed (no_cycle, there) =
-    (subst (λ xs. HasNoCycle (record (funding_of a) { lends = xs })) (sym (map-placed (λ (r : Record). lend_of a.limits.without_lending r.status) a.records (free_threads a) newborn)) (HasNoCycle-lends_placed (funding_of a) (free_threads a) no_cycle), there)
+    (subst (λ xs. HasNoCycle (record (funding_of a) { lends = xs })) (sym (map-placed (λ (r : Record). lend_of a.limits r.status) a.records (free_threads a) newborn)) (HasNoCycle-lends_placed (funding_of a) (free_threads a) no_cycle), there)
 change-funded s a (DropThread t) allowed funded = funded
 change-funded s a (PutRecord t r) allowed funded = absurd (allowed.mover refl)
 change-funded s a (PutClients t x) allowed funded = absurd (allowed refl)
@@ -694,12 +698,12 @@ reply-leads s server number =
     (λ queues. client-alive s.records s.clients s.ports s.mutexes queues server) (λ queues p. client-used s.records s.clients s.ports s.mutexes queues p server) (λ r. ready-stops) (λ r. refl) in
     (Then woken (PutClients server (drop 1 (clients_of s.clients server))) (λ e. cc), tt)
 
-lock-leads : (s : State) (t m : ℕ) → Works s (of_mutexes s (lock s.records s.mutexes t m))
-lock-leads s t m = at (mutex_at s.mutexes m).owner refl
+lock-leads : {s : State} (a : State) (t m : ℕ) → Leads Work s a → Works s (of_mutexes a (lock a.records a.mutexes t m))
+lock-leads {s} a t m leads = at (mutex_at a.mutexes m).owner refl
   where
-    at : (o : Option ℕ) → (mutex_at s.mutexes m).owner ≡ o → Works s (of_mutexes s (lock s.records s.mutexes t m))
-    at None is = rw is (Then Stays (PutMutex m (record { owner = Some t; waiters = (mutex_at s.mutexes m).waiters })) (λ e. cc), tt)
-    at (Some owner) is = rw is (Then Stays (PutMutex m (record { owner = Some owner; waiters = (mutex_at s.mutexes m).waiters ++ t ∷ [] })) (λ e. cc), λ p used e. cc)
+    at : (o : Option ℕ) → (mutex_at a.mutexes m).owner ≡ o → Works s (of_mutexes a (lock a.records a.mutexes t m))
+    at None is = rw is (Then leads (PutMutex m (record { owner = Some t; waiters = (mutex_at a.mutexes m).waiters })) (λ e. cc), tt)
+    at (Some owner) is = rw is (Then leads (PutMutex m (record { owner = Some owner; waiters = (mutex_at a.mutexes m).waiters ++ t ∷ [] })) (λ e. cc), λ p used e. cc)
 
 unlock-leads : (s : State) (value : ℕ → ℕ) (m d : ℕ) → Works s (of_mutexes s (unlock s.records s.mutexes value m d))
 unlock-leads s value m d = at (mutex_at s.mutexes m).waiters refl
@@ -712,20 +716,64 @@ unlock-leads s value m d = at (mutex_at s.mutexes m).waiters refl
         let woken = wakes s (λ r. record r { status = status.Ready }) passed Stays (λ queues. waiter-alive s.records s.clients s.ports s.mutexes queues m place (w ∷ ws) is) (λ queues p. waiter-used s.records s.clients s.ports s.mutexes queues p m place (w ∷ ws) is) (λ r. ready-stops) (λ r. refl) in
         rw is (Then woken (PutMutex m (record { owner = Some passed; waiters = remove (w ∷ ws) place })) (λ e. cc), ready-stops)
 
+-- a port gets this server, or none
+server-leads : {by : By} {s : State} (a : State) (port : ℕ) (server : Option ℕ) → ¬ (by ≡ Console) → Leads by s a → Leads by s (record a { mutexes = with_server a.limits a.mutexes port server })
+server-leads {by} {s} a port server other leads = at a.limits.queued_lend
+  where
+    at : (b : Bool) → Leads by s (record a { mutexes = cond b (set_number a.mutexes (holder_of a.limits port) (held_by server)) a.mutexes })
+    at true = Then leads (PutMutex (holder_of a.limits port) (held_by server)) other
+    at false = leads
+
+-- holders lose their owners that pass a test
+unserved-leads : {by : By} {s : State} (test : ℕ → Bool) (a : State) (ns : List ℕ) → ¬ (by ≡ Console) → Leads by s a → Leads by s (record a { mutexes = unserved test a.mutexes ns })
+unserved-leads test a [] other leads = leads
+unserved-leads {by} {s} test a (n ∷ ns) other leads = unserved-leads test (record a { mutexes = unserved_at test a.mutexes n }) ns other (at (option_any test (mutex_at a.mutexes n).owner))
+  where
+    at : (b : Bool) → Leads by s (record a { mutexes = cond b (set_number a.mutexes n (held_by None)) a.mutexes })
+    at true = Then leads (PutMutex n (held_by None)) other
+    at false = leads
+
+-- a trap at a port, which may get another server
+port-leads : (s : State) (t port : ℕ) (e : PortTrap) → Works s (of_ports s e) → Works s (at_port s t port e)
+port-leads s t port e (leads, stops) = (by e.outcome, stops)
+  where
+    serves : (server : Option ℕ) → Leads Work s (record (of_ports s e).state { mutexes = with_server s.limits s.mutexes port server })
+    serves server = server-leads (of_ports s e).state port server (λ same. cc) leads
+
+    back : (b : Bool) → Leads Work s (record (of_ports s e).state { mutexes = cond b (with_server s.limits s.mutexes port None) s.mutexes })
+    back true = serves None
+    back false = leads
+
+    by : (o : Outcome) → Leads Work s (record (of_ports s e).state { mutexes = served_at s t port o })
+    by (outcome.ServedBy server) = serves (Some server)
+    by outcome.Queued = back (leads_back s t port)
+    by (outcome.Received client number) = serves (Some t)
+    by (outcome.RepliedThenReceived to client number) = serves (Some t)
+    by other = leads
+
+before-lock-leads : (s : State) (t m : ℕ) → Leads Work s (record s { mutexes = before_lock s t m })
+before-lock-leads s t m = at (option_any (λ owner. lends_on_to (funding_of s) owner t) (mutex_at s.mutexes m).owner)
+  where
+    at : (b : Bool) → Leads Work s (record s { mutexes = cond b (unserved (λ server. lends_lead (funding_of s) server t) s.mutexes (port_holders s.limits)) s.mutexes })
+    at true = unserved-leads (λ server. lends_lead (funding_of s) server t) s (port_holders s.limits) (λ same. cc) Stays
+    at false = Stays
+
 pub effect-leads : (s : State) (t : ℕ) (action : Action) → Works s (trap_effect s t action)
 effect-leads s t Yield = (Stays, ready-stops)
-effect-leads s t (Call port number) = call-leads s t port number
+effect-leads s t (Call port number) = port-leads s t port (call s.records s.clients s.ports t port number) (call-leads s t port number)
 effect-leads s t (Receive port) =
-    receive-leads s t port Stays (λ first others is queues. caller-alive s.records s.clients s.ports s.mutexes queues port first others is) (λ first others is queues p. caller-used s.records s.clients s.ports s.mutexes queues p port first others is)
+    port-leads s t port (receive s.records s.clients s.ports t port)
+    (receive-leads s t port Stays (λ first others is queues. caller-alive s.records s.clients s.ports s.mutexes queues port first others is) (λ first others is queues p. caller-used s.records s.clients s.ports s.mutexes queues p port first others is))
 effect-leads s t (ReplyTo number) = reply-leads s t number
 effect-leads s t (Serve port number) =
     let replied = (reply-leads s t number).0 in
-    receive-leads (of_ports s (reply s.records s.clients s.ports t number)).state t port replied (λ first others is queues. caller-alive s.records s.clients s.ports s.mutexes queues port first others is) (λ first others is queues p.
-    kept (λ a. used_by a.records p first.caller ≡ used_by s.records p first.caller) (change-used Work s p first.caller queues (λ e. cc) (λ e. cc) (λ e. cc)) replied refl ∙ caller-used s.records s.clients s.ports s.mutexes queues p port first others is)
-effect-leads s t (Lock m) = lock-leads s t m
+    port-leads s t port (serve s.records s.clients s.ports t port number)
+    (receive-leads (of_ports s (reply s.records s.clients s.ports t number)).state t port replied (λ first others is queues. caller-alive s.records s.clients s.ports s.mutexes queues port first others is) (λ first others is queues p.
+    kept (λ a. used_by a.records p first.caller ≡ used_by s.records p first.caller) (change-used Work s p first.caller queues (λ e. cc) (λ e. cc) (λ e. cc)) replied refl ∙ caller-used s.records s.clients s.ports s.mutexes queues p port first others is))
+effect-leads s t (Lock m) = lock-leads (record s { mutexes = before_lock s t m }) t m (before-lock-leads s t m)
 effect-leads s t (Unlock m d) = unlock-leads s (value_of s) m d
 effect-leads s t Sleep = (Stays, λ p used e. cc)
-effect-leads s t Exit = (Stays, tt)
+effect-leads s t Exit = (unserved-leads (λ server. server == t) s (port_holders s.limits) (λ same. cc) Stays, tt)
 
 pub checked-leads : (s : State) (t : ℕ) (action : Action) (o : Option TrapRefusal) → Works s (checked_effect s o (trap_effect s t action))
 checked-leads s t action None = effect-leads s t action

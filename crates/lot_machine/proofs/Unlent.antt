@@ -1,6 +1,7 @@
 -- Where nobody lends, a thread that isn't live is worth nothing.
 use Rattle.std.proofs.Common.{◌≡◌, ℕ, zero, suc, ◌==◌, Bool, true, false, ◌||◌, Option, Some, None, List, map, length, option_and_then, option_map, cond, refl, sym, ◌∙◌, ap}
 use Rattle.std.proofs.lemmas.Bool.{eqb-true}
+use Rattle.lot_machine.specs.declared.sizes.Sizes.{Sizes}
 use Rattle.lot_machine.specs.declared.record.Record.{Record}
 use Rattle.lot_machine.specs.declared.record.Status.{Status}
 use Rattle.lot_machine.specs.declared.record.Status.TheVariants.{Ready, Running, Receiving, Queued, Served, Waiting, Asleep, Dead}
@@ -25,22 +26,23 @@ is_thread-is t (target.Currency c) h = cc
 is_thread-is t (target.Thread u) h = ap target.Thread (eqb-true u t h)
 
 -- without lending nobody lends, whatever its status
-lends-nothing : (status : Status) → lend_of true status ≡ Nobody
-lends-nothing Ready = refl
-lends-nothing (Running p used) = refl
-lends-nothing (Receiving p) = refl
-lends-nothing (Queued p) = refl
-lends-nothing (Served t) = refl
-lends-nothing (Waiting m) = refl
-lends-nothing Asleep = refl
-lends-nothing Dead = refl
+lends-nothing : (limits : Sizes) → limits.without_lending ≡ true → (status : Status) → lend_of limits status ≡ Nobody
+lends-nothing limits off Ready = refl
+lends-nothing limits off (Running p used) = refl
+lends-nothing limits off (Receiving p) = refl
+lends-nothing limits off (Queued p) = rw off refl
+lends-nothing limits off (Served t) = rw off refl
+lends-nothing limits off (Waiting m) = rw off refl
+lends-nothing limits off Asleep = refl
+lends-nothing limits off Dead = refl
 
-pub lends-to-nobody : (f : Funding) (records : List Record) (u : ℕ) → option_and_then (borrower f) (at_number (map (λ (r : Record). lend_of true r.status) records) u) ≡ None
-lends-to-nobody f records u = ap (option_and_then (borrower f)) (at_number-map (λ (r : Record). lend_of true r.status) records u) ∙ by (at_number records u)
+pub lends-to-nobody : (limits : Sizes) → limits.without_lending ≡ true → (f : Funding) (records : List Record) (u : ℕ)
+    → option_and_then (borrower f) (at_number (map (λ (r : Record). lend_of limits r.status) records) u) ≡ None
+lends-to-nobody limits off f records u = ap (option_and_then (borrower f)) (at_number-map (λ (r : Record). lend_of limits r.status) records u) ∙ by (at_number records u)
   where
-    by : (o : Option Record) → option_and_then (borrower f) (option_map (λ (r : Record). lend_of true r.status) o) ≡ None
+    by : (o : Option Record) → option_and_then (borrower f) (option_map (λ (r : Record). lend_of limits r.status) o) ≡ None
     by None = refl
-    by (Some r) = ap (borrower f) (lends-nothing r.status)
+    by (Some r) = ap (borrower f) (lends-nothing limits off r.status)
 
 module _ (f : Funding) (live : List Bool) (nobody : (u : ℕ) → borrower_of f u ≡ None) where
   -- a thread leads to itself alone

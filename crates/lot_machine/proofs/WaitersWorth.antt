@@ -67,8 +67,8 @@ module _ (s : State) (no_cycle : HasNoCycle (funding_of s)) (funds_there : Funds
   own u = own_value s.limits.unit (funding_of s) (live_of s) u
 
   -- all waiters lend to the owner
-  lends : (place t : ℕ) → slice_get waiters place ≡ Some t → borrower_of (funding_of s) t ≡ borrower (funding_of s) (lend_of s.limits.without_lending (Waiting m))
-  lends place t at = ap (option_and_then (borrower (funding_of s))) (lend-at s.limits.without_lending s.records t (Waiting m) (queue.each place t at))
+  lends : (place t : ℕ) → slice_get waiters place ≡ Some t → borrower_of (funding_of s) t ≡ borrower (funding_of s) (lend_of s.limits (Waiting m))
+  lends place t at = ap (option_and_then (borrower (funding_of s))) (lend-at s.limits s.records t (Waiting m) (queue.each place t at))
 
   -- what a thread owns counts at one waiter at most
   each : (u : ℕ) → sum_by (λ t. cond (lends_lead (funding_of s) u t) (own u) 0) waiters ≤ own u
@@ -85,7 +85,7 @@ module _ (s : State) (no_cycle : HasNoCycle (funding_of s)) (funds_there : Funds
   unfolding own
   spread t =
       sum-filter own (λ u. lends_lead (funding_of s) u t) (numbers (funding_of s).lends)
-      ∙ ap (λ n. sum_by (λ u. cond (lends_lead (funding_of s) u t) (own u) 0) (range_with_len 1 n)) (length-map s.records (λ (r : Record). lend_of s.limits.without_lending r.status))
+      ∙ ap (λ n. sum_by (λ u. cond (lends_lead (funding_of s) u t) (own u) 0) (range_with_len 1 n)) (length-map s.records (λ (r : Record). lend_of s.limits r.status))
 
   pub waiters-worth : sum_by (value_of s) waiters ≤ active_amount (funding_of s) (live_of s) 0 * s.limits.unit
   unfolding own

@@ -1,5 +1,5 @@
 -- An invariant: true at the start and preserved by each event. It implies that each reachable state is sound.
-use Rattle.std.specs.Prelude.{◌≡◌, ◌≢◌, ℕ, ◌^◌, ◌<◌, ◌≤◌, true, Option, None, Some, List, [], All, IfSome, length, map, slice_get}
+use Rattle.std.specs.Prelude.{◌≡◌, ◌≢◌, ℕ, ◌^◌, ◌<◌, ◌≤◌, ◌⊎◌, true, Option, None, Some, List, [], All, IfSome, length, map, slice_get}
 use Rattle.lot_machine.specs.declared.record.Record.{Record}
 use Rattle.lot_machine.specs.declared.record.Status.{Status}
 use Rattle.lot_machine.specs.declared.record.Status.TheVariants.{Receiving, Queued, Served, Waiting, Dead}
@@ -24,6 +24,14 @@ pub record HasQueues (records : List Record) (clients : List (List ℕ)) (ports 
   pub served : (server : ℕ) (threads : List ℕ) → at_number clients server ≡ Some threads → IsQueue records (Served server) threads
   pub own_clients : (server : ℕ) (threads : List ℕ) → at_number clients server ≡ Some threads → (place : ℕ) → slice_get threads place ≢ Some server
   pub own_waiters : (m owner : ℕ) (mutex : Mutex) → at_number mutexes m ≡ Some mutex → mutex.owner ≡ Some owner → (place : ℕ) → slice_get mutex.waiters place ≢ Some owner
+
+-- no call is queued at the port while a thread waits to receive there (4.6)
+abbrev pub IsOneSided : Port → Type 0
+IsOneSided port = (port.calls ≡ []) ⊎ (port.receivers ≡ [])
+
+-- each port is one-sided
+abbrev pub HasOneSidedPorts : State → Type 0
+HasOneSidedPorts s = (p : ℕ) (port : Port) → at_number s.ports p ≡ Some port → IsOneSided port
 
 -- the place was left by what was removed
 abbrev pub IsGap : {A : Type 0} → List (Option A) → ℕ → Type 0

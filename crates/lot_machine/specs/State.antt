@@ -1,5 +1,5 @@
 -- The state of the kernel (4.3, 4.4, 4.6, 6.1).
-use Rattle.std.specs.Prelude.{ℕ, ◌+◌, ◌-◌, ◌^◌, min, ◌==◌, Bool, true, false, Option, Some, None, is_some, List, [], ◌∷◌, map, filter, find, replicate, codes, option_and_then, option_map, if◌then◌else◌}
+use Rattle.std.specs.Prelude.{ℕ, ◌+◌, ◌-◌, ◌^◌, min, ◌==◌, nat_le, ◌&&◌, Bool, true, false, Option, Some, None, is_some, List, [], ◌∷◌, map, filter, find, replicate, codes, option_and_then, option_map, if◌then◌else◌}
 use Rattle.std.specs.Bool.{then_some}
 use Rattle.std.specs.Option.{option_flatten}
 use Rattle.lot_machine.specs.declared.ticket.Ticket.{Ticket}
@@ -7,7 +7,7 @@ use Rattle.lot_machine.specs.declared.limits.Limits.{Limits}
 use Rattle.lot_machine.specs.declared.record.Record.{Record}
 use Rattle.lot_machine.specs.declared.record.Thread.{Thread}
 use Rattle.lot_machine.specs.declared.record.Status.{Status}
-use Rattle.lot_machine.specs.declared.record.Status.TheVariants.{Ready, Running, Served, Waiting, Asleep, Dead}
+use Rattle.lot_machine.specs.declared.record.Status.TheVariants.{Ready, Running, Queued, Served, Waiting, Asleep, Dead}
 use Rattle.lot_machine.specs.declared.funding.Lend.{Lend}
 use Rattle.lot_machine.specs.declared.funding.Lend.TheVariants.{Nobody, ToThread, ToMutex}
 use Rattle.lot_machine.specs.declared.sizes.Sizes.{Sizes}
@@ -40,6 +40,7 @@ pub record Freed : Type 0 where
 
 -- Tickets, threads, ports and mutexes are numbered from 1; currencies are numbered from 0, which is base. Removal
 -- leaves a gap, whose place is free if numbers are given again; otherwise a list's length is the number ever made.
+-- If queued calls lend, each port has a holder after the mutexes, whose owner is the port's server.
 -- Thread n is the nth of `threads`, `records` and `clients`; a removed thread's record stays Dead.
 pub record State : Type 0 where
   pub currencies : List (Option (List ℕ))  -- each currency's name
@@ -68,7 +69,16 @@ sizes_of l = record {
   plain_names = l.plain_names;
   without_compensation = l.without_compensation;
   without_lending = l.without_lending;
+  queued_lend = l.queued_lend;
 }
+
+-- the holder of the port's server, by its number: the holders stand after the mutexes
+abbrev pub holder_of : Sizes → ℕ → ℕ
+holder_of limits port = limits.mutexes + port
+
+-- as many holders as mutexes, and one for each port if queued calls lend
+abbrev pub holders : Sizes → ℕ
+holders limits = limits.mutexes + (if limits.queued_lend then limits.ports else 0)
 
 -- the opening state: base alone, empty ports and free mutexes
 abbrev pub opening : Sizes → State
@@ -79,7 +89,7 @@ opening limits = record {
   records = [];
   clients = [];
   ports = replicate limits.ports (record { calls = []; receivers = [] });
-  mutexes = replicate limits.mutexes (record { owner = None; waiters = [] });
+  mutexes = replicate (holders limits) (record { owner = None; waiters = [] });
   limits = limits;
   freed = record { tickets = []; currencies = []; threads = [] };
 }
@@ -118,12 +128,17 @@ next_thread s = next_place s.threads (free_threads s) + 1
 
 -- ---- the funding graph of a state
 
--- The receiver of a thread's lend: a served thread's server, a waiting thread's mutex, or nobody; in a kernel without
--- lending always nobody (3.1, 4.6, 6.1).
-abbrev pub lend_of : Bool → Status → Lend
-lend_of without_lending (Served server) = if without_lending then Nobody else ToThread server
-lend_of without_lending (Waiting mutex) = if without_lending then Nobody else ToMutex mutex
-lend_of without_lending other = Nobody
+-- whether those whose calls are queued at the port lend
+abbrev pub lends_at : Sizes → ℕ → Bool
+lends_at limits port = limits.queued_lend && nat_le port limits.ports
+
+-- The receiver of a thread's lend: a served thread's server, a waiting thread's mutex, the holder of a queued thread's
+-- port if queued calls lend, or nobody; in a kernel without lending always nobody (3.1, 4.6, 6.1).
+abbrev pub lend_of : Sizes → Status → Lend
+lend_of limits (Served server) = if limits.without_lending then Nobody else ToThread server
+lend_of limits (Waiting mutex) = if limits.without_lending then Nobody else ToMutex mutex
+lend_of limits (Queued port) = if limits.without_lending then Nobody else (if lends_at limits port then ToMutex (holder_of limits port) else Nobody)
+lend_of limits other = Nobody
 
 -- whether a thread with this status is live: it competes or runs
 abbrev pub is_live_status : Status → Bool
@@ -141,7 +156,7 @@ live_of s = live_in s.records
 
 -- the state's funding: its currencies, tickets, lends and owners of mutexes
 abbrev pub funding_of : State → Funding
-funding_of s = record { currencies = map is_some s.currencies; tickets = s.tickets; lends = map (λ r. lend_of s.limits.without_lending r.status) s.records; owners = map (λ m. m.owner) s.mutexes }
+funding_of s = record { currencies = map is_some s.currencies; tickets = s.tickets; lends = map (λ r. lend_of s.limits r.status) s.records; owners = map (λ m. m.owner) s.mutexes }
 
 -- ---- threads
 

@@ -18,13 +18,14 @@ use Rattle.lot_machine.specs.Numbered.{at_number, option_any}
 use Rattle.lot_machine.specs.Lends.{lends_on_to}
 use Rattle.lot_machine.specs.declared.drawn.Drawn.{Drawn}
 use Rattle.lot_machine.specs.Lottery.{winner}
-use Rattle.lot_machine.specs.State.{State, funding_of, is_asleep, ready_threads, status_of, thread_at, thread_on, used_by, value_of, weight_of, change_record, saturated}
+use Rattle.lot_machine.specs.State.{State, is_asleep, ready_threads, status_of, thread_at, thread_on, used_by, value_of, weight_of, change_record, saturated}
 use Rattle.lot_machine.specs.Commands.{Step, first_failing, unless_refused, command_step}
 use Rattle.lot_machine.specs.declared.after.After.{After}
 use Rattle.lot_machine.specs.Traps.{after_trap, compensation_for, with_ticks}
 use Rattle.lot_machine.specs.declared.after.After.TheVariants.{GoesOn, Leaves, Ends}
 use Rattle.lot_machine.specs.Ports.{PortTrap, first_client, call, receive, reply, serve}
 use Rattle.lot_machine.specs.Mutexes.{MutexTrap, mutex_at, lock, unlock}
+use Rattle.lot_machine.specs.Servers.{served_at, without_servers, before_lock, left_by}
 
 -- there is no processor with this number: they are numbered from 1
 abbrev pub is_bad_processor : State → ℕ → Bool
@@ -77,6 +78,10 @@ wake s t = record { state = record s { records = change_record (λ r. record r {
 abbrev pub owns : State → ℕ → ℕ → Bool
 owns s t m = option_any (λ owner. owner == t) (mutex_at s.mutexes m).owner
 
+-- there is no mutex with this number
+abbrev pub is_no_mutex : State → ℕ → Bool
+is_no_mutex s m = is_none (at_number s.mutexes m) || nat_lt s.limits.mutexes m
+
 -- Each trap's checks, in order: the outcome names the first that fails.
 abbrev pub trap_refusal : State → ℕ → Action → Option TrapRefusal
 trap_refusal s t Yield = None
@@ -85,9 +90,9 @@ trap_refusal s t (Receive p) = first_failing ((is_none (at_number s.ports p), No
 trap_refusal s t (ReplyTo number) = first_failing ((is_none (first_client s.clients t), NothingToReply) ∷ [])
 trap_refusal s t (Serve p number) = first_failing ((is_none (at_number s.ports p), NoPort) ∷ (is_none (first_client s.clients t), NothingToReply) ∷ [])
 trap_refusal s t (Lock m) =
-    first_failing ((is_none (at_number s.mutexes m), NoMutex) ∷ (owns s t m, AlreadyOwner)
-    ∷ (option_any (λ owner. lends_on_to (funding_of s) owner t) (mutex_at s.mutexes m).owner, LockCycle) ∷ [])
-trap_refusal s t (Unlock m d) = first_failing ((is_none (at_number s.mutexes m), NoMutex) ∷ (not (owns s t m), NotOwner) ∷ [])
+    first_failing ((is_no_mutex s m, NoMutex) ∷ (owns s t m, AlreadyOwner)
+    ∷ (option_any (λ owner. lends_on_to (without_servers s) owner t) (mutex_at s.mutexes m).owner, LockCycle) ∷ [])
+trap_refusal s t (Unlock m d) = first_failing ((is_no_mutex s m, NoMutex) ∷ (not (owns s t m), NotOwner) ∷ [])
 trap_refusal s t Sleep = None
 trap_refusal s t Exit = None
 
@@ -101,6 +106,10 @@ pub record Effect : Type 0 where
 abbrev pub of_ports : State → PortTrap → Effect
 of_ports s e = record { state = record s { records = e.records; clients = e.clients; ports = e.ports }; outcome = e.outcome; after = e.after }
 
+-- the effect of the thread's trap at this port, which may get another server
+abbrev pub at_port : State → ℕ → ℕ → PortTrap → Effect
+at_port s t p e = record { state = record (of_ports s e).state { mutexes = served_at s t p e.outcome }; outcome = e.outcome; after = e.after }
+
 -- the effect of a trap on a mutex
 abbrev pub of_mutexes : State → MutexTrap → Effect
 of_mutexes s e = record { state = record s { records = e.records; mutexes = e.mutexes }; outcome = e.outcome; after = e.after }
@@ -108,14 +117,14 @@ of_mutexes s e = record { state = record s { records = e.records; mutexes = e.mu
 -- the effect of a trap that isn't refused (4.6, 6.1)
 abbrev pub trap_effect : State → ℕ → Action → Effect
 trap_effect s t Yield = record { state = s; outcome = outcome.Yielded; after = Leaves status.Ready }
-trap_effect s t (Call p number) = of_ports s (call s.records s.clients s.ports t p number)
-trap_effect s t (Receive p) = of_ports s (receive s.records s.clients s.ports t p)
+trap_effect s t (Call p number) = at_port s t p (call s.records s.clients s.ports t p number)
+trap_effect s t (Receive p) = at_port s t p (receive s.records s.clients s.ports t p)
 trap_effect s t (ReplyTo number) = of_ports s (reply s.records s.clients s.ports t number)
-trap_effect s t (Serve p number) = of_ports s (serve s.records s.clients s.ports t p number)
-trap_effect s t (Lock m) = of_mutexes s (lock s.records s.mutexes t m)
+trap_effect s t (Serve p number) = at_port s t p (serve s.records s.clients s.ports t p number)
+trap_effect s t (Lock m) = of_mutexes s (lock s.records (before_lock s t m) t m)
 trap_effect s t (Unlock m d) = of_mutexes s (unlock s.records s.mutexes (value_of s) m d)
 trap_effect s t Sleep = record { state = s; outcome = outcome.Slept; after = Leaves status.Asleep }
-trap_effect s t Exit = record { state = s; outcome = outcome.Exited; after = Ends }
+trap_effect s t Exit = record { state = record s { mutexes = left_by s t }; outcome = outcome.Exited; after = Ends }
 
 -- the effect, unless there is a refusal, which changes nothing and lets the thread go on
 abbrev pub checked_effect : State → Option TrapRefusal → Effect → Effect

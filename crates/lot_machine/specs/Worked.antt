@@ -20,7 +20,7 @@ use Rattle.lot_machine.specs.Rows.{currency_row}
 
 -- the largest tables for tickets, currencies and threads; two ports, mutexes and processors, one script, quantum 100
 abbrev pub largest : Sizes
-largest = record { tickets = 65535; currencies = 4096; threads = 4096; ports = 2; mutexes = 2; processors = 2; scripts = 1; quantum = 100; unit = 1; reuse = false; plain_names = false; without_compensation = false; without_lending = false }
+largest = record { tickets = 65535; currencies = 4096; threads = 4096; ports = 2; mutexes = 2; processors = 2; scripts = 1; quantum = 100; unit = 1; reuse = false; plain_names = false; without_compensation = false; without_lending = false; queued_lend = false }
 
 -- the sizes `largest` with unit 256
 abbrev pub finer : Sizes
@@ -28,7 +28,7 @@ finer = record largest { unit = 256 }
 
 -- at most two tickets, two user currencies and two threads at once: their numbers are given again
 abbrev pub two_of_each : Sizes
-two_of_each = record { tickets = 2; currencies = 2; threads = 2; ports = 0; mutexes = 0; processors = 1; scripts = 1; quantum = 100; unit = 1; reuse = true; plain_names = false; without_compensation = false; without_lending = false }
+two_of_each = record { tickets = 2; currencies = 2; threads = 2; ports = 0; mutexes = 0; processors = 1; scripts = 1; quantum = 100; unit = 1; reuse = true; plain_names = false; without_compensation = false; without_lending = false; queued_lend = false }
 
 -- the same limits on all that are ever made
 abbrev pub two_in_all : Sizes
@@ -45,6 +45,10 @@ uncompensated = record largest { without_compensation = true }
 -- the sizes `largest` without lending
 abbrev pub without_lends : Sizes
 without_lends = record largest { without_lending = true }
+
+-- the sizes `largest` in which queued calls lend
+abbrev pub queues_lend : Sizes
+queues_lend = record largest { queued_lend = true }
 
 -- ---- commands
 

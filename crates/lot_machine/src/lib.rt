@@ -12,6 +12,7 @@ pub mod laws;
 mod limits;
 mod name;
 mod numbers;
+pub mod queued;
 mod record;
 mod reference;
 mod refusal;

@@ -17,6 +17,7 @@ pub struct Limits {
     pub plain_names: bool,
     pub without_compensation: bool,
     pub without_lending: bool,
+    pub queued_lend: bool,
     ghost within_bounds: { IsWithinBounds (record {
       tickets = tickets;
       currencies = currencies;
@@ -31,5 +32,6 @@ pub struct Limits {
       plain_names = plain_names;
       without_compensation = without_compensation;
       without_lending = without_lending;
+      queued_lend = queued_lend;
     }) },
 }

@@ -1,6 +1,7 @@
 //! The sizes of a kernel, fixed when it is made.
-ghost use Rattle.std.specs.Prelude.{◌≡◌, IfSome, IsSome, IsTrue, ◌↔◌};
+ghost use Rattle.std.specs.Prelude.{◌≡◌, ◌≤◌, IfSome, IsSome, IsTrue, ◌↔◌};
 ghost use Rattle.lot_machine.specs.Bounds.{IsWithinBounds};
+ghost use Rattle.lot_machine.specs.State as states;
 ghost use Rattle.lot_machine.specs.State.{sizes_of};
 
 use crate::Limits;
@@ -38,11 +39,13 @@ pub struct Sizes {
     pub without_compensation: bool,
     /// Whether a blocked thread lends to nobody: its server, or the owner of its mutex, has its own tickets alone.
     pub without_lending: bool,
+    /// Whether a thread whose call is queued lends to the port's server: the thread that took the last call there.
+    pub queued_lend: bool,
 }
 
 impl Sizes {
     /// The smallest sizes within their bounds. No number is given again, names are good names,
-    /// threads are compensated, and blocked ones lend.
+    /// threads are compensated, and blocked ones lend, unless their call is queued.
     pub const SMALLEST: Sizes = Sizes {
         tickets: 1,
         currencies: 1,
@@ -57,9 +60,10 @@ impl Sizes {
         plain_names: false,
         without_compensation: false,
         without_lending: false,
+        queued_lend: false,
     };
     /// The largest sizes within their bounds. No number is given again, names are good names,
-    /// threads are compensated, and blocked ones lend.
+    /// threads are compensated, and blocked ones lend, unless their call is queued.
     pub const LARGEST: Sizes = Sizes {
         tickets: 65535,
         currencies: 4096,
@@ -74,6 +78,7 @@ impl Sizes {
         plain_names: false,
         without_compensation: false,
         without_lending: false,
+        queued_lend: false,
     };
 }
 
@@ -100,7 +105,22 @@ impl Limits {
             plain_names: sizes.plain_names,
             without_compensation: sizes.without_compensation,
             without_lending: sizes.without_lending,
+            queued_lend: sizes.queued_lend,
         })
+    }
+}
+
+impl Limits {
+    /// The number of mutexes, and of ports too if queued calls lend: each of them may have an owner.
+    pub fn holders(&self) -> u32
+        ensures number { result ≡ states.holders (sizes_of self.now) }
+        ensures few { result ≤ 512 }
+    {
+        if self.queued_lend {
+            self.mutexes + self.ports
+        } else {
+            self.mutexes
+        }
     }
 }
 

@@ -56,7 +56,7 @@ module _ (a b d : Threaded) (m next : ℕ) (mutex : IsMutex (funding_in a) m) (t
     -- the first two changes
     both : MakesStaleIn a b → MakesStaleIn b d → MakesStaleIn a d
     both =
-        makes-each a b d (ap (λ (x : Threaded). x.without_lending) first, sym (ap (λ (x : Threaded). x.without_lending) second)) (ap (λ (x : Threaded). x.tickets) first) (λ k. inr (inl (ap (λ (x : Threaded). at_number x.owners k) (sym second)))) (λ u. inl (ap (λ (x : Threaded). at_number x.records u) first))
+        makes-each a b d (ap (λ (x : Threaded). x.lending) first, sym (ap (λ (x : Threaded). x.lending) second)) (ap (λ (x : Threaded). x.tickets) first) (λ k. inr (inl (ap (λ (x : Threaded). at_number x.owners k) (sym second)))) (λ u. inl (ap (λ (x : Threaded). at_number x.records u) first))
 
     between : (k : ℕ) → IsOwnerBetween a d e k
     between k = from (cases_eq k m)
@@ -80,4 +80,4 @@ module _ (a b d : Threaded) (m next : ℕ) (mutex : IsMutex (funding_in a) m) (t
 
     pub handed-stale : MakesStaleIn a b → MakesStaleIn b d → MakesStaleIn d e → MakesStaleIn a e
     handed-stale one two three =
-        makes-each a d e (ap (λ (x : Threaded). x.without_lending) woken, sym (ap (λ (x : Threaded). x.without_lending) third)) (ap (λ (x : Threaded). x.tickets) woken) between (λ u. inr (ap (λ (x : Threaded). at_number x.records u) (sym third))) (both one two) three
+        makes-each a d e (ap (λ (x : Threaded). x.lending) woken, sym (ap (λ (x : Threaded). x.lending) third)) (ap (λ (x : Threaded). x.tickets) woken) between (λ u. inr (ap (λ (x : Threaded). at_number x.records u) (sym third))) (both one two) three

@@ -283,7 +283,7 @@ module _ (a : Threaded) (q : QueueLists) (t place : ℕ) (same : owners_of q.mut
         queues = queues ∙ ap (λ (ms : List Mutex). let next : QueueLists = record now { mutexes = ms } in next) mutexes-then
             ∙ ap (λ (y : QueueLists). let next : QueueLists = record y { mutexes = map (passed_from t) (so_far.done ++ x ∷ []) ++ rest } in next) so_far.queues;
         kept = λ node stale. kept node (so_far.kept node stale);
-        stale = makes-each a v w (ap (λ (x : Threaded). x.without_lending) so_far.threads, sym (ap (λ (x : Threaded). x.without_lending) threads-x)) (ap (λ (y : Threaded). y.tickets) so_far.threads) owner-between record-between so_far.stale makes;
+        stale = makes-each a v w (ap (λ (x : Threaded). x.lending) so_far.threads, sym (ap (λ (x : Threaded). x.lending) threads-x)) (ap (λ (y : Threaded). y.tickets) so_far.threads) owner-between record-between so_far.stale makes;
       }
 
 -- whether the thread owns a mutex

@@ -57,7 +57,7 @@ module _ (a b d : Threaded) (m p : ℕ) (records : List Record) (first : b ≡ w
   edges-first =
       subst (λ (x : Threaded). WeighedBetween (funding_in a) (funding_in b) (funding_in x)) (sym passed)
       (subst (λ (x : Threaded). WeighedBetween (funding_in a) (funding_in x) (funding_in (record (with_records a records d.stale) { owners = set_number a.owners m (Some p) }))) (sym first)
-      (lends-first (funding_in a) (lends_in a.without_lending records) (set_number a.owners m (Some p))))
+      (lends-first (funding_in a) (lends_in a.lending records) (set_number a.owners m (Some p))))
 
   -- what gets stale by both is what a path reaches from a node that the whole change touched
   pub passes-stale : MakesStaleIn a b → MakesStaleIn b d → MakesStaleIn a d

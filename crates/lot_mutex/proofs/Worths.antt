@@ -1,5 +1,5 @@
 -- What the waiters for a mutex are worth together: no more than the mutex.
-use Rattle.std.proofs.Common.{◌≡◌, ◌∙◌, ℕ, suc, ◌<◌, ◌≤◌, ◌%◌, Bool, true, false, MatchOption, Option, Some, None, List, [], ◌∷◌, length, map, sum, sum_by, slice_get, option_map, option_and_then, ap, refl, subst, arith}
+use Rattle.std.proofs.Common.{◌≡◌, ◌∙◌, ℕ, suc, ◌<◌, ◌≤◌, ◌%◌, Bool, true, false, MatchOption, Option, Some, None, List, [], ◌∷◌, length, map, sum, sum_by, slice_get, option_map, ap, refl, subst, arith, if◌then◌else◌}
 use Rattle.std.specs.List.{All, Contains}
 use Rattle.std.specs.Option.{IfSome}
 use Rattle.std.proofs.lemmas.Bool.{eq-eqb}
@@ -8,7 +8,7 @@ use Rattle.std.proofs.lemmas.List.Sums.{sum-map, sum_by-cons}
 use Rattle.std.proofs.lemmas.Option.{slice_get-get_or}
 use Rattle.lot_machine.specs.declared.drawn.Drawn.{Drawn}
 use Rattle.lot_machine.specs.declared.funding.Node.{Node}
-use Rattle.lot_machine.specs.declared.funding.Lend.TheVariants.{ToMutex}
+use Rattle.lot_machine.specs.declared.funding.Lend.TheVariants.{Nobody, ToMutex}
 use Rattle.lot_machine.specs.declared.record.Record.{Record}
 use Rattle.lot_machine.specs.declared.record.Status.TheVariants.{Waiting}
 use Rattle.lot_machine.specs.Funding.{is_to_mutex}
@@ -19,7 +19,7 @@ use Rattle.lot_machine.specs.State.{lend_of, live_in, is_live_status}
 use Rattle.lot_machine.specs.Value.{mutex_value, waiters_for}
 use Rattle.lot_machine.proofs.Draws.{winner-is}
 use Rattle.lot_machine.proofs.EachOnce.{apart-from, contains-nothing, filter-contains, place-in, range-contains, sums-within}
-use Rattle.lot_machine.specs.Lends.{borrower, borrower_of, is_live}
+use Rattle.lot_machine.specs.Lends.{borrower_of, is_live}
 use Rattle.lot_machine.proofs.Tickets.{some-injective}
 use Rattle.lot_machine.proofs.TrapCycles.{at_number-map, lend-at}
 use Rattle.lot_machine.proofs.Unlent.{lends-to-nobody, unlent-nothing}
@@ -33,24 +33,24 @@ nothing-together value (x ∷ xs) none = omega (arith, sum_by-cons value x xs, n
 
 module _ (v : Threaded) (m : ℕ) (waiters : List ℕ) (queue : IsQueue v.records (Waiting m) waiters) where
   -- who waits lends to the mutex
-  lends : v.without_lending ≡ false → (t : ℕ) → Contains waiters t → at_number (lends_in v.without_lending v.records) t ≡ Some (ToMutex m)
-  lends on t c = let r = place-in waiters t c in lend-at v.without_lending v.records t (Waiting m) (queue.each r.0 t r.1) ∙ ap (λ (without : Bool). Some (lend_of without (Waiting m))) on
+  lends : v.lending.without_lending ≡ false → (t : ℕ) → Contains waiters t → at_number (lends_in v.lending v.records) t ≡ Some (ToMutex m)
+  lends on t c = let r = place-in waiters t c in lend-at v.lending v.records t (Waiting m) (queue.each r.0 t r.1) ∙ ap (λ (without : Bool). Some (if without then Nobody else ToMutex m)) on
 
-  waits : v.without_lending ≡ false → (t : ℕ) → Contains waiters t → Contains (waiters_for (funding_in v) m) t
+  waits : v.lending.without_lending ≡ false → (t : ℕ) → Contains waiters t → Contains (waiters_for (funding_in v) m) t
   waits on t c =
       let there = lends on t c in
-      let all = lends_in v.without_lending v.records in
+      let all = lends_in v.lending v.records in
       let low = number-low all t (ToMutex m) there in
       let high = number-high all t (ToMutex m) there in
       filter-contains (λ u. option_any (is_to_mutex m) (at_number all u)) (numbers all) t (ap (option_any (is_to_mutex m)) there ∙ eq-eqb m m refl)
       (range-contains 1 (length all) t (omega (arith, low)) (omega (arith, high)))
 
   -- or, without lending, is worth nothing
-  worth-nothing : v.without_lending ≡ true → (place t : ℕ) → slice_get waiters place ≡ Some t → worth_in v t ≡ 0
+  worth-nothing : v.lending.without_lending ≡ true → (place t : ℕ) → slice_get waiters place ≡ Some t → worth_in v t ≡ 0
   worth-nothing off place t e = unlent-nothing (funding_in v) (live_in v.records) nobody v.unit t gone
     where
       nobody : (u : ℕ) → borrower_of (funding_in v) u ≡ None
-      nobody u = ap (λ (without : Bool). option_and_then (borrower (funding_in v)) (at_number (lends_in without v.records) u)) off ∙ lends-to-nobody (funding_in v) v.records u
+      nobody u = lends-to-nobody v.lending off (funding_in v) v.records u
 
       by : (o : Option Record) → option_map (λ (r : Record). r.status) o ≡ Some (Waiting m) → option_any (λ flag. flag) (option_map (λ (r : Record). is_live_status r.status) o) ≡ false
       by None none = cc
@@ -60,9 +60,9 @@ module _ (v : Threaded) (m : ℕ) (waiters : List ℕ) (queue : IsQueue v.record
       gone = ap (option_any (λ flag. flag)) (at_number-map (λ (r : Record). is_live_status r.status) v.records t) ∙ by (at_number v.records t) (queue.each place t e)
 
   pub worths-little : sum (map (worth_in v) waiters) ≤ mutex_value v.unit (funding_in v) (live_in v.records) m
-  worths-little = by v.without_lending refl
+  worths-little = by v.lending.without_lending refl
     where
-      by : (b : Bool) → v.without_lending ≡ b → sum (map (worth_in v) waiters) ≤ mutex_value v.unit (funding_in v) (live_in v.records) m
+      by : (b : Bool) → v.lending.without_lending ≡ b → sum (map (worth_in v) waiters) ≤ mutex_value v.unit (funding_in v) (live_in v.records) m
       by true off = omega (arith, sum-map (worth_in v) waiters, nothing-together (worth_in v) waiters (worth-nothing off))
       by false on =
           let within = sums-within (worth_in v) waiters (waiters_for (funding_in v) m) (apart-from waiters (λ t place other at also. queue.once place other t at also)) (waits on) in
@@ -71,9 +71,9 @@ module _ (v : Threaded) (m : ℕ) (waiters : List ℕ) (queue : IsQueue v.record
   -- and is there
   pub waiters-there : All (IsThreadOf v) waiters
   waiters-there k d below =
-      let all = lends_in v.without_lending v.records in
-      let there = lend-at v.without_lending v.records _ (Waiting m) (queue.each k _ (slice_get-get_or waiters k d below)) in
-      (number-low all _ _ there, omega (arith, number-high all _ _ there, length-map v.records (λ (r : Record). lend_of v.without_lending r.status)))
+      let all = lends_in v.lending v.records in
+      let there = lend-at v.lending v.records _ (Waiting m) (queue.each k _ (slice_get-get_or waiters k d below)) in
+      (number-low all _ _ there, omega (arith, number-high all _ _ there, length-map v.records (λ (r : Record). lend_of v.lending r.status)))
 
 -- what isn't stale, where nothing is
 pub settled-fresh : (v : Threaded) (x : Node) → v.stale ≡ [] → ¬ IsStaleIn v x

@@ -46,7 +46,7 @@ made-none r threads currencies Currencies e c = currencies e c
 
 -- a change of the thread's record that keeps it live or not, and its lend
 abbrev KeepsLife : State → ℕ → (Record → Record) → Type 0
-KeepsLife s t change = (r : Record) → at_number s.records t ≡ Some r → (lend_of s.limits.without_lending (change r).status ≡ lend_of s.limits.without_lending r.status) × (is_live_status (change r).status ≡ is_live_status r.status)
+KeepsLife s t change = (r : Record) → at_number s.records t ≡ Some r → (lend_of s.limits (change r).status ≡ lend_of s.limits r.status) × (is_live_status (change r).status ≡ is_live_status r.status)
 
 -- a step that changes nothing, or the record of one thread
 abbrev IsSlight : State → Step → Type 0
@@ -57,7 +57,7 @@ unless s None next slight = slight refl
 unless s (Some why) next slight = (made-none (answer.Refused why) (λ e t. refl) (λ e c. refl), inl refl)
 
 ready-keeps : (s : State) (p t : ℕ) → ((r : Record) → at_number s.records t ≡ Some r → r.status ≡ status.Ready) → KeepsLife s t (started p)
-ready-keeps s p t ready r is = (sym (ap (lend_of s.limits.without_lending) (ready r is)), sym (ap is_live_status (ready r is)))
+ready-keeps s p t ready r is = (sym (ap (lend_of s.limits) (ready r is)), sym (ap is_live_status (ready r is)))
 
 draw-slight : (s : State) (p d : ℕ) → IsSlight s (draw s p d)
 draw-slight s p d = at (winner (map (weight_of s) (ready_threads s.records)) d) refl
@@ -79,7 +79,7 @@ stop-slight s p ticks compensation there =
     keeps r is =
         let (used, runs) = there-runs s p there in
         let now : r.status ≡ status.Running p used = some-injective r.status (status.Running p used) (sym (ap (option_map (λ (x : Record). x.status)) is) ∙ runs) in
-        (sym (ap (lend_of s.limits.without_lending) now), sym (ap is_live_status now))
+        (sym (ap (lend_of s.limits) now), sym (ap is_live_status now))
 
 dispatch-slight : (s : State) (e : Event) → IsDispatch e → IsSlight s (step s e)
 dispatch-slight s e (inl (p, d, is)) = rw is (unless s (event_refusal s (event.Draw p d)) (draw s p d) (λ passed. draw-slight s p d))
@@ -115,7 +115,7 @@ module _ (s : State) (e : Event) (dispatch : IsDispatch e) (r : Reply) (next : S
       by : ((next ≡ s) ⊎ ((t : ℕ) × (change : Record → Record) × KeepsLife s t change × (moved_thread r ≡ Some t) × (next ≡ record s { records = change_record change s.records t }))) → funding_of next ≡ funding_of s
       by (inl same) = ap funding_of same
       by (inr (t, change, keeps, moved, is)) =
-          ap funding_of is ∙ ap (λ (ls : List Lend). record (funding_of s) { lends = ls }) (same-seen (λ (x : Record). lend_of s.limits.without_lending x.status) change s.records t (λ x there. (keeps x there).0))
+          ap funding_of is ∙ ap (λ (ls : List Lend). record (funding_of s) { lends = ls }) (same-seen (λ (x : Record). lend_of s.limits x.status) change s.records t (λ x there. (keeps x there).0))
 
   lives-kept : live_of next ≡ live_of s
   lives-kept = by slight.1

@@ -78,7 +78,7 @@ module _ (a : Threaded) (q : QueueLists) (server : ℕ) (there : IsThere q.clien
           ∙ ap (λ (xs : List (List ℕ)). let next : QueueLists = record q { clients = xs } in next)
           (number-again q.clients server (clients_of now.clients server) (drop 1 (clients_of now.clients server)) ∙ ap (set_number q.clients server) (sym others));
       kept = λ node stale. kept node (so_far.kept node stale);
-      stale = makes-each a v w (ap (λ (x : Threaded). x.without_lending) so_far.threads, sym (ap (λ (x : Threaded). x.without_lending) set)) (ap (λ (x : Threaded). x.tickets) so_far.threads) (λ m. inl (ap (λ (x : Threaded). at_number x.owners m) so_far.threads)) between so_far.stale makes;
+      stale = makes-each a v w (ap (λ (x : Threaded). x.lending) so_far.threads, sym (ap (λ (x : Threaded). x.lending) set)) (ap (λ (x : Threaded). x.tickets) so_far.threads) (λ m. inl (ap (λ (x : Threaded). at_number x.owners m) so_far.threads)) between so_far.stale makes;
     }
       where
         between : (u : ℕ) → (at_number v.records u ≡ at_number a.records u) ⊎ (at_number v.records u ≡ at_number w.records u)

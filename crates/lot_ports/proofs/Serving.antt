@@ -58,7 +58,7 @@ nowhere-replied q records server t number nowhere = record {
     by u (inr (at, set)) w = nowhere.clients server (contains-drop (clients_of q.clients server) 1 t (subst (λ (o : Option (List ℕ)). Contains (unwrap_or o []) t) set w))
 
 -- a change of one record, and then a receipt that leaves it
-module _ (a b c : Threaded) (lending : b.without_lending ≡ a.without_lending) (clients : List (List ℕ)) (ports : List Port) (server client port : ℕ) (wake : Record → Record) (woken : b.records ≡ change_record wake a.records client)
+module _ (a b c : Threaded) (lending : b.lending ≡ a.lending) (clients : List (List ℕ)) (ports : List Port) (server client port : ℕ) (wake : Record → Record) (woken : b.records ≡ change_record wake a.records client)
     (taken : c ≡ with_records b (receive b.records clients ports server port).records c.stale) (apart : ¬ Contains (callers_at ports port) client) (first_makes : MakesStaleIn a b) (then_makes : MakesStaleIn b c) where
   -- if no record changes then
   same-records : c ≡ with_records b b.records c.stale → MakesStaleIn a c

@@ -447,6 +447,7 @@ limits_of r = record {
   plain_names = false;
   without_compensation = r.without_compensation;
   without_lending = r.without_lending;
+  queued_lend = false;
 }
 
 -- The seeds unless the input gives them: seed p for processor p, or its mixed seed in a timed input.

@@ -40,7 +40,7 @@ pub record AtSome (setting : Setting) (IsSo : Seen → Type 0) : Type 0 where
 abbrev pub no_setting : Setting
 no_setting = record {
   program = record {
-    limits = record { tickets = 0; currencies = 0; threads = 0; ports = 0; mutexes = 0; processors = 0; scripts = 0; quantum = 0; unit = 0; reuse = false; plain_names = false; without_compensation = false; without_lending = false };
+    limits = record { tickets = 0; currencies = 0; threads = 0; ports = 0; mutexes = 0; processors = 0; scripts = 0; quantum = 0; unit = 0; reuse = false; plain_names = false; without_compensation = false; without_lending = false; queued_lend = false };
     seeds = [];
     turns = 0;
     scripts = [];

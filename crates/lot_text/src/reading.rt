@@ -358,6 +358,7 @@ impl Reading {
             plain_names: false,
             without_compensation: self.without_compensation,
             without_lending: self.without_lending,
+            queued_lend: false,
         };
         Limits::new(sizes).unwrap()
     }

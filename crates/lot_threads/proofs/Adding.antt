@@ -5,6 +5,7 @@ use Rattle.std.proofs.lemmas.Bool.{cases_eq}
 use Rattle.std.proofs.lemmas.List.{length-map, map-append}
 use Rattle.std.proofs.lemmas.List.Elements.{All-append, All-cons, All-nil}
 use Rattle.std.proofs.Math.Seq.{set-append_seam}
+use Rattle.lot_machine.specs.declared.sizes.Sizes.{Sizes}
 use Rattle.lot_machine.specs.declared.funding.Node.{Node}
 use Rattle.lot_machine.specs.declared.funding.Edge.{Edge}
 use Rattle.lot_machine.specs.declared.funding.Edge.TheVariants.{OfTicket, OfLender, OfMutex}
@@ -138,7 +139,7 @@ runs-added records runners is = record { each = each; all = all }
         by (inl same) = let no : Some Ready ≡ Some (Running p used) = sym (ap (λ (n : ℕ). status_of (records ++ newborn ∷ []) n) same ∙ ap (option_map (λ (r : Record). r.status)) (number-next records newborn)) ∙ runs in cc
         by (inr other) = is.all t p used (sym (ap (option_map (λ (r : Record). r.status)) (number-before records newborn t other)) ∙ runs)
 
-pub added-of : {without : Bool} (v mid new : Valued) (q then : Queued) (threads : List (Option Thread)) (records : List Record) (runners : List (Option ℕ)) (thread : Thread) (n : ℕ)
+pub added-of : {without : Sizes} (v mid new : Valued) (q then : Queued) (threads : List (Option Thread)) (records : List Record) (runners : List (Option ℕ)) (thread : Thread) (n : ℕ)
     → AreOf without v q threads records runners → length records < v.now.thread_limit → n ≡ length records + 1
     → mid.now ≡ with_lends v.now (v.now.funding.lends ++ Nobody ∷ []) → mid.live ≡ v.live ++ false ∷ [] → mid.known ≡ v.known
     → new.now ≡ mid.now → new.live ≡ set_number mid.live n true → new.known ≡ record mid.known { stale = new.known.stale } → ((node : Node) → IsStale mid.known node → IsStale new.known node)
@@ -180,7 +181,7 @@ added-of {without} v mid new q then threads records runners thread n is room num
     one = All-cons (IsTimely q.quantum) newborn [] (tt, tt) (All-nil (IsTimely q.quantum))
 
 -- the number of a thread that was just made
-pub number-made : {without : Bool} (v mid : Valued) (q : Queued) (threads : List (Option Thread)) (records : List Record) (runners : List (Option ℕ)) (n : ℕ) → AreOf without v q threads records runners
+pub number-made : {without : Sizes} (v mid : Valued) (q : Queued) (threads : List (Option Thread)) (records : List Record) (runners : List (Option ℕ)) (n : ℕ) → AreOf without v q threads records runners
     → mid.now ≡ with_lends v.now (v.now.funding.lends ++ Nobody ∷ []) → n ≡ length mid.now.funding.lends → n ≡ length records + 1
 number-made {without} v mid q threads records runners n is added count =
     count ∙ ap (λ (w : LimitedFunding). length w.funding.lends) added ∙ length-append v.now.funding.lends (Nobody ∷ [])

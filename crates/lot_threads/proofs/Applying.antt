@@ -1,5 +1,6 @@
 -- A change of tickets, currencies or owners, as one of all that is kept of the threads.
 use Rattle.std.proofs.Common.{◌≡◌, ◌∙◌, ◌⊎◌, ℕ, Bool, Option, List, ap, refl, subst, sym}
+use Rattle.lot_machine.specs.declared.sizes.Sizes.{Sizes}
 use Rattle.lot_machine.specs.declared.funding.Lend.{Lend}
 use Rattle.lot_machine.specs.declared.funding.Node.{Node}
 use Rattle.lot_machine.specs.declared.record.Record.{Record}
@@ -23,7 +24,7 @@ lives-stay : (lives : List Bool) (c : Change) → LeavesThreads c → live_after
 lives-stay lives (PutThread t lend live) leaves = absurd leaves
 lives-stay lives other leaves = refl
 
-module _ {without : Bool} (v new : Valued) (q : Queued) (threads : List (Option Thread)) (records : List Record) (runners : List (Option ℕ)) (is : AreOf without v q threads records runners)
+module _ {without : Sizes} (v new : Valued) (q : Queued) (threads : List (Option Thread)) (records : List Record) (runners : List (Option ℕ)) (is : AreOf without v q threads records runners)
     (c : Change) (leaves : LeavesThreads c) (done : new ≡ applied v c new.known.stale) (stale : StaleBy c v new) where
   limit : new.now.thread_limit ≡ v.now.thread_limit
   limit = ap (λ (x : Valued). x.now.thread_limit) done

@@ -1,5 +1,6 @@
 -- A change of threads, and then one of a record that the first change left: what a trap does, and what becomes of its thread.
-use Rattle.std.proofs.Common.{◌≡◌, ◌∙◌, ℕ, Bool, ◌⊎◌, inl, inr, suc, ◌-◌, Some, option_map, ap, sym}
+use Rattle.std.proofs.Common.{◌≡◌, ◌∙◌, ℕ, ◌⊎◌, inl, inr, suc, ◌-◌, Some, option_map, ap, sym}
+use Rattle.lot_machine.specs.declared.sizes.Sizes.{Sizes}
 use Rattle.lot_machine.specs.declared.funding.Edge.{Edge}
 use Rattle.lot_machine.specs.declared.funding.Edge.TheVariants.{OfTicket, OfLender, OfMutex}
 use Rattle.lot_machine.specs.declared.record.Record.{Record}
@@ -14,7 +15,7 @@ use Rattle.lot_threads.specs.Threaded.{Threaded, MakesStaleIn, funding_in, lends
 use Rattle.lot_value.proofs.Lending.{lent_weighed}
 use Rattle.lot_threads.proofs.TwoChanges.{makes-both-in}
 
-module _ (a b c : Threaded) (lending : b.without_lending ≡ a.without_lending) (t : ℕ) (was next : Record) (left : at_number a.records t ≡ Some was) (there : at_number b.records t ≡ Some was)
+module _ (a b c : Threaded) (lending : b.lending ≡ a.lending) (t : ℕ) (was next : Record) (left : at_number a.records t ≡ Some was) (there : at_number b.records t ≡ Some was)
     (last : c ≡ with_records b (set_number b.records t next) c.stale) where
   -- each record in between is the one before or the one after
   each-record : (u : ℕ) → (at_number b.records u ≡ at_number a.records u) ⊎ (at_number b.records u ≡ at_number c.records u)
@@ -25,8 +26,8 @@ module _ (a b c : Threaded) (lending : b.without_lending ≡ a.without_lending) 
       by (inl same) = inr (sym (ap (λ (v : Threaded). at_number v.records u) last ∙ same))
       by (inr (at, set)) = let is = at ∙ number-there b.records t was there in inl (ap (at_number b.records) is ∙ there ∙ sym left ∙ sym (ap (at_number a.records) is))
 
-  lend_seen : (v : Threaded) (u : ℕ) → at_number (lends_in v.without_lending v.records) u ≡ option_map (λ (r : Record). lend_of v.without_lending r.status) (at_number v.records u)
-  lend_seen v u = at_number-map (λ (r : Record). lend_of v.without_lending r.status) v.records u
+  lend_seen : (v : Threaded) (u : ℕ) → at_number (lends_in v.lending v.records) u ≡ option_map (λ (r : Record). lend_of v.lending r.status) (at_number v.records u)
+  lend_seen v u = at_number-map (λ (r : Record). lend_of v.lending r.status) v.records u
 
   life_seen : (v : Threaded) (u : ℕ) → at_number (live_in v.records) u ≡ option_map (λ (r : Record). is_live_status r.status) (at_number v.records u)
   life_seen v u = at_number-map (λ (r : Record). is_live_status r.status) v.records u
@@ -39,15 +40,15 @@ module _ (a b c : Threaded) (lending : b.without_lending ≡ a.without_lending) 
       each (OfMutex m) = inr (sym (ap (λ (v : Threaded). weighed_of (funding_in v) (OfMutex m)) last))
       each (OfLender u) = by (each-record u)
         where
-          lent : (v : Threaded) → b.without_lending ≡ v.without_lending → at_number b.records u ≡ at_number v.records u → weighed_of (funding_in b) (OfLender u) ≡ weighed_of (funding_in v) (OfLender u)
+          lent : (v : Threaded) → b.lending ≡ v.lending → at_number b.records u ≡ at_number v.records u → weighed_of (funding_in b) (OfLender u) ≡ weighed_of (funding_in v) (OfLender u)
           lent v alike same =
-              ap (lent_weighed u) (lend_seen b u ∙ ap (option_map (λ (r : Record). lend_of b.without_lending r.status)) same
-              ∙ ap (λ (without : Bool). option_map (λ (r : Record). lend_of without r.status) (at_number v.records u)) alike ∙ sym (lend_seen v u))
+              ap (lent_weighed u) (lend_seen b u ∙ ap (option_map (λ (r : Record). lend_of b.lending r.status)) same
+              ∙ ap (λ (without : Sizes). option_map (λ (r : Record). lend_of without r.status) (at_number v.records u)) alike ∙ sym (lend_seen v u))
 
           by : (at_number b.records u ≡ at_number a.records u) ⊎ (at_number b.records u ≡ at_number c.records u)
               → (weighed_of (funding_in b) (OfLender u) ≡ weighed_of (funding_in a) (OfLender u)) ⊎ (weighed_of (funding_in b) (OfLender u) ≡ weighed_of (funding_in c) (OfLender u))
           by (inl same) = inl (lent a lending same)
-          by (inr same) = inr (lent c (sym (ap (λ (v : Threaded). v.without_lending) last)) same)
+          by (inr same) = inr (lent c (sym (ap (λ (v : Threaded). v.lending) last)) same)
 
   pub live-last : LiveBetween (live_in a.records) (live_in b.records) (live_in c.records)
   live-last = live-between (live_in a.records) (live_in b.records) (live_in c.records) (λ u. by u (each-record u))

@@ -4,6 +4,7 @@ use Rattle.std.specs.Option.{option_flatten}
 use Rattle.std.proofs.lemmas.Bool.{cases_eq}
 use Rattle.std.proofs.lemmas.List.{map-set, length-map}
 use Rattle.std.proofs.lemmas.List.Elements.{All-set}
+use Rattle.lot_machine.specs.declared.sizes.Sizes.{Sizes}
 use Rattle.lot_machine.specs.declared.funding.Node.{Node}
 use Rattle.lot_machine.specs.declared.funding.Lend.{Lend}
 use Rattle.lot_machine.specs.declared.record.Record.{Record}
@@ -57,7 +58,7 @@ ready-changed records competitors t next low high ready = record {
         ap option_flatten (number-other competitors t (competitor_of next) u low other) ∙ ready.each u ∙ sym (ap (option_and_then competitor_of) (number-other records t next u low other))
 
 -- After a change of one record all is kept together again.
-pub changed-of : {without : Bool} (v new : Valued) (q then : Queued) (threads : List (Option Thread)) (records : List Record) (runners : List (Option ℕ)) (t : ℕ) (next : Record)
+pub changed-of : {without : Sizes} (v new : Valued) (q then : Queued) (threads : List (Option Thread)) (records : List Record) (runners : List (Option ℕ)) (t : ℕ) (next : Record)
     → AreOf without v q threads records runners → 1 ≤ t → t ≤ length records → (was : Record) → at_number records t ≡ Some was
     → new.now ≡ with_lends v.now (set_number v.now.funding.lends t (lend_of without next.status))
     → new.live ≡ set_number v.live t (is_live_status next.status)
@@ -89,7 +90,7 @@ changed-of {without} v new q then threads records runners t next is low high was
     same_count = omega (arith, ap (λ (w : LimitedFunding). length w.funding.lends) now, length-set v.now.funding.lends (t - 1) (lend_of without next.status))
 
 -- a change of the graph that changes neither what is lent nor who is live
-pub graph-of : {without : Bool} (v new : Valued) (q : Queued) (threads : List (Option Thread)) (records : List Record) (runners : List (Option ℕ)) → AreOf without v q threads records runners
+pub graph-of : {without : Sizes} (v new : Valued) (q : Queued) (threads : List (Option Thread)) (records : List Record) (runners : List (Option ℕ)) → AreOf without v q threads records runners
     → new.now.funding.lends ≡ v.now.funding.lends → new.now.thread_limit ≡ v.now.thread_limit → new.live ≡ v.live
     → new.known ≡ record v.known { stale = new.known.stale } → ((node : Node) → IsStale v.known node → IsStale new.known node)
     → AreOf without new q threads records runners
@@ -105,7 +106,7 @@ graph-of v new q threads records runners is lends limit live known kept = record
 }
 
 -- after a draw
-pub drawn-of : {without : Bool} (v new : Valued) (q then : Queued) (threads : List (Option Thread)) (records : List Record) (runners : List (Option ℕ)) → AreOf without v q threads records runners
+pub drawn-of : {without : Sizes} (v new : Valued) (q then : Queued) (threads : List (Option Thread)) (records : List Record) (runners : List (Option ℕ)) → AreOf without v q threads records runners
     → new.now ≡ v.now → new.live ≡ v.live → then ≡ record q { weights = then.weights; changed = []; visits = then.visits } → AreWeights then new.known
     → AreOf without new then threads records runners
 drawn-of v new q then threads records runners is now live queue weights = record {
@@ -123,7 +124,7 @@ drawn-of v new q then threads records runners is now live queue weights = record
     competitors = ap (λ (x : Queued). x.competitors) queue
 
 -- the graph is that of the records
-pub graph-is : {without : Bool} (v : Valued) (q : Queued) (threads : List (Option Thread)) (records : List Record) (runners : List (Option ℕ)) → AreOf without v q threads records runners → v.now ≡ with_lends v.now (lends_in without records)
+pub graph-is : {without : Sizes} (v : Valued) (q : Queued) (threads : List (Option Thread)) (records : List Record) (runners : List (Option ℕ)) → AreOf without v q threads records runners → v.now ≡ with_lends v.now (lends_in without records)
 graph-is v q threads records runners is = ap (with_lends v.now) is.lends
 
 -- what may be lent, by other words for the graph and for the lend
@@ -174,7 +175,7 @@ no-records : (t : ℕ) → option_and_then competitor_of (at_number [] t) ≡ No
 no-records zero = refl
 no-records (suc i) = ap (option_and_then competitor_of) (at_number-suc [] i)
 
-pub opened-of : {without : Bool} (v : Valued) (q : Queued) (threads : List (Option Thread)) (records : List Record) (runners : List (Option ℕ)) (n m : ℕ)
+pub opened-of : {without : Sizes} (v : Valued) (q : Queued) (threads : List (Option Thread)) (records : List Record) (runners : List (Option ℕ)) (n m : ℕ)
     → v.now.funding.lends ≡ [] → v.live ≡ [] → v.now.thread_limit ≡ n → q.competitors ≡ replicate n None → ((c : Known) → AreWeights q c)
     → threads ≡ [] → records ≡ [] → runners ≡ replicate m nobody → AreOf without v q threads records runners
 opened-of v q threads records runners n m lends live limit queue weights no_threads no_records table = rw (no_threads, no_records, table) (record {
@@ -201,7 +202,7 @@ opened-of v q threads records runners n m lends live limit queue weights no_thre
     idle (suc i) = ap option_flatten (at_number-suc (replicate n unready) i) ∙ idle-at n i
 
 -- what is settled stays the threads'
-pub settled-of : {without : Bool} (v new : Valued) (q then : Queued) (threads : List (Option Thread)) (records : List Record) (runners : List (Option ℕ))
+pub settled-of : {without : Sizes} (v new : Valued) (q then : Queued) (threads : List (Option Thread)) (records : List Record) (runners : List (Option ℕ))
     → AreOf without v q threads records runners → then ≡ record q { changed = then.changed } → AreWeights then new.known → new.now ≡ v.now → new.live ≡ v.live → AreOf without new then threads records runners
 settled-of {without} v new q then threads records runners is queue weights now live = record {
   names = is.names;

@@ -1,6 +1,7 @@
 -- What two changes of threads make stale together.
-use Rattle.std.proofs.Common.{◌≡◌, ◌∙◌, ℕ, Bool, ◌⊎◌, inl, inr, Option, Some, None, List, refl, ap, sym, option_map, option_and_then}
+use Rattle.std.proofs.Common.{◌≡◌, ◌∙◌, ℕ, ◌⊎◌, inl, inr, Option, Some, None, List, refl, ap, sym, option_map, option_and_then}
 use Rattle.std.specs.Option.{option_flatten}
+use Rattle.lot_machine.specs.declared.sizes.Sizes.{Sizes}
 use Rattle.lot_machine.specs.declared.ticket.Ticket.{Ticket}
 use Rattle.lot_machine.specs.declared.funding.Edge.{Edge}
 use Rattle.lot_machine.specs.declared.funding.Edge.TheVariants.{OfTicket, OfLender, OfMutex}
@@ -48,13 +49,13 @@ edge-owner m (Some t) (Some u) weighed first second =
     let same : node.Thread t ≡ node.Thread u = ap (λ (x : Node × Node × ℕ). x.1) (some-injective _ _ (first ∙ sym second)) in
     let number : u ≡ t = cc in (t, refl, ap Some number)
 
-module _ (a b c : Threaded) (lending : (b.without_lending ≡ a.without_lending) × (b.without_lending ≡ c.without_lending)) (tickets : b.tickets ≡ a.tickets) (owners : (m : ℕ) → IsOwnerBetween a b c m)
+module _ (a b c : Threaded) (lending : (b.lending ≡ a.lending) × (b.lending ≡ c.lending)) (tickets : b.tickets ≡ a.tickets) (owners : (m : ℕ) → IsOwnerBetween a b c m)
     (records : (u : ℕ) → (at_number b.records u ≡ at_number a.records u) ⊎ (at_number b.records u ≡ at_number c.records u)) where
-  lender-same : (v w : Threaded) (u : ℕ) → v.without_lending ≡ w.without_lending → at_number v.records u ≡ at_number w.records u → weighed_of (funding_in v) (OfLender u) ≡ weighed_of (funding_in w) (OfLender u)
+  lender-same : (v w : Threaded) (u : ℕ) → v.lending ≡ w.lending → at_number v.records u ≡ at_number w.records u → weighed_of (funding_in v) (OfLender u) ≡ weighed_of (funding_in w) (OfLender u)
   lender-same v w u alike same =
       ap (lender_edge u)
-      (at_number-map (λ (r : Record). lend_of v.without_lending r.status) v.records u ∙ ap (option_map (λ (r : Record). lend_of v.without_lending r.status)) same
-      ∙ ap (λ (without : Bool). option_map (λ (r : Record). lend_of without r.status) (at_number w.records u)) alike ∙ sym (at_number-map (λ (r : Record). lend_of w.without_lending r.status) w.records u))
+      (at_number-map (λ (r : Record). lend_of v.lending r.status) v.records u ∙ ap (option_map (λ (r : Record). lend_of v.lending r.status)) same
+      ∙ ap (λ (without : Sizes). option_map (λ (r : Record). lend_of without r.status) (at_number w.records u)) alike ∙ sym (at_number-map (λ (r : Record). lend_of w.lending r.status) w.records u))
 
   edge-kept : (edge : Edge) (weighed : Node × Node × ℕ) → weighed_of (funding_in a) edge ≡ Some weighed → weighed_of (funding_in c) edge ≡ Some weighed → weighed_of (funding_in b) edge ≡ Some weighed
   edge-kept (OfTicket n) weighed old new =

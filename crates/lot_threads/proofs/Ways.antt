@@ -2,6 +2,7 @@
 use Rattle.std.proofs.Common.{◌≡◌, ◌≢◌, ◌∙◌, ℕ, zero, suc, ◌<◌, ◌≤◌, length, arith, Bool, true, false, Option, Some, None, List, [], ◌∷◌, option_map, ap, sym, refl, subst, if◌then◌else◌}
 use Rattle.std.proofs.lemmas.List.{length-map}
 use Rattle.std.proofs.lemmas.Option.{slice_get_within}
+use Rattle.lot_machine.specs.declared.sizes.Sizes.{Sizes}
 use Rattle.lot_machine.specs.declared.funding.Node.{Node}
 use Rattle.lot_machine.specs.declared.funding.Node.TheVariants as node
 use Rattle.lot_machine.specs.declared.funding.Lend.{Lend}
@@ -21,7 +22,7 @@ use Rattle.lot_threads.specs.Threaded.{Threaded, IsLiveIn, IsThreadOf, funding_i
 use Rattle.lot_threads.proofs.Leads.{lender-next}
 
 -- who competes or runs lends to nobody
-live-alone : (without : Bool) (s : Status) → is_live_status s ≡ true → lend_of without s ≡ Nobody
+live-alone : (without : Sizes) (s : Status) → is_live_status s ≡ true → lend_of without s ≡ Nobody
 live-alone without status.Ready live = refl
 live-alone without (status.Running p used) live = refl
 live-alone without (status.Served server) live = cc
@@ -31,7 +32,7 @@ live-alone without (status.Receiving p) live = cc
 live-alone without status.Asleep live = cc
 live-alone without status.Dead live = cc
 
-pub live-lends : (without : Bool) (records : List Record) (t : ℕ) → IsLive (live_in records) t → at_number (lends_in without records) t ≡ Some Nobody
+pub live-lends : (without : Sizes) (records : List Record) (t : ℕ) → IsLive (live_in records) t → at_number (lends_in without records) t ≡ Some Nobody
 live-lends without records t live = at_number-map (λ (r : Record). lend_of without r.status) records t ∙ by (at_number records t) (sym (at_number-map (λ (r : Record). is_live_status r.status) records t) ∙ live)
   where
     by : (o : Option Record) → option_map (λ (r : Record). is_live_status r.status) o ≡ Some true → option_map (λ (r : Record). lend_of without r.status) o ≡ Some Nobody
@@ -63,10 +64,10 @@ number-high xs (suc i) x is = omega (arith, slice_get_within xs i x (sym (at_num
 
 -- it is there
 pub live-there : (v : Threaded) (t : ℕ) → IsLiveIn v t → IsThread (funding_in v) t
-live-there v t live = let alone = live-lends v.without_lending v.records t live in (number-low (lends_in v.without_lending v.records) t Nobody alone, number-high (lends_in v.without_lending v.records) t Nobody alone)
+live-there v t live = let alone = live-lends v.lending v.records t live in (number-low (lends_in v.lending v.records) t Nobody alone, number-high (lends_in v.lending v.records) t Nobody alone)
 
 pub live-counted : (v : Threaded) (t : ℕ) → IsLiveIn v t → IsThreadOf v t
-live-counted v t live = let there = live-there v t live in (there.0, omega (arith, there.1, length-map v.records (λ (r : Record). lend_of v.without_lending r.status)))
+live-counted v t live = let there = live-there v t live in (there.0, omega (arith, there.1, length-map v.records (λ (r : Record). lend_of v.lending r.status)))
 
 abbrev thread_number : Node → ℕ
 thread_number (node.Thread n) = n
@@ -78,7 +79,7 @@ lends-to-live v t s live other = (live-there v s live, apart)
   where
     apart : ¬ LendReaches (funding_in v) (ToThread s) t
     apart (from, is, leads) =
-        let reached = reaches-itself (funding_in v) s (live-lends v.without_lending v.records s live) (node.Thread t) (subst (λ (x : Node). Reaches (funding_in v) x (node.Thread t)) (sym (some-injective (node.Thread s) from is)) leads) in
+        let reached = reaches-itself (funding_in v) s (live-lends v.lending v.records s live) (node.Thread t) (subst (λ (x : Node). Reaches (funding_in v) x (node.Thread t)) (sym (some-injective (node.Thread s) from is)) leads) in
         other (ap thread_number reached)
 
 -- as may one without lending, which lends to nobody
@@ -88,7 +89,7 @@ may-lend-to f t false lend can = can
 
 -- it reaches no mutex
 pub live-apart : (v : Threaded) (t m : ℕ) → IsLiveIn v t → ¬ Reaches (funding_in v) (node.Thread t) (node.Mutex m)
-live-apart v t m live leads = let same = reaches-itself (funding_in v) t (live-lends v.without_lending v.records t live) (node.Mutex m) leads in cc
+live-apart v t m live leads = let same = reaches-itself (funding_in v) t (live-lends v.lending v.records t live) (node.Mutex m) leads in cc
 
 -- and isn't one that waits for a mutex
 pub live-other : (v : Threaded) (t u m : ℕ) → IsLiveIn v t → status_of v.records u ≡ Some (status.Waiting m) → t ≢ u

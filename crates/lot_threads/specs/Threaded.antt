@@ -1,5 +1,6 @@
 -- The threads as the contracts of `Threads` see them.
 use Rattle.std.specs.Prelude.{◌≡◌, Bool, ⊤, ◌⊎◌, ℕ, Option, Some, List, [], All, Contains, length, map, option_and_then}
+use Rattle.lot_machine.specs.declared.sizes.Sizes.{Sizes}
 use Rattle.lot_machine.specs.declared.funding.Node.{Node}
 use Rattle.lot_machine.specs.declared.funding.Lend.{Lend}
 use Rattle.lot_machine.specs.declared.ticket.Ticket.{Ticket}
@@ -30,7 +31,7 @@ use Rattle.lot_threads.specs.Timely.{IsTimely}
 use Rattle.lot_threads.specs.Runners.{AreRunners}
 
 -- The existing currencies, the tickets, and the owner of each mutex; the limits on tickets, user currencies and
--- threads, the unit, the quantum, the number of processors, and whether nobody lends; each thread's name and script,
+-- threads, the unit, the quantum, the number of processors, and the sizes by which threads lend; each thread's name and script,
 -- and its record; the stale nodes; and the counts.
 pub record Threaded : Type 0 where
   pub currencies : List Bool
@@ -42,19 +43,19 @@ pub record Threaded : Type 0 where
   pub unit : ℕ
   pub quantum : ℕ
   pub processors : ℕ
-  pub without_lending : Bool
+  pub lending : Sizes
   pub threads : List (Option Thread)
   pub records : List Record
   pub stale : List Node
   pub meter : Meter
 
 -- the lends of threads with these records
-abbrev pub lends_in : Bool → List Record → List Lend
-lends_in without_lending records = map (λ r. lend_of without_lending r.status) records
+abbrev pub lends_in : Sizes → List Record → List Lend
+lends_in lending records = map (λ r. lend_of lending r.status) records
 
 -- the funding of these threads: tickets, owners, and the lends that follow from the records
 abbrev pub funding_in : Threaded → Funding
-funding_in v = record { currencies = v.currencies; tickets = v.tickets; lends = lends_in v.without_lending v.records; owners = v.owners }
+funding_in v = record { currencies = v.currencies; tickets = v.tickets; lends = lends_in v.lending v.records; owners = v.owners }
 
 -- the funding of these threads, with its limits
 abbrev pub limited_in : Threaded → LimitedFunding
@@ -90,7 +91,7 @@ CanRun v t other = ⊤
 pub record CanChange (v : Threaded) (t : ℕ) (next : Record) : Type 0 where
   pub there : IsThreadOf v t
   pub timely : IsTimely v.quantum next
-  pub lend : CanLend (funding_in v) t (lend_of v.without_lending next.status)
+  pub lend : CanLend (funding_in v) t (lend_of v.lending next.status)
   pub run : CanRun v t next.status
 
 -- a thread's value, in base units (4.4)
@@ -131,9 +132,9 @@ pub record StaleByIn (change : Change) (old new : Threaded) : Type 0 where
 
 -- The graph and the queue match the records: the lends, the live threads, the competitors, and the thread on each
 -- processor.
-pub record AreOf (without_lending : Bool) (v : Valued) (q : Queued) (threads : List (Option Thread)) (records : List Record) (runners : List (Option ℕ)) : Type 0 where
+pub record AreOf (lending : Sizes) (v : Valued) (q : Queued) (threads : List (Option Thread)) (records : List Record) (runners : List (Option ℕ)) : Type 0 where
   pub names : length threads ≡ length records
-  pub lends : v.now.funding.lends ≡ lends_in without_lending records
+  pub lends : v.now.funding.lends ≡ lends_in lending records
   pub live : v.live ≡ live_in records
   pub ready : AreReady records q.competitors
   pub competes : CompetesIn q.competitors v

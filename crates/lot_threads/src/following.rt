@@ -3,6 +3,7 @@ ghost use Rattle.std.specs.Prelude.{◌≡◌, ◌↔◌, ◌≤◌, Some, IsTru
 ghost use Rattle.lot_machine.specs.declared.funding.Node.TheVariants.{Thread as ThreadNode};
 ghost use Rattle.lot_machine.specs.Numbered.{at_number, set_number};
 ghost use Rattle.lot_machine.specs.State as states;
+ghost use Rattle.lot_machine.specs.State.{sizes_of};
 ghost use Rattle.lot_draw.specs.Competing as competing;
 ghost use Rattle.lot_graph.specs.Changes.{with_lends};
 ghost use Rattle.lot_graph.specs.Graphs.{IsMutex, IsNodeOf, IsThread};
@@ -11,18 +12,21 @@ ghost use Rattle.lot_value.specs.Valued.{Becomes};
 ghost use Rattle.lot_threads.specs.Timely.{IsBelowQuantum, IsTimely};
 
 use lot_draw::Competitor;
-use lot_machine::{Lend, Node, Record, Status};
+use lot_machine::{Lend, Limits, Node, Record, Status};
 use lot_value::{Change, ValuedGraph};
 
-/// The receiver of a thread's lend: a served thread's server, a waiting thread's mutex, or nobody, as always without
-/// lending (3.1, 4.6, 6.1).
-pub(crate) fn lend_of(without_lending: bool, status: Status) -> Lend
-    ensures { result ≡ states.lend_of without_lending status }
+/// The receiver of a thread's lend: a served thread's server, a waiting thread's mutex, the holder of a queued thread's
+/// port if queued calls lend, or nobody, as always without lending (3.1, 4.6, 6.1).
+pub(crate) fn lend_of(limits: &Limits, status: Status) -> Lend
+    ensures { result ≡ states.lend_of (sizes_of limits.now) status }
 {
-    if without_lending {
+    if limits.without_lending {
         return Lend::Nobody;
     }
     match status {
+        Status::Queued(port) if limits.queued_lend && port <= limits.ports => {
+            Lend::ToMutex(limits.mutexes + port)
+        }
         Status::Served(server) => Lend::ToThread(server),
         Status::Waiting(mutex) => Lend::ToMutex(mutex),
         _ => Lend::Nobody,
@@ -41,22 +45,22 @@ pub(crate) fn is_live(status: Status) -> bool
 #[inline(always)]
 pub(crate) fn follow_status(
     graph: &mut ValuedGraph,
-    without_lending: bool,
+    limits: &Limits,
     thread: u32,
     before: Status,
     now: Status,
 )
     requires thread { IsThread graph.old.now.funding thread }
-    requires lend { CanLend graph.old.now.funding thread (states.lend_of without_lending now) }
-    requires lent { at_number graph.old.now.funding.lends thread ≡ Some (states.lend_of without_lending before) }
+    requires lend { CanLend graph.old.now.funding thread (states.lend_of (sizes_of limits.now) now) }
+    requires lent { at_number graph.old.now.funding.lends thread ≡ Some (states.lend_of (sizes_of limits.now) before) }
     requires lived { at_number graph.old.live thread ≡ Some (states.is_live_status before) }
     ensures follows { Becomes graph.old graph.new
-        (with_lends graph.old.now (set_number graph.old.now.funding.lends thread (states.lend_of without_lending now)))
+        (with_lends graph.old.now (set_number graph.old.now.funding.lends thread (states.lend_of (sizes_of limits.now) now)))
         (set_number graph.old.live thread (states.is_live_status now)) }
 {
     let live = is_live(now);
-    let lend = lend_of(without_lending, now);
-    if live != is_live(before) || lend != lend_of(without_lending, before) {
+    let lend = lend_of(limits, now);
+    if live != is_live(before) || lend != lend_of(limits, before) {
         graph.apply(Change::PutThread { thread, lend, live });
     }
 }

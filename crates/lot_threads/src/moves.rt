@@ -76,7 +76,7 @@ impl Threads {
     pub fn set_status(&mut self, thread: ThreadNumber, status: Status)
         requires thread { IsThreadOf self.old thread.number }
         requires below { IsBelowQuantum self.old.quantum status }
-        requires lend { CanLend (funding_in self.old) thread.number (states.lend_of self.old.without_lending status) }
+        requires lend { CanLend (funding_in self.old) thread.number (states.lend_of self.old.lending status) }
         requires run { CanRun self.old thread.number status }
         ensures set { self.new ≡ with_records self.old (change_record
             (λ r. record r { status = status }) self.old.records thread.number) self.new.stale }

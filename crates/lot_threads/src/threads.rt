@@ -10,7 +10,7 @@ ghost use Rattle.lot_machine.specs.Numbered.{at_number, set_number};
 ghost use Rattle.lot_machine.specs.Funding.{ticket_at, target_of};
 ghost use Rattle.lot_machine.specs.Activity.{IsActive, active_amount};
 ghost use Rattle.lot_machine.specs.Equations.{HasEquation, Reaches};
-ghost use Rattle.lot_machine.specs.State.{live_in, status_of, thread_on, used_by};
+ghost use Rattle.lot_machine.specs.State.{holders, sizes_of, live_in, status_of, thread_on, used_by};
 ghost use Rattle.lot_machine.specs.Value.{node_value, ticket_value};
 ghost use Rattle.lot_graph.specs.Graphs.{IsNodeOf, IsTarget, IsCycle, IsFunding};
 ghost use Rattle.lot_tree.specs.Visits.{CountsReads};
@@ -63,8 +63,8 @@ pub struct Threads {
     records: Stack<Record>,
     /// By processor, processor 1 first.
     runners: Kept<Option<u32>>,
-    /// Whether blocked threads lend to nobody.
-    without_lending: bool,
+    /// By these blocked threads lend.
+    lending: Limits,
 }
 
 impl Drop for Threads {
@@ -76,13 +76,14 @@ impl Drop for Threads {
             threads: _,
             records: _,
             runners: _,
-            without_lending: _,
+            lending: _,
         } = self;
     }
 }
 
 impl Model for Threads {
     ghost use Rattle.std.specs.Prelude.{◌≡◌, length};
+    ghost use Rattle.lot_machine.specs.State.{sizes_of};
     ghost use Rattle.lot_threads.specs.Threaded.{Threaded, AreOf};
 
     ghost Value = { Threaded };
@@ -97,7 +98,7 @@ impl Model for Threads {
       unit = s.graph.known.unit;
       quantum = s.queue.quantum;
       processors = length s.runners.items;
-      without_lending = s.without_lending;
+      lending = sizes_of s.lending;
       threads = s.threads.items;
       records = s.records.items;
       stale = s.graph.known.stale;
@@ -105,7 +106,7 @@ impl Model for Threads {
     } };
 
     ghost invariant = { λ s. record {
-      together : AreOf s.without_lending s.graph s.queue s.threads.items s.records.items s.runners.items;
+      together : AreOf (sizes_of s.lending) s.graph s.queue s.threads.items s.records.items s.runners.items;
       thread_room : s.threads.room ≡ s.graph.now.thread_limit;
       record_room : s.records.room ≡ s.graph.now.thread_limit;
     } };
@@ -117,14 +118,14 @@ impl Threads {
         ensures opening { IfOk result (λ made. made ≡ record {
           currencies = true ∷ [];
           tickets = [];
-          owners = replicate limits.now.mutexes None;
+          owners = replicate (holders (sizes_of limits.now)) None;
           ticket_limit = limits.now.tickets;
           currency_limit = limits.now.currencies;
           thread_limit = limits.now.threads;
           unit = limits.now.unit;
           quantum = limits.now.quantum;
           processors = limits.now.processors;
-          without_lending = limits.now.without_lending;
+          lending = sizes_of limits.now;
           threads = [];
           records = [];
           stale = [];
@@ -144,14 +145,14 @@ impl Threads {
             threads,
             records,
             runners,
-            without_lending: limits.without_lending,
+            lending: *limits,
         })
     }
 
     /// The total of bytes that `new` requests from the allocator.
     pub fn bytes(limits: &Limits) -> u64
         ensures { result ≡ 40 * limits.now.tickets + 70 * limits.now.currencies + 225 * limits.now.threads
-            + 81 * limits.now.mutexes + 8 * limits.now.processors + 118 }
+            + 81 * holders (sizes_of limits.now) + 8 * limits.now.processors + 118 }
     {
         ValuedGraph::bytes(limits)
             + RunQueue::bytes(limits)
@@ -242,7 +243,7 @@ impl Threads {
         let place = index_of(thread);
         let before = self.records[place].status;
         let now = next.status;
-        follow_status(&mut self.graph, self.without_lending, thread, before, now);
+        follow_status(&mut self.graph, &self.lending, thread, before, now);
         self.queue.set_competitor(thread, competitor_of(next));
         move_runner(&mut self.runners, thread, before, now);
         self.records[place] = next;
@@ -256,7 +257,7 @@ impl Threads {
         if !self.can_stand(thread.number, next) {
             return false;
         }
-        let lend = lend_of(self.without_lending, next.status);
+        let lend = lend_of(&self.lending, next.status);
         can_lend(&mut self.graph, thread.number, lend)
     }
 

@@ -1,6 +1,7 @@
 //! A funding graph, kept together with its activity and its values.
 ghost use Rattle.std.specs.Prelude.{◌≡◌, ◌+◌, ◌*◌, ◌<◌, ◌≤◌, ◌↔◌, ◌++◌, ◌∷◌, ◌≢◌, false, [], Some, None};
 ghost use Rattle.std.specs.Prelude.{IfOk, IfSome, IfNone, IsTrue, length};
+ghost use Rattle.lot_machine.specs.State.{holders, sizes_of};
 ghost use Rattle.lot_machine.specs.declared.funding.Node.{Node as ANode};
 ghost use Rattle.lot_machine.specs.declared.funding.Node.TheVariants.{Currency as CurrencyNode, Thread as ThreadNode};
 ghost use Rattle.lot_machine.specs.declared.funding.Node.TheVariants.{Mutex as MutexNode};
@@ -73,7 +74,7 @@ impl ValuedGraph {
     pub fn new(alloc: Global, limits: &Limits) -> Result<Self, AllocError>
         ensures now { IfOk result (λ made. made.now
             ≡ record {
-              funding = opening_funding limits.now.mutexes;
+              funding = opening_funding (holders (sizes_of limits.now));
               ticket_limit = limits.now.tickets;
               currency_limit = limits.now.currencies;
               thread_limit = limits.now.threads;
@@ -96,7 +97,7 @@ impl ValuedGraph {
     /// The total of bytes that `new` requests from the allocator.
     pub fn bytes(limits: &Limits) -> u64
         ensures { result ≡ 40 * limits.now.tickets + 70 * limits.now.currencies + 81 * limits.now.threads
-            + 81 * limits.now.mutexes + 110 }
+            + 81 * holders (sizes_of limits.now) + 110 }
     {
         let layout = Layout::of(limits);
         Graph::bytes(limits) + Active::bytes(layout) + Values::bytes(layout)

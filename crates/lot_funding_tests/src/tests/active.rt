@@ -222,6 +222,7 @@ fn limits() -> Option<Limits> {
         plain_names: false,
         without_compensation: false,
         without_lending: false,
+        queued_lend: false,
     })
 }
 

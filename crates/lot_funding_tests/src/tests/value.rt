@@ -32,6 +32,7 @@ fn small_graph(rt: &impl Abort, alloc: Global) -> Result<Graph, Fail>
         plain_names: false,
         without_compensation: false,
         without_lending: false,
+        queued_lend: false,
     });
     let limits = limits.expect(rt, "limits are not in bounds");
     Ok(Graph::new(alloc, &limits)?)
@@ -241,6 +242,7 @@ fn opening(rt: &impl Abort, alloc: Global, threads: u32, currencies: u32) -> Val
         plain_names: false,
         without_compensation: false,
         without_lending: false,
+        queued_lend: false,
     });
     let limits = limits.expect(rt, "limits are not in bounds");
     let mut graph = ValuedGraph::new(alloc, &limits).expect(rt, "memory");

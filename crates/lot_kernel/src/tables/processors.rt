@@ -145,13 +145,14 @@ impl Tables {
         ensures counts { (ran : ℕ)
             → Counts (event.Trap trap.processor.number ran action.now) reply.new self.old self.new }
     {
+        let quantum = self.limits.quantum;
         let effect = self.act(trap.thread, action);
         self.finish(trap, effect.after);
         *reply = Reply::Trapped {
             thread: trap.thread.number,
             ticks: trap.ticks,
             outcome: effect.outcome,
-            ends: ends_quantum(trap, effect.after, self.limits.quantum),
+            ends: ends_quantum(trap, effect.after, quantum),
         };
     }
 
@@ -164,7 +165,7 @@ impl Tables {
         requires stops { StopsIfLeaves after }
         requires lend { (status : AStatus) → after ≡ Leaves status
             → CanLend (funding_of self.old.state) trap.thread.number
-            (lend_of self.old.state.limits.without_lending status) }
+            (lend_of self.old.state.limits status) }
         ensures state { self.new.state
             ≡ record self.old.state {
               records = change_record

@@ -1,14 +1,12 @@
 //! The effects of traps: yields, calls, receives, replies, serves, locks, unlocks, sleeps and exits (3.4, 4.5, 4.6,
 //! 6.1).
-ghost use Rattle.std.specs.Prelude.{◌≡◌, ◌≢◌, is_none, not, true};
+ghost use Rattle.std.specs.Prelude.{◌≡◌, ◌≤◌, is_none, not, true};
 ghost use Rattle.lot_machine.specs.declared.action.Action.TheVariants as action;
 ghost use Rattle.lot_machine.specs.declared.after.After.TheVariants.{GoesOn};
 ghost use Rattle.lot_machine.specs.declared.reply.Outcome.TheVariants.{Refused};
-ghost use Rattle.lot_machine.specs.Lends as lends;
 ghost use Rattle.lot_machine.specs.Numbered.{at_number};
 ghost use Rattle.lot_machine.specs.Order.{IsInOrder};
-ghost use Rattle.lot_machine.specs.State.{funding_of};
-ghost use Rattle.lot_machine.specs.Step.{trap_refusal};
+ghost use Rattle.lot_machine.specs.Step.{is_no_mutex, trap_refusal};
 ghost use Rattle.lot_queues.specs.QueueLists.{IsThere};
 ghost use Rattle.lot_kernel.specs.Counted.{CountsTrap, KeepsStale};
 ghost use Rattle.lot_kernel.specs.Snapshots.{MakesStale};
@@ -16,7 +14,7 @@ ghost use Rattle.lot_kernel.specs.Trapped.{IsRunning, effect_of};
 
 use crate::tables::Tables;
 use lot_machine::{
-    Action, After, MutexNumber, Node, Outcome, PortNumber, Status, ThreadNumber, TrapRefusal,
+    Action, After, MutexNumber, Outcome, PortNumber, Status, ThreadNumber, TrapRefusal,
 };
 use lot_threads::Effect;
 
@@ -46,10 +44,13 @@ impl Tables {
                 outcome: Outcome::Slept,
                 after: After::Leaves(Status::Asleep),
             },
-            Action::Exit => Effect {
-                outcome: Outcome::Exited,
-                after: After::Ends,
-            },
+            Action::Exit => {
+                self.leave_ports(thread);
+                Effect {
+                    outcome: Outcome::Exited,
+                    after: After::Ends,
+                }
+            }
         }
     }
 
@@ -68,7 +69,9 @@ impl Tables {
         if !self.has_port(port) {
             return refused(TrapRefusal::NoPort);
         }
-        lot_ports::call(&mut self.threads, &mut self.queues, thread, port, number)
+        let effect = lot_ports::call(&mut self.threads, &mut self.queues, thread, port, number);
+        self.note_server(thread, port, effect.outcome);
+        effect
     }
 
     fn receive(&mut self, thread: ThreadNumber, port: PortNumber) -> Effect
@@ -85,7 +88,9 @@ impl Tables {
         if !self.has_port(port) {
             return refused(TrapRefusal::NoPort);
         }
-        lot_ports::receive(&mut self.threads, &mut self.queues, thread, port)
+        let effect = lot_ports::receive(&mut self.threads, &mut self.queues, thread, port);
+        self.note_server(thread, port, effect.outcome);
+        effect
     }
 
     fn reply(&mut self, thread: ThreadNumber, number: u32) -> Effect
@@ -123,14 +128,16 @@ impl Tables {
         let Some(client) = self.queues.first_client(thread.number) else {
             return refused(TrapRefusal::NothingToReply);
         };
-        lot_ports::serve(
+        let effect = lot_ports::serve(
             &mut self.threads,
             &mut self.queues,
             thread,
             ThreadNumber { number: client },
             port,
             number,
-        )
+        );
+        self.note_server(thread, port, effect.outcome);
+        effect
     }
 
     fn lock(&mut self, thread: ThreadNumber, mutex: MutexNumber) -> Effect
@@ -146,6 +153,7 @@ impl Tables {
         if let Some(refusal) = self.lock_refusal(thread, mutex) {
             return refused(refusal);
         }
+        self.cut_before_lock(thread, mutex);
         lot_mutex::lock(&mut self.threads, &mut self.queues, thread, mutex)
     }
 
@@ -163,25 +171,10 @@ impl Tables {
         if owner == thread.number {
             return Some(TrapRefusal::AlreadyOwner);
         }
-        if self.lends_on_to(ThreadNumber { number: owner }, thread) {
+        if self.is_lock_cycle(ThreadNumber { number: owner }, thread) {
             return Some(TrapRefusal::LockCycle);
         }
         None
-    }
-
-    /// Whether a chain of one lend or more leads from the lender to the thread. It changes nothing.
-    fn lends_on_to(&mut self, lender: ThreadNumber, thread: ThreadNumber) -> bool
-        requires order { IsInOrder self.old.state }
-        requires runs { IsRunning self.old.state.records thread.number }
-        requires other { lender.number ≢ thread.number }
-        ensures leads { result ≡ lends.lends_on_to (funding_of self.old.state) lender.number thread.number }
-        ensures unchanged { self.new ≡ self.old }
-    {
-        if self.threads.record(lender).is_none() {
-            return false;
-        }
-        self.threads
-            .reaches(Node::Thread(lender.number), Node::Thread(thread.number))
     }
 
     fn unlock(&mut self, thread: ThreadNumber, mutex: MutexNumber, d: u128) -> Effect
@@ -218,10 +211,11 @@ impl Tables {
     }
 
     fn has_mutex(&self, mutex: MutexNumber) -> bool
-        ensures missing { is_none (at_number self.now.state.mutexes mutex.number) ≡ not result }
+        ensures missing { is_no_mutex self.now.state mutex.number ≡ not result }
         ensures there { result ≡ true → IsThere self.now.state.mutexes mutex.number }
+        ensures within { result ≡ true → mutex.number ≤ self.now.state.limits.mutexes }
     {
-        0 < mutex.number && mutex.number <= self.queues.mutexes()
+        0 < mutex.number && mutex.number <= self.limits.mutexes
     }
 }
 

@@ -16,6 +16,7 @@ const LEAST: Sizes = Sizes {
     plain_names: false,
     without_compensation: false,
     without_lending: false,
+    queued_lend: false,
 };
 
 /// The largest sizes.
@@ -33,6 +34,7 @@ const MOST: Sizes = Sizes {
     plain_names: false,
     without_compensation: false,
     without_lending: false,
+    queued_lend: false,
 };
 
 /// Sizes with one of them one past its bound. A unit is 1 or 256.

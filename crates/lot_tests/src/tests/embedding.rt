@@ -19,6 +19,7 @@ fn first_winner(rt: &impl Abort, alloc: Global) -> Reply {
         plain_names: false,
         without_compensation: false,
         without_lending: false,
+        queued_lend: false,
     });
     let limits = limits.expect(rt, "limits");
     let mut kernel = Kernel::new(alloc, limits).expect(rt, "memory");

@@ -26,6 +26,7 @@ fn largest(rt: &impl Abort) -> Limits {
         plain_names: false,
         without_compensation: false,
         without_lending: false,
+        queued_lend: false,
     });
     limits.expect(rt, "limits")
 }

@@ -34,6 +34,6 @@ returns c =
       threads = search rules;
       queues = search rules;
       kept = λ node stale. c.receive-receipt.ensures.kept node (c.reply.ensures.done.kept node stale);
-      stale = makes-serving c.args.threads.now c.reply.new.threads c.receive-receipt.new.threads (ap (λ (v : Threaded). v.without_lending) c.reply.ensures.done.threads) left.clients left.ports c.args.server.number client c.args.port.number (λ r. record r { status = Ready; delivered = Some c.args.number })
+      stale = makes-serving c.args.threads.now c.reply.new.threads c.receive-receipt.new.threads (ap (λ (v : Threaded). v.lending) c.reply.ensures.done.threads) left.clients left.ports c.args.server.number client c.args.port.number (λ r. record r { status = Ready; delivered = Some c.args.number })
           (ap (λ (v : Threaded). v.records) c.reply.ensures.done.threads) c.receive-receipt.ensures.threads apart c.reply.ensures.done.stale c.receive-receipt.ensures.stale;
     }

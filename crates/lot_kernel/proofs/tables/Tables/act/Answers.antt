@@ -8,7 +8,7 @@ pub returns-in-Sleep : goal.returns-in-Sleep
 returns-in-Sleep c = rw c.in-Sleep.is (record { outcome = refl; after = refl; state = refl; stale = λ x old. inl old; counts = record { kept = λ x old. old; meter = refl } })
 
 pub returns-in-Exit : goal.returns-in-Exit
-returns-in-Exit c = rw c.in-Exit.is (record { outcome = refl; after = refl; state = refl; stale = λ x old. inl old; counts = record { kept = λ x old. old; meter = refl } })
+returns-in-Exit c = rw c.in-Exit.is (record { outcome = refl; after = refl; state = c.leave_ports.ensures.state; stale = c.leave_ports.ensures.stale; counts = record { kept = c.leave_ports.ensures.kept; meter = c.leave_ports.ensures.meter } })
 
 pub returns-in-Call : goal.returns-in-Call
 returns-in-Call c = rw c.in-Call.is (record { outcome = c.call.ensures.outcome; after = c.call.ensures.after; state = c.call.ensures.state; stale = c.call.ensures.stale; counts = record { kept = c.call.ensures.kept; meter = c.call.ensures.meter } })

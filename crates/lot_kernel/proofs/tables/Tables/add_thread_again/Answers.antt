@@ -73,10 +73,11 @@ invariant_of-self-2 c =
           (sym (names-again i.threads new place thread made ∙ ap (λ n. slice_set (names_of i.threads.threads) place (Some n)) c.copied.ensures))
           (c.add.ensures.again (names_of i.threads.threads) c.self.invariant.thread_index (gap-unnamed i.threads.threads place gap));
       thread_places = c.add.ensures.places ∙ c.self.invariant.thread_places;
-      queue_sizes = c.self.invariant.queue_sizes;
+      queue_room = c.self.invariant.queue_room;
       lottery_room = c.self.invariant.lottery_room;
       freed_room = room-threads (sizes_of i.limits) i.freed c.self.invariant.freed_room c.pop.new.self (ap (λ (x : FreeStack). x.room) c.pop.ensures.rest);
       none_freed = popped-threads i.limits.reuse i.freed c.self.invariant.none_freed c.pop.new.self (ap (λ (x : FreeStack). x.places) c.pop.ensures.rest);
+      holders = c.self.invariant.holders;
     }
 
 pub returns-clause-stale : goal.returns-clause-stale

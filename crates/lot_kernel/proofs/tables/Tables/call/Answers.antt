@@ -1,31 +1,80 @@
-use Rattle.lot_threads.specs.Threaded.{Threaded}
-use Rattle.lot_kernel.proofs.Keeping.{keeps-both}
+use Rattle.std.proofs.Common.{◌∙◌, List, ap, arith, length, not, refl, subst, sym}
+use Rattle.std.specs.Option.{IfSome}
 use Rattle.lot_machine.specs.declared.action.Action.TheVariants as action
+use Rattle.lot_machine.specs.declared.record.Record.{Record}
 use Rattle.lot_machine.specs.declared.refusal.TrapRefusal.TheVariants.{NoPort}
-use Rattle.lot_kernel.proofs.Refusing.{refused-shows}
-use Rattle.std.proofs.Common.{ap, not, refl, sym, ◌∙◌}
-use Rattle.lot_machine.specs.State.{sizes_of}
-use Rattle.lot_kernel.proofs.PortTraps.{port-leaves, port-shows, runner-nowhere}
-use Rattle.lot_kernel.proofs.Trapping.{call-done, call-keeps}
+use Rattle.lot_machine.specs.Facts.{HasNoCycle}
+use Rattle.lot_machine.specs.declared.reply.Outcome.{Outcome}
+use Rattle.lot_machine.specs.Lends.{IsLive}
+use Rattle.lot_machine.specs.Ports.{call}
+use Rattle.lot_machine.specs.State.{State, funding_of, live_in, sizes_of}
+use Rattle.lot_queues.specs.QueueLists.{QueueLists}
+use Rattle.lot_threads.specs.Threaded.{Threaded}
 use Rattle.lot_kernel.specs.contracts.tables.Tables.{the_view}
 use Rattle.lot_kernel.specs.FreePlaces.{freed_in}
+use Rattle.lot_kernel.specs.Trapped.{taker}
+use Rattle.lot_kernel.proofs.Keeping.{keeps-both}
+use Rattle.lot_kernel.proofs.PortTraps.{call-idle, call-takes, port-leaves, runner-nowhere, served-shows, untied-still}
+use Rattle.lot_kernel.proofs.Refusing.{refused-shows}
+use Rattle.lot_kernel.proofs.Trapping.{call-done, call-keeps, ports-state, running-there}
 use Rattle.lot_kernel.proofs.tables.Tables.call.Goals as goal
 
-pub call-requires-clause-nowhere : goal.call-requires-clause-nowhere
-call-requires-clause-nowhere c = runner-nowhere (sizes_of c.self.inside.limits) (freed_in c.self.inside.freed) c.self.inside.currencies.items c.self.inside.threads c.self.inside.queues c.args.self.now c.args.thread.number c.self.view_is c.requires.order c.requires.runs
+pub call-effect-requires-clause-nowhere : goal.call-effect-requires-clause-nowhere
+call-effect-requires-clause-nowhere c = let i = c.self.inside in runner-nowhere (sizes_of i.limits) (freed_in i.freed) i.currencies.items i.threads i.queues c.args.self.now c.args.thread.number c.self.view_is c.requires.order c.requires.runs
 
-pub call-requires-clause-port : goal.call-requires-clause-port
-call-requires-clause-port c = (rw (← c.self.view_is) at (c.has_port.ensures.there c.if-not-has_port.false))
+pub call-effect-requires-clause-port : goal.call-effect-requires-clause-port
+call-effect-requires-clause-port c = rw (← c.self.view_is) at (c.has_port.ensures.there c.if-not-has_port.false)
 
-pub call-requires-clause-same : goal.call-requires-clause-same
-call-requires-clause-same c = sym c.self.invariant.clients
+pub call-effect-requires-clause-same : goal.call-effect-requires-clause-same
+call-effect-requires-clause-same c = sym c.self.invariant.clients
 
 pub invariant_of-self : goal.invariant_of-self
-invariant_of-self c = let left = port-leaves (sizes_of c.self.inside.limits) (freed_in c.self.inside.freed) c.self.inside.currencies.items c.self.inside.threads c.self.inside.queues c.call.new.threads c.call.new.queues _ c.self.invariant.threads (call-keeps c.self.inside.threads.records c.self.inside.queues.clients c.self.inside.queues.ports c.args.thread.number c.args.port.number c.args.number) c.call.ensures.threads c.call.ensures.queues in
-    keeps-both c.self.inside c.self.invariant c.call.new.threads c.call.new.queues left.0 left.1 (ap (λ (v : Threaded). v.threads) c.call.ensures.threads) left.2 (left.3 c.self.invariant.queue_sizes)
+invariant_of-self c =
+    let i = c.self.inside in
+    let left = port-leaves (sizes_of i.limits) (freed_in i.freed) i.currencies.items i.threads i.queues c.call-effect.new.threads c.call-effect.new.queues _ c.self.invariant.threads c.self.invariant.holders (call-keeps i.threads.records i.queues.clients i.queues.ports c.args.thread.number c.args.port.number c.args.number) c.call-effect.ensures.threads c.call-effect.ensures.queues in
+    keeps-both i c.self.invariant c.call-effect.new.threads c.call-effect.new.queues left.0 left.1 (ap (λ (v : Threaded). v.threads) c.call-effect.ensures.threads) left.2 (ap (λ (q : QueueLists). q.room) c.call-effect.ensures.queues) left.3
+
+pub note_server-requires-clause-port : goal.note_server-requires-clause-port
+note_server-requires-clause-port c =
+    let i = c.self.inside in
+    let there = rw (← c.self.view_is) at (c.has_port.ensures.there c.if-not-has_port.false) in
+    let keeps = call-keeps i.threads.records i.queues.clients i.queues.ports c.args.thread.number c.args.port.number c.args.number in
+    (there.0, omega (arith, there.1, keeps.ports, ap (λ (q : QueueLists). length q.ports) c.call-effect.ensures.queues))
+
+pub note_server-requires-clause-thread : goal.note_server-requires-clause-thread
+note_server-requires-clause-thread c =
+    let i = c.self.inside in
+    let there = running-there i.threads.records c.args.thread.number (rw (← c.self.view_is) at c.requires.runs) in
+    let keeps = call-keeps i.threads.records i.queues.clients i.queues.ports c.args.thread.number c.args.port.number c.args.number in
+    (there.0, omega (arith, there.1, keeps.records, ap (λ (v : Threaded). length v.records) c.call-effect.ensures.threads))
+
+pub note_server-requires-clause-live : goal.note_server-requires-clause-live
+note_server-requires-clause-live c =
+    let i = c.self.inside in
+    let t = c.args.thread.number in
+    let order = rw (← c.self.view_is) at c.requires.order in
+    let runs = rw (← c.self.view_is) at c.requires.runs in
+    let trap = call i.threads.records i.queues.clients i.queues.ports c.args.thread.number c.args.port.number c.args.number in
+    let takes : IfSome (taker t trap.outcome) (IsLive (live_in trap.records)) = call-takes (the_view i).state t order runs c.args.port.number c.args.number in
+    subst (λ (o : Outcome). IfSome (taker t o) (IsLive (live_in c.call-effect.new.threads.records))) (sym c.call-effect.ensures.outcome)
+    (subst (λ (rs : List Record). IfSome (taker t trap.outcome) (IsLive (live_in rs))) (sym (ap (λ (v : Threaded). v.records) c.call-effect.ensures.threads)) takes)
+
+pub note_server-requires-clause-no_cycle : goal.note_server-requires-clause-no_cycle
+note_server-requires-clause-no_cycle c queued =
+    let i = c.self.inside in
+    let order = rw (← c.self.view_is) at c.requires.order in
+    let runs = rw (← c.self.view_is) at c.requires.runs in
+    let trap = call i.threads.records i.queues.clients i.queues.ports c.args.thread.number c.args.port.number c.args.number in
+    let idle = call-idle i.threads.records i.queues.clients i.queues.ports c.args.thread.number c.args.port.number c.args.number (sym c.call-effect.ensures.outcome ∙ queued) in
+    let state = ports-state (sizes_of i.limits) (freed_in i.freed) i.currencies.items i.threads c.call-effect.new.threads i.queues c.call-effect.new.queues c.self.invariant.threads trap c.call-effect.ensures.threads c.call-effect.ensures.queues in
+    subst (λ (s : State). HasNoCycle (funding_of s)) (sym state) (untied-still (the_view i).state c.args.thread.number order runs trap idle)
 
 pub returns : goal.returns
-returns c = let shown = port-shows (sizes_of c.self.inside.limits) (freed_in c.self.inside.freed) c.self.inside.currencies.items c.self.inside.threads c.self.inside.queues c.call.new.threads c.call.new.queues _ _ _ _ c.self.invariant.threads (call-done (the_view c.self.inside).state c.args.thread.number c.args.port.number c.args.number (rw (← c.self.view_is) at (c.has_port.ensures.there c.if-not-has_port.false))) c.call.ensures.outcome c.call.ensures.after c.call.ensures.threads c.call.ensures.queues c.call.ensures.stale c.call.ensures.kept in
+returns c =
+    let i = c.self.inside in
+    let shown = served-shows (sizes_of i.limits) (freed_in i.freed) i.currencies.items i.threads i.queues c.call-effect.new.threads c.call-effect.new.queues (call i.threads.records i.queues.clients i.queues.ports c.args.thread.number c.args.port.number c.args.number) c.note_server.new.self _ c.call-effect.result.outcome c.call-effect.result.after c.args.thread.number c.args.port.number c.self.invariant.threads
+    (call-done (the_view i).state c.args.thread.number c.args.port.number c.args.number (rw (← c.self.view_is) at (c.has_port.ensures.there c.if-not-has_port.false))) c.call-effect.ensures.outcome c.call-effect.ensures.after c.call-effect.ensures.threads c.call-effect.ensures.queues c.call-effect.ensures.stale c.call-effect.ensures.kept
+    (λ e. call-idle i.threads.records i.queues.clients i.queues.ports c.args.thread.number c.args.port.number c.args.number e) c.note_server.ensures.state c.note_server.ensures.stale c.note_server.ensures.kept c.note_server.ensures.meter in
     rw (← c.self.view_is) (record { outcome = shown.outcome; after = shown.after; state = shown.state; stale = shown.stale; kept = shown.kept; meter = shown.meter })
 
 pub returns-then-not-has_port : goal.returns-then-not-has_port

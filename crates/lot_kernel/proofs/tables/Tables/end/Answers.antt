@@ -1,10 +1,13 @@
 use Rattle.std.proofs.Common.{◌∙◌, ℕ, Option, List, ap, arith, length, subst, sym}
 use Rattle.lot_machine.specs.State.{sizes_of}
+use Rattle.lot_queues.specs.QueueLists.{QueueLists}
 use Rattle.lot_threads.specs.Threaded.{Threaded}
 use Rattle.lot_kernel.specs.Names.{IsIndexOf, names_of}
 use Rattle.lot_kernel.specs.FreePlaces.{freed_in}
+use Rattle.lot_kernel.specs.Snapshots.{HasHolders}
 use Rattle.lot_kernel.proofs.Holding.{makes-held}
-use Rattle.lot_kernel.proofs.Killing.{held-killed, killed-sized, state-killed, records-count, clients-count, out-there, out-count, pass-nowhere, pass-count, pass-owners, end-there, all-queues, all-threads, all-meter, all-stale}
+use Rattle.lot_kernel.proofs.Serving.{holders-killed}
+use Rattle.lot_kernel.proofs.Killing.{held-killed, state-killed, records-count, clients-count, out-there, out-count, pass-nowhere, pass-count, pass-owners, end-there, all-queues, all-threads, all-meter, all-stale}
 use Rattle.lot_kernel.proofs.tables.Tables.end.Goals as goal
 
 pub take_out-requires : goal.take_out-requires
@@ -64,10 +67,11 @@ invariant_of-self c =
       currency_places = c.self.invariant.currency_places;
       thread_index = subst (λ (ns : List (Option (List ℕ))). IsIndexOf i.thread_index ns) (sym (ap (λ (x : Threaded). names_of x.threads) is)) c.self.invariant.thread_index;
       thread_places = c.self.invariant.thread_places;
-      queue_sizes = killed-sized (sizes_of i.limits) i.queues t c.pass_all_on.new.queues queues c.self.invariant.queue_sizes;
+      queue_room = ap (λ (q : QueueLists). q.room) queues ∙ c.self.invariant.queue_room;
       lottery_room = c.self.invariant.lottery_room;
       freed_room = c.self.invariant.freed_room;
       none_freed = c.self.invariant.none_freed;
+      holders = subst (HasHolders (sizes_of i.limits)) (sym queues) (holders-killed (sizes_of i.limits) i.queues t c.self.invariant.holders);
     }
 
 pub returns-clause-state : goal.returns-clause-state

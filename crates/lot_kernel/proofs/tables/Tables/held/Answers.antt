@@ -13,4 +13,4 @@ returns c =
     let i = c.self.inside in
     let rooms = rooms-are i c.self.invariant in
     rw (← c.self.view_is)
-    (omega (arith, rooms.tickets, rooms.currencies, rooms.threads, rooms.owners, rooms.processors, rooms.free, c.self.invariant.currency_room, c.self.invariant.currency_places, c.self.invariant.thread_places, c.self.invariant.queue_sizes, c.self.invariant.lottery_room))
+    (omega (arith, rooms.tickets, rooms.currencies, rooms.threads, rooms.owners, rooms.processors, rooms.free, c.self.invariant.currency_room, c.self.invariant.currency_places, c.self.invariant.thread_places, c.self.invariant.queue_room, c.self.invariant.holders.ports, c.self.invariant.holders.mutexes, c.self.invariant.lottery_room))

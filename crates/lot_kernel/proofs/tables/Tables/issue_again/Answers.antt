@@ -45,10 +45,11 @@ invariant_of-self-2 c =
       currency_places = c.self.invariant.currency_places;
       thread_index = subst (λ ts. IsIndexOf i.thread_index (names_of ts)) (sym (ap (λ (v : Threaded). v.threads) c.apply.ensures.applied)) c.self.invariant.thread_index;
       thread_places = c.self.invariant.thread_places;
-      queue_sizes = c.self.invariant.queue_sizes;
+      queue_room = c.self.invariant.queue_room;
       lottery_room = c.self.invariant.lottery_room;
       freed_room = room-tickets (sizes_of i.limits) i.freed c.self.invariant.freed_room c.pop.new.self (ap (λ (x : FreeStack). x.room) c.pop.ensures.rest);
       none_freed = popped-tickets i.limits.reuse i.freed c.self.invariant.none_freed c.pop.new.self (ap (λ (x : FreeStack). x.places) c.pop.ensures.rest);
+      holders = c.self.invariant.holders;
     }
 
 pub returns-clause-number : goal.returns-clause-number

@@ -1,65 +1,73 @@
-use Rattle.lot_queues.specs.QueueLists.{QueueLists}
-use Rattle.lot_kernel.proofs.Keeping.{keeps-both}
-use Rattle.std.proofs.Common.{Contains, ap, length, refl, sym, ◌∙◌}
-use Rattle.lot_kernel.proofs.Holding.{held-mutexes, makes-held}
+use Rattle.std.proofs.Common.{◌≡◌, ◌∙◌, None, ap, length, subst, sym}
+use Rattle.std.specs.List.{Contains}
+use Rattle.lot_machine.specs.declared.action.Action.TheVariants as action
 use Rattle.lot_machine.specs.Mutexes.{lock}
-use Rattle.lot_kernel.proofs.Trapping.{lock-count, lock-mutexes, lock-there, mutexes-sized, running-nowhere}
-use Rattle.lot_machine.specs.State.{sizes_of}
+use Rattle.lot_machine.specs.Servers.{before_lock}
+use Rattle.lot_machine.specs.State.{State, sizes_of}
+use Rattle.lot_machine.specs.Step.{trap_refusal}
+use Rattle.lot_queues.specs.QueueLists.{QueueLists}
+use Rattle.lot_queues.proofs.Callers.{nowhere-running}
 use Rattle.lot_threads.specs.Threaded.{Threaded}
-use Rattle.lot_threads.proofs.Ways.{live-status}
-use Rattle.lot_machine.specs.declared.record.Status.TheVariants.{Running}
 use Rattle.lot_kernel.specs.contracts.tables.Tables.{the_view}
 use Rattle.lot_kernel.specs.FreePlaces.{freed_in}
+use Rattle.lot_kernel.specs.Snapshots.{HasHolders, MakesStale, Snapshot}
+use Rattle.lot_kernel.proofs.Cutting.{cut-queues, cut-runs, cut-there, makes-locked}
+use Rattle.lot_kernel.proofs.Holding.{held-mutexes, makes-held, snapshot_of}
+use Rattle.lot_kernel.proofs.Keeping.{keeps-both}
+use Rattle.lot_kernel.proofs.Serving.{holders-lock}
+use Rattle.lot_kernel.proofs.Trapping.{lock-count, lock-there, mutexes-state}
 use Rattle.lot_kernel.proofs.tables.Tables.lock.Goals as goal
 
 pub lock-requires-clause-nowhere : goal.lock-requires-clause-nowhere
 lock-requires-clause-nowhere c =
     let i = c.self.inside in
-    let same = c.self.view_is ∙ c.lock_refusal.ensures.unchanged in
-    let order = rw (← same) at c.requires.order in
-    let runs = rw (← same) at c.requires.runs in
-    running-nowhere (sizes_of i.limits) (freed_in i.freed) i.currencies.items i.threads i.queues c.args.thread.number order runs
+    let t = c.args.thread.number in
+    let m = c.args.mutex.number in
+    let s : State = c.args.self.now.state in
+    let mid : State = (the_view i).state in
+    let none : trap_refusal s t (action.Lock m) ≡ None = sym c.in_default.ensures.refusal in
+    let state : mid ≡ record s { mutexes = before_lock s t m } =
+    ap (λ (x : Snapshot). x.state) c.self.view_is ∙ c.cut_before_lock.ensures.state ∙ ap (λ (x : Snapshot). record x.state { mutexes = before_lock x.state t m }) c.lock_refusal.ensures.unchanged in
+    let runs = cut-runs s mid t m c.requires.order c.requires.runs none state in
+    nowhere-running i.threads.records i.queues t runs.0 runs.1.0 (cut-queues s mid t m c.requires.order c.requires.runs none state) runs.1.1
 
 pub invariant_of-self : goal.invariant_of-self
 invariant_of-self c =
     let i = c.self.inside in
-    let left = lock i.threads.records i.queues.mutexes c.args.thread.number c.args.mutex.number in
-    let count = lock-count i.threads.records i.queues.mutexes c.args.thread.number c.args.mutex.number in
+    let t = c.args.thread.number in
+    let m = c.args.mutex.number in
+    let s : State = c.args.self.now.state in
+    let mid : State = (the_view i).state in
+    let none : trap_refusal s t (action.Lock m) ≡ None = sym c.in_default.ensures.refusal in
+    let state : mid ≡ record s { mutexes = before_lock s t m } =
+    ap (λ (x : Snapshot). x.state) c.self.view_is ∙ c.cut_before_lock.ensures.state ∙ ap (λ (x : Snapshot). record x.state { mutexes = before_lock x.state t m }) c.lock_refusal.ensures.unchanged in
+    let there = cut-there s mid t m c.requires.order c.requires.runs none state in
+    let left = lock i.threads.records i.queues.mutexes t m in
+    let count = lock-count i.threads.records i.queues.mutexes t m in
     let threads = held-mutexes (sizes_of i.limits) (freed_in i.freed) i.currencies.items i.threads c.lock.new.threads i.queues c.self.invariant.threads left c.lock.new.queues i.threads.meter c.lock.ensures.threads c.lock.ensures.queues in
     keeps-both i c.self.invariant c.lock.new.threads c.lock.new.queues threads (ap (λ (v : Threaded). length v.records) c.lock.ensures.threads ∙ count) (ap (λ (v : Threaded). v.threads) c.lock.ensures.threads)
-    (ap (λ (q : QueueLists). length q.clients) c.lock.ensures.queues) (mutexes-sized (sizes_of i.limits) i.queues c.lock.new.queues left.mutexes c.lock.ensures.queues (lock-mutexes i.threads.records i.queues.mutexes c.args.thread.number c.args.mutex.number) c.self.invariant.queue_sizes)
+    (ap (λ (q : QueueLists). length q.clients) c.lock.ensures.queues) (ap (λ (q : QueueLists). q.room) c.lock.ensures.queues)
+    (subst (HasHolders (sizes_of i.limits)) (sym c.lock.ensures.queues) (holders-lock (sizes_of i.limits) i.queues c.self.invariant.holders m there.0.0 there.1 i.threads.records t))
 
 pub returns-clause-stale : goal.returns-clause-stale
 returns-clause-stale c =
     let i = c.self.inside in
-    let same = c.self.view_is ∙ c.lock_refusal.ensures.unchanged in
-    let left = lock i.threads.records i.queues.mutexes c.args.thread.number c.args.mutex.number in
+    let t = c.args.thread.number in
+    let m = c.args.mutex.number in
+    let s : State = c.args.self.now.state in
+    let mid : State = (the_view i).state in
+    let none : trap_refusal s t (action.Lock m) ≡ None = sym c.in_default.ensures.refusal in
+    let state : mid ≡ record s { mutexes = before_lock s t m } =
+    ap (λ (x : Snapshot). x.state) c.self.view_is ∙ c.cut_before_lock.ensures.state ∙ ap (λ (x : Snapshot). record x.state { mutexes = before_lock x.state t m }) c.lock_refusal.ensures.unchanged in
+    let there = lock-there s t m none in
+    let left = lock i.threads.records i.queues.mutexes t m in
     let threads = held-mutexes (sizes_of i.limits) (freed_in i.freed) i.currencies.items i.threads c.lock.new.threads i.queues c.self.invariant.threads left c.lock.new.queues i.threads.meter c.lock.ensures.threads c.lock.ensures.queues in
-    rw (← same) (makes-held (sizes_of i.limits) (freed_in i.freed) i.currencies.items i.currencies.items i.threads c.lock.new.threads i.queues c.lock.new.queues c.self.invariant.threads threads c.lock.ensures.stale)
-
-pub lock-requires-clause-same : goal.lock-requires-clause-same
-lock-requires-clause-same c = sym c.self.invariant.clients
-
-pub lock-requires-clause-owners : goal.lock-requires-clause-owners
-lock-requires-clause-owners c = sym (ap (λ (v : Threaded). v.owners) c.self.invariant.threads)
+    let locked = mutexes-state (sizes_of i.limits) (freed_in i.freed) i.currencies.items i.threads c.lock.new.threads i.queues c.lock.new.queues c.self.invariant.threads left i.threads.meter c.lock.ensures.threads c.lock.ensures.queues in
+    let first = subst (λ (x : Snapshot). MakesStale x (the_view i)) c.lock_refusal.ensures.unchanged (subst (λ (y : Snapshot). MakesStale c.lock_refusal.new.self y) (sym c.self.view_is) c.cut_before_lock.ensures.stale) in
+    let second = makes-held (sizes_of i.limits) (freed_in i.freed) i.currencies.items i.currencies.items i.threads c.lock.new.threads i.queues c.lock.new.queues c.self.invariant.threads threads c.lock.ensures.stale in
+    makes-locked c.args.self.now (the_view i) (snapshot_of (sizes_of i.limits) (freed_in i.freed) i.currencies.items c.lock.new.queues c.lock.new.threads) t m there.0.0 there.1 state locked first second
 
 pub returns-clause-kept : goal.returns-clause-kept
 returns-clause-kept c x stale =
-    let same = c.self.view_is ∙ c.lock_refusal.ensures.unchanged in
-    let here : Contains (the_view c.self.inside).stale x = rw (← same) at stale in
-    c.lock.ensures.kept x here
-
-pub returns-clause-meter : goal.returns-clause-meter
-returns-clause-meter c =
-    let same = c.self.view_is ∙ c.lock_refusal.ensures.unchanged in
-    rw (← same) (ap (λ (v : Threaded). v.meter) c.lock.ensures.threads)
-
-pub lock-requires-clause-mutex : goal.lock-requires-clause-mutex
-lock-requires-clause-mutex c =
-    let none = sym c.in_default.ensures.refusal in
-    lock-there (the_view c.self.inside).state c.args.thread.number c.args.mutex.number (rw (← (c.self.view_is ∙ c.lock_refusal.ensures.unchanged)) at none)
-
-pub lock-requires-clause-thread : goal.lock-requires-clause-thread
-lock-requires-clause-thread c =
-    let runs = rw (← (c.self.view_is ∙ c.lock_refusal.ensures.unchanged)) at c.requires.runs in
-    live-status c.self.inside.threads.records c.args.thread.number (Running runs.0 runs.1.0) runs.1.1 refl
+    let first = c.cut_before_lock.ensures.kept x (subst (λ (y : Snapshot). Contains y.stale x) (sym c.lock_refusal.ensures.unchanged) stale) in
+    c.lock.ensures.kept x (subst (λ (y : Snapshot). Contains y.stale x) (sym c.self.view_is) first)

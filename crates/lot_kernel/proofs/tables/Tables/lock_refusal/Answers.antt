@@ -22,16 +22,22 @@ returns-then-owner-thread c =
     let owned = ap (λ (x : Snapshot). (mutex_at x.state.mutexes c.args.mutex.number).owner) (sym c.self.view_is) ∙ sym c.in_ok-owner.ensures in
     record { refusal = rw (present, owned ∙ ap Some c.if-owner-thread.true, eq-eqb c.args.thread.number c.args.thread.number refl) refl; unchanged = refl }
 
-pub returns-then-lends_on_to : goal.returns-then-lends_on_to
-returns-then-lends_on_to c =
+pub returns-then-is_lock_cycle : goal.returns-then-is_lock_cycle
+returns-then-is_lock_cycle c =
     let s = c.args.self.now.state in
-    let present = c.has_mutex.ensures.missing ∙ ap not c.if-not-has_mutex.false in
     let owned = ap (λ (x : Snapshot). (mutex_at x.state.mutexes c.args.mutex.number).owner) (sym c.self.view_is) ∙ sym c.in_ok-owner.ensures in
-    record { refusal = sym (lock-checked s c.args.thread.number c.args.mutex.number c.in_ok-owner.owner true (c.has_mutex.ensures.there c.if-not-has_mutex.false) owned c.if-owner-thread.false (sym c.lends_on_to.ensures.leads ∙ c.if-lends_on_to.true)); unchanged = c.lends_on_to.ensures.unchanged }
+    record {
+      refusal = sym (lock-checked s c.args.thread.number c.args.mutex.number c.in_ok-owner.owner true (c.has_mutex.ensures.there c.if-not-has_mutex.false) (c.has_mutex.ensures.within c.if-not-has_mutex.false) owned c.if-owner-thread.false
+          (sym c.is_lock_cycle.ensures.leads ∙ c.if-is_lock_cycle.true));
+      unchanged = c.is_lock_cycle.ensures.unchanged;
+    }
 
 pub returns : goal.returns
 returns c =
     let s = c.args.self.now.state in
-    let present = c.has_mutex.ensures.missing ∙ ap not c.if-not-has_mutex.false in
     let owned = ap (λ (x : Snapshot). (mutex_at x.state.mutexes c.args.mutex.number).owner) (sym c.self.view_is) ∙ sym c.in_ok-owner.ensures in
-    record { refusal = sym (lock-checked s c.args.thread.number c.args.mutex.number c.in_ok-owner.owner false (c.has_mutex.ensures.there c.if-not-has_mutex.false) owned c.if-owner-thread.false (sym c.lends_on_to.ensures.leads ∙ c.if-lends_on_to.false)); unchanged = c.lends_on_to.ensures.unchanged }
+    record {
+      refusal = sym (lock-checked s c.args.thread.number c.args.mutex.number c.in_ok-owner.owner false (c.has_mutex.ensures.there c.if-not-has_mutex.false) (c.has_mutex.ensures.within c.if-not-has_mutex.false) owned c.if-owner-thread.false
+          (sym c.is_lock_cycle.ensures.leads ∙ c.if-is_lock_cycle.false));
+      unchanged = c.is_lock_cycle.ensures.unchanged;
+    }

@@ -1,5 +1,5 @@
 use Rattle.lot_kernel.proofs.Metering.{trap-then}
-use Rattle.std.proofs.Common.{ap, option_map, refl, subst, sym, ℕ, ◌∙◌, ◌≡◌}
+use Rattle.std.proofs.Common.{ap, length, option_map, refl, subst, sym, ℕ, ◌∙◌, ◌≡◌}
 use Rattle.lot_machine.specs.declared.action.Action.{Action}
 use Rattle.lot_value.specs.Changing.{CanLend}
 use Rattle.lot_machine.specs.Bounds.{IsBetween}
@@ -11,7 +11,7 @@ use Rattle.lot_kernel.specs.Trapped.{RunsOn, effect_of}
 use Rattle.lot_kernel.specs.Snapshots.{Snapshot}
 use Rattle.lot_machine.specs.declared.sizes.Sizes.{Sizes}
 use Rattle.lot_machine.specs.Step.{ends_quantum}
-use Rattle.lot_machine.specs.State.{State, funding_of, lend_of, status_of}
+use Rattle.lot_machine.specs.State.{State, funding_of, holders, lend_of, status_of}
 use Rattle.lot_machine.specs.Numbered.{at_number}
 use Rattle.lot_kernel.proofs.Leaving.{effect-leaves}
 use Rattle.lot_kernel.proofs.TrapEnds.{effect-limits, effect-runs, finished-reply, finished-state, lends-there, makes-trap}
@@ -59,16 +59,16 @@ finish-requires-clause-lend c status leaves =
     let runs = c.requires.runs.1 in
     let left = left-alone s c.requires.order t p c.args.action.now c.requires.runs in
     let leaving = sym c.act-effect.ensures.after ∙ leaves in
-    subst (λ (x : State). CanLend (funding_of x) t (lend_of x.limits.without_lending status)) (sym c.act-effect.ensures.state)
+    let many : length s.mutexes ≡ holders s.limits = subst (λ (x : Snapshot). length x.state.mutexes ≡ holders x.state.limits) c.self.view_is c.self.invariant.holders.mutexes in
+    subst (λ (x : State). CanLend (funding_of x) t (lend_of x.limits status)) (sym c.act-effect.ensures.state)
     (may-leave s (effect_of s t c.args.action.now).state t p used c.args.trap.ticks c.args.trap.used c.args.action.now c.requires.order runs c.requires.ticks.0 c.requires.ticks.1 refl
-    (ap (option_map (λ (r : Record). r.status)) left ∙ runs) status leaving (lends-there s t p used c.requires.order runs c.args.action.now status leaving))
+    (ap (option_map (λ (r : Record). r.status)) left ∙ runs) status leaving (lends-there s t p used c.requires.order runs many c.args.action.now status leaving))
 
 pub returns-clause-reply : goal.returns-clause-reply
 returns-clause-reply c =
     let s = c.args.self.now.state in
     let trap = c.args.trap in
-    let limits = ap (λ (x : State). x.limits) c.finish.ensures.state ∙ ap (λ (x : State). x.limits) c.act-effect.ensures.state ∙ effect-limits s trap.thread.number c.args.action.now in
-    let quantum : c.self.inside.limits.quantum ≡ s.limits.quantum = ap (λ (v : Snapshot). v.state.limits.quantum) c.self.view_is ∙ ap (λ (l : Sizes). l.quantum) limits in
+    let quantum : c.self.inside.limits.quantum ≡ s.limits.quantum = ap (λ (v : Snapshot). v.state.limits.quantum) c.self.view_is in
     finished-reply s trap.processor.number trap.thread.number trap.ticks trap.used (effect_of s trap.thread.number c.args.action.now) c.act-effect.result.outcome c.act-effect.result.after c.ends_quantum.result
     c.act-effect.ensures.outcome c.act-effect.ensures.after (c.ends_quantum.ensures ∙ ap (ends_quantum c.act-effect.result.after trap.used) quantum)
 
@@ -88,7 +88,7 @@ returns-clause-stale c =
     let trap = c.args.trap in
     let left = left-alone s c.requires.order trap.thread.number trap.processor.number c.args.action.now c.requires.runs in
     let was = record-of s.records trap.thread.number (Running trap.processor.number c.requires.runs.0) c.requires.runs.1 in
-    let lending = ap (λ (x : State). x.limits.without_lending) c.act-effect.ensures.state ∙ ap (λ (l : Sizes). l.without_lending) (effect-limits s trap.thread.number c.args.action.now) in
+    let lending = ap (λ (x : State). x.limits) c.act-effect.ensures.state ∙ effect-limits s trap.thread.number c.args.action.now in
     makes-trap c.args.self.now c.act-effect.new.self c.finish.new.self lending trap.thread.number _ was.0 was.1
     (ap (λ (x : State). at_number x.records trap.thread.number) c.act-effect.ensures.state ∙ left ∙ was.1) c.finish.ensures.state c.act-effect.ensures.stale c.finish.ensures.stale
 

@@ -1,8 +1,6 @@
-use Rattle.std.proofs.Common.{arith, refl, subst, sym}
-use Rattle.std.proofs.lemmas.List.{length-replicate}
+use Rattle.std.proofs.Common.{arith, refl}
 use Rattle.lot_kernel.specs.FreePlaces.{freed_in}
-use Rattle.lot_kernel.specs.Memory.{AreSized}
-use Rattle.lot_kernel.proofs.Opening.{opening-held, opening-starts}
+use Rattle.lot_kernel.proofs.Opening.{opening-held, opening-holders, opening-starts}
 use Rattle.lot_machine.specs.State.{sizes_of}
 use Rattle.lot_kernel.proofs.tables.Tables.new.Goals as goal
 
@@ -22,10 +20,11 @@ invariant_of-result c =
       currency_places = c.in_ok-currencies.ensures.places;
       thread_index = rw opening c.in_ok-threads.ensures.index;
       thread_places = c.in_ok-threads.ensures.places;
-      queue_sizes = subst (AreSized (sizes_of c.args.limits)) (sym empty) (record { room = refl; ports = length-replicate c.args.limits.ports _; mutexes = length-replicate c.args.limits.mutexes _ });
+      queue_room = rw empty refl;
       lottery_room = c.in_ok-queues.ensures.room;
       freed_room = c.in_ok-freed.ensures.room;
       none_freed = λ off. c.in_ok-freed.ensures.none;
+      holders = opening-holders (sizes_of c.args.limits) c.in_ok-queues.queues empty;
     }
 
 pub returns : goal.returns

@@ -51,10 +51,11 @@ invariant_of-self c =
       currency_places = c.self.invariant.currency_places;
       thread_index = subst (λ (ns : List (Option (List ℕ))). IsIndexOf c.remove.new.self ns) (sym (left ∙ ap (λ k. slice_set (names_of i.threads.threads) k None) (sym c.index_of.ensures))) index;
       thread_places = search rules;
-      queue_sizes = c.self.invariant.queue_sizes;
+      queue_room = c.self.invariant.queue_room;
       lottery_room = c.self.invariant.lottery_room;
       freed_room = room-threads (sizes_of i.limits) i.freed c.self.invariant.freed_room c.leave.new.self (ap (λ (x : FreeStack). x.room) c.leave.ensures);
       none_freed = none-threads i.limits.reuse i.freed c.self.invariant.none_freed c.leave.new.self _ (ap (λ (x : FreeStack). x.places) c.leave.ensures);
+      holders = c.self.invariant.holders;
     }
 
 pub returns-clause-stale : goal.returns-clause-stale

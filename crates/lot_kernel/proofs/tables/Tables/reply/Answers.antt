@@ -1,3 +1,4 @@
+use Rattle.lot_queues.specs.QueueLists.{QueueLists}
 use Rattle.lot_threads.specs.Threaded.{Threaded}
 use Rattle.lot_kernel.proofs.Keeping.{keeps-both}
 use Rattle.lot_machine.specs.declared.action.Action.TheVariants as action
@@ -17,8 +18,8 @@ reply-requires-clause-server c =
     (there.0, omega (arith, there.1, c.self.invariant.clients))
 
 pub invariant_of-self : goal.invariant_of-self
-invariant_of-self c = let left = port-leaves (sizes_of c.self.inside.limits) (freed_in c.self.inside.freed) c.self.inside.currencies.items c.self.inside.threads c.self.inside.queues c.reply.new.threads c.reply.new.queues _ c.self.invariant.threads (reply-keeps c.self.inside.threads.records c.self.inside.queues.clients c.self.inside.queues.ports c.args.thread.number c.args.number) c.reply.ensures.done.threads c.reply.ensures.done.queues in
-    keeps-both c.self.inside c.self.invariant c.reply.new.threads c.reply.new.queues left.0 left.1 (ap (λ (v : Threaded). v.threads) c.reply.ensures.done.threads) left.2 (left.3 c.self.invariant.queue_sizes)
+invariant_of-self c = let left = port-leaves (sizes_of c.self.inside.limits) (freed_in c.self.inside.freed) c.self.inside.currencies.items c.self.inside.threads c.self.inside.queues c.reply.new.threads c.reply.new.queues _ c.self.invariant.threads c.self.invariant.holders (reply-keeps c.self.inside.threads.records c.self.inside.queues.clients c.self.inside.queues.ports c.args.thread.number c.args.number) c.reply.ensures.done.threads c.reply.ensures.done.queues in
+    keeps-both c.self.inside c.self.invariant c.reply.new.threads c.reply.new.queues left.0 left.1 (ap (λ (v : Threaded). v.threads) c.reply.ensures.done.threads) left.2 (ap (λ (q : QueueLists). q.room) c.reply.ensures.done.queues) left.3
 
 pub returns : goal.returns
 returns c = let shown = port-shows (sizes_of c.self.inside.limits) (freed_in c.self.inside.freed) c.self.inside.currencies.items c.self.inside.threads c.self.inside.queues c.reply.new.threads c.reply.new.queues _ _ _ _ c.self.invariant.threads (reply-done (the_view c.self.inside).state c.args.thread.number c.in-Some.client c.args.number (sym c.in-Some.ensures)) c.reply.ensures.done.outcome c.reply.ensures.done.after c.reply.ensures.done.threads c.reply.ensures.done.queues c.reply.ensures.done.stale c.reply.ensures.done.kept in

@@ -1,36 +1,80 @@
-use Rattle.lot_threads.specs.Threaded.{Threaded}
-use Rattle.lot_kernel.proofs.Keeping.{keeps-both}
+use Rattle.std.proofs.Common.{◌∙◌, List, ap, arith, length, not, refl, subst, sym}
+use Rattle.std.specs.Option.{IfSome}
 use Rattle.lot_machine.specs.declared.action.Action.TheVariants as action
+use Rattle.lot_machine.specs.declared.record.Record.{Record}
 use Rattle.lot_machine.specs.declared.record.Status.TheVariants.{Running}
-use Rattle.lot_threads.proofs.Ways.{live-status}
 use Rattle.lot_machine.specs.declared.refusal.TrapRefusal.TheVariants.{NoPort, NothingToReply}
-use Rattle.lot_kernel.proofs.Refusing.{refused-shows}
-use Rattle.std.proofs.Common.{ap, arith, not, refl, sym, ◌∙◌}
-use Rattle.lot_machine.specs.State.{sizes_of}
-use Rattle.lot_kernel.proofs.PortTraps.{port-leaves, port-shows, runner-nowhere}
-use Rattle.lot_kernel.proofs.Trapping.{running-there, serve-done, serve-keeps}
+use Rattle.lot_machine.specs.declared.reply.Outcome.{Outcome}
+use Rattle.lot_machine.specs.Lends.{IsLive}
+use Rattle.lot_machine.specs.Ports.{serve}
+use Rattle.lot_machine.specs.State.{live_in, sizes_of}
+use Rattle.lot_queues.specs.QueueLists.{QueueLists}
+use Rattle.lot_threads.specs.Threaded.{Threaded}
 use Rattle.lot_kernel.specs.contracts.tables.Tables.{the_view}
 use Rattle.lot_kernel.specs.FreePlaces.{freed_in}
+use Rattle.lot_kernel.specs.Trapped.{taker}
+use Rattle.lot_kernel.proofs.Keeping.{keeps-both}
+use Rattle.lot_threads.proofs.Ways.{live-status}
+use Rattle.lot_kernel.proofs.PortTraps.{port-leaves, runner-nowhere, runs-still, serve-queues, serve-takes, served-shows}
+use Rattle.lot_kernel.proofs.Refusing.{refused-shows}
+use Rattle.lot_kernel.proofs.Trapping.{running-there, serve-done, serve-keeps}
 use Rattle.lot_kernel.proofs.tables.Tables.serve.Goals as goal
 
-pub serve-requires-clause-nowhere : goal.serve-requires-clause-nowhere
-serve-requires-clause-nowhere c = runner-nowhere (sizes_of c.self.inside.limits) (freed_in c.self.inside.freed) c.self.inside.currencies.items c.self.inside.threads c.self.inside.queues c.args.self.now c.args.thread.number c.self.view_is c.requires.order c.requires.runs
+pub serve-effect-requires-clause-nowhere : goal.serve-effect-requires-clause-nowhere
+serve-effect-requires-clause-nowhere c = let i = c.self.inside in runner-nowhere (sizes_of i.limits) (freed_in i.freed) i.currencies.items i.threads i.queues c.args.self.now c.args.thread.number c.self.view_is c.requires.order c.requires.runs
 
-pub serve-requires-clause-port : goal.serve-requires-clause-port
-serve-requires-clause-port c = (rw (← c.self.view_is) at (c.has_port.ensures.there c.if-not-has_port.false))
+pub serve-effect-requires-clause-port : goal.serve-effect-requires-clause-port
+serve-effect-requires-clause-port c = rw (← c.self.view_is) at (c.has_port.ensures.there c.if-not-has_port.false)
 
-pub serve-requires-clause-client : goal.serve-requires-clause-client
-serve-requires-clause-client c = sym c.first_client.ensures ∙ c.in-Some.is
+pub serve-effect-requires-clause-same : goal.serve-effect-requires-clause-same
+serve-effect-requires-clause-same c = sym c.self.invariant.clients
 
-pub serve-requires-clause-same : goal.serve-requires-clause-same
-serve-requires-clause-same c = sym c.self.invariant.clients
+pub serve-effect-requires-clause-server : goal.serve-effect-requires-clause-server
+serve-effect-requires-clause-server c = let runs = rw (← c.self.view_is) at c.requires.runs in live-status c.self.inside.threads.records c.args.thread.number (Running runs.0 runs.1.0) runs.1.1 refl
+
+pub serve-effect-requires-clause-client : goal.serve-effect-requires-clause-client
+serve-effect-requires-clause-client c = sym c.first_client.ensures ∙ c.in-Some.is
 
 pub invariant_of-self : goal.invariant_of-self
-invariant_of-self c = let left = port-leaves (sizes_of c.self.inside.limits) (freed_in c.self.inside.freed) c.self.inside.currencies.items c.self.inside.threads c.self.inside.queues c.serve.new.threads c.serve.new.queues _ c.self.invariant.threads (serve-keeps c.self.inside.threads.records c.self.inside.queues.clients c.self.inside.queues.ports c.args.thread.number c.args.port.number c.args.number) c.serve.ensures.threads c.serve.ensures.queues in
-    keeps-both c.self.inside c.self.invariant c.serve.new.threads c.serve.new.queues left.0 left.1 (ap (λ (v : Threaded). v.threads) c.serve.ensures.threads) left.2 (left.3 c.self.invariant.queue_sizes)
+invariant_of-self c =
+    let i = c.self.inside in
+    let left = port-leaves (sizes_of i.limits) (freed_in i.freed) i.currencies.items i.threads i.queues c.serve-effect.new.threads c.serve-effect.new.queues _ c.self.invariant.threads c.self.invariant.holders (serve-keeps i.threads.records i.queues.clients i.queues.ports c.args.thread.number c.args.port.number c.args.number) c.serve-effect.ensures.threads c.serve-effect.ensures.queues in
+    keeps-both i c.self.invariant c.serve-effect.new.threads c.serve-effect.new.queues left.0 left.1 (ap (λ (v : Threaded). v.threads) c.serve-effect.ensures.threads) left.2 (ap (λ (q : QueueLists). q.room) c.serve-effect.ensures.queues) left.3
+
+pub note_server-requires-clause-port : goal.note_server-requires-clause-port
+note_server-requires-clause-port c =
+    let i = c.self.inside in
+    let there = rw (← c.self.view_is) at (c.has_port.ensures.there c.if-not-has_port.false) in
+    let keeps = serve-keeps i.threads.records i.queues.clients i.queues.ports c.args.thread.number c.args.port.number c.args.number in
+    (there.0, omega (arith, there.1, keeps.ports, ap (λ (q : QueueLists). length q.ports) c.serve-effect.ensures.queues))
+
+pub note_server-requires-clause-thread : goal.note_server-requires-clause-thread
+note_server-requires-clause-thread c =
+    let i = c.self.inside in
+    let there = running-there i.threads.records c.args.thread.number (rw (← c.self.view_is) at c.requires.runs) in
+    let keeps = serve-keeps i.threads.records i.queues.clients i.queues.ports c.args.thread.number c.args.port.number c.args.number in
+    (there.0, omega (arith, there.1, keeps.records, ap (λ (v : Threaded). length v.records) c.serve-effect.ensures.threads))
+
+pub note_server-requires-clause-live : goal.note_server-requires-clause-live
+note_server-requires-clause-live c =
+    let i = c.self.inside in
+    let t = c.args.thread.number in
+    let order = rw (← c.self.view_is) at c.requires.order in
+    let runs = rw (← c.self.view_is) at c.requires.runs in
+    let trap = serve i.threads.records i.queues.clients i.queues.ports c.args.thread.number c.args.port.number c.args.number in
+    let takes : IfSome (taker t trap.outcome) (IsLive (live_in trap.records)) = let done = serve-done (the_view i).state t c.args.port.number c.in-Some.client c.args.number (rw (← c.self.view_is) at (c.has_port.ensures.there c.if-not-has_port.false)) (sym c.in-Some.ensures) in serve-takes i.threads.records i.queues.clients i.queues.ports t c.args.port.number c.args.number (IsLive (live_in trap.records)) (runs-still (the_view i).state t order runs c.args.port.number (action.Serve c.args.port.number c.args.number) trap done) in
+    subst (λ (o : Outcome). IfSome (taker t o) (IsLive (live_in c.serve-effect.new.threads.records))) (sym c.serve-effect.ensures.outcome)
+    (subst (λ (rs : List Record). IfSome (taker t trap.outcome) (IsLive (live_in rs))) (sym (ap (λ (v : Threaded). v.records) c.serve-effect.ensures.threads)) takes)
+
+pub note_server-requires-clause-no_cycle : goal.note_server-requires-clause-no_cycle
+note_server-requires-clause-no_cycle c queued = let i = c.self.inside in serve-queues i.threads.records i.queues.clients i.queues.ports c.args.thread.number c.args.port.number c.args.number (sym c.serve-effect.ensures.outcome ∙ queued)
 
 pub returns : goal.returns
-returns c = let shown = port-shows (sizes_of c.self.inside.limits) (freed_in c.self.inside.freed) c.self.inside.currencies.items c.self.inside.threads c.self.inside.queues c.serve.new.threads c.serve.new.queues _ _ _ _ c.self.invariant.threads (serve-done (the_view c.self.inside).state c.args.thread.number c.args.port.number c.in-Some.client c.args.number (rw (← c.self.view_is) at (c.has_port.ensures.there c.if-not-has_port.false)) (sym c.in-Some.ensures)) c.serve.ensures.outcome c.serve.ensures.after c.serve.ensures.threads c.serve.ensures.queues c.serve.ensures.stale c.serve.ensures.kept in
+returns c =
+    let i = c.self.inside in
+    let shown = served-shows (sizes_of i.limits) (freed_in i.freed) i.currencies.items i.threads i.queues c.serve-effect.new.threads c.serve-effect.new.queues (serve i.threads.records i.queues.clients i.queues.ports c.args.thread.number c.args.port.number c.args.number) c.note_server.new.self _ c.serve-effect.result.outcome c.serve-effect.result.after c.args.thread.number c.args.port.number c.self.invariant.threads
+    (serve-done (the_view i).state c.args.thread.number c.args.port.number c.in-Some.client c.args.number (rw (← c.self.view_is) at (c.has_port.ensures.there c.if-not-has_port.false)) (sym c.in-Some.ensures)) c.serve-effect.ensures.outcome c.serve-effect.ensures.after c.serve-effect.ensures.threads c.serve-effect.ensures.queues c.serve-effect.ensures.stale c.serve-effect.ensures.kept
+    (λ e. serve-queues i.threads.records i.queues.clients i.queues.ports c.args.thread.number c.args.port.number c.args.number e) c.note_server.ensures.state c.note_server.ensures.stale c.note_server.ensures.kept c.note_server.ensures.meter in
     rw (← c.self.view_is) (record { outcome = shown.outcome; after = shown.after; state = shown.state; stale = shown.stale; kept = shown.kept; meter = shown.meter })
 
 pub returns-then-not-has_port : goal.returns-then-not-has_port
@@ -46,9 +90,6 @@ returns-in_default c =
     let old = the_view c.self.inside in
     let shown = refused-shows old c.args.thread.number (action.Serve c.args.port.number c.args.number) NothingToReply c.refused-in_default.result.outcome c.refused-in_default.result.after (rw (rw (← c.self.view_is) at none, nobody) refl) c.refused-in_default.ensures.outcome c.refused-in_default.ensures.after in
     rw (← c.self.view_is) (record { outcome = shown.outcome; after = shown.after; state = shown.state; stale = shown.stale; kept = shown.kept; meter = shown.meter })
-
-pub serve-requires-clause-server : goal.serve-requires-clause-server
-serve-requires-clause-server c = let runs = rw (← c.self.view_is) at c.requires.runs in live-status c.self.inside.threads.records c.args.thread.number (Running runs.0 runs.1.0) runs.1.1 refl
 
 pub first_client-requires : goal.first_client-requires
 first_client-requires c =

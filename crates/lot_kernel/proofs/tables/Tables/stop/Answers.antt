@@ -47,8 +47,9 @@ invariant_of-self c =
       currency_places = c.self.invariant.currency_places;
       thread_index = subst (λ (ns : List (Option AThread)). IsIndexOf i.thread_index (names_of ns)) (sym threads) c.self.invariant.thread_index;
       thread_places = c.self.invariant.thread_places;
-      queue_sizes = c.self.invariant.queue_sizes;
+      queue_room = c.self.invariant.queue_room;
       lottery_room = c.self.invariant.lottery_room;
       freed_room = c.self.invariant.freed_room;
       none_freed = c.self.invariant.none_freed;
+      holders = c.self.invariant.holders;
     }

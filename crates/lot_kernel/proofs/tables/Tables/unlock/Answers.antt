@@ -2,18 +2,18 @@ use Rattle.lot_kernel.proofs.Keeping.{keeps-both}
 use Rattle.lot_machine.specs.declared.action.Action.TheVariants as action
 use Rattle.lot_machine.specs.declared.refusal.TrapRefusal.TheVariants.{NoMutex, NotOwner}
 use Rattle.lot_kernel.proofs.Refusing.{not-owner, refused-shows}
-use Rattle.lot_machine.specs.Numbered.{at_number}
 use Rattle.std.specs.Option.{option_eq}
-use Rattle.std.proofs.Common.{Some, ap, false, is_none, length, nat_eq, not, refl, rules, subst, sym, ◌∙◌, ◌≡◌}
-use Rattle.lot_machine.specs.Step.{Effect, of_mutexes, owns}
+use Rattle.std.proofs.Common.{Some, ◌≤◌, ap, false, length, nat_eq, not, refl, rules, subst, sym, ◌∙◌, ◌≡◌}
+use Rattle.lot_machine.specs.Step.{Effect, is_no_mutex, of_mutexes, owns}
 use Rattle.lot_queues.specs.QueueLists.{IsThere, QueueLists}
 use Rattle.lot_machine.specs.Mutexes.{MutexTrap, mutex_at, unlock}
 use Rattle.lot_threads.specs.Threaded.{Threaded, settled_in, worth_in}
 use Rattle.lot_kernel.proofs.Holding.{held-mutexes, makes-held}
-use Rattle.lot_kernel.proofs.Trapping.{mutexes-sized, mutexes-state, unlock-count, unlock-done, unlock-mutexes, unlock-same}
+use Rattle.lot_kernel.proofs.Trapping.{mutexes-state, unlock-count, unlock-done, unlock-same}
 use Rattle.lot_kernel.proofs.Leaving.{waiters-queue}
 use Rattle.lot_kernel.proofs.Metering.{unlock-counts}
-use Rattle.lot_kernel.specs.Snapshots.{Snapshot, held}
+use Rattle.lot_kernel.proofs.Serving.{holders-unlock}
+use Rattle.lot_kernel.specs.Snapshots.{HasHolders, Snapshot, held}
 use Rattle.lot_machine.specs.State.{sizes_of}
 use Rattle.lot_kernel.specs.contracts.tables.Tables.{the_view}
 use Rattle.lot_kernel.proofs.tables.Tables.unlock.Goals as goal
@@ -23,30 +23,35 @@ use Rattle.lot_kernel.specs.contracts.tables.Tables.{the_view}
 pub invariant_of-self : goal.invariant_of-self
 invariant_of-self c =
     let i = c.self.inside in
+    let there : IsThere i.queues.mutexes c.args.mutex.number = subst (λ (x : Snapshot). IsThere x.state.mutexes c.args.mutex.number) (sym c.self.view_is) (c.has_mutex.ensures.there c.if-not-has_mutex.false) in
+    let low : c.args.mutex.number ≤ i.limits.mutexes = subst (λ (x : Snapshot). c.args.mutex.number ≤ x.state.limits.mutexes) (sym c.self.view_is) (c.has_mutex.ensures.within c.if-not-has_mutex.false) in
     let left = unlock i.threads.records i.queues.mutexes (worth_in i.threads) c.args.mutex.number c.args.d in
     let count = unlock-count i.threads.records i.queues.mutexes (worth_in i.threads) c.args.mutex.number c.args.d in
     let threads = held-mutexes (sizes_of i.limits) (freed_in i.freed) i.currencies.items i.threads c.unlock.new.threads i.queues c.self.invariant.threads left c.unlock.new.queues c.unlock.new.threads.meter c.unlock.ensures.threads c.unlock.ensures.queues in
     let kept = keeps-both i c.self.invariant c.unlock.new.threads c.unlock.new.queues threads (ap (λ (v : Threaded). length v.records) c.unlock.ensures.threads ∙ count) (ap (λ (v : Threaded). v.threads) c.unlock.ensures.threads)
-    (ap (λ (q : QueueLists). length q.clients) c.unlock.ensures.queues) (mutexes-sized (sizes_of i.limits) i.queues c.unlock.new.queues left.mutexes c.unlock.ensures.queues (unlock-mutexes i.threads.records i.queues.mutexes (worth_in i.threads) c.args.mutex.number c.args.d) c.self.invariant.queue_sizes) in
-    record { threads = kept.threads; count = kept.count; few = kept.few; clients = kept.clients; currencies = kept.currencies; currency_room = kept.currency_room; currency_index = kept.currency_index; currency_places = kept.currency_places; thread_index = kept.thread_index; thread_places = kept.thread_places; queue_sizes = kept.queue_sizes; lottery_room = c.unlock.ensures.room ∙ c.self.invariant.lottery_room; freed_room = kept.freed_room; none_freed = kept.none_freed }
+    (ap (λ (q : QueueLists). length q.clients) c.unlock.ensures.queues) (ap (λ (q : QueueLists). q.room) c.unlock.ensures.queues)
+    (subst (HasHolders (sizes_of i.limits)) (sym c.unlock.ensures.queues) (holders-unlock (sizes_of i.limits) i.queues c.self.invariant.holders c.args.mutex.number there.0 low i.threads.records (worth_in i.threads) c.args.d)) in
+    record { threads = kept.threads; count = kept.count; few = kept.few; clients = kept.clients; currencies = kept.currencies; currency_room = kept.currency_room; currency_index = kept.currency_index; currency_places = kept.currency_places; thread_index = kept.thread_index; thread_places = kept.thread_places; queue_room = kept.queue_room; lottery_room = c.unlock.ensures.room ∙ c.self.invariant.lottery_room; freed_room = kept.freed_room; none_freed = kept.none_freed; holders = kept.holders }
 
 pub returns-clause-outcome : goal.returns-clause-outcome
 returns-clause-outcome c =
     let i = c.self.inside in
     let s = (the_view i).state in
     let there : IsThere i.queues.mutexes c.args.mutex.number = subst (λ (x : Snapshot). IsThere x.state.mutexes c.args.mutex.number) (sym c.self.view_is) (c.has_mutex.ensures.there c.if-not-has_mutex.false) in
+    let low : c.args.mutex.number ≤ i.limits.mutexes = subst (λ (x : Snapshot). c.args.mutex.number ≤ x.state.limits.mutexes) (sym c.self.view_is) (c.has_mutex.ensures.within c.if-not-has_mutex.false) in
     let owned : (mutex_at i.queues.mutexes c.args.mutex.number).owner ≡ Some c.args.thread.number = search rules in
     rw (← c.self.view_is) (c.unlock.ensures.outcome ∙ ap (λ (e : MutexTrap). e.outcome) (unlock-same (sizes_of i.limits) (freed_in i.freed) i.currencies.items i.threads i.queues c.self.invariant.threads c.args.mutex.number c.args.d)
-    ∙ sym (ap (λ (e : Effect). e.outcome) (unlock-done s c.args.thread.number c.args.mutex.number c.args.d there owned)))
+    ∙ sym (ap (λ (e : Effect). e.outcome) (unlock-done s c.args.thread.number c.args.mutex.number c.args.d there low owned)))
 
 pub returns-clause-after : goal.returns-clause-after
 returns-clause-after c =
     let i = c.self.inside in
     let s = (the_view i).state in
     let there : IsThere i.queues.mutexes c.args.mutex.number = subst (λ (x : Snapshot). IsThere x.state.mutexes c.args.mutex.number) (sym c.self.view_is) (c.has_mutex.ensures.there c.if-not-has_mutex.false) in
+    let low : c.args.mutex.number ≤ i.limits.mutexes = subst (λ (x : Snapshot). c.args.mutex.number ≤ x.state.limits.mutexes) (sym c.self.view_is) (c.has_mutex.ensures.within c.if-not-has_mutex.false) in
     let owned : (mutex_at i.queues.mutexes c.args.mutex.number).owner ≡ Some c.args.thread.number = search rules in
     rw (← c.self.view_is) (c.unlock.ensures.after ∙ ap (λ (e : MutexTrap). e.after) (unlock-same (sizes_of i.limits) (freed_in i.freed) i.currencies.items i.threads i.queues c.self.invariant.threads c.args.mutex.number c.args.d)
-    ∙ sym (ap (λ (e : Effect). e.after) (unlock-done s c.args.thread.number c.args.mutex.number c.args.d there owned)))
+    ∙ sym (ap (λ (e : Effect). e.after) (unlock-done s c.args.thread.number c.args.mutex.number c.args.d there low owned)))
 
 pub returns-clause-state : goal.returns-clause-state
 returns-clause-state c =
@@ -54,10 +59,11 @@ returns-clause-state c =
     let s = (the_view i).state in
     let left = unlock i.threads.records i.queues.mutexes (worth_in i.threads) c.args.mutex.number c.args.d in
     let there : IsThere i.queues.mutexes c.args.mutex.number = subst (λ (x : Snapshot). IsThere x.state.mutexes c.args.mutex.number) (sym c.self.view_is) (c.has_mutex.ensures.there c.if-not-has_mutex.false) in
+    let low : c.args.mutex.number ≤ i.limits.mutexes = subst (λ (x : Snapshot). c.args.mutex.number ≤ x.state.limits.mutexes) (sym c.self.view_is) (c.has_mutex.ensures.within c.if-not-has_mutex.false) in
     let owned : (mutex_at i.queues.mutexes c.args.mutex.number).owner ≡ Some c.args.thread.number = search rules in
     rw (← c.self.view_is) (mutexes-state (sizes_of i.limits) (freed_in i.freed) i.currencies.items i.threads c.unlock.new.threads i.queues c.unlock.new.queues c.self.invariant.threads left c.unlock.new.threads.meter c.unlock.ensures.threads c.unlock.ensures.queues
     ∙ ap (λ (e : MutexTrap). (of_mutexes s e).state) (unlock-same (sizes_of i.limits) (freed_in i.freed) i.currencies.items i.threads i.queues c.self.invariant.threads c.args.mutex.number c.args.d)
-    ∙ sym (ap (λ (e : Effect). e.state) (unlock-done s c.args.thread.number c.args.mutex.number c.args.d there owned)))
+    ∙ sym (ap (λ (e : Effect). e.state) (unlock-done s c.args.thread.number c.args.mutex.number c.args.d there low owned)))
 
 pub returns-clause-stale : goal.returns-clause-stale
 returns-clause-stale c =
@@ -91,7 +97,7 @@ pub unlock-requires-clause-owners : goal.unlock-requires-clause-owners
 unlock-requires-clause-owners c = sym (ap (λ (v : Threaded). v.owners) c.self.invariant.threads)
 
 pub unlock-requires-clause-room : goal.unlock-requires-clause-room
-unlock-requires-clause-room c = c.self.invariant.queue_sizes.room ∙ sym c.self.invariant.lottery_room
+unlock-requires-clause-room c = c.self.invariant.queue_room ∙ sym c.self.invariant.lottery_room
 
 pub returns-then-not-has_mutex : goal.returns-then-not-has_mutex
 returns-then-not-has_mutex c =
@@ -102,7 +108,7 @@ returns-then-not-has_mutex c =
 pub returns-then-ne : goal.returns-then-ne
 returns-then-ne c =
     let old = the_view c.self.inside in
-    let missing = ap (λ (x : Snapshot). is_none (at_number x.state.mutexes c.args.mutex.number)) c.self.view_is ∙ c.has_mutex.ensures.missing ∙ ap not c.if-not-has_mutex.false in
+    let missing = ap (λ (x : Snapshot). is_no_mutex x.state c.args.mutex.number) c.self.view_is ∙ c.has_mutex.ensures.missing ∙ ap not c.if-not-has_mutex.false in
     let other : owns old.state c.args.thread.number c.args.mutex.number ≡ false =
     not-owner (mutex_at old.state.mutexes c.args.mutex.number).owner c.args.thread.number (c.if-ne.ensures ∙ ap (λ o. not (option_eq nat_eq o (Some c.args.thread.number))) c.owner.ensures) in
     let shown = refused-shows old c.args.thread.number (action.Unlock c.args.mutex.number c.args.d) NotOwner c.refused-then-ne.result.outcome c.refused-then-ne.result.after (rw (missing, other) refl) c.refused-then-ne.ensures.outcome c.refused-then-ne.ensures.after in

@@ -1,3 +1,4 @@
+use Rattle.lot_machine.specs.State.{sizes_of}
 use Rattle.std.proofs.Common.{◌≡◌, ◌∙◌, ◌+◌, ◌<◌, ◌++◌, ◌∷◌, [], List, Option, Some, ap, sym, subst, length, arith, Contains}
 use Rattle.lot_machine.specs.declared.record.Record.{Record}
 use Rattle.lot_machine.specs.declared.record.Thread.{Thread}
@@ -27,7 +28,7 @@ room : (c : After-threads-number) → length c.self.inside.records.items < c.sel
 room c = subst (λ (x : Threaded). length x.records < x.thread_limit) (sym c.self.view_is) c.requires.room
 
 -- all is kept together with it
-added : (c : After-set_competitor) → AreOf c.self.inside.without_lending c.set_live.new.self c.set_competitor.new.self (c.self.inside.threads.items ++ Some c.args.thread ∷ []) (c.self.inside.records.items ++ newborn ∷ []) c.self.inside.runners.items
+added : (c : After-set_competitor) → AreOf (sizes_of c.self.inside.lending) c.set_live.new.self c.set_competitor.new.self (c.self.inside.threads.items ++ Some c.args.thread ∷ []) (c.self.inside.records.items ++ newborn ∷ []) c.self.inside.runners.items
 added c =
     let i = c.self.inside in
     let n = c.threads-number.result in
@@ -55,8 +56,8 @@ invariant_of-self c =
     let i = c.self.inside in
     let limit = ap (λ (w : LimitedFunding). w.thread_limit) (c.set_live.ensures.follows.now ∙ c.add_thread.ensures.added) in
     record {
-      together = subst (λ (ts : List (Option Thread)). AreOf i.without_lending c.set_live.new.self c.set_competitor.new.self ts c.push-2.new.self.items i.runners.items) (sym c.push.ensures.items)
-          (subst (λ (rs : List Record). AreOf i.without_lending c.set_live.new.self c.set_competitor.new.self (i.threads.items ++ Some c.args.thread ∷ []) rs i.runners.items) (sym c.push-2.ensures.items) (added (goal.at.invariant_of-self c).After-set_competitor));
+      together = subst (λ (ts : List (Option Thread)). AreOf (sizes_of i.lending) c.set_live.new.self c.set_competitor.new.self ts c.push-2.new.self.items i.runners.items) (sym c.push.ensures.items)
+          (subst (λ (rs : List Record). AreOf (sizes_of i.lending) c.set_live.new.self c.set_competitor.new.self (i.threads.items ++ Some c.args.thread ∷ []) rs i.runners.items) (sym c.push-2.ensures.items) (added (goal.at.invariant_of-self c).After-set_competitor));
       thread_room = omega (arith, limit, c.push.ensures.room, c.self.invariant.thread_room);
       record_room = omega (arith, limit, c.push-2.ensures.room, c.self.invariant.record_room);
     }
@@ -67,8 +68,8 @@ returns-clause-stale c =
     let together = added (goal.at.returns-clause-stale c).After-set_competitor in
     let makes = made-stale i.graph c.add_thread.new.self c.set_live.new.self c.add_thread.ensures.added c.add_thread.ensures.live c.add_thread.ensures.known c.set_live.ensures.follows.now c.set_live.ensures.follows.reached in
     let was = graph-is i.graph i.queue i.threads.items i.records.items i.runners.items c.self.invariant.together in
-    let now = graph-is c.set_live.new.self c.set_competitor.new.self (i.threads.items ++ Some c.args.thread ∷ []) (i.records.items ++ newborn ∷ []) i.runners.items together ∙ ap (λ (rs : List Record). with_lends c.set_live.new.self.now (lends_in i.without_lending rs)) (sym c.push-2.ensures.items) in
-    rw (← c.self.view_is) (stale-of i.graph c.set_live.new.self (with_lends i.graph.now (lends_in i.without_lending i.records.items)) (with_lends c.set_live.new.self.now (lends_in i.without_lending c.push-2.new.self.items)) (live_in i.records.items) (live_in c.push-2.new.self.items) was now c.self.invariant.together.live (together.live ∙ ap live_in (sym c.push-2.ensures.items)) makes)
+    let now = graph-is c.set_live.new.self c.set_competitor.new.self (i.threads.items ++ Some c.args.thread ∷ []) (i.records.items ++ newborn ∷ []) i.runners.items together ∙ ap (λ (rs : List Record). with_lends c.set_live.new.self.now (lends_in (sizes_of i.lending) rs)) (sym c.push-2.ensures.items) in
+    rw (← c.self.view_is) (stale-of i.graph c.set_live.new.self (with_lends i.graph.now (lends_in (sizes_of i.lending) i.records.items)) (with_lends c.set_live.new.self.now (lends_in (sizes_of i.lending) c.push-2.new.self.items)) (live_in i.records.items) (live_in c.push-2.new.self.items) was now c.self.invariant.together.live (together.live ∙ ap live_in (sym c.push-2.ensures.items)) makes)
 
 pub returns-clause-number : goal.returns-clause-number
 returns-clause-number c = rw (← c.self.view_is) (counted (goal.at.returns-clause-number c).After-threads-number).1

@@ -11,8 +11,8 @@ returns-clause-can c =
     let was = graph-is i.graph i.queue i.threads.items i.records.items i.runners.items c.self.invariant.together in
     let same : i.graph.now.funding ≡ funding_in c.args.self.now = ap (λ (w : LimitedFunding). w.funding) was ∙ ap funding_in c.self.view_is in
     let stands = c.if-not-can_stand.ensures.can.0 refl in
-    let lend = lend_of c.args.self.now.without_lending c.args.next.status in
-    let lent : c.lend_of-lend.result ≡ lend = c.lend_of-lend.ensures ∙ ap (λ (v : Threaded). lend_of v.without_lending c.args.next.status) c.self.view_is in (
+    let lend = lend_of c.args.self.now.lending c.args.next.status in
+    let lent : c.lend_of-lend.result ≡ lend = c.lend_of-lend.ensures ∙ ap (λ (v : Threaded). lend_of v.lending c.args.next.status) c.self.view_is in (
       λ yes. record {
         there = stands.0;
         timely = stands.1;

@@ -1,3 +1,4 @@
+use Rattle.lot_machine.specs.State.{sizes_of}
 use Rattle.std.proofs.Common.{◌≡◌, ◌∙◌, ℕ, Bool, List, Option, Some, option_map, ap, sym, subst, length, arith, Contains}
 use Rattle.std.proofs.lemmas.List.{length-map}
 use Rattle.lot_machine.specs.declared.record.Record.{Record}
@@ -31,7 +32,7 @@ pub follow_status-requires-clause-thread : goal.follow_status-requires-clause-th
 follow_status-requires-clause-thread c =
     let i = c.self.inside in
     let thread = subst (λ (x : Threaded). IsThreadOf x c.args.thread.number) (sym c.self.view_is) c.requires.there in
-    let count = ap (length {A = Lend}) c.self.invariant.together.lends ∙ length-map i.records.items (λ (r : Record). lend_of i.without_lending r.status) in
+    let count = ap (length {A = Lend}) c.self.invariant.together.lends ∙ length-map i.records.items (λ (r : Record). lend_of (sizes_of i.lending) r.status) in
     (omega (arith, thread.0), omega (arith, thread.1, count))
 
 pub set_competitor-requires-clause-thread : goal.set_competitor-requires-clause-thread
@@ -55,7 +56,7 @@ move_runner-requires-clause-before c p used is =
 
 -- what is kept together after the change
 kept-after : (c : After-set_competitor)
-    → AreOf c.self.inside.without_lending c.follow_status.new.graph c.set_competitor.new.self c.self.inside.threads.items (set_number c.self.inside.records.items c.args.thread.number c.args.next) (with_runner c.args.thread.number c.args.next.status (without_runner c.index.result.now.status c.self.inside.runners.items))
+    → AreOf (sizes_of c.self.inside.lending) c.follow_status.new.graph c.set_competitor.new.self c.self.inside.threads.items (set_number c.self.inside.records.items c.args.thread.number c.args.next) (with_runner c.args.thread.number c.args.next.status (without_runner c.index.result.now.status c.self.inside.runners.items))
 kept-after c =
     let i = c.self.inside in
     let t = c.args.thread.number in
@@ -74,7 +75,7 @@ invariant_of-self c =
     let now = c.follow_status.ensures.follows.now in
     let together = kept-after (goal.at.invariant_of-self c).After-set_competitor in
     record {
-      together = rw c.index_of-place.ensures (subst (λ (rs : List (Option ℕ)). AreOf i.without_lending c.follow_status.new.graph c.set_competitor.new.self i.threads.items (set_number i.records.items c.args.thread.number c.args.next) rs) (sym c.move_runner.ensures.table) together);
+      together = rw c.index_of-place.ensures (subst (λ (rs : List (Option ℕ)). AreOf (sizes_of i.lending) c.follow_status.new.graph c.set_competitor.new.self i.threads.items (set_number i.records.items c.args.thread.number c.args.next) rs) (sym c.move_runner.ensures.table) together);
       thread_room = subst (λ (w : LimitedFunding). i.threads.room ≡ w.thread_limit) (sym now) c.self.invariant.thread_room;
       record_room = subst (λ (w : LimitedFunding). i.records.room ≡ w.thread_limit) (sym now) c.self.invariant.record_room;
     }
@@ -86,22 +87,22 @@ returns-clause-stale c =
     let together = kept-after (goal.at.returns-clause-stale c).After-set_competitor in
     let was = graph-is i.graph i.queue i.threads.items i.records.items i.runners.items c.self.invariant.together in
     let then = graph-is c.follow_status.new.graph c.set_competitor.new.self i.threads.items after (with_runner c.args.thread.number c.args.next.status (without_runner c.index.result.now.status i.runners.items)) together in
-    rw c.index_of-place.ensures (rw (← c.self.view_is) (stale-of i.graph c.follow_status.new.graph (with_lends i.graph.now (lends_in i.without_lending i.records.items)) (with_lends c.follow_status.new.graph.now (lends_in i.without_lending after)) (live_in i.records.items) (live_in after) was then c.self.invariant.together.live together.live c.follow_status.ensures.follows.reached))
+    rw c.index_of-place.ensures (rw (← c.self.view_is) (stale-of i.graph c.follow_status.new.graph (with_lends i.graph.now (lends_in (sizes_of i.lending) i.records.items)) (with_lends c.follow_status.new.graph.now (lends_in (sizes_of i.lending) after)) (live_in i.records.items) (live_in after) was then c.self.invariant.together.live together.live c.follow_status.ensures.follows.reached))
 
 pub follow_status-requires-clause-lend : goal.follow_status-requires-clause-lend
 follow_status-requires-clause-lend c =
     let i = c.self.inside in
     let was = graph-is i.graph i.queue i.threads.items i.records.items i.runners.items c.self.invariant.together in
     let same = ap (λ (w : LimitedFunding). w.funding) was in
-    subst (λ (f : Funding). CanLend f c.args.thread.number (lend_of i.without_lending c.args.next.status)) (sym same)
-    (subst (λ (x : Threaded). CanLend (funding_in x) c.args.thread.number (lend_of x.without_lending c.args.next.status)) (sym c.self.view_is) c.requires.lend)
+    subst (λ (f : Funding). CanLend f c.args.thread.number (lend_of (sizes_of i.lending) c.args.next.status)) (sym same)
+    (subst (λ (x : Threaded). CanLend (funding_in x) c.args.thread.number (lend_of x.lending c.args.next.status)) (sym c.self.view_is) c.requires.lend)
 
 pub follow_status-requires-clause-lent : goal.follow_status-requires-clause-lent
 follow_status-requires-clause-lent c =
     let i = c.self.inside in
     let thread = subst (λ (x : Threaded). IsThreadOf x c.args.thread.number) (sym c.self.view_is) c.requires.there in
     let there = number-read i.records.items c.args.thread.number c.index.result.now thread.0 thread.1 (rw c.index_of-place.ensures at c.index.ensures) in
-    subst (λ (ls : List Lend). at_number ls c.args.thread.number ≡ Some (lend_of i.without_lending c.index.result.now.status)) (sym c.self.invariant.together.lends) (at_number-map (λ (r : Record). lend_of i.without_lending r.status) i.records.items c.args.thread.number ∙ ap (option_map (λ (r : Record). lend_of i.without_lending r.status)) there)
+    subst (λ (ls : List Lend). at_number ls c.args.thread.number ≡ Some (lend_of (sizes_of i.lending) c.index.result.now.status)) (sym c.self.invariant.together.lends) (at_number-map (λ (r : Record). lend_of (sizes_of i.lending) r.status) i.records.items c.args.thread.number ∙ ap (option_map (λ (r : Record). lend_of (sizes_of i.lending) r.status)) there)
 
 pub follow_status-requires-clause-lived : goal.follow_status-requires-clause-lived
 follow_status-requires-clause-lived c =

@@ -1,3 +1,4 @@
+use Rattle.lot_machine.specs.State.{sizes_of}
 use Rattle.std.proofs.Common.{◌≡◌, ◌∙◌, Bool, List, ap, sym, subst}
 use Rattle.lot_machine.specs.State.{live_in}
 use Rattle.lot_machine.specs.Value.{thread_value}
@@ -27,7 +28,7 @@ returns-clause-winner c =
     rw (← c.self.view_is) (c.draw.ensures.winner
     ∙ ap (λ (live : List Bool). drawn_among i.queue.quantum i.queue.competitors (thread_value i.graph.known.unit i.graph.now.funding live) c.args.d) of.live
     ∙ ap (λ (w : LimitedFunding). drawn_among i.queue.quantum i.queue.competitors (thread_value i.graph.known.unit w.funding (live_in i.records.items)) c.args.d) was
-    ∙ ready-drawn i.records.items i.queue.quantum (thread_value i.graph.known.unit (with_lends i.graph.now (lends_in i.without_lending i.records.items)).funding (live_in i.records.items)) i.queue.competitors of.ready c.args.d)
+    ∙ ready-drawn i.records.items i.queue.quantum (thread_value i.graph.known.unit (with_lends i.graph.now (lends_in (sizes_of i.lending) i.records.items)).funding (live_in i.records.items)) i.queue.competitors of.ready c.args.d)
 
 pub returns-clause-reads : goal.returns-clause-reads
 returns-clause-reads c =

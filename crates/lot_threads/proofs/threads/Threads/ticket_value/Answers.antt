@@ -1,3 +1,4 @@
+use Rattle.lot_machine.specs.State.{sizes_of}
 use Rattle.std.proofs.Common.{◌≡◌, ◌∙◌, ℕ, Bool, true, false, List, ap, refl, sym, subst}
 use Rattle.lot_machine.specs.Commands.{is_funding}
 use Rattle.lot_machine.specs.Funding.{ticket_at}
@@ -28,7 +29,7 @@ invariant_of-self c =
     let of = c.self.invariant.together in
     let same = read-alone i.graph c.ticket_value.new.self c.args.ticket.number c.ticket_value.ensures.counted c.ticket_value.ensures.uncounted in
     record {
-      together = subst (λ (v : Valued). AreOf i.without_lending v i.queue i.threads.items i.records.items i.runners.items) (sym same) (record {
+      together = subst (λ (v : Valued). AreOf (sizes_of i.lending) v i.queue i.threads.items i.records.items i.runners.items) (sym same) (record {
         names = of.names;
         lends = of.lends;
         live = of.live;

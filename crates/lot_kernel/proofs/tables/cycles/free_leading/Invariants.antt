@@ -1,0 +1,16 @@
+-- the owners from the place on are to be looked at, and nothing but owners has changed
+use Rattle.std.proofs.Common.{◌≡◌, ◌≤◌, ◌+◌, ◌-◌, length}
+use Rattle.std.specs.List.{range_with_len}
+use Rattle.lot_machine.specs.Lends.{lends_lead}
+use Rattle.lot_machine.specs.Servers.{unserved}
+use Rattle.lot_threads.specs.Threaded.{funding_in}
+use Rattle.lot_kernel.proofs.Cutting.{AreFreed}
+use Rattle.lot_kernel.proofs.Serving.{holders_from}
+use Rattle.lot_kernel.proofs.tables.cycles.free_leading.Given as goal
+
+abbrev pub invariant-loop-place : goal.invariant-loop-place
+invariant-loop-place l = record {
+  freed : AreFreed (λ t. lends_lead (funding_in l.initial.threads) t l.thread.number) l.initial.queues l.queues l.first (unserved (λ t. lends_lead (funding_in l.initial.threads) t l.thread.number) l.initial.queues.mutexes (range_with_len (l.first + 1) (length l.initial.queues.mutexes - l.first))) (holders_from (length l.initial.queues.mutexes) l.place);
+  threads : l.threads ≡ l.initial.threads;
+  from : l.first ≤ l.place;
+}
