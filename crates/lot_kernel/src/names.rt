@@ -103,7 +103,11 @@ impl Model for NameIndex {
 
     ghost view = { λ s. s.lists };
 
-    ghost invariant = { λ s. record { some : 0 < s.buckets; lists : s.buckets ≡ length s.lists.lists; places : s.buckets ≡ s.lists.nodes } };
+    ghost invariant = { λ s. record {
+      some : 0 < s.buckets;
+      lists : s.buckets ≡ length s.lists.lists;
+      places : s.buckets ≡ s.lists.nodes;
+    } };
 }
 
 impl NameIndex {

@@ -55,7 +55,8 @@ pub(crate) fn follow_status(
     requires lent { at_number graph.old.now.funding.lends thread ≡ Some (states.lend_of (sizes_of limits.now) before) }
     requires lived { at_number graph.old.live thread ≡ Some (states.is_live_status before) }
     ensures follows { Becomes graph.old graph.new
-        (with_lends graph.old.now (set_number graph.old.now.funding.lends thread (states.lend_of (sizes_of limits.now) now)))
+        (with_lends graph.old.now
+        (set_number graph.old.now.funding.lends thread (states.lend_of (sizes_of limits.now) now)))
         (set_number graph.old.live thread (states.is_live_status now)) }
 {
     let live = is_live(now);
