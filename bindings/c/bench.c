@@ -99,7 +99,7 @@ static thread new_thread(const workload *load, uint32_t number) {
 }
 
 // Makes a kernel with the largest tables, and the workload's currencies and threads, each funded by one ticket. In a
-// chain the currency before issues a currency's ticket, otherwise base does.
+// chain each currency issues the next one's ticket; otherwise base issues those of all currencies.
 static void open_kernel(lot_kernel *kernel, const workload *load) {
     bool is_chain = load->sort == CHAIN || load->sort == INFLATION;
     lot_sizes sizes = {.tickets = 65535, .currencies = 4096, .threads = MOST_THREADS, .ports = 1, .mutexes = 1,
@@ -114,9 +114,8 @@ static void open_kernel(lot_kernel *kernel, const workload *load) {
         answer(kernel, lot_fund_currency(currency, currency));
     }
     for (uint32_t number = 1; number <= load->threads; number++) {
-        thread made = new_thread(load, number);
-        answer(kernel, lot_make_funded_in(made.amount, made.currency, lot_no_name(), 1));
-        bench.threads[number] = made;
+        const thread *funded = &bench.threads[number];
+        answer(kernel, lot_make_funded_in(funded->amount, funded->currency, lot_no_name(), 1));
     }
     if (load->sort == CHAIN) {
         answer(kernel, lot_make_ticket_in(500, 0));
@@ -126,11 +125,14 @@ static void open_kernel(lot_kernel *kernel, const workload *load) {
 static void start(const workload *load) {
     memset(&bench, 0, sizeof bench);
     bench.load = load;
-    open_kernel(&bench.leader, load);
-    open_kernel(&bench.follower, load);
+    for (uint32_t number = 1; number <= load->threads; number++) {
+        bench.threads[number] = new_thread(load, number);
+    }
     for (uint32_t processor = 1; processor <= load->processors; processor++) {
         must(lot_generator_new(processor, &bench.generators[processor]));
     }
+    open_kernel(&bench.leader, load);
+    open_kernel(&bench.follower, load);
 }
 
 static lot_wide drawn_number(uint32_t processor) {
