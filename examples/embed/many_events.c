@@ -1,5 +1,5 @@
 // A million events of a kernel with eight threads, as a caller in C makes them: `bindings/check` compares what it
-// prints, and the time that it takes, with callers in Rust, Python and Rattle that make the same events.
+// prints, and the time that it takes, with callers in Rust and Python that make the same events.
 //
 //     many_events [THREADS [ROUNDS]]
 //

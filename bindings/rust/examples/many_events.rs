@@ -1,5 +1,5 @@
 //! A million events of a kernel with eight threads, as a caller in Rust makes them: `bindings/check` compares what it
-//! prints, and the time that it takes, with callers in C, Python and Rattle that make the same events.
+//! prints, and the time that it takes, with callers in C and Python that make the same events.
 //!
 //!     many_events [THREADS [ROUNDS]]
 //!

@@ -1,2 +1,0 @@
-pub mod Digests
-pub mod Openings
