@@ -135,33 +135,24 @@ static void start(const workload *load) {
     open_kernel(&bench.follower, load);
 }
 
-static lot_wide drawn_number(uint32_t processor) {
-    uint64_t number = 0;
-    must(lot_generator_number(&bench.generators[processor], &number));
-    return lot_wide_of(number);
-}
-
 // The running thread's next trap, or its expiry if its quantum ends before that.
 static lot_event thread_event(uint32_t processor, lot_runner runner) {
     thread *self = &bench.threads[runner.thread];
     uint32_t kind = self->traps[self->next].kind, ticks = self->traps[self->next].ticks - self->worked;
-    lot_event event = {.kind = kind, .processor = processor, .ticks = ticks, .object = 1, .sent = 1};
     if (kind == 0 || ticks >= QUANTUM - runner.used) {
         self->worked += QUANTUM - runner.used;
         return lot_expire(processor);
     }
-    if (kind == LOT_UNLOCK) {
-        event.number = drawn_number(processor);
-    }
     self->next = 1 - self->next;
     self->worked = 0;
-    return event;
+    return (lot_event){.kind = kind, .processor = processor, .ticks = ticks, .object = 1, .sent = 1};
 }
 
 // Processors take turns. In a chain each third event is a command.
 static lot_event next_event(void) {
     uint64_t turn = bench.made++;
     uint32_t processor = (uint32_t)(turn % bench.load->processors) + 1;
+    lot_event event = lot_draw(processor, lot_wide_of(0));
     lot_runner runner;
     if (turn % 3 == 0 && bench.load->sort == CHAIN) {
         return turn % 2 == 0 ? lot_fund(LOOSE_TICKET, lot_name_of("c1")) : lot_unfund(LOOSE_TICKET);
@@ -170,9 +161,12 @@ static lot_event next_event(void) {
         return lot_set_ticket(FIRST_TICKET, turn % 2 == 0 ? 1500 : 1000);
     }
     if (lot_kernel_runner(&bench.leader, processor, &runner) == LOT_DONE) {
-        return thread_event(processor, runner);
+        event = thread_event(processor, runner);
     }
-    return lot_draw(processor, drawn_number(processor));
+    if (event.kind == LOT_DRAW || event.kind == LOT_UNLOCK) {
+        must(lot_generator_number(&bench.generators[processor], &event.number.low));
+    }
+    return event;
 }
 
 // Counts a reply. It adds four words to the digest: its kind (the listings are one), its thread, and two more.
