@@ -1,7 +1,7 @@
 use Rattle.std.proofs.Common.{ap, subst, sym, ◌∙◌}
-use Rattle.lot_above.specs.Found.{FoundNodes, IsAbove}
-use Rattle.lot_above.specs.Search.{found_nodes}
-use Rattle.lot_above.proofs.above.Above.find.Goals as goal
+use Rattle.lot_graph.specs.Found.{FoundNodes, IsAbove}
+use Rattle.lot_graph.specs.Spread.{found_nodes}
+use Rattle.lot_graph.proofs.above.Above.find.Goals as goal
 
 pub returns-clause-above : goal.returns-clause-above
 returns-clause-above c =

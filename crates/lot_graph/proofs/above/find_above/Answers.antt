@@ -4,10 +4,10 @@ use Rattle.lot_graph.specs.Places.{IsNodeWithin, layout_of, node_count, node_of,
 use Rattle.lot_graph.specs.Spread.{Spreads}
 use Rattle.lot_graph.proofs.MirrorLemmas.{contains-at}
 use Rattle.lot_graph.proofs.SpreadLemmas.{followed-end, list-back}
-use Rattle.lot_above.specs.Search.{IsTailPlace}
-use Rattle.lot_above.proofs.FoundLemmas.{node-within, within-node}
-use Rattle.lot_above.proofs.TailLemmas.{followed-above, followed-next, followed-one, next-low}
-use Rattle.lot_above.proofs.search.find_above.Goals as goal
+use Rattle.lot_graph.specs.Spread.{IsTailPlace}
+use Rattle.lot_graph.proofs.FoundLemmas.{node-within, within-node}
+use Rattle.lot_graph.proofs.TailLemmas.{followed-above, followed-next, followed-one, next-low}
+use Rattle.lot_graph.proofs.above.find_above.Goals as goal
 
 pub loop-init : goal.loop-init
 loop-init c =

@@ -1,13 +1,15 @@
-//! The nodes that the last search found.
+//! The nodes above a node: a search against the edges.
 ghost use Rattle.std.specs.Prelude.{◌≡◌, ◌≤◌, ◌↔◌, ◌+◌, ◌*◌, [], IfOk, IsTrue};
+ghost use Rattle.lot_graph.specs.Found.{HasFound, IsAbove};
 ghost use Rattle.lot_graph.specs.Graphs.{IsNodeOf};
-ghost use Rattle.lot_graph.specs.Places.{layout_of, node_count};
-ghost use Rattle.lot_above.specs.Found.{HasFound, IsAbove};
+ghost use Rattle.lot_graph.specs.Places.{IsEdgeWithin, layout_of, node_count};
+ghost use Rattle.lot_graph.specs.Spread.{IsFoundList, IsTailPlace, Spreads, found_nodes, tail_of as edge_tail};
 
-use crate::search::find_above;
-use lot_graph::{Graph, Layout};
+use crate::graph::Graph;
+use crate::layout::Layout;
+use crate::search::{add, add_node, clear};
 use lot_lists::Lists;
-use lot_machine::Node;
+use lot_machine::{Edge, Node};
 use std::alloc::{AllocError, Global};
 use std::marker::Model;
 
@@ -21,9 +23,8 @@ pub struct Above {
 }
 
 impl Model for Above {
-    ghost use Rattle.lot_above.specs.Found.{FoundNodes};
-    ghost use Rattle.lot_above.specs.Search.{found_nodes};
-    ghost use Rattle.lot_graph.specs.Spread.{IsFoundList};
+    ghost use Rattle.lot_graph.specs.Found.{FoundNodes};
+    ghost use Rattle.lot_graph.specs.Spread.{IsFoundList, found_nodes};
 
     ghost Value = { FoundNodes };
 
@@ -78,5 +79,52 @@ impl Above {
     {
         let place = self.layout.list_of(Node::Currency(currency));
         self.found.list_of(place).is_some()
+    }
+}
+
+/// Lists in `found` the places of the nodes above a node. It reads each edge into them once.
+fn find_above(graph: &Graph, found: &mut Lists, node: Node)
+    requires list { IsFoundList (layout_of graph.now) found.old }
+    requires node { IsNodeOf graph.now node }
+    ensures list { IsFoundList (layout_of graph.now) found.new }
+    ensures above { IsAbove graph.now.funding node (found_nodes (layout_of graph.now) found.new) }
+{
+    let layout = graph.layout();
+    clear(found);
+    let start = layout.list_of(node);
+    add(found, start);
+    let mut next = Some(start);
+    // As many iterations as there are nodes: each follows the next found one.
+    for _ in 0..layout.node_count() {
+        let Some(place) = next else {
+            return;
+        };
+        add_tails(graph, found, layout.node_of(place));
+        next = found.next(place);
+    }
+}
+
+/// Adds the nodes from which an edge leads to this one.
+fn add_tails(graph: &Graph, found: &mut Lists, node: Node)
+    requires list { IsFoundList (layout_of graph.now) found.old }
+    requires node { IsNodeOf graph.now node }
+    ensures spreads { Spreads found.old found.new (IsTailPlace (layout_of graph.now) graph.now.funding node) }
+{
+    let layout = graph.layout();
+    for edge in graph.edges_into(node) {
+        add_node(found, layout, tail_of(graph, edge));
+    }
+}
+
+/// The node that an edge leads out of: the issuer of a ticket, the thread that lends, or the mutex that is owned. It
+/// doesn't look at where the edge leads.
+fn tail_of(graph: &Graph, edge: Edge) -> Option<Node>
+    requires within { IsEdgeWithin (layout_of graph.now) edge }
+    ensures { result ≡ edge_tail graph.now.funding edge }
+{
+    match edge {
+        Edge::OfTicket(ticket) => Some(Node::Currency(graph.issuer_of(ticket)?)),
+        Edge::OfLender(thread) => Some(Node::Thread(thread)),
+        Edge::OfMutex(mutex) => Some(Node::Mutex(mutex)),
     }
 }

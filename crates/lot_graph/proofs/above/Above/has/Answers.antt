@@ -1,8 +1,8 @@
 use Rattle.std.proofs.Common.{◌≤◌, ◌∙◌, sym, subst, arith}
 use Rattle.lot_machine.specs.declared.funding.Node.TheVariants.{Currency}
-use Rattle.lot_above.specs.Found.{FoundNodes, HasFound}
-use Rattle.lot_above.proofs.FoundLemmas.{found-test}
-use Rattle.lot_above.proofs.above.Above.has.Goals as goal
+use Rattle.lot_graph.specs.Found.{FoundNodes, HasFound}
+use Rattle.lot_graph.proofs.FoundLemmas.{found-test}
+use Rattle.lot_graph.proofs.above.Above.has.Goals as goal
 
 pub returns : goal.returns
 returns c =

@@ -2,8 +2,8 @@ use Rattle.std.proofs.Common.{◌≡◌}
 use Rattle.lot_lists.specs.NodeLists.{node_at, IsConsistent}
 use Rattle.lot_graph.specs.Places.{layout_of}
 use Rattle.lot_graph.specs.Spread.{IsFoundList}
-use Rattle.lot_above.proofs.TailLemmas.{IsFollowed}
-use Rattle.lot_above.proofs.search.find_above.Given as goal
+use Rattle.lot_graph.proofs.TailLemmas.{IsFollowed}
+use Rattle.lot_graph.proofs.above.find_above.Given as goal
 
 -- as many of the nodes found were followed as there were iterations
 abbrev pub invariant-loop : goal.invariant-loop

@@ -1,7 +1,7 @@
 use Rattle.std.proofs.Common.{◌≡◌, Contains, subst, sym}
 use Rattle.lot_lists.specs.NodeLists.{IsFree, nodes_of}
 use Rattle.lot_graph.proofs.SpreadLemmas.{spread-push, spread-none, found-none, found-some, only-list}
-use Rattle.lot_above.proofs.search.add.Goals as goal
+use Rattle.lot_graph.proofs.search.add.Goals as goal
 
 pub push_back-requires-clause-free : goal.push_back-requires-clause-free
 push_back-requires-clause-free c = found-none c.list_of.result c.is_none.result (IsFree c.args.found.now c.args.place) c.is_none.ensures c.if-is_none.true c.list_of.ensures.free

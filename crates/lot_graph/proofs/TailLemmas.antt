@@ -17,9 +17,9 @@ use Rattle.lot_graph.specs.Graphs.{HasEachOnce, IsWay, LeadsInto, Reaches}
 use Rattle.lot_graph.specs.Places.{FitsIn, IsEdgeWithin, IsNodeWithin, node_count, node_of, node_place}
 use Rattle.lot_graph.specs.Spread.{IsListOf, Spreads}
 use Rattle.lot_graph.proofs.SpreadLemmas.{followed-start, lender-tail, list-low, mutex-tail, node-back, spread-by, spread-contains, spread-then, ticket-tail}
-use Rattle.lot_above.specs.Found.{IsAbove}
-use Rattle.lot_above.specs.Search.{IsTailPlace, found_nodes, tail_of}
-use Rattle.lot_above.proofs.FoundLemmas.{place-found}
+use Rattle.lot_graph.specs.Found.{IsAbove}
+use Rattle.lot_graph.specs.Spread.{IsTailPlace, found_nodes, tail_of}
+use Rattle.lot_graph.proofs.FoundLemmas.{place-found}
 
 -- ---- the edges into a node
 

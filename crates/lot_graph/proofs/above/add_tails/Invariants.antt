@@ -2,8 +2,8 @@ use Rattle.std.proofs.Common.{◌++◌}
 use Rattle.lot_graph.specs.Graphs.{HasEachOnce, LeadsInto}
 use Rattle.lot_graph.specs.Places.{layout_of}
 use Rattle.lot_graph.specs.Spread.{IsFoundList, Spreads}
-use Rattle.lot_above.proofs.TailLemmas.{IsTailIn}
-use Rattle.lot_above.proofs.search.add_tails.Given as goal
+use Rattle.lot_graph.proofs.TailLemmas.{IsTailIn}
+use Rattle.lot_graph.proofs.above.add_tails.Given as goal
 
 -- the edges into the node are those that were yielded and those that are left, and the tails of the former were added
 abbrev pub invariant-loop-edge : goal.invariant-loop-edge

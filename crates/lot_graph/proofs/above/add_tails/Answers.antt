@@ -6,8 +6,8 @@ use Rattle.lot_graph.specs.Graphs.{HasEachOnce, LeadsInto}
 use Rattle.lot_graph.specs.Places.{IsNodeWithin, layout_of}
 use Rattle.lot_graph.specs.Spread.{IsFoundList, IsListOf, Spreads}
 use Rattle.lot_graph.proofs.SpreadLemmas.{spread-none}
-use Rattle.lot_above.proofs.TailLemmas.{IsTailIn, into-within, next-contained, tail-within, tails-all, tails-more, walk-end, walk-more}
-use Rattle.lot_above.proofs.search.add_tails.Goals as goal
+use Rattle.lot_graph.proofs.TailLemmas.{IsTailIn, into-within, next-contained, tail-within, tails-all, tails-more, walk-end, walk-more}
+use Rattle.lot_graph.proofs.above.add_tails.Goals as goal
 
 pub loop-edge-init : goal.loop-edge-init
 loop-edge-init c = record {
@@ -22,11 +22,11 @@ tail_of-requires c =
     let there = next-contained c.loop-edge.yielded c.loop-edge.edge-iterator c.next.new.self c.in-Some.edge c.in-Some.ensures.steps in
     record { within = into-within (layout_of w) w.funding c.args.node (c.loop-edge.yielded ++ c.loop-edge.edge-iterator) c.loop-edge.invariant.split c.layout-layout.ensures.fits c.in-Some.edge there }
 
-pub add_tail-requires-clause-list : goal.add_tail-requires-clause-list
-add_tail-requires-clause-list c = subst (λ l. IsFoundList l c.loop-edge.found) (sym c.layout-layout.ensures.layout) c.loop-edge.invariant.found_list
+pub add_node-requires-clause-list : goal.add_node-requires-clause-list
+add_node-requires-clause-list c = subst (λ l. IsFoundList l c.loop-edge.found) (sym c.layout-layout.ensures.layout) c.loop-edge.invariant.found_list
 
-pub add_tail-requires-clause-within : goal.add_tail-requires-clause-within
-add_tail-requires-clause-within c =
+pub add_node-requires-clause-within : goal.add_node-requires-clause-within
+add_node-requires-clause-within c =
     let w = c.args.graph.now in
     let there = next-contained c.loop-edge.yielded c.loop-edge.edge-iterator c.next.new.self c.in-Some.edge c.in-Some.ensures.steps in
     subst (λ l. IfSome c.tail_of.result (IsNodeWithin l)) (sym c.layout-layout.ensures.layout)
@@ -36,7 +36,7 @@ pub loop-edge-preserved : goal.loop-edge-preserved
 loop-edge-preserved c =
     let w = c.args.graph.now in
     let before = c.loop-edge.invariant in
-    let spreads = subst (λ l. Spreads c.loop-edge.found c.add_tail.new.found (IsListOf l c.tail_of.result)) c.layout-layout.ensures.layout c.add_tail.ensures.spreads in record {
+    let spreads = subst (λ l. Spreads c.loop-edge.found c.add_node.new.found (IsListOf l c.tail_of.result)) c.layout-layout.ensures.layout c.add_node.ensures.spreads in record {
       split = walk-more c.loop-edge.yielded c.loop-edge.edge-iterator c.next.new.self c.in-Some.edge c.in-Some.ensures.steps before.split;
       found_list = (spreads.nodes ∙ before.found_list.0, spreads.lists ∙ before.found_list.1);
       spread = tails-more (layout_of w) w.funding c.loop-edge.yielded c.in-Some.edge _ _ _ c.tail_of.result before.spread c.tail_of.ensures spreads;
