@@ -3,11 +3,11 @@ ghost use Rattle.std.specs.Prelude.{◌≡◌, ◌≤◌, ◌↔◌, ◌+◌, �
 ghost use Rattle.lot_graph.specs.Found.{HasFound, IsAbove};
 ghost use Rattle.lot_graph.specs.Graphs.{IsNodeOf};
 ghost use Rattle.lot_graph.specs.Places.{IsEdgeWithin, layout_of, node_count};
-ghost use Rattle.lot_graph.specs.Spread.{IsFoundList, IsTailPlace, Spreads, found_nodes, tail_of as edge_tail};
+ghost use Rattle.lot_graph.specs.Spread.{IsBack, tail_of as edge_tail};
 
 use crate::graph::Graph;
 use crate::layout::Layout;
-use crate::search::{add, add_node, clear};
+use crate::search::{Steps, add_node, find};
 use lot_lists::Lists;
 use lot_machine::{Edge, Node};
 use std::alloc::{AllocError, Global};
@@ -69,7 +69,7 @@ impl Above {
         ensures layout { self.new.layout ≡ self.old.layout }
         ensures above { IsAbove graph.now.funding node self.new }
     {
-        find_above(graph, &mut self.found, node);
+        find(graph, graph.layout(), &mut self.found, node);
     }
 
     /// Whether the last search found this currency.
@@ -82,37 +82,16 @@ impl Above {
     }
 }
 
-/// Lists in `found` the places of the nodes above a node. It reads each edge into them once.
-fn find_above(graph: &Graph, found: &mut Lists, node: Node)
-    requires list { IsFoundList (layout_of graph.now) found.old }
-    requires node { IsNodeOf graph.now node }
-    ensures list { IsFoundList (layout_of graph.now) found.new }
-    ensures above { IsAbove graph.now.funding node (found_nodes (layout_of graph.now) found.new) }
-{
-    let layout = graph.layout();
-    clear(found);
-    let start = layout.list_of(node);
-    add(found, start);
-    let mut next = Some(start);
-    // As many iterations as there are nodes: each follows the next found one.
-    for _ in 0..layout.node_count() {
-        let Some(place) = next else {
-            return;
-        };
-        add_tails(graph, found, layout.node_of(place));
-        next = found.next(place);
-    }
-}
+impl Steps for Graph {
+    // against the edges
+    ghost leads = { λ graph. IsBack graph.funding };
 
-/// Adds the nodes from which an edge leads to this one.
-fn add_tails(graph: &Graph, found: &mut Lists, node: Node)
-    requires list { IsFoundList (layout_of graph.now) found.old }
-    requires node { IsNodeOf graph.now node }
-    ensures spreads { Spreads found.old found.new (IsTailPlace (layout_of graph.now) graph.now.funding node) }
-{
-    let layout = graph.layout();
-    for edge in graph.edges_into(node) {
-        add_node(found, layout, tail_of(graph, edge));
+    ghost fit = { λ graph layout. layout ≡ layout_of graph };
+
+    fn add_next(&self, layout: Layout, found: &mut Lists, node: Node) {
+        for edge in self.edges_into(node) {
+            add_node(found, layout, tail_of(self, edge));
+        }
     }
 }
 
