@@ -26,7 +26,7 @@ pub(crate) trait Steps {
         ensures spreads { Spreads found.old found.new (IsNext layout (leads self.now) node) };
 }
 
-/// Lists in `found` the nodes to which steps lead from a node, perhaps none. It makes each step from them once.
+/// Lists in `found` the places of the nodes to which steps, perhaps none, lead from a node. It makes each step once.
 pub(crate) fn find<S: Steps>(steps: &S, layout: Layout, found: &mut Lists, from: Node)
     requires fit { S.fit steps.now layout }
     requires ahead { (a b : Node) → S.leads steps.now a b → IsNodeWithin layout b }

@@ -2,8 +2,7 @@ use Rattle.std.proofs.Common.{ap, subst, sym, ◌∙◌}
 use Rattle.lot_graph.specs.Found.{FoundNodes, IsAbove}
 use Rattle.lot_graph.specs.Places.{IsNodeWithin, layout_of}
 use Rattle.lot_graph.specs.Spread.{Finds, IsBack, IsFoundList, found_nodes}
-use Rattle.lot_graph.proofs.FoundLemmas.{node-within}
-use Rattle.lot_graph.proofs.TailLemmas.{finds-above}
+use Rattle.lot_graph.proofs.AboveLemmas.{finds-above, limits-within}
 use Rattle.lot_graph.proofs.above.Above.find.Goals as goal
 
 pub find-requires-clause-ahead : goal.find-requires-clause-ahead
@@ -15,7 +14,7 @@ find-requires-clause-list c =
     subst (λ l. IsFoundList l c.self.inside.found) layout_is c.self.invariant
 
 pub find-requires-clause-from : goal.find-requires-clause-from
-find-requires-clause-from c = subst (λ l. IsNodeWithin l c.args.node) (sym c.layout.ensures.layout) (node-within c.args.graph.now c.args.node c.requires.node)
+find-requires-clause-from c = subst (λ l. IsNodeWithin l c.args.node) (sym c.layout.ensures.layout) (limits-within c.args.graph.now c.args.node c.requires.node)
 
 pub returns-clause-above : goal.returns-clause-above
 returns-clause-above c =
@@ -25,4 +24,4 @@ returns-clause-above c =
     let finds = subst (λ l. Finds l (IsBack w.funding) c.args.node found) c.layout.ensures.layout c.find.ensures.finds in
     let list = subst (λ l. IsFoundList l found) c.layout.ensures.layout c.find.ensures.list in
     subst (λ l. IsAbove w.funding c.args.node (found_nodes l found)) (sym layout_is)
-    (finds-above (layout_of w) w.funding c.layout.ensures.fits c.args.node (node-within w c.args.node c.requires.node) found list.0 c.find.ensures.consistent finds)
+    (finds-above (layout_of w) w.funding c.layout.ensures.fits c.args.node (limits-within w c.args.node c.requires.node) found list.0 c.find.ensures.consistent finds)

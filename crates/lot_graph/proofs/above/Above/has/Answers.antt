@@ -1,7 +1,7 @@
 use Rattle.std.proofs.Common.{◌≤◌, ◌∙◌, sym, subst, arith}
 use Rattle.lot_machine.specs.declared.funding.Node.TheVariants.{Currency}
 use Rattle.lot_graph.specs.Found.{FoundNodes, HasFound}
-use Rattle.lot_graph.proofs.FoundLemmas.{found-test}
+use Rattle.lot_graph.proofs.AboveLemmas.{found-test}
 use Rattle.lot_graph.proofs.above.Above.has.Goals as goal
 
 pub returns : goal.returns

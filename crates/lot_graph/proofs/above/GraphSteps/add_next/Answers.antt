@@ -5,13 +5,12 @@ use Rattle.lot_machine.proofs.EachOnce.{contains-nothing}
 use Rattle.lot_graph.specs.Graphs.{HasEachOnce, LeadsInto}
 use Rattle.lot_graph.specs.Places.{IsNodeWithin, layout_of}
 use Rattle.lot_graph.specs.Spread.{tail_of}
-use Rattle.lot_graph.proofs.FoundLemmas.{within-node}
+use Rattle.lot_graph.proofs.AboveLemmas.{into-within, next-contained, tail-within, tails-all, walk-end, walk-more, within-limits}
 use Rattle.lot_graph.proofs.SpreadLemmas.{IsOfSome, some-more, spread-none}
-use Rattle.lot_graph.proofs.TailLemmas.{into-within, next-contained, tail-within, tails-all, walk-end, walk-more}
 use Rattle.lot_graph.proofs.above.GraphSteps.add_next.Goals as goal
 
 pub edges_into-edge-items-requires : goal.edges_into-edge-items-requires
-edges_into-edge-items-requires c = record { node = within-node c.args.self.now c.args.node (subst (λ l. IsNodeWithin l c.args.node) c.requires.fit c.requires.within) }
+edges_into-edge-items-requires c = record { node = within-limits c.args.self.now c.args.node (subst (λ l. IsNodeWithin l c.args.node) c.requires.fit c.requires.within) }
 
 pub loop-edge-init : goal.loop-edge-init
 loop-edge-init c = record {

@@ -1,22 +1,56 @@
--- The edges into a node, whose tails a search against the edges adds, and that it finds what is above.
-use Rattle.std.proofs.Common.{◌≡◌, ℕ, zero, ◌+◌, Option, Some, List, [], ◌∷◌, ◌++◌, Contains, ap, sym, ◌∙◌, refl, subst, arith, append_assoc, append-nil, option_map}
+-- A search against the edges: the edges into a node, whose tails it adds, and that it finds what is above.
+use Rattle.std.proofs.Common.{◌≡◌, ◌↔◌, ℕ, zero, ◌+◌, ◌<◌, Option, Some, List, [], ◌∷◌, ◌++◌, Contains, map, length, ap, sym, ◌∙◌, refl, subst, arith, append_assoc, append-nil, option_map}
 use Rattle.std.proofs.lemmas.List.Elements.{Contains-append_right}
-use Rattle.std.specs.Option.{IfSome}
+use Rattle.std.specs.Option.{IsSome, IfSome, IfNone}
 use Rattle.lot_machine.specs.declared.funding.Node.{Node}
-use Rattle.lot_machine.specs.declared.funding.Node.TheVariants.{Currency}
+use Rattle.lot_machine.specs.declared.funding.Node.TheVariants.{Currency, Thread, Mutex}
 use Rattle.lot_machine.specs.declared.funding.Edge.{Edge}
 use Rattle.lot_machine.specs.declared.funding.Edge.TheVariants.{OfTicket, OfLender, OfMutex}
 use Rattle.lot_machine.specs.Funding.{Funding, IsEdge, ends_of}
-use Rattle.lot_machine.proofs.EachOnce.{contains-mapped}
+use Rattle.lot_machine.proofs.EachOnce.{contains-mapped, mapped-contains}
 use Rattle.lot_machine.proofs.Tickets.{some-injective}
-use Rattle.lot_lists.specs.NodeLists.{NodeLists, IsConsistent, nodes_of}
+use Rattle.lot_lists.specs.NodeLists.{NodeLists, nodes_of, IsConsistent, IsFree}
 use Rattle.lot_graph.specs.declared.layout.Layout.{Layout}
 use Rattle.lot_graph.specs.Found.{IsAbove}
-use Rattle.lot_graph.specs.Graphs.{HasEachOnce, IsWay, LeadsInto, Reaches}
-use Rattle.lot_graph.specs.Places.{FitsIn, IsEdgeWithin, IsNodeWithin, node_count, node_of}
+use Rattle.lot_graph.specs.Graphs.{HasEachOnce, IsNodeOf, IsWay, LeadsInto, LimitedFunding, Reaches}
+use Rattle.lot_graph.specs.Places.{FitsIn, IsEdgeWithin, IsNodeWithin, layout_of, node_count, node_of, node_place}
 use Rattle.lot_graph.specs.Spread.{Finds, IsBack, IsNext, IsTrail, Spreads, found_nodes, tail_of}
-use Rattle.lot_graph.proofs.FoundLemmas.{place-found}
-use Rattle.lot_graph.proofs.SpreadLemmas.{IsOfSome, lender-tail, list-back, mutex-tail, spread-by, ticket-tail}
+use Rattle.lot_graph.proofs.CycleLemmas.{list-test}
+use Rattle.lot_graph.proofs.SpreadLemmas.{IsOfSome, lender-tail, list-back, mutex-tail, node-back, spread-by, ticket-tail}
+
+-- ---- found nodes and their places
+
+-- a node within the limits of a graph has a place in its layout
+pub limits-within : (w : LimitedFunding) (node : Node) → IsNodeOf w node → IsNodeWithin (layout_of w) node
+limits-within w (Currency c) there = there
+limits-within w (Thread t) there = there
+limits-within w (Mutex m) there = there
+
+-- and the other way round
+pub within-limits : (w : LimitedFunding) (node : Node) → IsNodeWithin (layout_of w) node → IsNodeOf w node
+within-limits w (Currency c) there = there
+within-limits w (Thread t) there = there
+within-limits w (Mutex m) there = there
+
+module _ (l : Layout) (places : List ℕ) (node : Node) where
+  -- the place of a node that is found is among the places
+  pub found-place : ((x : ℕ) → Contains places x → x < node_count l) → Contains (map (node_of l) places) node → Contains places (node_place l node)
+  found-place low there =
+      let (x, c, is) = contains-mapped (node_of l) places node there in
+      subst (Contains places) (sym (list-back l x (low x c)).0 ∙ ap (node_place l) is) c
+
+  -- and a node whose place is among them is found
+  pub place-found : IsNodeWithin l node → Contains places (node_place l node) → Contains (map (node_of l) places) node
+  place-found within c = subst (Contains (map (node_of l) places)) (node-back l node within) (mapped-contains (node_of l) places (node_place l node) c)
+
+-- the test of whether a node is in the list tells whether it is found
+pub found-test : (l : Layout) (v : NodeLists) (node : Node) (x : ℕ) (o : Option ℕ) → IsNodeWithin l node → x ≡ node_place l node → length v.lists ≡ 1 → ((y : ℕ) → Contains (nodes_of v 0) y → y < node_count l)
+    → IfSome o (λ list. Contains (nodes_of v list) x) → IfNone o (IsFree v x) → IsSome o ↔ Contains (map (node_of l) (nodes_of v 0)) node
+found-test l v node x o within is one low some none =
+    let test = list-test v x o one some none in (
+      λ yes. place-found l (nodes_of v 0) node within (subst (Contains (nodes_of v 0)) is (test.0 yes)),
+      λ there. test.1 (subst (Contains (nodes_of v 0)) (sym is) (found-place l (nodes_of v 0) node low there)),
+    )
 
 -- ---- the edges into a node
 
@@ -69,13 +103,13 @@ module _ {IsSo : Edge → Type 0} where
 
 module _ (l : Layout) (f : Funding) (fits : FitsIn l f) (node : Node) (in_node : IsNodeWithin l node) where
   -- a path's edges are those of a trail against them
-  trail-way : (trail : List Node) (x : Node) → IsTrail (IsBack f) node trail x → IsWay f x trail node
-  trail-way [] x same = sym same
-  trail-way (last ∷ rest) x (edge, others) = (edge, trail-way rest last others)
+  back-way : (trail : List Node) (x : Node) → IsTrail (IsBack f) node trail x → IsWay f x trail node
+  back-way [] x same = sym same
+  back-way (last ∷ rest) x (edge, others) = (edge, back-way rest last others)
 
-  way-trail : (way : List Node) (x : Node) → IsWay f x way node → IsNodeWithin l x × IsTrail (IsBack f) node way x
-  way-trail [] x same = (subst (IsNodeWithin l) (sym same) in_node, sym same)
-  way-trail (next ∷ rest) x ((edge, is), others) = (fits.from edge x next is, ((edge, is), (way-trail rest next others).1))
+  way-back : (way : List Node) (x : Node) → IsWay f x way node → IsNodeWithin l x × IsTrail (IsBack f) node way x
+  way-back [] x same = (subst (IsNodeWithin l) (sym same) in_node, sym same)
+  way-back (next ∷ rest) x ((edge, is), others) = (fits.from edge x next is, ((edge, is), (way-back rest next others).1))
 
   pub finds-above : (v : NodeLists) → v.nodes ≡ node_count l → IsConsistent v → Finds l (IsBack f) node v → IsAbove f node (found_nodes l v)
   finds-above v nodes consistent finds x = (
@@ -83,6 +117,6 @@ module _ (l : Layout) (f : Funding) (fits : FitsIn l f) (node : Node) (in_node :
         let (place, c, is) = contains-mapped (node_of l) (nodes_of v 0) x there in
         let back = list-back l place (omega (arith, consistent.in_range 0 c.0 place c.1, c.2, nodes)) in
         let (trail, leads) = (finds (node_of l place) back.1).0 (subst (Contains (nodes_of v 0)) (sym back.0) c) in
-        subst (λ y. Reaches f y node) is (trail, trail-way trail (node_of l place) leads),
-    λ (way, leads). let (within, trail) = way-trail way x leads in place-found l (nodes_of v 0) x within ((finds x within).1 (way, trail)),
+        subst (λ y. Reaches f y node) is (trail, back-way trail (node_of l place) leads),
+    λ (way, leads). let (within, trail) = way-back way x leads in place-found l (nodes_of v 0) x within ((finds x within).1 (way, trail)),
   )
