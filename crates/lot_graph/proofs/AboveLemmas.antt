@@ -1,5 +1,5 @@
 -- A search against the edges: the edges into a node, whose tails it adds, and that it finds what is above.
-use Rattle.std.proofs.Common.{◌≡◌, ◌↔◌, ℕ, zero, ◌+◌, ◌<◌, Option, Some, List, [], ◌∷◌, ◌++◌, Contains, map, length, ap, sym, ◌∙◌, refl, subst, arith, append_assoc, append-nil, option_map}
+use Rattle.std.proofs.Common.{◌≡◌, ◌↔◌, ℕ, zero, ◌+◌, ◌<◌, Option, Some, List, [], ◌∷◌, ◌++◌, Contains, map, ap, sym, ◌∙◌, refl, subst, arith, append_assoc, append-nil, option_map}
 use Rattle.std.proofs.lemmas.List.Elements.{Contains-append_right}
 use Rattle.std.specs.Option.{IsSome, IfSome, IfNone}
 use Rattle.lot_machine.specs.declared.funding.Node.{Node}
@@ -14,9 +14,9 @@ use Rattle.lot_graph.specs.declared.layout.Layout.{Layout}
 use Rattle.lot_graph.specs.Found.{IsAbove}
 use Rattle.lot_graph.specs.Graphs.{HasEachOnce, IsNodeOf, IsWay, LeadsInto, LimitedFunding, Reaches}
 use Rattle.lot_graph.specs.Places.{FitsIn, IsEdgeWithin, IsNodeWithin, layout_of, node_count, node_of, node_place}
-use Rattle.lot_graph.specs.Spread.{Finds, IsBack, IsNext, IsTrail, Spreads, found_nodes, tail_of}
+use Rattle.lot_graph.specs.Spread.{Finds, IsBack, IsFoundList, IsNext, IsTrail, Spreads, found_nodes, tail_of}
 use Rattle.lot_graph.proofs.CycleLemmas.{list-test}
-use Rattle.lot_graph.proofs.SpreadLemmas.{IsOfSome, lender-tail, list-back, mutex-tail, node-back, spread-by, ticket-tail}
+use Rattle.lot_graph.proofs.SpreadLemmas.{IsOfSome, found-low, lender-tail, list-back, mutex-tail, node-back, spread-by, ticket-tail}
 
 -- ---- found nodes and their places
 
@@ -44,12 +44,12 @@ module _ (l : Layout) (places : List ℕ) (node : Node) where
   place-found within c = subst (Contains (map (node_of l) places)) (node-back l node within) (mapped-contains (node_of l) places (node_place l node) c)
 
 -- the test of whether a node is in the list tells whether it is found
-pub found-test : (l : Layout) (v : NodeLists) (node : Node) (x : ℕ) (o : Option ℕ) → IsNodeWithin l node → x ≡ node_place l node → length v.lists ≡ 1 → ((y : ℕ) → Contains (nodes_of v 0) y → y < node_count l)
+pub found-test : (l : Layout) (v : NodeLists) (node : Node) (x : ℕ) (o : Option ℕ) → IsNodeWithin l node → x ≡ node_place l node → IsFoundList l v → IsConsistent v
     → IfSome o (λ list. Contains (nodes_of v list) x) → IfNone o (IsFree v x) → IsSome o ↔ Contains (map (node_of l) (nodes_of v 0)) node
-found-test l v node x o within is one low some none =
-    let test = list-test v x o one some none in (
+found-test l v node x o within is list consistent some none =
+    let test = list-test v x o list.1 some none in (
       λ yes. place-found l (nodes_of v 0) node within (subst (Contains (nodes_of v 0)) is (test.0 yes)),
-      λ there. test.1 (subst (Contains (nodes_of v 0)) (sym is) (found-place l (nodes_of v 0) node low there)),
+      λ there. test.1 (subst (Contains (nodes_of v 0)) (sym is) (found-place l (nodes_of v 0) node (found-low l v list consistent) there)),
     )
 
 -- ---- the edges into a node
@@ -111,11 +111,11 @@ module _ (l : Layout) (f : Funding) (fits : FitsIn l f) (node : Node) (in_node :
   way-back [] x same = (subst (IsNodeWithin l) (sym same) in_node, sym same)
   way-back (next ∷ rest) x ((edge, is), others) = (fits.from edge x next is, ((edge, is), (way-back rest next others).1))
 
-  pub finds-above : (v : NodeLists) → v.nodes ≡ node_count l → IsConsistent v → Finds l (IsBack f) node v → IsAbove f node (found_nodes l v)
-  finds-above v nodes consistent finds x = (
+  pub finds-above : (v : NodeLists) → IsFoundList l v → IsConsistent v → Finds l (IsBack f) node v → IsAbove f node (found_nodes l v)
+  finds-above v list consistent finds x = (
     λ there.
         let (place, c, is) = contains-mapped (node_of l) (nodes_of v 0) x there in
-        let back = list-back l place (omega (arith, consistent.in_range 0 c.0 place c.1, c.2, nodes)) in
+        let back = list-back l place (found-low l v list consistent place c) in
         let (trail, leads) = (finds (node_of l place) back.1).0 (subst (Contains (nodes_of v 0)) (sym back.0) c) in
         subst (λ y. Reaches f y node) is (trail, back-way trail (node_of l place) leads),
     λ (way, leads). let (within, trail) = way-back way x leads in place-found l (nodes_of v 0) x within ((finds x within).1 (way, trail)),

@@ -3,7 +3,7 @@ use Rattle.lot_lists.specs.NodeLists.{nodes_of}
 use Rattle.lot_graph.specs.Places.{IsNodeWithin}
 use Rattle.lot_graph.specs.Spread.{IsNext, Spreads}
 use Rattle.lot_graph.proofs.MirrorLemmas.{contains-at}
-use Rattle.lot_graph.proofs.SpreadLemmas.{followed-all, followed-end, followed-more, followed-start, list-back}
+use Rattle.lot_graph.proofs.SpreadLemmas.{followed-all, followed-end, followed-more, followed-start, found-low, list-back}
 use Rattle.lot_graph.proofs.search.find.Goals as goal
 
 pub loop-init : goal.loop-init
@@ -16,11 +16,11 @@ loop-init g c =
     }
 
 pub node_of-requires : goal.node_of-requires
-node_of-requires g c = c.loop.invariant.whole.within c.in-Some.place (contains-at (nodes_of c.loop.found 0) c.loop.counter c.in-Some.place (sym c.loop.invariant.is_next ∙ c.in-Some.is))
+node_of-requires g c = found-low c.args.layout c.loop.found c.loop.invariant.found_list c.loop.invariant.consistent c.in-Some.place (contains-at (nodes_of c.loop.found 0) c.loop.counter c.in-Some.place (sym c.loop.invariant.is_next ∙ c.in-Some.is))
 
 pub add_next-requires-clause-within : goal.add_next-requires-clause-within
 add_next-requires-clause-within g c =
-    let low = c.loop.invariant.whole.within c.in-Some.place (contains-at (nodes_of c.loop.found 0) c.loop.counter c.in-Some.place (sym c.loop.invariant.is_next ∙ c.in-Some.is)) in
+    let low = found-low c.args.layout c.loop.found c.loop.invariant.found_list c.loop.invariant.consistent c.in-Some.place (contains-at (nodes_of c.loop.found 0) c.loop.counter c.in-Some.place (sym c.loop.invariant.is_next ∙ c.in-Some.is)) in
     subst (IsNodeWithin c.args.layout) (sym c.node_of.ensures) (list-back c.args.layout c.in-Some.place low).1
 
 pub next-next-requires : goal.next-next-requires

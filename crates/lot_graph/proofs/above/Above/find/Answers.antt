@@ -24,4 +24,4 @@ returns-clause-above c =
     let finds = subst (λ l. Finds l (IsBack w.funding) c.args.node found) c.layout.ensures.layout c.find.ensures.finds in
     let list = subst (λ l. IsFoundList l found) c.layout.ensures.layout c.find.ensures.list in
     subst (λ l. IsAbove w.funding c.args.node (found_nodes l found)) (sym layout_is)
-    (finds-above (layout_of w) w.funding c.layout.ensures.fits c.args.node (limits-within w c.args.node c.requires.node) found list.0 c.find.ensures.consistent finds)
+    (finds-above (layout_of w) w.funding c.layout.ensures.fits c.args.node (limits-within w c.args.node c.requires.node) found list c.find.ensures.consistent finds)

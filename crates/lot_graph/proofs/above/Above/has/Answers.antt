@@ -1,4 +1,4 @@
-use Rattle.std.proofs.Common.{◌≤◌, ◌∙◌, sym, subst, arith}
+use Rattle.std.proofs.Common.{◌≤◌, ◌∙◌, sym, subst}
 use Rattle.lot_machine.specs.declared.funding.Node.TheVariants.{Currency}
 use Rattle.lot_graph.specs.Found.{FoundNodes, HasFound}
 use Rattle.lot_graph.proofs.AboveLemmas.{found-test}
@@ -9,9 +9,8 @@ returns c =
     let s = c.self.inside in
     let currency = c.args.currency in
     let within = subst (λ (v : FoundNodes). currency ≤ v.layout.currencies) (sym c.self.view_is) c.requires.currency in
-    let listed = c.list_of.ensures.consistent.in_range 0 in
     let test =
-    found-test s.layout s.found (Currency currency) c.list_of-place.result c.list_of.result within c.list_of-place.ensures c.self.invariant.1 (λ y there. omega (arith, listed there.0 y there.1, there.2, c.self.invariant.0))
+    found-test s.layout s.found (Currency currency) c.list_of-place.result c.list_of.result within c.list_of-place.ensures c.self.invariant c.list_of.ensures.consistent
     c.list_of.ensures.found c.list_of.ensures.free in (
       λ yes. subst (λ (v : FoundNodes). HasFound v currency) c.self.view_is (test.0 (sym c.is_some.ensures ∙ yes)),
       λ there. c.is_some.ensures ∙ test.1 (subst (λ (v : FoundNodes). HasFound v currency) (sym c.self.view_is) there),
