@@ -12,7 +12,7 @@ use Rattle.lot_curves.specs.declared.stretch.Stretch.{Stretch}
 use Rattle.lot_curves.specs.Curves.{Curves, names_by}
 use Rattle.lot_curves.specs.OwnTimes.{EndedTurn}
 use Rattle.lot_curves.specs.Stretches.{last_end, turn_stretches}
-use Rattle.lot_above.specs.Found.{FoundNodes}
+use Rattle.lot_graph.specs.Found.{FoundNodes}
 use Rattle.lot_engine.specs.Searching.{HasLayoutFor, HasThoseAbove}
 use Rattle.lot_engine.specs.Seen.{Seen}
 use Rattle.lot_playback.specs.Turns.{MadeTurn, counted_turn, counted_turns, world_after_turns}

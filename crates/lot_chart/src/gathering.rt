@@ -21,9 +21,9 @@ ghost use Rattle.lot_chart.specs.Noted.{stretches_in};
 ghost use Rattle.lot_chart.specs.Noted as noted;
 
 use itoa::Buffer;
-use lot_above::Above;
 use lot_curves::{By, Curves, Stretch};
 use lot_engine::System;
+use lot_graph::Above;
 use lot_machine::{Name, Reply};
 use lot_play::{Warnings, note_last, play_through};
 use lot_playback::{Observer, Playback, Turn};

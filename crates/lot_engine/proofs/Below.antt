@@ -31,7 +31,7 @@ use Rattle.lot_graph.proofs.SpreadLemmas.{currency-edge, mutex-edge, thread-edge
 use Rattle.lot_graph.proofs.WayLemmas.{edge-reaches, lead-reaches, reaches-then}
 use Rattle.lot_graph.specs.Fields.{head_of}
 use Rattle.lot_simulation.specs.Below.{funds_thread, stands_below}
-use Rattle.lot_above.specs.Found.{FoundNodes}
+use Rattle.lot_graph.specs.Found.{FoundNodes}
 use Rattle.lot_kernel.specs.Searching.{IsAboveThread}
 use Rattle.lot_engine.specs.Searching.{HasThoseAbove}
 

@@ -11,7 +11,7 @@ use Rattle.lot_machine.specs.State.{State, holders}
 use Rattle.lot_machine.specs.Step.{step}
 use Rattle.lot_machine.proofs.StepChanges.{By, Keeps, by_event, kept, step-leads}
 use Rattle.lot_graph.specs.declared.layout.Layout.{Layout}
-use Rattle.lot_above.specs.Found.{FoundNodes}
+use Rattle.lot_graph.specs.Found.{FoundNodes}
 use Rattle.lot_kernel.specs.Searching.{HasLayoutOf}
 use Rattle.lot_simulation.specs.World.{Program, World, Turn, opening_world, actor_event, console_turn, next_name, processor_turn, resolved, system_turn, system_after, system_run}
 use Rattle.lot_engine.specs.Searching.{HasLayoutFor}

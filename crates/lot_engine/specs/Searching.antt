@@ -1,7 +1,7 @@
 -- Searches for the currencies above a thread of a system.
 use Rattle.std.specs.Prelude.{◌≡◌, ◌↔◌, ℕ, ◌<◌, IsTrue, length}
 use Rattle.lot_machine.specs.State.{State, holders}
-use Rattle.lot_above.specs.Found.{FoundNodes, HasFound}
+use Rattle.lot_graph.specs.Found.{FoundNodes, HasFound}
 use Rattle.lot_simulation.specs.Below.{stands_below}
 use Rattle.lot_simulation.specs.World.{Program}
 

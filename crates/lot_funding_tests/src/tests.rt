@@ -1,4 +1,4 @@
-//! One module for each of `lot_graph`, `lot_above`, `lot_active`, `lot_value`, `lot_draw`, `lot_lists` and `lot_tree`,
+//! One module for each of `lot_graph`, `lot_active`, `lot_value`, `lot_draw`, `lot_lists` and `lot_tree`,
 //! and for the generator and the lottery of `lot_draw`.
 
 mod above;

@@ -3,7 +3,7 @@ use Rattle.std.specs.Prelude.{◌≡◌, ◌↔◌, ℕ, length}
 use Rattle.lot_machine.specs.declared.funding.Node.TheVariants.{Currency, Thread}
 use Rattle.lot_machine.specs.State.{State, funding_of}
 use Rattle.lot_graph.specs.Graphs.{Reaches}
-use Rattle.lot_above.specs.Found.{FoundNodes, HasFound}
+use Rattle.lot_graph.specs.Found.{FoundNodes, HasFound}
 
 -- the search has room for the graphs of this state: it has their layout, which no event changes
 abbrev pub HasLayoutOf : State → FoundNodes → Type 0

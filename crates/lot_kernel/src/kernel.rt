@@ -22,7 +22,7 @@ ghost use Rattle.lot_kernel.specs.Searching.{HasLayoutOf, IsAboveThread};
 ghost use Rattle.lot_kernel.specs.Snapshots.{MakesStale, starting};
 
 use crate::tables::Tables;
-use lot_above::Above;
+use lot_graph::Above;
 use lot_kept::Stack;
 use lot_machine::{
     CurrencyNumber, CurrencyRow, Event, Limits, MutexNumber, Name, Processor, Reply, Status,

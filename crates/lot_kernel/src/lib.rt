@@ -12,7 +12,7 @@ mod names;
 mod tables;
 
 pub use kernel::Kernel;
-pub use lot_above::Above;
+pub use lot_graph::Above;
 pub use lot_kept::Stack;
 pub use lot_machine::{
     Action, Command, CurrencyNumber, CurrencyRef, CurrencyRow, Event, Kind, Limits, MutexNumber,

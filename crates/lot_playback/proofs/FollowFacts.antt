@@ -24,7 +24,7 @@ use Rattle.lot_playback.specs.Owed.{Answers}
 use Rattle.lot_playback.proofs.AlarmFacts.{none-asleep}
 use Rattle.lot_playback.specs.declared.timekeeper.Timekeeper.{Timekeeper}
 use Rattle.lot_playback.specs.InTime.{AreAlarms, AreNumbered, HasDues, HasFollowed, HasRoomFor, IsFollowed, alarms_in, moment_in, next_turns, turns_done}
-use Rattle.lot_above.specs.Found.{FoundNodes}
+use Rattle.lot_graph.specs.Found.{FoundNodes}
 use Rattle.lot_engine.specs.Searching.{HasLayoutFor}
 use Rattle.lot_engine.specs.Seen.{Seen, after_turn, commands_made, world_of}
 use Rattle.lot_engine.proofs.Runs.{system_run-one_more}

@@ -20,7 +20,7 @@ use Rattle.lot_machine.specs.Commands.{Step, command_effect, command_refusal, un
 use Rattle.lot_machine.specs.Lottery.{winner}
 use Rattle.lot_machine.specs.State.{State, ready_threads, thread_on, weight_of}
 use Rattle.lot_machine.specs.Step.{draw, event_effect, event_refusal, step, thread_there}
-use Rattle.lot_above.specs.Found.{FoundNodes, HasFound}
+use Rattle.lot_graph.specs.Found.{FoundNodes, HasFound}
 use Rattle.lot_simulation.specs.declared.script.ScriptTrap.{ScriptTrap}
 use Rattle.lot_simulation.specs.Below.{stands_below}
 use Rattle.lot_simulation.specs.Report.{ticks_in}

@@ -3,7 +3,7 @@ use Rattle.std.specs.Prelude.{◌≡◌, ◌↔◌, ℕ, ◌+◌, ◌*◌, ◌^�
 use Rattle.lot_machine.specs.declared.reply.Reply.{Reply}
 use Rattle.lot_machine.specs.declared.reply.Reply.TheVariants as reply
 use Rattle.lot_machine.specs.State.{State, thread_on}
-use Rattle.lot_above.specs.Found.{FoundNodes, HasFound}
+use Rattle.lot_graph.specs.Found.{FoundNodes, HasFound}
 use Rattle.lot_simulation.specs.Below.{stands_below}
 use Rattle.lot_simulation.specs.Timed.{TimedTurn}
 use Rattle.lot_simulation.specs.TimedReport.{currency_ticks_after, currency_ticks_in}

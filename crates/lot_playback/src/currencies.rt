@@ -16,8 +16,8 @@ ghost use Rattle.lot_playback.specs.TicksBelow.{AreCurrencies, HasFoundFor, HasO
 
 use crate::dues::DueTable;
 use crate::sharers::Sharers;
-use lot_above::Above;
 use lot_engine::System;
+use lot_graph::Above;
 use lot_machine::{Event, Reply};
 use std::alloc::{AllocError, Global};
 

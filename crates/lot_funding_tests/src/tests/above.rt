@@ -5,8 +5,7 @@ ghost use Rattle.lot_graph.specs.Places.{layout_of};
 
 use super::graph::{add_thread, give, largest, lend, link, make_currency, wait};
 use crate::{is_mutex, is_thread};
-use lot_above::Above;
-use lot_graph::Graph;
+use lot_graph::{Above, Graph};
 use lot_machine::{Node, Target};
 use std::alloc::Global;
 use std::process::Abort;

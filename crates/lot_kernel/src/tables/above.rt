@@ -4,7 +4,7 @@ ghost use Rattle.lot_machine.specs.Bounds.{IsBetween};
 ghost use Rattle.lot_kernel.specs.Searching.{HasLayoutOf, IsAboveThread};
 
 use crate::tables::Tables;
-use lot_above::Above;
+use lot_graph::Above;
 use lot_machine::{Node, ThreadNumber};
 use std::alloc::{AllocError, Global};
 

@@ -1,7 +1,7 @@
 use Rattle.std.proofs.Common.{◌∙◌, sym, subst}
 use Rattle.std.specs.Prelude.{◌↔◌, IsTrue}
 use Rattle.lot_machine.proofs.Tickets.{some-injective}
-use Rattle.lot_above.specs.Found.{HasFound}
+use Rattle.lot_graph.specs.Found.{HasFound}
 use Rattle.lot_simulation.specs.Below.{stands_below}
 use Rattle.lot_engine.specs.Seen.{world_of}
 use Rattle.lot_chart.proofs.Ran.{runner-there}

@@ -7,7 +7,7 @@ use Rattle.lot_simulation.specs.Timed.{TimedTurn, alarms_after, clocks_after, is
 use Rattle.lot_machine.specs.Bounds.{IsWithinBounds}
 use Rattle.lot_machine.specs.State.{State, opening, thread_on}
 use Rattle.lot_graph.specs.declared.layout.Layout.{Layout}
-use Rattle.lot_above.specs.Found.{FoundNodes}
+use Rattle.lot_graph.specs.Found.{FoundNodes}
 use Rattle.lot_simulation.specs.World.{Program, World, system_turn}
 use Rattle.lot_simulation.specs.World.Answer.{Answered}
 use Rattle.lot_simulation.proofs.TimedRuns.{room-small}

@@ -1,5 +1,5 @@
 use Rattle.std.proofs.Common.{◌≡◌, ◌∙◌, length, subst, sym}
-use Rattle.lot_above.specs.Found.{FoundNodes}
+use Rattle.lot_graph.specs.Found.{FoundNodes}
 use Rattle.lot_engine.specs.Seen.{Seen}
 use Rattle.lot_playback.specs.declared.currencies.CurrencyTable.{CurrencyTable}
 use Rattle.lot_playback.specs.declared.timekeeper.Timekeeper.{Timekeeper}

@@ -2,7 +2,7 @@ use Rattle.std.proofs.Common.{◌↔◌, ◌∙◌, ap, subst}
 use Rattle.lot_machine.specs.declared.funding.Node.TheVariants.{Currency, Thread}
 use Rattle.lot_machine.specs.Funding.{Funding}
 use Rattle.lot_graph.specs.Graphs.{LimitedFunding, Reaches}
-use Rattle.lot_above.specs.Found.{HasFound}
+use Rattle.lot_graph.specs.Found.{HasFound}
 use Rattle.lot_threads.specs.Threaded.{funding_in}
 use Rattle.lot_kernel.proofs.tables.Tables.find_above.Goals as goal
 

@@ -1,7 +1,7 @@
 use Rattle.std.proofs.Common.{◌≡◌, ℕ, List, ◌+◌, ◌<◌, ◌∙◌, false, true, length, refl, set, sym, subst, arith}
 use Rattle.std.specs.Prelude.{slice_index}
 use Rattle.std.proofs.lemmas.List.{get_or_default}
-use Rattle.lot_above.specs.Found.{FoundNodes, HasFound}
+use Rattle.lot_graph.specs.Found.{FoundNodes, HasFound}
 use Rattle.lot_playback.specs.TicksBelow.{HaveAdded}
 use Rattle.lot_playback.proofs.TickFacts.{all-added, one-added, one-passed}
 use Rattle.lot_playback.proofs.currencies.CurrencyTable.add.Goals as goal

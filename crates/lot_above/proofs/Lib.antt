@@ -1,2 +1,0 @@
-pub mod FoundLemmas
-pub mod TailLemmas

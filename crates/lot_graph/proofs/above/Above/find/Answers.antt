@@ -1,0 +1,27 @@
+use Rattle.std.proofs.Common.{ap, subst, sym, ◌∙◌}
+use Rattle.lot_graph.specs.Found.{FoundNodes, IsAbove}
+use Rattle.lot_graph.specs.Places.{IsNodeWithin, layout_of}
+use Rattle.lot_graph.specs.Spread.{Finds, IsBack, IsFoundList, found_nodes}
+use Rattle.lot_graph.proofs.AboveLemmas.{finds-above, limits-within}
+use Rattle.lot_graph.proofs.above.Above.find.Goals as goal
+
+pub find-requires-clause-ahead : goal.find-requires-clause-ahead
+find-requires-clause-ahead c = λ a b (edge, is). subst (λ l. IsNodeWithin l b) (sym c.layout.ensures.layout) (c.layout.ensures.fits.from edge b a is)
+
+pub find-requires-clause-list : goal.find-requires-clause-list
+find-requires-clause-list c =
+    let layout_is = ap (λ (v : FoundNodes). v.layout) c.self.view_is ∙ c.requires.layout ∙ sym c.layout.ensures.layout in
+    subst (λ l. IsFoundList l c.self.inside.found) layout_is c.self.invariant
+
+pub find-requires-clause-from : goal.find-requires-clause-from
+find-requires-clause-from c = subst (λ l. IsNodeWithin l c.args.node) (sym c.layout.ensures.layout) (limits-within c.args.graph.now c.args.node c.requires.node)
+
+pub returns-clause-above : goal.returns-clause-above
+returns-clause-above c =
+    let w = c.args.graph.now in
+    let found = c.find.new.found in
+    let layout_is = ap (λ (v : FoundNodes). v.layout) c.self.view_is ∙ c.requires.layout in
+    let finds = subst (λ l. Finds l (IsBack w.funding) c.args.node found) c.layout.ensures.layout c.find.ensures.finds in
+    let list = subst (λ l. IsFoundList l found) c.layout.ensures.layout c.find.ensures.list in
+    subst (λ l. IsAbove w.funding c.args.node (found_nodes l found)) (sym layout_is)
+    (finds-above (layout_of w) w.funding c.layout.ensures.fits c.args.node (limits-within w c.args.node c.requires.node) found list c.find.ensures.consistent finds)

@@ -1,0 +1,13 @@
+use Rattle.std.proofs.Common.{◌++◌}
+use Rattle.lot_graph.specs.Graphs.{HasEachOnce, LeadsInto}
+use Rattle.lot_graph.specs.Spread.{IsFoundList, Spreads, tail_of}
+use Rattle.lot_graph.proofs.SpreadLemmas.{IsOfSome}
+use Rattle.lot_graph.proofs.above.GraphSteps.add_next.Given as goal
+
+-- the edges into the node are those that were yielded and those that are left, and the tails of the former were added
+abbrev pub invariant-loop-edge : goal.invariant-loop-edge
+invariant-loop-edge l = record {
+  split : HasEachOnce (l.yielded ++ l.edge-iterator) (LeadsInto l.self.funding l.fn.node);
+  found_list : IsFoundList l.layout l.found;
+  spread : Spreads l.fn.found l.found (IsOfSome l.layout (tail_of l.self.funding) l.yielded);
+}

@@ -1,0 +1,14 @@
+use Rattle.std.proofs.Common.{ap, sym, ◌∙◌}
+use Rattle.lot_machine.proofs.Tickets.{some-injective}
+use Rattle.lot_graph.specs.Places.{node_place}
+use Rattle.lot_graph.specs.Spread.{IsListOf}
+use Rattle.lot_graph.proofs.SpreadLemmas.{spread-by}
+use Rattle.lot_graph.proofs.search.add_node.Goals as goal
+
+pub returns-in-Some : goal.returns-in-Some
+returns-in-Some c =
+    let l = c.args.layout in record {
+      spreads =
+          spread-by (IsListOf l c.args.node) c.add.ensures.spreads (λ x same. (c.in-Some.node, c.in-Some.is, sym (same ∙ c.list_of.ensures)))
+          (λ x (to, at, here). sym here ∙ ap (node_place l) (some-injective to c.in-Some.node (sym at ∙ c.in-Some.is)) ∙ sym c.list_of.ensures);
+    }
