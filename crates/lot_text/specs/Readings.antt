@@ -10,12 +10,7 @@ use Rattle.lot_machine.specs.Bounds.{IsBetween}
 use Rattle.lot_simulation.specs.Grammar.{Phrase, add_command, add_named, add_runs, is_alone, is_full, names_ticket, run_of, with_line}
 use Rattle.lot_simulation.specs.Reading.{Reading, OpenScript, ◌>>=◌, checked, each_pair}
 use Rattle.lot_script.specs.Drafts.{loops_after}
-use Rattle.lot_text.specs.Programs.{IsSeed}
-
--- valid seeds, one for each processor
-pub record AreSeeds (processors : ℕ) (seeds : List ℕ) : Type 0 where
-  pub count : length seeds ≡ processors
-  pub each : All IsSeed seeds
+use Rattle.lot_program.specs.Parts.{AreSeeds}
 
 -- All values read so far are within the bounds of an input. The schedule, whose actors depend on the number of
 -- processors, begins after the header.

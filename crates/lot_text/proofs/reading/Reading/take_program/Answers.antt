@@ -16,8 +16,8 @@ pub invariant_of-self-2 : goal.invariant_of-self-2
 invariant_of-self-2 c =
     rw (c.take.ensures.after, c.replace.ensures.after, c.new.ensures.items) (without_seeds (reading_of c.self.inside) [] c.self.invariant (omega arith))
 
-pub invariant_of-result : goal.invariant_of-result
-invariant_of-result c =
+pub new-requires-2 : goal.new-requires-2
+new-requires-2 c =
     let commands = c.in_ok-tables.ensures.commands in
     let schedule = c.in_ok-tables.ensures.schedule in
     let times = c.in_ok-tables.ensures.times in
