@@ -10,7 +10,7 @@ use Rattle.lot_simulation.specs.World.{Program, World, Answer, Turn, opening_wor
 use Rattle.lot_simulation.specs.World.Answer.{Answered, Ended}
 use Rattle.lot_simulation.proofs.ActorCounts.{turns_made-length}
 use Rattle.lot_simulation.proofs.TimedRuns.{turns-few}
-use Rattle.lot_text.specs.Programs.{IsProgram}
+use Rattle.lot_program.specs.Programs.{IsProgram}
 use Rattle.lot_curves.specs.declared.by.By.{By}
 use Rattle.lot_curves.specs.declared.stretch.Stretch.{Stretch}
 use Rattle.lot_curves.specs.Curves.{names_by}

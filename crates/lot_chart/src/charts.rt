@@ -28,7 +28,7 @@ use crate::standings::{Selection, select, stretches_of_thread};
 use crate::text::Text;
 use lot_curves::{By, Curves, Measure, Stretch, had_in};
 use lot_machine::{Name, index_of};
-use lot_text::Program;
+use lot_program::Program;
 use std::alloc::{AllocError, Global};
 
 /// The width of the widest picture, in whole units.

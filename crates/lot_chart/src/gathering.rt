@@ -27,7 +27,7 @@ use lot_graph::Above;
 use lot_machine::{Name, Reply};
 use lot_play::{Warnings, note_last, play_through};
 use lot_playback::{Observer, Playback, Turn};
-use lot_text::Program;
+use lot_program::Program;
 use std::alloc::{AllocError, Global};
 
 /// Records the stretches of each turn, and its warning; and the times of the console's commands.

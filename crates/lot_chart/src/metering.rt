@@ -7,7 +7,7 @@ ghost use Rattle.lot_curves.specs.Curves.{Curves as CurvesRecord, sample_count, 
 ghost use Rattle.lot_curves.specs.Stretches.{last_end};
 ghost use Rattle.lot_engine.specs.Seen.{world_of};
 ghost use Rattle.lot_playback.specs.Turns.{program_turns};
-ghost use Rattle.lot_text.specs.Programs.{IsProgram};
+ghost use Rattle.lot_program.specs.Programs.{IsProgram};
 ghost use Rattle.lot_chart.specs.declared.standings.Standing.{Standing as StandingRecord};
 ghost use Rattle.lot_chart.specs.Dues as definitions;
 ghost use Rattle.lot_chart.specs.Dues.{Dues as DuesRecord};
@@ -21,8 +21,8 @@ use lot_curves::{By, Curves};
 use lot_engine::System;
 use lot_play::play_through;
 use lot_playback::{Observer, Playback, Turn, is_dispatch};
+use lot_program::Program;
 use lot_simulation::TICK_PARTS;
-use lot_text::Program;
 use std::alloc::{AllocError, Global};
 
 /// The billionths of a whole.

@@ -16,7 +16,8 @@ use crate::{gather, program_chart, table};
 use lot_curves::{By, Interval, Measure};
 use lot_io::{IoFault, Watched, flush, write_bytes};
 use lot_play::{Played, Warnings, refuse};
-use lot_text::{ParseFault, Program, parse};
+use lot_program::Program;
+use lot_text::{ParseFault, parse};
 use std::alloc::{AllocError, Global};
 use std::io::Write;
 

@@ -8,8 +8,9 @@ ghost use Rattle.lot_command.specs.Running.{HasRun, IsStopOf, RunLeaves, Runs, t
 use crate::diagnostics::Diagnostics;
 use lot_io::{IoFault, Watched, read_input};
 use lot_processors::{FreeRunFault, OpenGate, free_run};
+use lot_program::Program;
 use lot_system::{Played, System, Warnings, refuse, write_end};
-use lot_text::{ParseFault, Program, parse};
+use lot_text::{ParseFault, parse};
 use std::alloc::Global;
 use std::io::{Read, Write};
 use std::sync::Wait;

@@ -13,8 +13,9 @@ use lot_command_line::{Showing, View};
 use lot_explain::explain_program;
 use lot_io::{IoFault, Watched, read_input};
 use lot_play::{play_program, report_program, report_seeds};
+use lot_program::Program;
 use lot_system::{Played, Warnings, refuse};
-use lot_text::{ParseFault, Program, parse_seeded};
+use lot_text::{ParseFault, parse_seeded};
 use std::alloc::Global;
 use std::io::{Read, Write};
 

@@ -10,7 +10,7 @@ use clap::{Arg, ArgAction, ArgMatches, Command, Error};
 use lot_curves::{By, Interval, Measure};
 use lot_explain::Detail;
 use lot_play::{Form, Seeds};
-use lot_text::Seed;
+use lot_program::Seed;
 use std::alloc::{AllocError, Global};
 use std::convert::AsStr;
 

@@ -3,7 +3,7 @@
 use lot_curves::{By, Interval, Measure};
 use lot_explain::Detail;
 use lot_play::{Form, Seeds};
-use lot_text::Seed;
+use lot_program::Seed;
 
 /// What a command line asks for.
 #[derive(Clone, Copy)]

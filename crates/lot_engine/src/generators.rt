@@ -10,7 +10,7 @@ use crate::turn::{Done, needs_number, put_event};
 use lot_draw::ParkMiller;
 use lot_kept::Stack;
 use lot_machine::Event;
-use lot_text::Program;
+use lot_program::Program;
 use std::alloc::{AllocError, Global};
 
 /// A generator for each processor.

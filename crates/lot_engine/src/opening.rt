@@ -10,8 +10,8 @@ use crate::places::places_for;
 use crate::tickets::NamedTickets;
 use lot_draw::ParkMiller;
 use lot_kept::{Kept, Stack};
+use lot_program::Program;
 use lot_script::Place;
-use lot_text::Program;
 use std::alloc::{AllocError, Global};
 
 /// A copy of the program, its tickets with names, and its generators.

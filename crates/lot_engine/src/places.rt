@@ -19,8 +19,8 @@ use crate::turn::Done;
 use lot_kept::Stack;
 use lot_kernel::Kernel;
 use lot_machine::{Outcome, Reply, ThreadNumber};
+use lot_program::Program;
 use lot_script::{Place, Script, Slice};
-use lot_text::Program;
 use std::alloc::{AllocError, Global};
 
 /// Room for the places of this many threads.

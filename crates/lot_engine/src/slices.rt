@@ -10,8 +10,8 @@ use crate::known::known;
 use crate::turn::KeptWork;
 use crate::{System, TurnFault, Work};
 use lot_machine::Sizes;
+use lot_program::Program;
 use lot_script::{Script, Slice};
-use lot_text::Program;
 
 /// The slice of the work in the given program, as `System::turn` needs it; none without a work. Returns Stale with
 /// the work if it doesn't fit the program.

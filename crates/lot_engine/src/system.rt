@@ -43,9 +43,9 @@ use lot_machine::{
     CurrencyNumber, CurrencyRow, Event, Kind, Limits, MutexNumber, Name, Processor, Reply, Status,
     ThreadNumber, ThreadRef, ThreadRow, TicketNumber, TicketRow, index_of,
 };
+use lot_program::Program;
 use lot_script::{Place, Slice};
 use lot_simulation::{Format, Sleeper};
-use lot_text::Program;
 use std::alloc::{AllocError, Global};
 use std::marker::Model;
 
@@ -100,7 +100,7 @@ impl Model for System {
     ghost use Rattle.std.specs.Prelude.{◌≡◌, ◌==◌, ◌+◌, ◌≤◌, false, true, All, count_by, is_some, length};
     ghost use Rattle.lot_simulation.specs.Report.{turns_made};
     ghost use Rattle.lot_simulation.specs.World.{IsLegal, IsLegalInTime, system_run};
-    ghost use Rattle.lot_text.specs.Programs.{IsProgram};
+    ghost use Rattle.lot_program.specs.Programs.{IsProgram};
     ghost use Rattle.lot_engine.specs.Seen.{Seen};
     ghost use Rattle.lot_engine.specs.Counted.{AreCounts, IsCount};
     ghost use Rattle.lot_engine.specs.Held.{IsHeld};

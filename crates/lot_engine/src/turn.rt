@@ -8,9 +8,9 @@ ghost use Rattle.lot_engine.specs.Turns.{IsSliceOf, Matches, work_at};
 
 use crate::slices::script_numbered;
 use lot_machine::{Action, Event, Reply};
+use lot_program::Program;
 use lot_script::{Place, Slice};
 use lot_simulation::{MutexTrap, PortTrap, ScriptTrap, Sleeper};
-use lot_text::Program;
 use std::marker::Model;
 
 /// The next work of the thread on a processor.

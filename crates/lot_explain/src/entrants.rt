@@ -11,9 +11,9 @@ ghost use Rattle.lot_engine.specs.Steps.{event_given};
 ghost use Rattle.lot_explain.specs.Lots.{entrants_in};
 
 use lot_engine::{System, slice_in};
+use lot_program::Program;
 use lot_script::Slice;
 use lot_simulation::{MutexTrap, ScriptTrap};
-use lot_text::Program;
 
 /// The entrants of a lottery.
 #[derive(Clone, Copy, Debug, PartialEq, Eq)]

@@ -21,7 +21,7 @@ use lot_machine::{Event, Reply};
 use lot_play::{Warnings, heading, play_through, printed_actor, put_answer, style_of};
 use lot_playback::{Observer, Playback, Turn};
 use lot_print::{Heading, Page, write_ended};
-use lot_text::Program;
+use lot_program::Program;
 use std::io::Write;
 
 /// Writes the lots of each won lottery, with the loans at it, and a line for each turn, page by page, and records the

@@ -12,7 +12,8 @@ use crate::gathering::Lots;
 use lot_io::{IoFault, Watched};
 use lot_play::{Played, Warnings, end_play, refuse};
 use lot_playback::Playback;
-use lot_text::{ParseFault, Program, parse};
+use lot_program::Program;
+use lot_text::{ParseFault, parse};
 use std::alloc::Global;
 use std::io::Write;
 

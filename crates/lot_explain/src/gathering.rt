@@ -16,7 +16,7 @@ use lot_engine::System;
 use lot_kept::Stack;
 use lot_machine::{Status, ThreadRow};
 use lot_print::{Compensation, Loan, Lot};
-use lot_text::Program;
+use lot_program::Program;
 use std::alloc::{AllocError, Global};
 use std::marker::Model;
 

@@ -39,7 +39,7 @@ use Rattle.lot_play.specs.declared.form.Form.{Form}
 use Rattle.lot_play.specs.declared.form.Form.TheVariants.{CurrencyTable, Lines, Table}
 use Rattle.lot_play.specs.ReportTable.{currency_shares_in, processor_in, shares_in, timed_currency_text, timed_thread_text, whole_in}
 use Rattle.lot_simulation.proofs.TimedRuns.{room-small, timed-made}
-use Rattle.lot_text.proofs.SeedLemmas.{range_with_len-push}
+use Rattle.lot_program.proofs.SeedLemmas.{range_with_len-push}
 use Rattle.lot_playback.proofs.FollowFacts.{room-few, within-room}
 
 -- the form of a table

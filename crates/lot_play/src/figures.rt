@@ -27,8 +27,8 @@ use lot_print::{
     CurrencyShares, Figures, ProcessorFigures, ThreadShares, TimedProcessorTotal, TimedWholeTotal,
     WholeFigures,
 };
+use lot_program::Program;
 use lot_simulation::Spans;
-use lot_text::Program;
 use std::alloc::{AllocError, Global};
 
 /// The figures over several plays: of threads, currencies and processors, each starting with number 1, and of all

@@ -9,8 +9,9 @@ ghost use Rattle.lot_play.specs.declared.inputs.Played.TheVariants.{Done, Refuse
 use crate::{Warnings, play_program};
 use lot_io::{IoFault, Watched, flush, read_input};
 use lot_print::write_fault;
+use lot_program::Program;
 use lot_simulation::InputFault;
-use lot_text::{ParseFault, Program, parse};
+use lot_text::{ParseFault, parse};
 use std::alloc::Global;
 use std::io::{Read, Write};
 

@@ -18,7 +18,7 @@ use lot_engine::System;
 use lot_io::{IoFault, Watched};
 use lot_playback::{Observer, Playback, Turn};
 use lot_print::{Page, write_ended};
-use lot_text::Program;
+use lot_program::Program;
 use std::alloc::Global;
 use std::io::Write;
 

@@ -4,7 +4,7 @@ ghost use Rattle.lot_playback.specs.Stages.{HasMade, turns_left};
 ghost use Rattle.lot_playback.specs.Turns.{MadeTurn, program_turns};
 
 use lot_playback::{Observer, Playback, Turn};
-use lot_text::Program;
+use lot_program::Program;
 
 /// Makes all turns of a program, none of which has been made, and lets the observer follow them. It stops when the
 /// observer does.

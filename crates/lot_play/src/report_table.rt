@@ -17,7 +17,7 @@ use lot_engine::System;
 use lot_io::{IoFault, Watched, flush};
 use lot_playback::{Order, Playback, Timekeeper};
 use lot_print::{Columns, write_header};
-use lot_text::Program;
+use lot_program::Program;
 use std::io::Write;
 
 /// Ends a play whose turns are all made: writes the table, flushes, and records the end of the system in the warnings,

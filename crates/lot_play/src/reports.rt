@@ -13,8 +13,8 @@ use crate::timed_report::{early_end, write_timed_report};
 use lot_engine::System;
 use lot_io::{IoFault, Watched, flush};
 use lot_playback::{Order, Playback, Timekeeper};
+use lot_program::Program;
 use lot_simulation::EarlyEnd;
-use lot_text::Program;
 use std::io::Write;
 
 /// Ends a play whose turns are all made: writes the report, flushes, and records the end of the system in the

@@ -22,7 +22,7 @@ use lot_print::{
     Columns, Figures, FiguresTable, ProcessorFigures, Subject, WholeFigures, write_figures,
     write_figures_record, write_header, write_processor_figures, write_seeds, write_whole_figures,
 };
-use lot_text::{Program, Seed};
+use lot_program::{Program, Seed};
 use std::alloc::{AllocError, Global};
 use std::io::Write;
 

@@ -13,7 +13,7 @@ use crate::{Form, Played, Warnings, end_play, play_through};
 use lot_engine::System;
 use lot_io::{IoFault, Watched};
 use lot_playback::{Observer, Playback, Turn};
-use lot_text::Program;
+use lot_program::Program;
 use std::alloc::Global;
 use std::io::Write;
 

@@ -26,8 +26,8 @@ use lot_print::{
     write_timed_processor_total, write_timed_thread_record, write_timed_thread_total,
     write_timed_whole_total,
 };
+use lot_program::Program;
 use lot_simulation::{EarlyEnd, PastLives, Spans};
-use lot_text::Program;
 use std::io::Write;
 
 /// Writes the report of a system that has made all of its timed program's turns: a line for each thread, for each

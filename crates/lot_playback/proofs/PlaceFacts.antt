@@ -4,7 +4,7 @@ use Rattle.std.proofs.lemmas.List.{length-take}
 use Rattle.std.proofs.lemmas.List.Elements.{All-head, All-tail}
 use Rattle.lot_simulation.specs.Report.{turns_made}
 use Rattle.lot_simulation.specs.World.{Program, World, opening_world}
-use Rattle.lot_text.specs.Programs.{IsProgram}
+use Rattle.lot_program.specs.Programs.{IsProgram}
 use Rattle.lot_engine.specs.Playing.{HasPlayed, IsPlayed, turn_in}
 use Rattle.lot_engine.specs.Seen.{Seen, Setting, world_of}
 use Rattle.lot_engine.proofs.PlayingFacts.{played-more}

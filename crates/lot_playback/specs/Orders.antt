@@ -1,6 +1,6 @@
 -- The next turn of a play.
 use Rattle.std.specs.Prelude.{◌≡◌, ℕ, ◌≤◌, None, IsSome, length, take}
-use Rattle.lot_text.specs.Programs.{IsProgram}
+use Rattle.lot_program.specs.Programs.{IsProgram}
 use Rattle.lot_playback.specs.InTime.{IsFollowed}
 use Rattle.lot_engine.specs.Playing.{HasPlayed}
 use Rattle.lot_engine.specs.Seen.{Seen}

@@ -17,9 +17,9 @@ ghost use Rattle.lot_playback.specs.InTime.{HaveIdled, IsNextAlarm, alarms_in, m
 use crate::alarms::Alarms;
 use lot_engine::{System, slice_in};
 use lot_machine::Reply;
+use lot_program::Program;
 use lot_script::Slice;
 use lot_simulation::{Clock, Due};
-use lot_text::Program;
 use std::alloc::{AllocError, Global};
 
 /// The processors' clocks.

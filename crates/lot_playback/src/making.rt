@@ -13,8 +13,8 @@ ghost use Rattle.lot_playback.specs.Turns.{MadeTurn};
 
 use crate::{NextTurn, Timekeeper, Turn};
 use lot_engine::System;
+use lot_program::Program;
 use lot_simulation::Sleeper;
-use lot_text::Program;
 
 /// The turn at this place of the schedule, if there is one.
 #[inline(always)]

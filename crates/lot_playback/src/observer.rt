@@ -7,7 +7,7 @@ ghost use Rattle.lot_playback.specs.Turns.{MadeTurn};
 
 use crate::Turn;
 use lot_engine::System;
-use lot_text::Program;
+use lot_program::Program;
 
 /// Follows a program's turns, one after another, and produces a result from them.
 pub trait Observer {

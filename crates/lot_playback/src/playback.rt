@@ -8,7 +8,7 @@ use crate::making::{make_in_time, make_scheduled, next_in_time, next_scheduled};
 use crate::timekeeper::{MOST_TURNS, Timekeeper};
 use crate::{NextTurn, Observer, Turn};
 use lot_engine::System;
-use lot_text::Program;
+use lot_program::Program;
 use std::alloc::{AllocError, Global};
 use std::marker::Model;
 

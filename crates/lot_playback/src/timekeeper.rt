@@ -17,7 +17,7 @@ ghost use Rattle.lot_playback.specs.InTime.{AreAlarms, AreRefusedTraps, CanFollo
 ghost use Rattle.lot_playback.specs.InTime.{IsFollowed, alarms_in, moment_in};
 ghost use Rattle.lot_playback.specs.Owed.{Answers, AreDue};
 ghost use Rattle.lot_playback.specs.TicksBelow.{AreCurrencies, HasFoundFor};
-ghost use Rattle.lot_text.specs.Programs.{IsProgram};
+ghost use Rattle.lot_program.specs.Programs.{IsProgram};
 
 use crate::alarms::Alarms;
 use crate::clocks::Clocks;
@@ -28,8 +28,8 @@ use crate::sharers::Sharers;
 use crate::spans::{SpanTable, life, mutex_wait, open_two, reply_wait};
 use lot_engine::System;
 use lot_machine::{Event, Outcome, Reply};
+use lot_program::Program;
 use lot_simulation::{Due, Sleeper};
-use lot_text::Program;
 use std::alloc::{AllocError, Global};
 
 /// The largest number of turns that a timed program makes.

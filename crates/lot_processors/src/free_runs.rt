@@ -5,8 +5,8 @@ ghost use Rattle.lot_processors.specs.Workers.{AllMade, FirstStops, IsFaultOf, I
 
 use crate::{Gate, RunFault, run_all};
 use lot_engine::System;
+use lot_program::Program;
 use lot_station::{Seat, Station, TurnLedger};
-use lot_text::Program;
 use std::alloc::Global;
 use std::marker::Brand;
 use std::sync::Wait;

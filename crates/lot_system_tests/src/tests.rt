@@ -12,8 +12,9 @@ mod shown;
 mod timed;
 mod turns;
 
+use lot_program::Program;
 use lot_system::System;
-use lot_text::{Program, parse};
+use lot_text::parse;
 use moves::make_turn;
 use same::check_same;
 use std::alloc::Global;

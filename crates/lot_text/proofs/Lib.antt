@@ -3,11 +3,9 @@ pub mod FirstLine
 pub mod HeaderLemmas
 pub mod NameLemmas
 pub mod NumberLemmas
-pub mod PackedLemmas
 pub mod PhraseLemmas
 pub mod ReadingLemmas
 pub mod RunLemmas
 pub mod ScriptLemmas
-pub mod SeedLemmas
 pub mod TicketLemmas
 pub mod TokenLemmas

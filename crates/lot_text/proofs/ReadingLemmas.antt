@@ -12,209 +12,140 @@ use Rattle.lot_simulation.specs.declared.input.HeaderWord.TheVariants as header
 use Rattle.lot_simulation.specs.declared.input.InputRefusal.TheVariants.{TooLong}
 use Rattle.lot_simulation.specs.Reading.{NamedScript, OpenScript, Reading, number_between}
 use Rattle.lot_simulation.specs.Grammar.{add_naming, header_line}
-use Rattle.lot_text.specs.Readings.{IsReading, after_header}
+use Rattle.lot_text.specs.Readings.{IsBody, IsReading, after_header}
 
--- a line of the body that adds ports
+-- a line of the body ends the header
+in_body : (r : Reading) → IsReading r → IsBody 10 r.processors r.commands r.schedule
+in_body r read = record {
+  command_count = read.body.command_count;
+  actors = read.body.actors;
+  schedule_length = read.body.schedule_length;
+  unscheduled = λ none. absurd (omega (arith, none));
+}
+
+-- one that adds ports
 pub with_ports : (r : Reading) (ports : List (List ℕ)) → IsReading r → length ports ≤ 256 → IsReading (record r { place = 10; ports = ports })
 with_ports r ports read fits = record {
-  processors = read.processors;
-  quantum = read.quantum;
-  turns = read.turns;
-  seeds = read.seeds;
-  tickets = read.tickets;
-  currencies = read.currencies;
-  threads = read.threads;
-  port_count = fits;
-  mutex_count = read.mutex_count;
-  script_count = read.script_count;
-  open_script = read.open_script;
-  command_count = read.command_count;
-  actors = read.actors;
-  schedule_length = read.schedule_length;
-  time_count = read.time_count;
-  running = read.running;
-  rising = read.rising;
-  past = read.past;
-  ticket_name_count = read.ticket_name_count;
-  unscheduled = λ none. absurd (omega (arith, none));
+  sizes = read.sizes;
+  names = record {
+    port_count = fits;
+    mutex_count = read.names.mutex_count;
+    ticket_name_count = read.names.ticket_name_count;
+    script_count = read.names.script_count;
+    open_script = read.names.open_script;
+  };
+  body = in_body r read;
+  times = read.times;
 }
 
 -- one that adds mutexes
 pub with_mutexes : (r : Reading) (mutexes : List (List ℕ)) → IsReading r → length mutexes ≤ 256 → IsReading (record r { place = 10; mutexes = mutexes })
 with_mutexes r mutexes read fits = record {
-  processors = read.processors;
-  quantum = read.quantum;
-  turns = read.turns;
-  seeds = read.seeds;
-  tickets = read.tickets;
-  currencies = read.currencies;
-  threads = read.threads;
-  port_count = read.port_count;
-  mutex_count = fits;
-  script_count = read.script_count;
-  open_script = read.open_script;
-  command_count = read.command_count;
-  actors = read.actors;
-  schedule_length = read.schedule_length;
-  time_count = read.time_count;
-  running = read.running;
-  rising = read.rising;
-  past = read.past;
-  ticket_name_count = read.ticket_name_count;
-  unscheduled = λ none. absurd (omega (arith, none));
+  sizes = read.sizes;
+  names = record {
+    port_count = read.names.port_count;
+    mutex_count = fits;
+    ticket_name_count = read.names.ticket_name_count;
+    script_count = read.names.script_count;
+    open_script = read.names.open_script;
+  };
+  body = in_body r read;
+  times = read.times;
 }
 
 -- one that opens a script
 pub with_open : (r : Reading) (script : OpenScript) → IsReading r → length r.scripts < 256 → IsReading (record r { place = 10; unclosed = Some script })
 with_open r script read room = record {
-  processors = read.processors;
-  quantum = read.quantum;
-  turns = read.turns;
-  seeds = read.seeds;
-  tickets = read.tickets;
-  currencies = read.currencies;
-  threads = read.threads;
-  port_count = read.port_count;
-  mutex_count = read.mutex_count;
-  script_count = read.script_count;
-  open_script = λ _. room;
-  command_count = read.command_count;
-  actors = read.actors;
-  schedule_length = read.schedule_length;
-  time_count = read.time_count;
-  running = read.running;
-  rising = read.rising;
-  past = read.past;
-  ticket_name_count = read.ticket_name_count;
-  unscheduled = λ none. absurd (omega (arith, none));
+  sizes = read.sizes;
+  names = record {
+    port_count = read.names.port_count;
+    mutex_count = read.names.mutex_count;
+    ticket_name_count = read.names.ticket_name_count;
+    script_count = read.names.script_count;
+    open_script = λ _. room;
+  };
+  body = in_body r read;
+  times = read.times;
 }
 
 -- a line of an open script
 pub with_line : (r : Reading) (script : OpenScript) → IsReading r → length r.scripts < 256 → IsReading (record r { unclosed = Some script })
 with_line r script read room = record {
-  processors = read.processors;
-  quantum = read.quantum;
-  turns = read.turns;
-  seeds = read.seeds;
-  tickets = read.tickets;
-  currencies = read.currencies;
-  threads = read.threads;
-  port_count = read.port_count;
-  mutex_count = read.mutex_count;
-  script_count = read.script_count;
-  open_script = λ _. room;
-  command_count = read.command_count;
-  actors = read.actors;
-  schedule_length = read.schedule_length;
-  time_count = read.time_count;
-  running = read.running;
-  rising = read.rising;
-  past = read.past;
-  ticket_name_count = read.ticket_name_count;
-  unscheduled = read.unscheduled;
+  sizes = read.sizes;
+  names = record {
+    port_count = read.names.port_count;
+    mutex_count = read.names.mutex_count;
+    ticket_name_count = read.names.ticket_name_count;
+    script_count = read.names.script_count;
+    open_script = λ _. room;
+  };
+  body = read.body;
+  times = read.times;
 }
 
 -- limits are read
 pub with_limits : (r : Reading) (tickets currencies threads : ℕ) → IsReading r → IsBetween 1 65535 tickets → IsBetween 1 4096 currencies → IsBetween 1 4096 threads
     → IsReading (record r { tickets = tickets; currencies = currencies; threads = threads })
 with_limits r tickets currencies threads read first second third = record {
-  processors = read.processors;
-  quantum = read.quantum;
-  turns = read.turns;
-  seeds = read.seeds;
-  tickets = first;
-  currencies = second;
-  threads = third;
-  port_count = read.port_count;
-  mutex_count = read.mutex_count;
-  script_count = read.script_count;
-  open_script = read.open_script;
-  command_count = read.command_count;
-  actors = read.actors;
-  schedule_length = read.schedule_length;
-  time_count = read.time_count;
-  running = read.running;
-  rising = read.rising;
-  past = read.past;
-  ticket_name_count = read.ticket_name_count;
-  unscheduled = read.unscheduled;
+  sizes = record {
+    processor_count = read.sizes.processor_count;
+    quantum_length = read.sizes.quantum_length;
+    turn_count = read.sizes.turn_count;
+    ticket_count = first;
+    currency_count = second;
+    thread_count = third;
+    seeding = read.sizes.seeding;
+  };
+  names = read.names;
+  body = read.body;
+  times = read.times;
 }
 
 -- a quantum or turns are read, or numbers are given again, or refusals end the play
 pub with_settings : (r : Reading) (quantum turns : ℕ) (reuse strict : Bool) → IsReading r → IsBetween 1 1000 quantum → turns ≤ 10000
     → IsReading (record r { quantum = quantum; turns = turns; reuse = reuse; strict = strict })
 with_settings r quantum turns reuse strict read first second = record {
-  processors = read.processors;
-  quantum = first;
-  turns = second;
-  seeds = read.seeds;
-  tickets = read.tickets;
-  currencies = read.currencies;
-  threads = read.threads;
-  port_count = read.port_count;
-  mutex_count = read.mutex_count;
-  script_count = read.script_count;
-  open_script = read.open_script;
-  command_count = read.command_count;
-  actors = read.actors;
-  schedule_length = read.schedule_length;
-  time_count = read.time_count;
-  running = read.running;
-  rising = read.rising;
-  past = read.past;
-  ticket_name_count = read.ticket_name_count;
-  unscheduled = read.unscheduled;
+  sizes = record {
+    processor_count = read.sizes.processor_count;
+    quantum_length = first;
+    turn_count = second;
+    ticket_count = read.sizes.ticket_count;
+    currency_count = read.sizes.currency_count;
+    thread_count = read.sizes.thread_count;
+    seeding = read.sizes.seeding;
+  };
+  names = read.names;
+  body = read.body;
+  times = read.times;
 }
 
 -- mechanisms are left out
 pub with_without : (r : Reading) (compensation lending : Bool) → IsReading r → IsReading (record r { without_compensation = compensation; without_lending = lending })
 with_without r compensation lending read = record {
-  processors = read.processors;
-  quantum = read.quantum;
-  turns = read.turns;
-  seeds = read.seeds;
-  tickets = read.tickets;
-  currencies = read.currencies;
-  threads = read.threads;
-  port_count = read.port_count;
-  mutex_count = read.mutex_count;
-  script_count = read.script_count;
-  open_script = read.open_script;
-  command_count = read.command_count;
-  actors = read.actors;
-  schedule_length = read.schedule_length;
-  time_count = read.time_count;
-  running = read.running;
-  rising = read.rising;
-  past = read.past;
-  ticket_name_count = read.ticket_name_count;
-  unscheduled = read.unscheduled;
+  sizes = read.sizes;
+  names = read.names;
+  body = read.body;
+  times = read.times;
 }
 
 -- a command is added, with its time
 pub with_timed : (r : Reading) (commands : List Command) (times : List ℕ) (names : List (Option ℕ)) (command : Command) → IsReading r → length r.commands < 100000 → IsTrue r.is_timed
     → commands ≡ r.commands ++ command ∷ [] → times ≡ r.times ++ r.time ∷ [] → IsReading (record r { place = 10; commands = commands; times = times; names = names })
 with_timed r commands times names command read room timed added now = record {
-  processors = read.processors;
-  quantum = read.quantum;
-  turns = read.turns;
-  seeds = read.seeds;
-  tickets = read.tickets;
-  currencies = read.currencies;
-  threads = read.threads;
-  port_count = read.port_count;
-  mutex_count = read.mutex_count;
-  script_count = read.script_count;
-  open_script = read.open_script;
-  command_count = omega (arith, room, ap length added, length-append r.commands (command ∷ []));
-  actors = read.actors;
-  schedule_length = read.schedule_length;
-  time_count = λ _. omega (arith, read.time_count timed, ap length added, ap length now, length-append r.commands (command ∷ []), length-append r.times (r.time ∷ []));
-  running = read.running;
-  rising = rw now (rising-push r.times r.time read.rising read.past);
-  past = All-same (λ (time : ℕ). time ≤ r.time) _ _ now (All-push (λ (time : ℕ). time ≤ r.time) r.times r.time read.past (omega arith));
-  ticket_name_count = read.ticket_name_count;
-  unscheduled = λ none. absurd (omega (arith, none));
+  sizes = read.sizes;
+  names = read.names;
+  body = record {
+    command_count = omega (arith, room, ap length added, length-append r.commands (command ∷ []));
+    actors = read.body.actors;
+    schedule_length = read.body.schedule_length;
+    unscheduled = λ none. absurd (omega (arith, none));
+  };
+  times = record {
+    time_count = λ _. omega (arith, read.times.time_count timed, ap length added, ap length now, length-append r.commands (command ∷ []), length-append r.times (r.time ∷ []));
+    running = read.times.running;
+    rising = rw now (rising-push r.times r.time read.times.rising read.times.past);
+    past = All-same (λ (time : ℕ). time ≤ r.time) _ _ now (All-push (λ (time : ℕ). time ≤ r.time) r.times r.time read.times.past (omega arith));
+  };
 }
   where
     rising-push : (times : List ℕ) (time : ℕ) → IsNonDecreasing times → All (λ (t : ℕ). t ≤ time) times → IsNonDecreasing (times ++ time ∷ [])
@@ -236,26 +167,20 @@ limits-read before r first second third tickets currencies threads same is_ticke
 pub with_command : (r : Reading) (commands : List Command) (command : Command) → IsReading r → length r.commands < 100000 → r.is_timed ≡ false
     → commands ≡ r.commands ++ command ∷ [] → IsReading (record r { place = 10; commands = commands })
 with_command r commands command read room untimed added = record {
-  processors = read.processors;
-  quantum = read.quantum;
-  turns = read.turns;
-  seeds = read.seeds;
-  tickets = read.tickets;
-  currencies = read.currencies;
-  threads = read.threads;
-  port_count = read.port_count;
-  mutex_count = read.mutex_count;
-  script_count = read.script_count;
-  open_script = read.open_script;
-  command_count = omega (arith, room, ap length added, length-append r.commands (command ∷ []));
-  actors = read.actors;
-  schedule_length = read.schedule_length;
-  time_count = λ timed. absurd (true≢false (sym timed ∙ untimed));
-  running = read.running;
-  rising = read.rising;
-  past = read.past;
-  ticket_name_count = read.ticket_name_count;
-  unscheduled = λ none. absurd (omega (arith, none));
+  sizes = read.sizes;
+  names = read.names;
+  body = record {
+    command_count = omega (arith, room, ap length added, length-append r.commands (command ∷ []));
+    actors = read.body.actors;
+    schedule_length = read.body.schedule_length;
+    unscheduled = λ none. absurd (omega (arith, none));
+  };
+  times = record {
+    time_count = λ timed. absurd (true≢false (sym timed ∙ untimed));
+    running = read.times.running;
+    rising = read.times.rising;
+    past = read.times.past;
+  };
 }
 
 -- so the command is read
@@ -273,100 +198,71 @@ naming-full before r name command same full = rw (← same, le-leb 100000 (lengt
 pub with_schedule : (r : Reading) (schedule more : List ℕ) → IsReading r → All (λ (actor : ℕ). actor ≤ r.processors) more
     → length r.schedule + length more ≤ 1000000 → schedule ≡ r.schedule ++ more → IsReading (record r { place = 10; schedule = schedule })
 with_schedule r schedule more read below room added = record {
-  processors = read.processors;
-  quantum = read.quantum;
-  turns = read.turns;
-  seeds = read.seeds;
-  tickets = read.tickets;
-  currencies = read.currencies;
-  threads = read.threads;
-  port_count = read.port_count;
-  mutex_count = read.mutex_count;
-  script_count = read.script_count;
-  open_script = read.open_script;
-  command_count = read.command_count;
-  actors = All-same (λ (actor : ℕ). actor ≤ r.processors) _ _ added (All-append (λ (actor : ℕ). actor ≤ r.processors) r.schedule more read.actors below);
-  schedule_length = omega (arith, room, ap length added, length-append r.schedule more);
-  time_count = read.time_count;
-  running = read.running;
-  rising = read.rising;
-  past = read.past;
-  ticket_name_count = read.ticket_name_count;
-  unscheduled = λ none. absurd (omega (arith, none));
+  sizes = read.sizes;
+  names = read.names;
+  body = record {
+    command_count = read.body.command_count;
+    actors = All-same (λ (actor : ℕ). actor ≤ r.processors) _ _ added (All-append (λ (actor : ℕ). actor ≤ r.processors) r.schedule more read.body.actors below);
+    schedule_length = omega (arith, room, ap length added, length-append r.schedule more);
+    unscheduled = λ none. absurd (omega (arith, none));
+  };
+  times = read.times;
 }
 
 -- a ticket gets a name
 pub with_ticket_names : (r : Reading) (names : List (List ℕ)) → IsReading r → length names ≤ 4096 → IsReading (record r { ticket_names = names })
 with_ticket_names r names read fits = record {
-  processors = read.processors;
-  quantum = read.quantum;
-  turns = read.turns;
-  seeds = read.seeds;
-  tickets = read.tickets;
-  currencies = read.currencies;
-  threads = read.threads;
-  port_count = read.port_count;
-  mutex_count = read.mutex_count;
-  script_count = read.script_count;
-  open_script = read.open_script;
-  command_count = read.command_count;
-  actors = read.actors;
-  schedule_length = read.schedule_length;
-  time_count = read.time_count;
-  running = read.running;
-  rising = read.rising;
-  past = read.past;
-  ticket_name_count = fits;
-  unscheduled = read.unscheduled;
+  sizes = read.sizes;
+  names = record {
+    port_count = read.names.port_count;
+    mutex_count = read.names.mutex_count;
+    ticket_name_count = fits;
+    script_count = read.names.script_count;
+    open_script = read.names.open_script;
+  };
+  body = read.body;
+  times = read.times;
 }
 
 -- seeds and scripts are taken out
 pub without_seeds : (r : Reading) (scripts : List NamedScript) → IsReading r → length scripts ≤ length r.scripts
     → IsReading (record r { seeds = None; scripts = scripts })
 without_seeds r scripts read fewer = record {
-  processors = read.processors;
-  quantum = read.quantum;
-  turns = read.turns;
-  seeds = search rules;
-  tickets = read.tickets;
-  currencies = read.currencies;
-  threads = read.threads;
-  port_count = read.port_count;
-  mutex_count = read.mutex_count;
-  script_count = omega (arith, read.script_count, fewer);
-  open_script = λ some. omega (arith, read.open_script some, fewer);
-  command_count = read.command_count;
-  actors = read.actors;
-  schedule_length = read.schedule_length;
-  time_count = read.time_count;
-  running = read.running;
-  rising = read.rising;
-  past = read.past;
-  ticket_name_count = read.ticket_name_count;
-  unscheduled = read.unscheduled;
+  sizes = record {
+    processor_count = read.sizes.processor_count;
+    quantum_length = read.sizes.quantum_length;
+    turn_count = read.sizes.turn_count;
+    ticket_count = read.sizes.ticket_count;
+    currency_count = read.sizes.currency_count;
+    thread_count = read.sizes.thread_count;
+    seeding = search rules;
+  };
+  names = record {
+    port_count = read.names.port_count;
+    mutex_count = read.names.mutex_count;
+    ticket_name_count = read.names.ticket_name_count;
+    script_count = omega (arith, read.names.script_count, fewer);
+    open_script = λ some. omega (arith, read.names.open_script some, fewer);
+  };
+  body = read.body;
+  times = read.times;
 }
 
 -- the tables of the program are
 pub without_tables : (r : Reading) → IsReading r → IsReading (record r { commands = []; schedule = []; times = []; names = [] })
 without_tables r read = record {
-  processors = read.processors;
-  quantum = read.quantum;
-  turns = read.turns;
-  seeds = read.seeds;
-  tickets = read.tickets;
-  currencies = read.currencies;
-  threads = read.threads;
-  port_count = read.port_count;
-  mutex_count = read.mutex_count;
-  script_count = read.script_count;
-  open_script = read.open_script;
-  command_count = omega arith;
-  actors = search rules;
-  schedule_length = omega arith;
-  time_count = λ _. refl;
-  running = read.running;
-  rising = search rules;
-  past = search rules;
-  ticket_name_count = read.ticket_name_count;
-  unscheduled = λ _. refl;
+  sizes = read.sizes;
+  names = read.names;
+  body = record {
+    command_count = omega arith;
+    actors = search rules;
+    schedule_length = omega arith;
+    unscheduled = λ _. refl;
+  };
+  times = record {
+    time_count = λ _. refl;
+    running = read.times.running;
+    rising = search rules;
+    past = search rules;
+  };
 }

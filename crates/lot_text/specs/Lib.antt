@@ -1,8 +1,6 @@
 pub mod Alone
 pub mod Faults
 pub mod Numbers
-pub mod Packed
-pub mod Programs
 pub mod ReadingFields
 pub mod Readings
 pub mod Tokens

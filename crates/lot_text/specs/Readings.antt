@@ -1,5 +1,5 @@
 -- The invariant of every state of reading an input.
-use Rattle.std.specs.Prelude.{◌≡◌, ℕ, ◌<◌, ◌≤◌, Option, None, Result, Ok, Err, List, [], ◌∷◌, length, take, All, IsSome, IsTrue, Some, if◌then◌else◌}
+use Rattle.std.specs.Prelude.{◌≡◌, ℕ, ◌<◌, ◌≤◌, Bool, Option, None, Result, Ok, Err, List, [], ◌∷◌, length, take, All, IsSome, IsTrue, Some, if◌then◌else◌}
 use Rattle.std.specs.List.Sorted.{IsNonDecreasing}
 use Rattle.std.specs.Option.{ForSome}
 use Rattle.lot_simulation.specs.declared.input.InputRefusal.{InputRefusal}
@@ -8,38 +8,52 @@ use Rattle.lot_machine.specs.declared.command.Command.{Command}
 use Rattle.lot_simulation.specs.declared.script.Line.{Line}
 use Rattle.lot_machine.specs.Bounds.{IsBetween}
 use Rattle.lot_simulation.specs.Grammar.{Phrase, add_command, add_named, add_runs, is_alone, is_full, names_ticket, run_of, with_line}
-use Rattle.lot_simulation.specs.Reading.{Reading, OpenScript, ◌>>=◌, checked, each_pair}
+use Rattle.lot_simulation.specs.Reading.{Reading, NamedScript, OpenScript, ◌>>=◌, checked, each_pair}
 use Rattle.lot_script.specs.Drafts.{loops_after}
-use Rattle.lot_text.specs.Programs.{IsSeed}
+use Rattle.lot_program.specs.Parts.{AreSeeds}
 
--- valid seeds, one for each processor
-pub record AreSeeds (processors : ℕ) (seeds : List ℕ) : Type 0 where
-  pub count : length seeds ≡ processors
-  pub each : All IsSeed seeds
+-- the numbers of the header are within their bounds; its seeds, if it has any, are one for each processor
+pub record AreSizes (processors quantum turns tickets currencies threads : ℕ) (seeds : Option (List ℕ)) : Type 0 where
+  pub processor_count : IsBetween 1 64 processors
+  pub quantum_length : IsBetween 1 1000 quantum
+  pub turn_count : turns ≤ 10000
+  pub ticket_count : IsBetween 1 65535 tickets
+  pub currency_count : IsBetween 1 4096 currencies
+  pub thread_count : IsBetween 1 4096 threads
+  pub seeding : ForSome seeds (AreSeeds processors)
 
--- All values read so far are within the bounds of an input. The schedule, whose actors depend on the number of
--- processors, begins after the header.
+-- there are no more names than are allowed, and there is room for the open script
+pub record AreNames (ports mutexes ticket_names : List (List ℕ)) (scripts : List NamedScript) (unclosed : Option OpenScript)
+    : Type 0 where
+  pub port_count : length ports ≤ 256
+  pub mutex_count : length mutexes ≤ 256
+  pub ticket_name_count : length ticket_names ≤ 4096
+  pub script_count : length scripts ≤ 256
+  pub open_script : IsSome unclosed → length scripts < 256
+
+-- Commands and schedule are within their bounds. The schedule, whose actors depend on the number of processors, begins
+-- after the header.
+pub record IsBody (place processors : ℕ) (commands : List Command) (schedule : List ℕ) : Type 0 where
+  pub command_count : length commands ≤ 100000
+  pub actors : All (λ actor. actor ≤ processors) schedule
+  pub schedule_length : length schedule ≤ 1000000
+  pub unscheduled : place ≡ 0 → schedule ≡ []
+
+-- Each command of a timed input has a time. Times never decrease, and none is after the next one. Only a timed input
+-- has a duration.
+pub record AreTimes (is_timed : Bool) (duration : Option ℕ) (commands : List Command) (times : List ℕ) (next : ℕ)
+    : Type 0 where
+  pub time_count : IsTrue is_timed → length times ≡ length commands
+  pub running : IsSome duration → IsTrue is_timed
+  pub rising : IsNonDecreasing times
+  pub past : All (λ time. time ≤ next) times
+
+-- all values read so far are within the bounds of an input
 pub record IsReading (r : Reading) : Type 0 where
-  pub processors : IsBetween 1 64 r.processors
-  pub quantum : IsBetween 1 1000 r.quantum
-  pub turns : r.turns ≤ 10000
-  pub seeds : ForSome r.seeds (AreSeeds r.processors)
-  pub tickets : IsBetween 1 65535 r.tickets
-  pub currencies : IsBetween 1 4096 r.currencies
-  pub threads : IsBetween 1 4096 r.threads
-  pub port_count : length r.ports ≤ 256
-  pub mutex_count : length r.mutexes ≤ 256
-  pub script_count : length r.scripts ≤ 256
-  pub open_script : IsSome r.unclosed → length r.scripts < 256
-  pub command_count : length r.commands ≤ 100000
-  pub actors : All (λ actor. actor ≤ r.processors) r.schedule
-  pub schedule_length : length r.schedule ≤ 1000000
-  pub time_count : IsTrue r.is_timed → length r.times ≡ length r.commands
-  pub running : IsSome r.duration → IsTrue r.is_timed
-  pub rising : IsNonDecreasing r.times
-  pub past : All (λ time. time ≤ r.time) r.times
-  pub ticket_name_count : length r.ticket_names ≤ 4096
-  pub unscheduled : r.place ≡ 0 → r.schedule ≡ []
+  pub sizes : AreSizes r.processors r.quantum r.turns r.tickets r.currencies r.threads r.seeds
+  pub names : AreNames r.ports r.mutexes r.ticket_names r.scripts r.unclosed
+  pub body : IsBody r.place r.processors r.commands r.schedule
+  pub times : AreTimes r.is_timed r.duration r.commands r.times r.time
 
 -- the reading after a line of the body, which ends the header
 abbrev pub after_header : Result Reading InputRefusal → Result Reading InputRefusal

@@ -4,7 +4,7 @@ ghost use Rattle.lot_simulation.specs.Grammar.{first_line as first_line_read, he
 ghost use Rattle.lot_simulation.specs.Grammar.{header_line as header_line_read};
 ghost use Rattle.lot_simulation.specs.Reading.{each, number_between as number_read};
 ghost use Rattle.lot_text.specs.Faults.{Fails, Gives};
-ghost use Rattle.lot_text.specs.Readings.{AreSeeds};
+ghost use Rattle.lot_program.specs.Parts.{AreSeeds};
 
 use crate::fault::LineFault;
 use crate::number::{number_in, only_number};

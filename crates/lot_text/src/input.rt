@@ -12,6 +12,7 @@ ghost use Rattle.lot_simulation.specs.Words.{word_in, script_words};
 ghost use Rattle.lot_text.specs.Faults.{Gives, IsFaultOf};
 ghost use Rattle.lot_text.specs.Readings.{argument_count, phrase_at, within_script};
 
+use crate::ParseFault;
 use crate::body::body_line;
 use crate::fault::LineFault;
 use crate::header::{first_line, header_line};
@@ -19,7 +20,7 @@ use crate::reading::{OpenScript, Reading};
 use crate::script_lines::script_line;
 use crate::tokens::{Tokens, begins_comment, is_ignored, line_len};
 use crate::words::stands_alone;
-use crate::{ParseFault, Program, Seed};
+use lot_program::{Program, Seed};
 use lot_simulation::{
     BodyWord, FIRST_WORD, Format, HeaderWord, InputFault, InputRefusal, ScriptWord, Separators,
 };

@@ -19,14 +19,15 @@ ghost use Rattle.lot_simulation.specs.Reading.{number_named, opening_reading};
 ghost use Rattle.lot_simulation.specs.Words.{header_place};
 ghost use Rattle.lot_machine.specs.State.{sizes_of};
 ghost use Rattle.lot_text.specs.Faults.{Gives, IsFaultOf};
-ghost use Rattle.lot_text.specs.Readings.{AreSeeds, after_header, ticket_added};
+ghost use Rattle.lot_program.specs.Parts.{AreSeeds};
+ghost use Rattle.lot_text.specs.Readings.{after_header, ticket_added};
 
-use crate::commands::CommandList;
+use crate::ParseFault;
 use crate::fault::LineFault;
 use crate::name::new_name;
 use crate::runs::{ActorRun, actors_of, have_room};
-use crate::{Commands, ParseFault, Program};
 use lot_machine::{Command, Limits, Name, Sizes};
+use lot_program::{CommandList, Commands, Parts, Program};
 use lot_script::{Script, ScriptBuilder};
 use lot_simulation::{Format, HEADER_WORDS, HeaderWord, InputFault, InputRefusal};
 use std::alloc::{AllocError, Global};
@@ -409,7 +410,7 @@ impl Reading {
         let seeds = seeds_or_own(alloc, self.seeds.take(), self.processors, format)?;
         let scripts = without_names(alloc, mem::replace(&mut self.scripts, Vec::new(alloc)))?;
         let tables = self.take_tables(alloc)?;
-        Ok(Program {
+        Ok(Program::new(Parts {
             format,
             limits,
             seeds,
@@ -422,7 +423,7 @@ impl Reading {
             ticket_names,
             names: tables.names,
             strict,
-        })
+        }))
     }
 
     /// The tables that copies of the program share. The reading has none of them afterwards.

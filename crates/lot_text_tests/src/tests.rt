@@ -5,9 +5,10 @@ mod slices;
 
 use crate::fault_of;
 use lot_machine::{Command, CurrencyRef, Kind, Limits, Name, Sizes, TargetRef, ThreadRef};
+use lot_program::{Commands, Program, Seed};
 use lot_script::Script;
 use lot_simulation::{InputFault, InputRefusal, Line, MutexTrap, PortTrap, ScriptTrap};
-use lot_text::{Commands, ParseFault, Program, Seed, parse, parse_seeded};
+use lot_text::{ParseFault, parse, parse_seeded};
 use same::{check_same, check_same_at};
 use std::alloc::Global;
 use std::fmt::Debug;

@@ -10,8 +10,8 @@ use crate::tests::{
 };
 use lot_engine::{System, TurnFault};
 use lot_machine::Reply;
+use lot_program::Program;
 use lot_station::{BatonSeat, BatonStation, SeatMissing};
-use lot_text::Program;
 use std::alloc::Global;
 use std::process::Abort;
 use std::sync::Wait;

@@ -3,7 +3,7 @@
 use crate::tests::same::check_same;
 use crate::tests::{end_of, opened};
 use lot_engine::{Answer, System, slice_for};
-use lot_text::Program;
+use lot_program::Program;
 use std::alloc::Global;
 use std::process::Abort;
 use std::sync::Mutex;

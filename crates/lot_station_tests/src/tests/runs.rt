@@ -3,7 +3,8 @@
 use crate::tests::same::check_same;
 use crate::tests::{TWO_PROCESSORS, parsed};
 use lot_processors::{FreeRunFault, OpenGate, free_run};
-use lot_text::{Program, parse};
+use lot_program::Program;
+use lot_text::parse;
 use std::alloc::Global;
 use std::process::Abort;
 use std::sync::Wait;

@@ -2,8 +2,8 @@
 ghost use Rattle.std.specs.Prelude.{◌≡◌, ◌+◌, false, IfOk};
 
 use lot_engine::System;
+use lot_program::Program;
 use lot_station::{Seat, Station, TurnLedger};
-use lot_text::Program;
 use std::alloc::{AllocError, Global};
 use std::marker::Brand;
 use std::process::Abort;

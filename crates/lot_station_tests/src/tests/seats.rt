@@ -4,8 +4,8 @@ ghost use Rattle.std.specs.Prelude.{◌≡◌};
 ghost use Rattle.lot_station.specs.BatonSeats.{IsSameSeat, seat_counts};
 
 use lot_engine::{Answer, TurnFault, slice_for};
+use lot_program::Program;
 use lot_station::{BatonSeat, BatonStation, Seat, Station, TurnLedger};
-use lot_text::Program;
 use std::sync::Wait;
 use std::sync::ledger::Ledger;
 

@@ -9,8 +9,9 @@ use crate::tests::{
 };
 use lot_engine::System;
 use lot_machine::Reply;
+use lot_program::Program;
 use lot_station::{Seat, Station, TurnLedger};
-use lot_text::{Program, parse};
+use lot_text::parse;
 use std::alloc::{AllocError, Global};
 use std::process::Abort;
 use std::sync::Wait;

@@ -2,8 +2,9 @@
 
 use super::same::check_same;
 use super::{CALL_AND_REPLY, check_history, make_turns};
+use lot_program::Program;
 use lot_system::{PlayFault, Played, System, play};
-use lot_text::{Program, Watched, parse};
+use lot_text::{Watched, parse};
 use std::alloc::Global;
 use std::io;
 use std::io::Write;

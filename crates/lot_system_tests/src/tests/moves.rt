@@ -7,8 +7,8 @@ ghost use Rattle.lot_engine.specs.Seen.{after_turn};
 ghost use Rattle.lot_engine.specs.Turns.{Faults, IsWorkOf, Matches};
 ghost use Rattle.lot_engine.specs.declared.turn.Work.{Work as WorkRecord};
 
+use lot_program::Program;
 use lot_system::{System, TurnFault, slice_for};
-use lot_text::Program;
 
 /// Makes the actor's turn, with the slice of its work in this program if it has any. A fault changes nothing: Stale
 /// if the work doesn't fit the program, otherwise the fault of `System::turn` with that slice.

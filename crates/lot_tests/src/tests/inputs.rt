@@ -1,8 +1,9 @@
 //! Inputs at the bounds of their sizes.
 
 use super::same::{check_same, check_same_at};
+use lot_program::Program;
 use lot_simulation::InputRefusal;
-use lot_text::{Program, parse};
+use lot_text::parse;
 use lot_text_tests::fault_of;
 use std::alloc::Global;
 use std::process::Abort;

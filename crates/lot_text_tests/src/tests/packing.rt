@@ -2,7 +2,7 @@
 use super::name;
 use super::same::{check_same, check_same_at};
 use lot_machine::{Command, CurrencyRef, Kind, Name, TargetRef, ThreadRef};
-use lot_text::{CommandList, Commands};
+use lot_program::{CommandList, Commands};
 use std::alloc::{AllocError, Global};
 use std::process::Abort;
 

@@ -23,7 +23,7 @@ returns-in_err-reading-inside c =
 pub invariant_of-reading : goal.invariant_of-reading
 invariant_of-reading c =
     with_settings (reading_of c.reading.inside) c.in_ok-reading-inside.field-0 c.reading.inside.turns c.reading.inside.reuse c.reading.inside.strict
-    c.reading.invariant c.in_ok-reading-inside.ensures.between c.reading.invariant.turns
+    c.reading.invariant c.in_ok-reading-inside.ensures.between c.reading.invariant.sizes.turn_count
 
 pub returns : goal.returns
 returns c = rw (alone c.args.reading.now c.args.tokens, ← c.in_ok-reading-inside.ensures.read, ← c.reading.view_is) refl

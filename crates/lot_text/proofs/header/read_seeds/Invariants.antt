@@ -2,7 +2,7 @@ use Rattle.std.proofs.Common.{◌≡◌, ◌+◌, ℕ, List, ◌++◌, length, O
 use Rattle.std.specs.Prelude.{All}
 use Rattle.lot_simulation.specs.declared.input.InputRefusal.{InputRefusal}
 use Rattle.lot_simulation.specs.Reading.{number_between, each}
-use Rattle.lot_text.specs.Programs.{IsSeed}
+use Rattle.lot_program.specs.Programs.{IsSeed}
 use Rattle.lot_text.proofs.header.read_seeds.Given as goal
 
 abbrev pub invariant-loop-token : goal.invariant-loop-token

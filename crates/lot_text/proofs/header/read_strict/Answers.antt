@@ -13,4 +13,4 @@ returns-in_err-none c =
     Gives-refusal _ c.from_residual.result c.in_err-none.field-0.0 _ c.from_residual.ensures other
 
 pub invariant_of-reading : goal.invariant_of-reading
-invariant_of-reading c = with_settings (reading_of c.reading.inside) c.reading.inside.quantum c.reading.inside.turns c.reading.inside.reuse true c.reading.invariant c.reading.invariant.quantum c.reading.invariant.turns
+invariant_of-reading c = with_settings (reading_of c.reading.inside) c.reading.inside.quantum c.reading.inside.turns c.reading.inside.reuse true c.reading.invariant c.reading.invariant.sizes.quantum_length c.reading.invariant.sizes.turn_count

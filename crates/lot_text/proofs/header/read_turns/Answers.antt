@@ -23,7 +23,7 @@ returns-in_err-reading-inside c =
 pub invariant_of-reading : goal.invariant_of-reading
 invariant_of-reading c =
     with_settings (reading_of c.reading.inside) c.reading.inside.quantum c.in_ok-reading-inside.field-0 c.reading.inside.reuse c.reading.inside.strict
-    c.reading.invariant c.reading.invariant.quantum c.in_ok-reading-inside.ensures.between.1
+    c.reading.invariant c.reading.invariant.sizes.quantum_length c.in_ok-reading-inside.ensures.between.1
 
 pub returns : goal.returns
 returns c = rw (alone c.args.reading.now c.args.tokens, ← c.in_ok-reading-inside.ensures.read, ← c.reading.view_is) refl

@@ -6,7 +6,7 @@ use Rattle.std.proofs.lemmas.List.FromFn.{map-range_with_len_more}
 use Rattle.std.proofs.lemmas.List.Elements.{All-append, All-replicate}
 use Rattle.lot_machine.specs.Bounds.{IsBetween}
 use Rattle.lot_machine.specs.Lottery.{mixed_seed}
-use Rattle.lot_text.specs.Programs.{IsSeed}
+use Rattle.lot_program.specs.Programs.{IsSeed}
 use Rattle.lot_text.proofs.reading.mixed_seeds.Goals as goal
 
 pub loop-preserved : goal.loop-preserved

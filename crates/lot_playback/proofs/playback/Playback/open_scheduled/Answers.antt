@@ -1,6 +1,6 @@
 use Rattle.std.proofs.Common.{◌≡◌, ◌≤◌, ℕ, None, [], ap, false, length, refl, subst, sym, arith}
 use Rattle.lot_simulation.specs.World.{Program}
-use Rattle.lot_text.specs.Programs.{IsProgram}
+use Rattle.lot_program.specs.Programs.{IsProgram}
 use Rattle.lot_engine.specs.Seen.{Seen}
 use Rattle.lot_playback.specs.Orders.{IsAtPlace}
 use Rattle.lot_playback.specs.Stages.{HasMade}

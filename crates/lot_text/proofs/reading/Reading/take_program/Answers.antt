@@ -16,8 +16,8 @@ pub invariant_of-self-2 : goal.invariant_of-self-2
 invariant_of-self-2 c =
     rw (c.take.ensures.after, c.replace.ensures.after, c.new.ensures.items) (without_seeds (reading_of c.self.inside) [] c.self.invariant (omega arith))
 
-pub invariant_of-result : goal.invariant_of-result
-invariant_of-result c =
+pub new-requires-2 : goal.new-requires-2
+new-requires-2 c =
     let commands = c.in_ok-tables.ensures.commands in
     let schedule = c.in_ok-tables.ensures.schedule in
     let times = c.in_ok-tables.ensures.times in
@@ -28,14 +28,14 @@ invariant_of-result c =
         limits = search rules;
         seed_count = c.in_ok-seeds.ensures.seeds.count ∙ sym processors;
         seeds = c.in_ok-seeds.ensures.seeds.each;
-        turns = read.turns;
+        turns = read.sizes.turn_count;
         script_count = ap length c.in_ok-scripts.ensures ∙ rw c.replace.ensures.value (length-map c.self.inside.scripts.items (λ (s : NamedScript). s.lines)
             ∙ ap (λ (r : Reading). length r.scripts) c.self.view_is ∙ sym (ap (λ (sizes : Sizes). sizes.scripts) c.limits-limits.ensures));
-        command_count = rw commands read.command_count;
-        actors = rw (schedule, processors) read.actors;
-        schedule_length = rw schedule read.schedule_length;
-        time_count = λ some. rw (times, commands) (read.time_count (read.running some));
-        rising = rw times read.rising;
+        command_count = rw commands read.body.command_count;
+        actors = rw (schedule, processors) read.body.actors;
+        schedule_length = rw schedule read.body.schedule_length;
+        time_count = λ some. rw (times, commands) (read.times.time_count (read.times.running some));
+        rising = rw times read.times.rising;
         ticket_names = search rules;
       };
       unit = search rules;

@@ -1,0 +1,2 @@
+pub mod PackedLemmas
+pub mod SeedLemmas

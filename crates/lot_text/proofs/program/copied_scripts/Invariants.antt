@@ -1,6 +1,0 @@
-use Rattle.std.proofs.Common.{◌≡◌, take}
-use Rattle.lot_text.proofs.program.copied_scripts.Given as goal
-
--- those passed so far
-abbrev pub invariant-loop-script : goal.invariant-loop-script
-invariant-loop-script l = l.copies.items ≡ take l.script-index l.scripts
