@@ -9,7 +9,7 @@ use crate::handle::Handle;
 use crate::reader::ReadHandle;
 use crate::rows::{PlainCurrencyRow, PlainThreadRow, PlainTicketRow};
 use crate::status::Status;
-use lot_kernel::{CurrencyNumber, Kernel, ThreadNumber, TicketNumber};
+use lot_kernel::{CurrencyNumber, Kernel, Settled, ThreadNumber, TicketNumber};
 
 /// Recomputes all stale values, so that rows can be read until the next event.
 #[unsafe(no_mangle)]
@@ -51,10 +51,10 @@ pub extern "C" fn lot_kernel_settled_ticket_row(
 fn show_ticket(kernel: &Kernel, ticket: u32, row: &mut PlainTicketRow) -> u32
     ensures { ShowsSettledTicket ticket result kernel.now row.old row.new }
 {
-    if !kernel.is_settled() {
+    let Some(settled) = Settled::of(kernel) else {
         return Status::NotSettled.code();
-    }
-    match kernel.settled_ticket_row(TicketNumber { number: ticket }) {
+    };
+    match settled.ticket_row(TicketNumber { number: ticket }) {
         None => Status::NotThere.code(),
         Some(found) => {
             *row = PlainTicketRow::of(&found);
@@ -84,10 +84,10 @@ pub extern "C" fn lot_kernel_settled_currency_row(
 fn show_currency(kernel: &Kernel, currency: u32, row: &mut PlainCurrencyRow) -> u32
     ensures { ShowsSettledCurrency currency result kernel.now row.old row.new }
 {
-    if !kernel.is_settled() {
+    let Some(settled) = Settled::of(kernel) else {
         return Status::NotSettled.code();
-    }
-    match kernel.settled_currency_row(CurrencyNumber { number: currency }) {
+    };
+    match settled.currency_row(CurrencyNumber { number: currency }) {
         None => Status::NotThere.code(),
         Some(found) => {
             *row = PlainCurrencyRow::of(&found);
@@ -117,10 +117,10 @@ pub extern "C" fn lot_kernel_settled_thread_row(
 fn show_thread(kernel: &Kernel, thread: u32, row: &mut PlainThreadRow) -> u32
     ensures { ShowsSettledThread thread result kernel.now row.old row.new }
 {
-    if !kernel.is_settled() {
+    let Some(settled) = Settled::of(kernel) else {
         return Status::NotSettled.code();
-    }
-    match kernel.settled_thread_row(ThreadNumber { number: thread }) {
+    };
+    match settled.thread_row(ThreadNumber { number: thread }) {
         None => Status::NotThere.code(),
         Some(found) => {
             *row = PlainThreadRow::of(&found);

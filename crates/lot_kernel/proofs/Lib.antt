@@ -26,3 +26,4 @@ pub mod TicketsAgain
 pub mod Refusing
 pub mod Looking
 pub mod Keeping
+pub mod Shown

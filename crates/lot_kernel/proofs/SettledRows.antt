@@ -1,6 +1,7 @@
 -- Rows of a settled kernel, put together from what was read.
 use Rattle.std.proofs.Common.{◌≡◌, ℕ, ◌↔◌, Bool, Option, Some, List, length, refl, subst}
 use Rattle.std.specs.Prelude.{IsTrue}
+use Rattle.lot_machine.specs.declared.funding.Node.{Node}
 use Rattle.lot_machine.specs.declared.funding.Node.TheVariants as node
 use Rattle.lot_machine.specs.declared.row.CurrencyRow.{CurrencyRow}
 use Rattle.lot_machine.specs.declared.ticket.Ticket.{Ticket}
@@ -11,6 +12,7 @@ use Rattle.lot_machine.specs.Rows.{currency_name, currency_row}
 use Rattle.lot_machine.specs.State.{State, funding_of, live_in, live_of}
 use Rattle.lot_machine.specs.Value.{node_value}
 use Rattle.lot_machine.proofs.TicketDepth.{is_active-exact}
+use Rattle.lot_value.specs.declared.meter.Meter.{Meter}
 use Rattle.lot_threads.specs.Threaded.{Threaded, funding_in}
 use Rattle.lot_kernel.specs.Snapshots.{threads_of}
 use Rattle.lot_kernel.proofs.Rows.{same-truth}
@@ -22,9 +24,9 @@ module _ (s : State) where
   currency-row-of c name backing issued active value named backs issues is worth = rw (named, backs, issues, is, worth) refl
 
   -- whether a ticket is active, as it was told and as it is tested
-  pub active-is : (order : IsInOrder s) (n : ℕ) (t : Ticket) (v : Threaded) (found : Bool) → v ≡ threads_of s v.stale v.meter → ticket_in s.tickets n ≡ Some t → (IsTrue found ↔ IsActive (funding_in v) (live_in v.records) n)
+  pub active-is : (order : IsInOrder s) (n : ℕ) (t : Ticket) (v : Threaded) (stale : List Node) (meter : Meter) (found : Bool) → v ≡ threads_of s stale meter → ticket_in s.tickets n ≡ Some t → (IsTrue found ↔ IsActive (funding_in v) (live_in v.records) n)
       → found ≡ is_active (funding_of s) (live_of s) t
-  active-is order n t v found same here active =
+  active-is order n t v stale meter found same here active =
       let exact = is_active-exact (funding_of s) order.no_cycle order.funds_there (live_of s) n t here in
       let told = subst (λ (w : Threaded). IsTrue found ↔ IsActive (funding_in w) (live_in w.records) n) same active in
       same-truth found (is_active (funding_of s) (live_of s) t) (λ yes. exact.1 (told.0 yes)) (λ yes. told.1 (exact.0 yes))

@@ -6,3 +6,4 @@ pub mod Memory
 pub mod Names
 pub mod FreeStacks
 pub mod Searching
+pub mod Lending

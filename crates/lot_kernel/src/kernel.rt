@@ -1,7 +1,8 @@
 //! The kernel and its events.
-ghost use Rattle.std.specs.Prelude.{◌≡◌, ◌↔◌, ◌<◌, ◌≤◌, ◌+◌, ◌^◌, [], All, None, Some, IfNone, IfOk, IfSome, IsTrue};
+ghost use Rattle.std.specs.Prelude.{◌≡◌, ◌<◌, ◌≤◌, ◌+◌, ◌^◌, All, None, Some, IfNone, IfOk, IfSome};
 ghost use Rattle.std.specs.Prelude.{MatchOption, false, length, option_and_then, option_map, true};
 ghost use Rattle.std.specs.Prelude.{if◌then◌else◌};
+ghost use Rattle.std.specs.Borrow.{sem};
 ghost use Rattle.lot_machine.specs.Bounds.{IsBetween};
 ghost use Rattle.lot_machine.specs.Commands as commands;
 ghost use Rattle.lot_machine.specs.Mutexes.{mutex_at};
@@ -18,15 +19,17 @@ ghost use Rattle.lot_machine.specs.Numbered.{at_number};
 ghost use Rattle.lot_value.specs.Caches.{HasNoneTwice};
 ghost use Rattle.lot_kernel.specs.Counted.{AreDone, Counts, settled, with_ticket_read};
 ghost use Rattle.lot_kernel.specs.Memory.{bytes_of};
+ghost use Rattle.lot_kernel.specs.Lending.{EndsSettled};
 ghost use Rattle.lot_kernel.specs.Searching.{HasLayoutOf, IsAboveThread};
 ghost use Rattle.lot_kernel.specs.Snapshots.{MakesStale, starting};
 
+use crate::settled::Settled;
 use crate::tables::Tables;
 use lot_graph::Above;
 use lot_kept::Stack;
 use lot_machine::{
-    CurrencyNumber, CurrencyRow, Event, Limits, MutexNumber, Name, Processor, Reply, Status,
-    ThreadNumber, ThreadRef, ThreadRow, TicketNumber, TicketRow,
+    CurrencyNumber, CurrencyRow, Event, Limits, MutexNumber, Name, Node, Processor, Reply, Status,
+    Target, ThreadNumber, ThreadRef, ThreadRow, TicketNumber, TicketRow, index_of,
 };
 use lot_threads::Runner;
 use lot_value::Meter;
@@ -38,7 +41,7 @@ use std::marker::Model;
 ///
 /// `new` allocates all its memory; no event allocates.
 pub struct Kernel {
-    tables: Tables,
+    pub(crate) tables: Tables,
 }
 
 impl Drop for Kernel {
@@ -92,14 +95,14 @@ impl Kernel {
     pub fn limits(&self) -> Limits
         ensures { sizes_of result ≡ self.now.state.limits }
     {
-        self.tables.limits()
+        self.tables.limits
     }
 
     /// The value of one of base: 1, or 256 for finer shares.
     pub fn unit(&self) -> u32
         ensures { result ≡ self.now.state.limits.unit }
     {
-        self.tables.limits().unit
+        self.tables.limits.unit
     }
 
     /// The meter: the tickets, lends and owners read to compute values, and the visited places of the tree of
@@ -107,14 +110,14 @@ impl Kernel {
     pub fn meter(&self) -> Meter
         ensures { result ≡ self.now.meter }
     {
-        self.tables.meter()
+        self.tables.threads.meter()
     }
 
     /// How many numbers of tickets have been given, those of removed ones included. They begin at 1.
     pub fn ticket_count(&self) -> u32
         ensures { result ≡ length self.now.state.tickets }
     {
-        self.tables.ticket_count()
+        self.tables.threads.graph().ticket_count()
     }
 
     /// How many numbers of currencies have been given, those of removed ones included. They begin at 0, which is base.
@@ -122,7 +125,7 @@ impl Kernel {
         ensures count { result ≡ length self.now.state.currencies }
         ensures within { result ≤ self.now.state.limits.currencies + 1 }
     {
-        self.tables.currency_count()
+        self.tables.currencies.len() as u32
     }
 
     /// Makes one event and returns its reply. It allocates nothing. A refused event changes nothing; a trap whose
@@ -178,7 +181,8 @@ impl Kernel {
         ensures once { IfSome result (λ r. HasNoneTwice self.old.stale) }
         ensures unchanged { IfNone result (self.new ≡ self.old) }
     {
-        self.tables.ticket_row(ticket)
+        let (found, value) = self.tables.read_ticket(ticket)?;
+        Settled { kernel: self }.row_of_ticket(ticket, found, value)
     }
 
     /// The row of the currency with this number, or `None` if and only if it doesn't exist; base is worth its active
@@ -190,7 +194,8 @@ impl Kernel {
         ensures once { IfSome result (λ r. HasNoneTwice self.old.stale) }
         ensures unchanged { IfNone result (self.new ≡ self.old) }
     {
-        self.tables.currency_row(currency)
+        let name = self.currency_name(currency)?;
+        Some(self.settle().row_of_currency(currency, name))
     }
 
     /// The row of the thread with this number, or `None` if and only if it doesn't exist. Recomputes stale values and
@@ -202,49 +207,20 @@ impl Kernel {
         ensures once { IfSome result (λ r. HasNoneTwice self.old.stale) }
         ensures unchanged { IfNone result (self.new ≡ self.old) }
     {
-        self.tables.thread_row(thread)
+        let found = self.tables.threads.record(thread)?;
+        let name = self.thread_name(thread)?;
+        Some(self.settle().row_of_thread(thread, found, name))
     }
 
-    /// Recomputes all stale values and counts that, so that rows can be read by `&self` until the next event. Changes
-    /// nothing else, and allocates nothing.
-    pub fn settle(&mut self)
-        ensures settled { self.new ≡ settled self.old }
+    /// Recomputes all stale values and counts that. Rows can be read from the result, and until the next event from
+    /// `Settled::of`. Changes nothing else, and allocates nothing.
+    pub fn settle(&mut self) -> Settled<'_>
+        ensures settled { result.kernel.now ≡ settled self.old }
         ensures once { HasNoneTwice self.old.stale }
+        ensures* ends { sem 𝓛 (EndsSettled self.entry) }
     {
         self.tables.settle();
-    }
-
-    /// Whether no value is stale.
-    pub fn is_settled(&self) -> bool
-        ensures { IsTrue result ↔ (self.now.stale ≡ []) }
-    {
-        self.tables.is_settled()
-    }
-
-    /// The row of the ticket with this number of a settled kernel, or `None` if and only if it doesn't exist. It
-    /// changes nothing, so it counts nothing, and several threads may read rows at once.
-    pub fn settled_ticket_row(&self, ticket: TicketNumber) -> Option<TicketRow>
-        requires settled { self.now.stale ≡ [] }
-        ensures row { result ≡ rows.ticket_row self.now.state ticket.number }
-    {
-        self.tables.settled_ticket_row(ticket)
-    }
-
-    /// The row of the currency with this number of a settled kernel, or `None` if and only if it doesn't exist; base
-    /// is worth its active amount.
-    pub fn settled_currency_row(&self, currency: CurrencyNumber) -> Option<CurrencyRow>
-        requires settled { self.now.stale ≡ [] }
-        ensures row { result ≡ rows.currency_row self.now.state currency.number }
-    {
-        self.tables.settled_currency_row(currency)
-    }
-
-    /// The row of the thread with this number of a settled kernel, or `None` if and only if it doesn't exist.
-    pub fn settled_thread_row(&self, thread: ThreadNumber) -> Option<ThreadRow>
-        requires settled { self.now.stale ≡ [] }
-        ensures row { result ≡ rows.thread_row self.now.state thread.number }
-    {
-        self.tables.settled_thread_row(thread)
+        Settled { kernel: self }
     }
 
     /// The thread that runs on the processor, or `None` if and only if it is idle. The ticks used are below the
@@ -257,14 +233,20 @@ impl Kernel {
         ensures there { IfSome result (λ r. (0 < r.thread.number) × (r.thread.number ≤ length self.now.state.records)) }
         ensures below { IfSome result (λ r. r.used < self.now.state.limits.quantum) }
     {
-        self.tables.runner(processor)
+        self.tables.threads.runner(processor)
     }
 
     /// The number of the thread's script, fixed when it was made, or `None` if and only if there is no such thread.
     pub fn script_of(&self, thread: ThreadNumber) -> Option<u32>
         ensures { result ≡ option_map (λ t. t.script) (thread_at self.now.state.threads thread.number) }
     {
-        self.tables.script_of(thread)
+        if thread.number == 0 {
+            return None;
+        }
+        match self.tables.threads.threads().get(index_of(thread.number))? {
+            Some(found) => Some(found.script),
+            None => None,
+        }
     }
 
     /// Stores in `out` the threads that wait for the mutex, the one that has waited longest first; none if there is
@@ -276,7 +258,11 @@ impl Kernel {
         ensures few { length out.new.items ≤ self.now.state.limits.threads }
         ensures room { out.new.room ≡ out.old.room }
     {
-        self.tables.list_waiters(mutex, out);
+        out.clear();
+        if mutex.number == 0 || self.tables.queues.mutexes() < mutex.number {
+            return;
+        }
+        self.tables.queues.list_waiters(mutex.number, out);
     }
 
     /// The number of the thread that a reference means, even of a dead one, or `None` if and only if there is none.
@@ -291,14 +277,18 @@ impl Kernel {
     pub fn owner(&self, mutex: MutexNumber) -> Option<u32>
         ensures { result ≡ (mutex_at self.now.state.mutexes mutex.number).owner }
     {
-        self.tables.owner(mutex)
+        if 0 < mutex.number && mutex.number <= self.tables.queues.mutexes() {
+            self.tables.queues.owner(mutex.number)
+        } else {
+            None
+        }
     }
 
     /// The thread's status, or `None` if no thread has ever had the number. A removed thread is dead.
     pub fn status(&self, thread: ThreadNumber) -> Option<Status>
         ensures { result ≡ status_of self.now.state.records thread.number }
     {
-        self.tables.status(thread)
+        Some(self.tables.threads.record(thread)?.status)
     }
 
     /// The thread's value, in base units, if it is live (Ready or Running), and otherwise 0. If it is, this recomputes
@@ -311,14 +301,56 @@ impl Kernel {
         ensures once { is_live (live_of self.old.state) thread.number ≡ true → HasNoneTwice self.old.stale }
         ensures unchanged { is_live (live_of self.old.state) thread.number ≡ false → self.new ≡ self.old }
     {
-        self.tables.live_value(thread)
+        if self.is_live(thread) {
+            self.settle().worth_of(thread)
+        } else {
+            0
+        }
+    }
+
+    /// Whether the thread is live: it competes or runs.
+    pub(crate) fn is_live(&self, thread: ThreadNumber) -> bool
+        ensures live { result ≡ is_live (live_of self.now.state) thread.number }
+        ensures there { result ≡ true → IsBetween 1 (length self.now.state.records) thread.number }
+    {
+        match self.tables.threads.record(thread) {
+            Some(found) => matches!(found.status, Status::Ready | Status::Running { .. }),
+            None => false,
+        }
     }
 
     /// The name of the currency with this number, or `None` if and only if it doesn't exist.
     pub fn currency_name(&self, currency: CurrencyNumber) -> Option<Name>
         ensures { result ≡ rows.currency_name self.now.state currency.number }
     {
-        self.tables.currency_name(currency)
+        match self.tables.currencies.get(currency.number as usize)? {
+            Some(name) => Some(name.copied()),
+            None => None,
+        }
+    }
+
+    /// The name of a ticket's target.
+    pub(crate) fn target_name(&self, target: Target) -> Option<Name>
+        ensures { result ≡ rows.target_name self.now.state target }
+    {
+        match target {
+            Target::Unfunded => None,
+            Target::Currency(currency) => self.currency_name(CurrencyNumber { number: currency }),
+            Target::Thread(thread) => self.thread_name(ThreadNumber { number: thread }),
+        }
+    }
+
+    /// The thread's name.
+    pub(crate) fn thread_name(&self, thread: ThreadNumber) -> Option<Name>
+        ensures { result ≡ rows.thread_name self.now.state thread.number }
+    {
+        if thread.number == 0 {
+            return None;
+        }
+        match self.tables.threads.threads().get(index_of(thread.number))? {
+            Some(found) => Some(found.name.copied()),
+            None => None,
+        }
     }
 
     /// The value of a currency other than base, in base units, or 0 if it was removed. It recomputes all stale values
@@ -332,7 +364,7 @@ impl Kernel {
         ensures settled { self.new ≡ settled self.old }
         ensures once { HasNoneTwice self.old.stale }
     {
-        self.tables.currency_worth(currency)
+        self.settle().currency_value(currency)
     }
 
     /// The value of all active tickets of base, in base units. No value has to be computed for it.
@@ -340,7 +372,11 @@ impl Kernel {
         ensures value { result ≡ base_value self.now.state }
         ensures small { result < 2 ^ 96 }
     {
-        self.tables.base_value()
+        let active = self
+            .tables
+            .threads
+            .active_amount(CurrencyNumber { number: 0 });
+        u128::from(active) * u128::from(self.tables.limits.unit)
     }
 
     /// A search for the currencies above a thread, with room for this kernel at any time. It allocates all the memory
@@ -348,7 +384,7 @@ impl Kernel {
     pub fn above(&self, alloc: Global) -> Result<Above, AllocError>
         ensures { IfOk result (HasLayoutOf self.now.state) }
     {
-        self.tables.above(alloc)
+        Above::new(alloc, self.tables.threads.graph().layout())
     }
 
     /// Finds the currencies above a thread: those from which a path of edges, of tickets, lends and owners of mutexes,
@@ -359,7 +395,7 @@ impl Kernel {
         ensures layout { above.new.layout ≡ above.old.layout }
         ensures above { IsAboveThread self.now.state thread.number above.new }
     {
-        self.tables.find_above(thread, above);
+        above.find(self.tables.threads.graph(), Node::Thread(thread.number));
     }
 
     /// The ticks that the thread used before it gave up its quantum, for which it is compensated until it next wins a
@@ -367,6 +403,6 @@ impl Kernel {
     pub fn compensation(&self, thread: ThreadNumber) -> Option<u32>
         ensures { result ≡ option_and_then (λ r. r.compensation) (at_number self.now.state.records thread.number) }
     {
-        self.tables.compensation(thread)
+        self.tables.threads.record(thread)?.compensation
     }
 }

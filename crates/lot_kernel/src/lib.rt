@@ -9,6 +9,7 @@ mod freed;
 mod kernel;
 mod leads;
 mod names;
+mod settled;
 mod tables;
 
 pub use kernel::Kernel;
@@ -21,3 +22,4 @@ pub use lot_machine::{
 };
 pub use lot_threads::Runner;
 pub use lot_value::Meter;
+pub use settled::Settled;

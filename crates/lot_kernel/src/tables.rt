@@ -1,21 +1,22 @@
 //! The kernel's tables, which hold the machine's state.
-ghost use Rattle.std.specs.Prelude.{◌≡◌, ◌<◌, ◌≤◌, ◌+◌, ◌^◌, ◌∷◌, [], IfOk, Some, codes, length};
-ghost use Rattle.lot_machine.specs.Mutexes.{mutex_at};
+ghost use Rattle.std.specs.Prelude.{◌≡◌, ◌<◌, ◌≤◌, ◌+◌, ◌^◌, ◌∷◌, [], IfNone, IfOk, IfSome, MatchOption, None, Some};
+ghost use Rattle.std.specs.Prelude.{codes, length};
+ghost use Rattle.lot_machine.specs.Funding.{ticket_in};
 ghost use Rattle.lot_machine.specs.Order.{IsInOrder};
-ghost use Rattle.lot_machine.specs.State.{holders, opening, sizes_of};
+ghost use Rattle.lot_machine.specs.State.{funding_of, holders, live_of, opening, sizes_of};
 ghost use Rattle.lot_machine.specs.Step.{step};
+ghost use Rattle.lot_machine.specs.Value.{ticket_value};
 ghost use Rattle.lot_queues.specs.QueueLists.{empty_queues};
-ghost use Rattle.lot_kernel.specs.Counted.{Counts};
+ghost use Rattle.lot_value.specs.Caches.{HasNoneTwice};
+ghost use Rattle.lot_kernel.specs.Counted.{Counts, settled, with_ticket_read};
 ghost use Rattle.lot_kernel.specs.Memory.{bytes_of};
 ghost use Rattle.lot_kernel.specs.Names.{IsIndexOf};
 ghost use Rattle.lot_kernel.specs.Snapshots.{MakesStale, starting, threads_of};
 
-mod above;
 mod commands;
 mod cycles;
 mod processors;
 mod references;
-mod rows;
 mod servers;
 mod stops;
 mod traps;
@@ -23,11 +24,10 @@ mod traps;
 use crate::freed::Freed;
 use crate::names::{Hashed, NameIndex};
 use lot_kept::Stack;
-use lot_machine::{Event, Limits, MutexNumber, Name, Processor, Reply, ThreadNumber};
+use lot_machine::{Event, Limits, Name, Processor, Reply, ThreadNumber, Ticket, TicketNumber};
 use lot_mutex::Lottery;
 use lot_queues::Queues;
 use lot_threads::Threads;
-use lot_value::Meter;
 use std::alloc::{AllocError, Global};
 use std::marker::Model;
 use std::mem::size_of;
@@ -41,13 +41,13 @@ const NAME_BYTES: u64 = size_of::<Option<Name>>() as u64;
 /// Each event also requires that the state is in order, which the kernel preserves.
 #[derive(Drop)]
 pub(crate) struct Tables {
-    limits: Limits,
+    pub(crate) limits: Limits,
     /// The name of each currency, base first; `None` for a removed one.
-    currencies: Stack<Option<Name>>,
+    pub(crate) currencies: Stack<Option<Name>>,
     /// The free places, if numbers are given again.
     freed: Freed,
-    threads: Threads,
-    queues: Queues,
+    pub(crate) threads: Threads,
+    pub(crate) queues: Queues,
     currency_index: NameIndex,
     thread_index: NameIndex,
     /// Scratch memory for the lottery of a mutex.
@@ -139,54 +139,30 @@ impl Tables {
             + self.freed.held()
     }
 
-    pub(crate) fn limits(&self) -> Limits
-        ensures { sizes_of result ≡ self.now.state.limits }
+    /// Recomputes all stale values, and counts that.
+    pub(crate) fn settle(&mut self)
+        ensures settled { self.new ≡ settled self.old }
+        ensures once { HasNoneTwice self.old.stale }
     {
-        self.limits
+        self.threads.settle();
     }
 
-    pub(crate) fn meter(&self) -> Meter
-        ensures { result ≡ self.now.meter }
+    /// The ticket with this number and its value, or `None` if and only if it doesn't exist. Settles, and counts one
+    /// read of the ticket if it funds something.
+    pub(crate) fn read_ticket(&mut self, ticket: TicketNumber) -> Option<(Ticket, u64)>
+        ensures found { MatchOption result (ticket_in self.old.state.tickets ticket.number ≡ None)
+            (λ r. ticket_in self.old.state.tickets ticket.number ≡ Some r.0) }
+        ensures value { IfSome result (λ r. r.1 ≡ ticket_value self.old.state.limits.unit (funding_of self.old.state)
+            (live_of self.old.state) r.0) }
+        ensures settled { IfSome result (λ r. self.new
+            ≡ record (settled self.old) { meter = with_ticket_read (settled self.old).meter r.0 }) }
+        ensures once { IfSome result (λ r. HasNoneTwice self.old.stale) }
+        ensures unchanged { IfNone result (self.new ≡ self.old) }
     {
-        self.threads.meter()
-    }
-
-    pub(crate) fn ticket_count(&self) -> u32
-        ensures { result ≡ length self.now.state.tickets }
-    {
-        self.threads.graph().ticket_count()
-    }
-
-    pub(crate) fn currency_count(&self) -> u32
-        ensures count { result ≡ length self.now.state.currencies }
-        ensures within { result ≤ self.now.state.limits.currencies + 1 }
-    {
-        self.currencies.len() as u32
-    }
-
-    /// Stores in `out` the threads that wait for the mutex, the one that has waited longest first; none if there is
-    /// no such mutex. It allocates nothing.
-    pub(crate) fn list_waiters(&self, mutex: MutexNumber, out: &mut Stack<u32>)
-        requires { self.now.state.limits.threads ≤ out.old.room }
-        ensures waiters { out.new.items ≡ (mutex_at self.now.state.mutexes mutex.number).waiters }
-        ensures few { length out.new.items ≤ self.now.state.limits.threads }
-        ensures room { out.new.room ≡ out.old.room }
-    {
-        out.clear();
-        if 0 < mutex.number && mutex.number <= self.queues.mutexes() {
-            self.queues.list_waiters(mutex.number, out);
-        }
-    }
-
-    /// The thread that owns the mutex, or `None` if it is free or doesn't exist. A port's server has the port's holder.
-    pub(crate) fn owner(&self, mutex: MutexNumber) -> Option<u32>
-        ensures { result ≡ (mutex_at self.now.state.mutexes mutex.number).owner }
-    {
-        if 0 < mutex.number && mutex.number <= self.queues.mutexes() {
-            self.queues.owner(mutex.number)
-        } else {
-            None
-        }
+        let found = self.threads.graph().ticket(ticket.number)?;
+        self.threads.settle();
+        let value = self.threads.ticket_value(ticket);
+        Some((found, value))
     }
 
     /// Makes one event and stores its reply in `reply`.

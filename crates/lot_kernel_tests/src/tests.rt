@@ -189,8 +189,7 @@ fn ticket_row(rt: &impl Abort, shown: TicketShown<'_>) -> TicketRow {
 fn check_ticket(rt: &impl Abort, kernel: &mut Kernel, number: u32, row: Option<TicketRow>) {
     let number = TicketNumber { number };
     check_same_at(rt, &number, &kernel.ticket_row(number), &row);
-    kernel.settle();
-    check_same_at(rt, &number, &kernel.settled_ticket_row(number), &row);
+    check_same_at(rt, &number, &kernel.settle().ticket_row(number), &row);
 }
 
 fn currency_row(rt: &impl Abort, shown: CurrencyShown<'_>) -> CurrencyRow {
@@ -208,8 +207,7 @@ fn currency_row(rt: &impl Abort, shown: CurrencyShown<'_>) -> CurrencyRow {
 fn check_currency(rt: &impl Abort, kernel: &mut Kernel, number: u32, row: Option<CurrencyRow>) {
     let number = CurrencyNumber { number };
     check_same_at(rt, &number, &kernel.currency_row(number), &row);
-    kernel.settle();
-    check_same_at(rt, &number, &kernel.settled_currency_row(number), &row);
+    check_same_at(rt, &number, &kernel.settle().currency_row(number), &row);
 }
 
 fn thread_row(rt: &impl Abort, shown: ThreadShown<'_>) -> ThreadRow {
@@ -228,8 +226,7 @@ fn thread_row(rt: &impl Abort, shown: ThreadShown<'_>) -> ThreadRow {
 fn check_thread(rt: &impl Abort, kernel: &mut Kernel, number: u32, row: Option<ThreadRow>) {
     let number = ThreadNumber { number };
     check_same_at(rt, &number, &kernel.thread_row(number), &row);
-    kernel.settle();
-    check_same_at(rt, &number, &kernel.settled_thread_row(number), &row);
+    check_same_at(rt, &number, &kernel.settle().thread_row(number), &row);
 }
 
 /// Compares what a thread is worth.

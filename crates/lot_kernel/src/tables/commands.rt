@@ -118,7 +118,7 @@ impl Tables {
             }) }
         ensures unchanged { IfNone result (self.new ≡ self.old) }
     {
-        let count = self.ticket_count();
+        let count = self.threads.graph().ticket_count();
         if count >= self.limits.tickets {
             return None;
         }
@@ -208,7 +208,7 @@ impl Tables {
             }) }
         ensures unchanged { IfNone result (self.new ≡ self.old) }
     {
-        let number = self.currency_count();
+        let number = self.currencies.len() as u32;
         if number > self.limits.currencies {
             return None;
         }

@@ -1,14 +1,11 @@
 //! Events of a processor: draws and traps.
-ghost use Rattle.std.specs.Prelude.{◌≡◌, ◌<◌, ◌≤◌, ℕ, Some, None, IfSome, MatchOption, length};
-ghost use Rattle.std.specs.Prelude.{option_and_then, option_map};
+ghost use Rattle.std.specs.Prelude.{◌≡◌, ◌<◌, ◌≤◌, ℕ, Some};
 ghost use Rattle.lot_machine.specs.declared.event.Event.TheVariants as event;
 ghost use Rattle.lot_machine.specs.declared.after.After.TheVariants.{Leaves};
 ghost use Rattle.lot_machine.specs.declared.record.Status.{Status as AStatus};
 ghost use Rattle.lot_machine.specs.Bounds.{IsBetween};
-ghost use Rattle.lot_machine.specs.Numbered.{at_number};
 ghost use Rattle.lot_machine.specs.Order.{IsInOrder};
-ghost use Rattle.lot_machine.specs.State.{change_record, funding_of, lend_of, status_of, thread_at, thread_on};
-ghost use Rattle.lot_machine.specs.State.{used_by};
+ghost use Rattle.lot_machine.specs.State.{change_record, funding_of, lend_of};
 ghost use Rattle.lot_machine.specs.Step as steps;
 ghost use Rattle.lot_machine.specs.Step.{step};
 ghost use Rattle.lot_machine.specs.Traps.{after_trap, with_ticks};
@@ -20,50 +17,9 @@ ghost use Rattle.lot_kernel.specs.Trapped.{RunsOn, trapped};
 
 use crate::ending::{Trap, ends_quantum, record_after};
 use crate::tables::Tables;
-use lot_machine::{Action, After, Processor, Refusal, Reply, Status, ThreadNumber, index_of};
-use lot_threads::Runner;
+use lot_machine::{Action, After, Processor, Refusal, Reply, ThreadNumber};
 
 impl Tables {
-    /// The thread that runs on the processor, or `None` if and only if it is idle. The ticks used are below the
-    /// quantum.
-    pub(crate) fn runner(&self, processor: Processor) -> Option<Runner>
-        ensures thread { MatchOption result (thread_on self.now.state.records processor.number ≡ None)
-            (λ r. thread_on self.now.state.records processor.number ≡ Some r.thread.number) }
-        ensures used { IfSome result (λ r. used_by self.now.state.records processor.number r.thread.number
-            ≡ Some r.used) }
-        ensures there { IfSome result (λ r. (0 < r.thread.number) × (r.thread.number ≤ length self.now.state.records)) }
-        ensures below { IfSome result (λ r. r.used < self.now.state.limits.quantum) }
-    {
-        self.threads.runner(processor)
-    }
-
-    /// The number of the thread's script, fixed when it was made, or `None` if and only if there is no such thread.
-    pub(crate) fn script_of(&self, thread: ThreadNumber) -> Option<u32>
-        ensures { result ≡ option_map (λ t. t.script) (thread_at self.now.state.threads thread.number) }
-    {
-        if thread.number == 0 {
-            return None;
-        }
-        match self.threads.threads().get(index_of(thread.number))? {
-            Some(found) => Some(found.script),
-            None => None,
-        }
-    }
-
-    /// The thread's status, or `None` if no thread has ever had the number.
-    pub(crate) fn status(&self, thread: ThreadNumber) -> Option<Status>
-        ensures { result ≡ status_of self.now.state.records thread.number }
-    {
-        Some(self.threads.record(thread)?.status)
-    }
-
-    /// The ticks for which the thread is compensated, or `None` without compensation.
-    pub(crate) fn compensation(&self, thread: ThreadNumber) -> Option<u32>
-        ensures { result ≡ option_and_then (λ r. r.compensation) (at_number self.now.state.records thread.number) }
-    {
-        self.threads.record(thread)?.compensation
-    }
-
     /// Makes a draw by a processor.
     pub(super) fn draw(&mut self, processor: Processor, d: u128, reply: &mut Reply)
         ensures reply { reply.new ≡ (step self.old.state (event.Draw processor.number d)).reply }

@@ -84,7 +84,7 @@ impl Tables {
         Some(place as u32 + 1)
     }
 
-    fn thread_numbered(&self, number: u32) -> Option<u32>
+    pub(super) fn thread_numbered(&self, number: u32) -> Option<u32>
         ensures meant { result ≡ option_map (λ thread. number) (thread_at self.now.state.threads number) }
         ensures there { IfSome result (IsThere self.now.state.records) }
     {

@@ -129,7 +129,7 @@ impl Tables {
         ensures kept { KeepsStale self.old self.new }
         ensures meter { self.new.meter ≡ self.old.meter }
     {
-        if self.script_of(thread).is_none() {
+        if self.thread_numbered(thread.number).is_none() {
             *reply = Reply::Refused(Refusal::NoThread);
             return;
         }

@@ -1,6 +1,6 @@
 //! The reads of draws, unlocks and rows.
 use super::*;
-use lot_kernel::Meter;
+use lot_kernel::{Meter, Settled};
 
 /// A step of a row of counts.
 #[derive(Clone, Copy)]
@@ -252,7 +252,7 @@ fn check_thread_row(rt: &impl Abort, found: &Option<ThreadRow>, shown: ThreadSho
 
 /// Settles the kernel, which reads two edges.
 fn settle_two(rt: &impl Abort, kernel: &mut Kernel) {
-    assert!(rt; !kernel.is_settled());
+    assert!(rt; Settled::of(kernel).is_none());
     let before = kernel.meter();
     kernel.settle();
     check_same(rt, &read_since(kernel, before), &2);
@@ -260,14 +260,14 @@ fn settle_two(rt: &impl Abort, kernel: &mut Kernel) {
 
 /// Compares rows of the settled kernel, which read nothing.
 fn check_settled(rt: &impl Abort, kernel: &Kernel) {
-    assert!(rt; kernel.is_settled());
+    let settled = Settled::of(kernel).expect(rt, "a settled kernel");
     let before = kernel.meter();
-    let ticket = kernel.settled_ticket_row(TicketNumber { number: 2 });
+    let ticket = settled.ticket_row(TicketNumber { number: 2 });
     let target = Target::Thread(2);
     check_ticket_row(rt, &ticket, (2, 5, "base", "b", target, true, 5));
-    let base = kernel.settled_currency_row(CurrencyNumber { number: 0 });
+    let base = settled.currency_row(CurrencyNumber { number: 0 });
     check_currency_row(rt, &base, (0, "base", 0, 2, 15, 15));
-    let thread = kernel.settled_thread_row(ThreadNumber { number: 1 });
+    let thread = settled.thread_row(ThreadNumber { number: 1 });
     check_thread_row(rt, &thread, (1, "a", Status::Ready, 10, 10, 0, 0));
     check_same(rt, &read_since(kernel, before), &0);
 }

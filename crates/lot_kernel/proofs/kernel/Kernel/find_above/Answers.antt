@@ -1,4 +1,13 @@
+use Rattle.std.proofs.Common.{◌↔◌, ◌∙◌, ap, subst}
+use Rattle.lot_machine.specs.declared.funding.Node.TheVariants.{Currency, Thread}
+use Rattle.lot_machine.specs.Funding.{Funding}
+use Rattle.lot_graph.specs.Graphs.{LimitedFunding, Reaches}
+use Rattle.lot_graph.specs.Found.{HasFound}
+use Rattle.lot_threads.specs.Threaded.{funding_in}
+use Rattle.lot_kernel.proofs.Shown.{threads-shown}
 use Rattle.lot_kernel.proofs.kernel.Kernel.find_above.Goals as goal
 
 pub returns-clause-above : goal.returns-clause-above
-returns-clause-above c = rw (← c.self.view_is) c.find_above.ensures.above
+returns-clause-above c number =
+    let same = ap (λ (w : LimitedFunding). w.funding) c.graph.ensures ∙ ap funding_in (threads-shown c.self-inside.inside.0.0 c.self.inside c.args.self.now c.self-inside.view_is c.self.view_is c.self-inside.invariant) in
+    subst (λ (f : Funding). HasFound c.find.new.self number ↔ Reaches f (Currency number) (Thread c.args.thread.number)) same (c.find.ensures.above (Currency number))

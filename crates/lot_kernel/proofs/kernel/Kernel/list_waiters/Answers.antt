@@ -1,4 +1,4 @@
-use Rattle.std.proofs.Common.{◌≡◌, ℕ, Option, Some, None, [], length, slice_index_or, unwrap_or, refl, arith}
+use Rattle.std.proofs.Common.{◌≡◌, ℕ, ◌∙◌, Option, Some, None, List, [], length, slice_index_or, unwrap_or, ap, refl, subst, sym, arith}
 use Rattle.std.specs.List.{All}
 use Rattle.std.proofs.lemmas.Option.{slice_get-get_or}
 use Rattle.lot_machine.specs.declared.record.Status.TheVariants.{Waiting}
@@ -9,6 +9,8 @@ use Rattle.lot_machine.specs.Order.{IsInOrder}
 use Rattle.lot_machine.specs.State.{State, Mutex}
 use Rattle.lot_machine.proofs.LendSums.{number-within}
 use Rattle.lot_machine.proofs.Queues.{record-of}
+use Rattle.lot_kernel.specs.Snapshots.{Snapshot}
+use Rattle.lot_kernel.proofs.Shown.{tables-shown}
 use Rattle.lot_kernel.proofs.kernel.Kernel.list_waiters.Goals as goal
 
 -- who waits for a mutex is a thread
@@ -25,4 +27,8 @@ waiters-there s m order = from (at_number s.mutexes m) refl
 pub returns-clause-there : goal.returns-clause-there
 returns-clause-there c =
     let s = c.args.self.now.state in
-    rw c.list_waiters.ensures.waiters (rw c.self.view_is (waiters-there s c.args.mutex.number (rw (← c.self.view_is) c.self.invariant)))
+    let m = c.args.mutex.number in
+    let shown = tables-shown c.self-inside.inside.0.0 c.self.inside c.args.self.now c.self-inside.view_is c.self.view_is in
+    let listed = c.list_waiters.ensures.waiters ∙ ap (λ (k : Snapshot). (mutex_at k.state.mutexes m).waiters) shown in
+    let order = subst (λ (k : Snapshot). IsInOrder k.state) c.self.view_is c.self.invariant in
+    subst (λ (ts : List ℕ). All (IsBetween 1 (length s.records)) ts) (sym listed) (waiters-there s m order)

@@ -1,16 +1,11 @@
+use Rattle.std.proofs.Common.{ap, sym, ◌∙◌}
+use Rattle.std.specs.Prelude.{if◌then◌else◌}
+use Rattle.lot_machine.specs.State.{value_of}
+use Rattle.lot_kernel.specs.Snapshots.{Snapshot}
 use Rattle.lot_kernel.proofs.kernel.Kernel.live_value.Goals as goal
 
-pub returns-clause-value : goal.returns-clause-value
-returns-clause-value c = rw (← c.self.view_is) c.live_value.ensures.value
-
-pub returns-clause-state : goal.returns-clause-state
-returns-clause-state c = rw (← c.self.view_is) c.live_value.ensures.state
-
-pub returns-clause-settled : goal.returns-clause-settled
-returns-clause-settled c = rw (← c.self.view_is) c.live_value.ensures.settled
-
-pub returns-clause-once : goal.returns-clause-once
-returns-clause-once c = rw (← c.self.view_is) c.live_value.ensures.once
-
-pub returns-clause-unchanged : goal.returns-clause-unchanged
-returns-clause-unchanged c = rw (← c.self.view_is) c.live_value.ensures.unchanged
+pub returns-then-is_live-clause-value : goal.returns-then-is_live-clause-value
+returns-then-is_live-clause-value c =
+    let s = c.args.self.now.state in
+    let t = c.args.thread.number in
+    c.worth_of.ensures ∙ ap (λ (k : Snapshot). value_of k.state t) c.settle.ensures.settled ∙ ap (λ b. if b then value_of s t else 0) (sym c.if-is_live.true ∙ c.is_live.ensures.live)

@@ -1,4 +1,4 @@
-use Rattle.std.proofs.Common.{◌≡◌, length, subst, sym}
+use Rattle.std.proofs.Common.{subst, sym}
 use Rattle.lot_lists.specs.NodeLists.{IsFree}
 use Rattle.lot_kernel.proofs.Indexed.{next-free}
 use Rattle.lot_kernel.proofs.tables.Tables.add_currency_last.Goals as goal
@@ -6,5 +6,4 @@ use Rattle.lot_kernel.proofs.tables.Tables.add_currency_last.Goals as goal
 pub add-requires-clause-free : goal.add-requires-clause-free
 add-requires-clause-free c =
     let i = c.self.inside in
-    let number : c.currency_count-number.result ≡ length i.currencies.items = rw (← c.self.view_is) at c.currency_count-number.ensures.count in
-    subst (λ n. IsFree i.currency_index n) (sym number) (next-free i.currency_index i.currencies.items c.self.invariant.currency_index)
+    subst (λ n. IsFree i.currency_index n) (sym c.len-number.ensures.value) (next-free i.currency_index i.currencies.items c.self.invariant.currency_index)

@@ -23,28 +23,28 @@ returns-clause-stale c =
 pub returns-then-is_none : goal.returns-then-is_none
 returns-then-is_none c =
     let s = c.args.self.now.state in
-    let none = missing-of (λ (t : AThread). t.script) (thread_at s.threads c.args.thread.number) (sym c.if-is_none.ensures ∙ ap is_some c.script_of.ensures) in
+    let none = missing-of (λ (t : AThread). c.args.thread.number) (thread_at s.threads c.args.thread.number) (sym c.if-is_none.ensures ∙ ap is_some c.thread_numbered.ensures.meant) in
     let is : event_refusal s (event.Wake c.args.thread.number) ≡ Some NoThread = rw none refl in
     record { reply = refused-event-reply s (event.Wake c.args.thread.number) NoThread is; state = refused-event-state s (event.Wake c.args.thread.number) NoThread is; stale = λ x old. inl old; kept = λ x old. old; meter = refl }
 
 pub returns-then-not-is_asleep : goal.returns-then-not-is_asleep
 returns-then-not-is_asleep c =
     let s = c.args.self.now.state in
-    let there = present-of (λ (t : AThread). t.script) (thread_at s.threads c.args.thread.number) (sym c.if-is_none.ensures ∙ ap is_some c.script_of.ensures) in
+    let there = present-of (λ (t : AThread). c.args.thread.number) (thread_at s.threads c.args.thread.number) (sym c.if-is_none.ensures ∙ ap is_some c.thread_numbered.ensures.meant) in
     let is : event_refusal s (event.Wake c.args.thread.number) ≡ Some NotAsleep = rw (there, ← c.if-not-is_asleep.ensures) refl in
     record { reply = refused-event-reply s (event.Wake c.args.thread.number) NotAsleep is; state = refused-event-state s (event.Wake c.args.thread.number) NotAsleep is; stale = λ x old. inl old; kept = λ x old. old; meter = refl }
 
 pub returns-clause-reply : goal.returns-clause-reply
 returns-clause-reply c =
     let s = c.args.self.now.state in
-    let there = present-of (λ (t : AThread). t.script) (thread_at s.threads c.args.thread.number) (sym c.if-is_none.ensures ∙ ap is_some c.script_of.ensures) in
+    let there = present-of (λ (t : AThread). c.args.thread.number) (thread_at s.threads c.args.thread.number) (sym c.if-is_none.ensures ∙ ap is_some c.thread_numbered.ensures.meant) in
     let is : event_refusal s (event.Wake c.args.thread.number) ≡ None = rw (there, ← c.if-not-is_asleep.ensures) refl in
     sym (ap (λ (x : Step). x.reply) (event-done s (event.Wake c.args.thread.number) is))
 
 pub returns-clause-state : goal.returns-clause-state
 returns-clause-state c =
     let s = c.args.self.now.state in
-    let there = present-of (λ (t : AThread). t.script) (thread_at s.threads c.args.thread.number) (sym c.if-is_none.ensures ∙ ap is_some c.script_of.ensures) in
+    let there = present-of (λ (t : AThread). c.args.thread.number) (thread_at s.threads c.args.thread.number) (sym c.if-is_none.ensures ∙ ap is_some c.thread_numbered.ensures.meant) in
     let is : event_refusal s (event.Wake c.args.thread.number) ≡ None = rw (there, ← c.if-not-is_asleep.ensures) refl in
     let i = c.self.inside in
     ap (λ (v : Threaded). held (sizes_of i.limits) (freed_in i.freed) i.currencies.items v i.queues) c.set_status.ensures.set

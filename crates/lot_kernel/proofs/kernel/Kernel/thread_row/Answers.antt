@@ -1,4 +1,0 @@
-use Rattle.lot_kernel.proofs.kernel.Kernel.thread_row.Goals as goal
-
-pub returns-clause-settled : goal.returns-clause-settled
-returns-clause-settled c = rw (← c.self.view_is) c.thread_row.ensures.settled

@@ -1,0 +1,24 @@
+use Rattle.std.proofs.Common.{Contains, List, ap, subst, ◌∙◌}
+use Rattle.std.proofs.lemmas.Bool.{eq-eqb}
+use Rattle.lot_machine.specs.declared.funding.Node.{Node}
+use Rattle.lot_machine.specs.declared.funding.Node.TheVariants as node
+use Rattle.lot_machine.specs.Activity.{active_amount}
+use Rattle.lot_machine.specs.State.{live_in}
+use Rattle.lot_machine.specs.Value.{node_value}
+use Rattle.lot_machine.proofs.EachOnce.{contains-nothing}
+use Rattle.lot_threads.specs.Threaded.{Threaded, funding_in}
+use Rattle.lot_kernel.proofs.Shown.{threads-shown}
+use Rattle.lot_kernel.proofs.settled.Settled.currency_value.Goals as goal
+
+pub returns-then-currency-eq0 : goal.returns-then-currency-eq0
+returns-then-currency-eq0 c =
+    let held = threads-shown c.kernel-inside.inside.0.0 c.kernel.inside c.args.self.now.kernel.now c.kernel-inside.view_is c.kernel.view_is c.kernel-inside.invariant in
+    rw (eq-eqb c.args.currency.number 0 c.if-currency-eq0.true) (c.active_amount.ensures ∙ ap (λ (v : Threaded). active_amount (funding_in v) (live_in v.records) 0) held)
+
+pub returns : goal.returns
+returns c =
+    let held = threads-shown c.kernel-inside.inside.0.0 c.kernel.inside c.args.self.now.kernel.now c.kernel-inside.view_is c.kernel.view_is c.kernel-inside.invariant in
+    let n = node.Currency c.args.currency.number in
+    let settled = ap (λ (v : Threaded). v.stale) held ∙ c.args.self.now.settled in
+    let fresh : ¬ Contains c.kernel-inside.inside.0.0.threads.stale n = λ stale. contains-nothing n (subst (λ (xs : List Node). Contains xs n) settled stale) in
+    c.value_of.ensures.worth fresh c.if-currency-eq0.false ∙ ap (λ (v : Threaded). node_value v.unit (funding_in v) (live_in v.records) n) held
