@@ -1,7 +1,7 @@
 use Rattle.std.proofs.Common.{◌≡◌, ◌++◌, codes, Err, rules}
 use Rattle.std.specs.Fmt.{decimal}
 use Rattle.lot_simulation.specs.Texts.{front, plain_text}
-use Rattle.lot_print.proofs.PageFacts.{put-line, put-stop}
+use Rattle.lot_print.proofs.PageFacts.{put-stop}
 use Rattle.lot_print.proofs.replies.write_reply.Goals as goal
 
 pub returns-in_err-make_room : goal.returns-in_err-make_room
@@ -12,11 +12,4 @@ returns-in_err-make_room g c =
       told.0,
       told.1,
       put-stop (g.W.Write.contents c.args.writer.now.inner) (g.W.Write.contents c.make_room.new.writer.inner) c.args.page.now (front c.args.heading.style ++ (decimal c.args.heading.actor ++ (codes " " ++ plain_text c.args.heading.style c.args.heading.unit c.args.event.now c.args.reply.now))) told.2,
-    )
-
-pub returns : goal.returns
-returns g c =
-    let told = c.in_ok-make_room.ensures.text in (
-      told.0,
-      put-line (g.W.Write.contents c.args.writer.now.inner) (g.W.Write.contents c.make_room.new.writer.inner) c.args.page.now c.make_room.new.self c.push_turn.new.line _ told.1 (rw c.page.view_is at c.push_turn.ensures),
     )

@@ -1,10 +1,10 @@
 -- The command is the next one, and what is held then is what the world comes to.
-use Rattle.std.proofs.Common.{◌≡◌, ℕ, List, ◌<◌, length, sym, ap, ◌∙◌, subst, refl, arith}
+use Rattle.std.proofs.Common.{◌≡◌, length, sym, ap, ◌∙◌, subst, refl, arith}
 use Rattle.lot_simulation.specs.World.{next_name, resolved, system_turn, system_run, tickets_after}
 use Rattle.lot_simulation.specs.World.Answer.{Answered}
 use Rattle.lot_machine.specs.declared.event.Event.TheVariants as event
 use Rattle.lot_machine.specs.Order.{IsInOrder}
-use Rattle.lot_engine.specs.Seen.{Seen, after_turn, world_of}
+use Rattle.lot_engine.specs.Seen.{Seen, world_of}
 use Rattle.lot_engine.proofs.InOrder.{run-in-order}
 use Rattle.lot_engine.proofs.OneMore.{console-more}
 use Rattle.lot_simulation.specs.Report.{turns_made}
@@ -80,32 +80,3 @@ returns-clause-answer c =
     let next = command-next s.program w s.kernel.state s.places.items s.generators.items s.tickets s.spent i.held c.commands.result.now c.at-command.result below c.commands.ensures.commands c.at-command.ensures in
     subst (λ (x : Seen). (system_turn x.setting.program (world_of x) 0).answer ≡ Answered (event.Command c.resolve.result) c.answer.new.reply) c.self.view_is
     (command-answer s.program w s.kernel.state s.places.items s.generators.items s.tickets s.spent i.held c.at-command.result _ next c.resolve.result resolves c.answer.new.self.state c.answer.new.reply c.answer.ensures.state c.answer.ensures.reply)
-
-pub at-command-requires : goal.at-command-requires
-at-command-requires c =
-    let s = c.self.inside in
-    let left = rw (← c.self.view_is) at c.requires.left in
-    let below = command-left s.program (system_run s.program s.history.items) s.kernel.state s.places.items s.generators.items s.tickets s.spent c.self.invariant.held left in
-    record { within = subst (λ l. s.spent < length l) (sym c.commands.ensures.commands) below }
-
-pub answer-requires : goal.answer-requires
-answer-requires c = tt
-
-pub count_turn-requires-clause-there : goal.count_turn-requires-clause-there
-count_turn-requires-clause-there c = omega (arith, c.self.invariant.counts)
-
-pub count_turn-requires-clause-total : goal.count_turn-requires-clause-total
-count_turn-requires-clause-total c =
-    let requires = rw (← c.self.view_is) at c.requires in
-    (length c.self.inside.history.items, omega (arith, requires.room), c.self.invariant.total_counted.small)
-
-pub push-requires-clause-room : goal.push-requires-clause-room
-push-requires-clause-room c =
-    let requires = rw (← c.self.view_is) at c.requires in
-    omega (arith, requires.room, c.self.invariant.room)
-
-pub returns-clause-seen : goal.returns-clause-seen
-returns-clause-seen c =
-    let s = c.self.inside in
-    let seen : List ℕ → Seen = λ history. record { setting = record { program = s.program; room = s.room; timer = s.has_timer }; history = history } in
-    ap seen c.push.ensures.items ∙ ap (λ (x : Seen). after_turn x 0) c.self.view_is

@@ -1,9 +1,6 @@
-use Rattle.std.proofs.Common.{◌≡◌, ◌+◌, ◌∙◌, ap, subst, sym, vec_len, arith}
+use Rattle.std.proofs.Common.{◌≡◌, ◌+◌, ap, subst, sym, arith}
 use Rattle.lot_simulation.specs.declared.timed.Clock.{Clock}
-use Rattle.lot_simulation.specs.Timed.{clock_of, clocks_after, is_idle_draw}
-use Rattle.lot_simulation.specs.World.Answer.{Answered}
-use Rattle.lot_engine.specs.Seen.{world_of}
-use Rattle.lot_playback.specs.declared.clocks.Clocks.{Clocks}
+use Rattle.lot_simulation.specs.Timed.{clock_of}
 use Rattle.lot_playback.specs.InTime.{HaveIdled}
 use Rattle.lot_playback.proofs.TimeFacts.{all-set, clock-idled, idled-longer}
 use Rattle.lot_playback.proofs.clocks.Clocks.follow.Goals as goal
@@ -20,18 +17,3 @@ returns-clause-idled c n idled =
       | else-not-waits-2 w ↦ subst (λ s. HaveIdled (n + 1) s.processors.items) (sym w.self-is) (idled-longer n xs idled)
     ] in
     all-set (n + 1) _ _ c.if-not-waits-2.self.processors.items (omega (arith, own, same)) others
-
-pub wake-requires : goal.wake-requires
-wake-requires c = record { idled = c.requires.idled }
-
-pub returns-then-actor-eq0-clause-clocks : goal.returns-then-actor-eq0-clause-clocks
-returns-then-actor-eq0-clause-clocks c e =
-    c.follow_console.ensures.clocks
-    ∙ ap (λ a. clocks_after (world_of c.args.system.now).state c.args.self.now.processors.items (record { time = c.args.time; actor = a }) (is_idle_draw (Answered e c.args.reply))) (sym c.if-actor-eq0.true)
-
-pub returns-clause-count : goal.returns-clause-count
-returns-clause-count c =
-    elim c.if-not-waits-2.branch [
-      | then-not-waits-2 w ↦ ap (λ (s : Clocks). vec_len s.processors) w.self-is ∙ w.wake-then-not-waits-2.ensures.count
-      | else-not-waits-2 w ↦ ap (λ (s : Clocks). vec_len s.processors) w.self-is
-    ]

@@ -1,4 +1,4 @@
-use Rattle.std.proofs.Common.{refl, ◌≡◌, ◌+◌, ◌<◌, ◌++◌, List, get_or, set, drop, length, ap, subst, sym, ◌∙◌, arith}
+use Rattle.std.proofs.Common.{◌≡◌, ◌+◌, ◌<◌, ◌++◌, List, get_or, set, drop, length, ap, subst, sym, ◌∙◌, arith}
 use Rattle.std.specs.Prelude.{Bool, ◌||◌, is_none, map, if◌then◌else◌}
 use Rattle.std.specs.List.{range_with_len}
 use Rattle.lot_machine.specs.State.{State, thread_on}
@@ -62,9 +62,3 @@ returns-clause-count c =
     let same : length now.items ≡ length xs =
     ap length c.loop-place.invariant.clocks ∙ set-length (clock_after_console (world_of c.args.system.now).state c.args.time xs) xs 1 c.loop-place.place (omega (arith, c.loop-place.auto.place-end, c.len-place-end.ensures)) in
     omega (arith, same, c.args.self.now.processors.ok.0, now.ok.0)
-
-pub loop-place-init : goal.loop-place-init
-loop-place-init c = record { time = refl; clocks = refl }
-
-pub returns-clause-time : goal.returns-clause-time
-returns-clause-time c = c.loop-place.invariant.time

@@ -1,4 +1,4 @@
-use Rattle.std.proofs.Common.{refl, ◌≡◌, ◌+◌, ◌++◌, List, get_or, set, take, drop, length, ap, subst, sym, ◌∙◌, arith}
+use Rattle.std.proofs.Common.{◌≡◌, ◌+◌, ◌++◌, List, get_or, set, take, drop, length, ap, subst, sym, ◌∙◌, arith}
 use Rattle.std.specs.Prelude.{map}
 use Rattle.lot_simulation.specs.declared.timed.Clock.{Clock}
 use Rattle.lot_simulation.specs.Timed.{woken}
@@ -42,14 +42,3 @@ returns-clause-count c =
     let now = c.loop-place.self.processors in
     let same : length now.items ≡ length xs = ap length c.loop-place.invariant.clocks ∙ turned-length (woken c.args.time) xs c.loop-place.place in
     omega (arith, same, c.args.self.now.processors.ok.0, now.ok.0)
-
-pub loop-place-init : goal.loop-place-init
-loop-place-init c = record { time = refl; clocks = refl }
-
-pub returns-clause-time : goal.returns-clause-time
-returns-clause-time c = c.loop-place.invariant.time
-
-pub returns-clause-clocks : goal.returns-clause-clocks
-returns-clause-clocks c =
-    c.loop-place.invariant.clocks
-    ∙ turned-all (woken c.args.time) c.args.self.now.processors.items c.loop-place.place (omega (arith, c.loop-place-test.false, c.len-place-end.ensures))

@@ -1,8 +1,8 @@
-use Rattle.std.proofs.Common.{◌≡◌, ◌+◌, ◌<◌, ◌∙◌, ap, length, refl, set, sym, subst, arith}
+use Rattle.std.proofs.Common.{◌≡◌, ◌+◌, ◌<◌, ◌∙◌, ap, length, set, sym, subst, arith}
 use Rattle.lot_engine.specs.Seen.{Seen, world_of}
 use Rattle.lot_playback.specs.Owed.{IsOwed}
 use Rattle.lot_playback.specs.Sharing.{value_in}
-use Rattle.lot_playback.proofs.DueFacts.{HaveTaken, none-taken, one-taken}
+use Rattle.lot_playback.proofs.DueFacts.{HaveTaken, one-taken}
 use Rattle.lot_playback.proofs.dues.DueTable.revalue.Goals as goal
 
 pub parts_of-requires : goal.parts_of-requires
@@ -39,26 +39,3 @@ pub returns-clause-rest : goal.returns-clause-rest
 returns-clause-rest c =
     let now = c.loop-place.invariant in
     λ i. record { sharers = now.sharers i; places = c.loop-place.self.places; whole = c.loop-place.self.whole; rate = now.rate i; time = now.time i; shared_time = now.shared i }
-
-pub loop-place-init : goal.loop-place-init
-loop-place-init c = record {
-  system = c.whole-self.ensures.same;
-  sharers = refl;
-  rate = refl;
-  time = refl;
-  shared = refl;
-  whole = c.whole-self.ensures.whole;
-  taken = none-taken (value_in c.args.self.now.sharers (world_of c.args.system.now).state) c.args.self.now.rate c.args.self.now.places.items;
-}
-
-pub returns-clause-same : goal.returns-clause-same
-returns-clause-same c = c.loop-place.invariant.system
-
-pub returns-clause-whole : goal.returns-clause-whole
-returns-clause-whole c = c.loop-place.invariant.whole
-
-pub returns-clause-count : goal.returns-clause-count
-returns-clause-count c = omega (arith, c.loop-place.invariant.taken.count, c.args.self.now.places.ok.0, c.loop-place.self.places.ok.0)
-
-pub returns-clause-owed : goal.returns-clause-owed
-returns-clause-owed c = c.loop-place.invariant.taken.owed

@@ -1,10 +1,8 @@
-use Rattle.std.proofs.Common.{[], ap, sym, subst, true}
+use Rattle.std.proofs.Common.{ap, sym, subst}
 use Rattle.std.specs.Option.{IsSome}
 use Rattle.lot_playback.specs.InTime.{IsFollowed}
 use Rattle.lot_engine.specs.Seen.{Seen}
-use Rattle.lot_playback.specs.Stages.{HasMade}
 use Rattle.lot_playback.proofs.FollowFacts.{opened-followed}
-use Rattle.lot_playback.proofs.MadeFacts.{opened-made}
 use Rattle.lot_playback.proofs.playback.Playback.open_timed.Goals as goal
 
 pub invariant_of-result : goal.invariant_of-result
@@ -18,6 +16,3 @@ invariant_of-result c =
       followed = subst (λ (s : Seen). IsFollowed s.setting.program s timekeeper) system
           (opened-followed program timekeeper opened.legal.limits opened.sleeping opened.alarms (opened.legal.time_count c.requires) opened.time opened.clocks (opened.room (ap (λ (s : Seen). s.setting.program) c.in_ok-system.ensures)) opened.followed opened.dues opened.refused);
     }
-
-pub returns-clause-made : goal.returns-clause-made
-returns-clause-made c = subst (HasMade c.args.program.now []) (sym c.in_ok-system.ensures) (opened-made c.args.program.now 16000000 true)

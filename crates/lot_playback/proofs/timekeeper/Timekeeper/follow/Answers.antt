@@ -1,11 +1,8 @@
-use Rattle.std.proofs.Common.{◌≡◌, ◌≤◌, ◌||◌, length, vec_len, ◌+◌, ◌++◌, ◌∷◌, [], ◌∙◌, ap, sym, subst, arith}
-use Rattle.std.proofs.lemmas.List.{get_or_default}
+use Rattle.std.proofs.Common.{◌+◌, ◌++◌, ◌∷◌, [], ◌∙◌, ap, sym, subst, arith}
 use Rattle.lot_simulation.specs.TimedReport.{life, life_change, mutex_change, mutex_wait, reply_change, reply_wait}
 use Rattle.lot_engine.specs.Searching.{HasLayoutFor}
 use Rattle.lot_engine.specs.Seen.{Seen, world_of}
-use Rattle.lot_simulation.specs.Timed.{clocks_after, is_idle_draw}
 use Rattle.lot_playback.specs.declared.sharers.Sharers.TheVariants.{Threads}
-use Rattle.lot_playback.specs.InTime.{AreAlarms, CanFollow}
 use Rattle.lot_playback.specs.Owed.{Answers}
 use Rattle.lot_playback.specs.TicksBelow.{AreCurrencies}
 use Rattle.lot_playback.proofs.DueFacts.{few-waits, waits-more}
@@ -67,66 +64,3 @@ returns-clause-dues c first before done n turn room at answered world answers fo
       currencies = subst (λ (x : Seen). AreCurrencies first (done ++ turn ∷ []) (n + 1) (world_of x).state c.follow-2.new.self) same
           (c.follow-2.ensures.exact first before done n turn room at answered (world ∙ ap world_of (sym same)) (subst (λ (x : Seen). Answers before c.args.event.now c.args.reply (world_of x).state) (sym same) answers) found was.currencies);
     }
-
-pub follow-requires-3-clause-few : goal.follow-requires-3-clause-few
-follow-requires-3-clause-few c = c.requires.processors
-
-pub follow-requires-3-clause-idled : goal.follow-requires-3-clause-idled
-follow-requires-3-clause-idled c = let (done, n, room, was) = c.requires.followed in (n, room, was.idled)
-
-pub follow-requires-4-clause-processors : goal.follow-requires-4-clause-processors
-follow-requires-4-clause-processors c =
-    let e : c.len-processors.result ≡ vec_len c.args.self.now.clocks.processors = c.len-processors.ensures in
-    subst (λ n. n ≤ 64) (sym e) c.requires.processors
-
-pub follow-requires-4-clause-are : goal.follow-requires-4-clause-are
-follow-requires-4-clause-are c =
-    let e : c.len-processors.result ≡ vec_len c.args.self.now.clocks.processors = c.len-processors.ensures in
-    subst (λ n. AreAlarms n c.args.self.now.alarms) (sym e) c.requires.sleeping
-
-pub follow-requires-4-clause-can : goal.follow-requires-4-clause-can
-follow-requires-4-clause-can c =
-    let e : c.len-processors.result ≡ vec_len c.args.self.now.clocks.processors = c.len-processors.ensures in
-    subst (λ n. CanFollow c.args.actor n (length c.args.self.now.alarms.threads.items) c.args.sleeper) (sym e) c.requires.can
-
-pub follow-requires-5 : goal.follow-requires-5
-follow-requires-5 c = let (done, n, room, was) = c.requires.followed in record { bounded = (mutex_change, done, n, room, was.mutexes) }
-
-pub follow-requires-6 : goal.follow-requires-6
-follow-requires-6 c = let (done, n, room, was) = c.requires.followed in record { bounded = (reply_change, done, n, room, was.replies) }
-
-pub follow-requires-7 : goal.follow-requires-7
-follow-requires-7 c = let (done, n, room, was) = c.requires.followed in record { bounded = (life_change, done, n, room, was.lives) }
-
-pub follow-requires-8 : goal.follow-requires-8
-follow-requires-8 c =
-    let (done, n, room, was) = c.requires.followed in
-    record { few = λ k d below. omega (arith, get_or_default c.args.self.now.refused_traps.threads.items k d 0 below, (was.refused_traps k below).few, room) }
-
-pub overflow_add-self : goal.overflow_add-self
-overflow_add-self c = let (done, n, room, was) = c.requires.followed in omega (arith, was.few, room, c.refusals_in.ensures.few)
-
-pub returns-clause-same : goal.returns-clause-same
-returns-clause-same c = c.follow-2.ensures.same ∙ c.follow.ensures.same
-
-pub returns-clause-time : goal.returns-clause-time
-returns-clause-time c = c.follow-3.ensures.time
-
-pub returns-clause-clocks : goal.returns-clause-clocks
-returns-clause-clocks c =
-    c.follow-3.ensures.clocks c.args.event.now
-    ∙ ap (λ (x : Seen). clocks_after (world_of x).state c.args.self.now.clocks.processors.items (record { time = c.args.time; actor = c.args.actor }) (is_idle_draw (Answered c.args.event.now c.args.reply)))
-    (c.follow-2.ensures.same ∙ c.follow.ensures.same)
-
-pub returns-clause-alarms : goal.returns-clause-alarms
-returns-clause-alarms c m at count asleep =
-    let e : c.len-processors.result ≡ length c.args.self.now.clocks.processors.items = omega (arith, c.len-processors.ensures, c.args.self.now.clocks.processors.ok.0) in
-    c.follow-4.ensures.after m at (count ∙ sym e) (λ some few. asleep some (subst (λ n. c.args.actor ≤ n) e few))
-
-pub returns-clause-sleeping : goal.returns-clause-sleeping
-returns-clause-sleeping c =
-    let e : c.len-processors.result ≡ vec_len c.args.self.now.clocks.processors = c.len-processors.ensures in
-    subst (λ n. AreAlarms n c.follow-4.new.self) e c.follow-4.ensures.are
-
-pub returns-clause-refused : goal.returns-clause-refused
-returns-clause-refused c = ap (λ b. c.args.self.now.has_refused || b) c.is_refusal.ensures

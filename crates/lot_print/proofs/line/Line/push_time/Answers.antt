@@ -1,6 +1,0 @@
-use Rattle.lot_print.proofs.Pairs.{parts}
-use Rattle.lot_print.proofs.line.Line.push_time.Goals as goal
-
-pub returns-clause-text : goal.returns-clause-text
-returns-clause-text g c =
-    parts c.args.self.now _ _ _ _ c.push_count.ensures.text c.push_text.ensures.text

@@ -1,7 +1,0 @@
-use Rattle.lot_print.proofs.Pairs.{parts}
-use Rattle.lot_print.proofs.replies.push_made.Goals as goal
-
-pub returns : goal.returns
-returns g c =
-    parts c.args.line.now _ _ _ _ c.push_text.ensures.text
-    (parts c.push_text.new.self _ _ _ _ c.push_count.ensures.text c.push_word.ensures.text)

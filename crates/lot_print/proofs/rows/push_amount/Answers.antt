@@ -1,7 +1,0 @@
-use Rattle.lot_print.proofs.Pairs.{parts}
-use Rattle.lot_print.proofs.rows.push_amount.Goals as goal
-
-pub returns-clause-text : goal.returns-clause-text
-returns-clause-text c =
-    parts c.args.line.now _ _ _ _ c.push_field.ensures.text
-    (parts c.push_field.new.self _ _ _ _ c.push_text.ensures.text (rw c.as_bytes.ensures.bytes at c.push_bytes.ensures.text))
