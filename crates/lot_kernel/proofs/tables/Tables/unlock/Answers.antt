@@ -18,7 +18,6 @@ use Rattle.lot_machine.specs.State.{sizes_of}
 use Rattle.lot_kernel.specs.contracts.tables.Tables.{the_view}
 use Rattle.lot_kernel.proofs.tables.Tables.unlock.Goals as goal
 use Rattle.lot_kernel.specs.FreePlaces.{freed_in}
-use Rattle.lot_kernel.specs.contracts.tables.Tables.{the_view}
 
 pub invariant_of-self : goal.invariant_of-self
 invariant_of-self c =
