@@ -1,12 +1,13 @@
 -- Lotteries, locks and unlocks as their contracts see them.
-use Rattle.std.specs.Prelude.{◌≡◌, ℕ, Option, None, List, map, slice_get, if◌then◌else◌}
+use Rattle.std.specs.Prelude.{◌≡◌, ◌≢◌, ℕ, Option, None, List, [], map, slice_get, if◌then◌else◌}
 use Rattle.lot_machine.specs.declared.funding.Node.{Node}
 use Rattle.lot_machine.specs.Kill.{is_owned_by, passed_on}
 use Rattle.lot_machine.specs.Mutexes.{MutexTrap}
 use Rattle.lot_machine.specs.State.{Mutex}
 use Rattle.lot_queues.specs.QueueLists.{QueueLists}
 use Rattle.lot_threads.specs.declared.effect.Effect.{Effect}
-use Rattle.lot_threads.specs.Threaded.{Threaded}
+use Rattle.lot_threads.specs.Threaded.{Threaded, IsStaleIn, settled_in}
+use Rattle.lot_value.specs.Caches.{HasNoneTwice}
 
 -- the largest number of waiters, and the listed waiters in the order of waiting
 pub record Listed : Type 0 where
@@ -27,6 +28,17 @@ pub record IsMutexTrap (v : Threaded) (q : QueueLists) (trap : MutexTrap) (effec
   pub after : effect.after ≡ trap.after
   pub threads : new ≡ with_mutexes v trap new.stale
   pub queues : left ≡ record q { mutexes = trap.mutexes }
+
+-- an unlock settles for its lottery over these waiters, and leaves stale nodes and counts as they are if there are none
+pub record UnlockSettles (waiters : List ℕ) (old new : Threaded) : Type 0 where
+  -- if nobody waits, stale nodes remain stale
+  pub kept : waiters ≡ [] → (node : Node) → IsStaleIn old node → IsStaleIn new node
+  -- and the counts stay
+  pub uncounted : waiters ≡ [] → new.meter ≡ old.meter
+  -- if somebody waits, the counts are those after settling
+  pub counted : waiters ≢ [] → new.meter ≡ (settled_in old).meter
+  -- and each stale node was settled once, since none was listed twice
+  pub once : waiters ≢ [] → HasNoneTwice old.stale
 
 -- the mutex, passed on if the thread owns it
 abbrev pub passed_from : ℕ → Mutex → Mutex

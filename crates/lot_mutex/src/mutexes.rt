@@ -1,5 +1,5 @@
 //! Locks and unlocks (6.1).
-ghost use Rattle.std.specs.Prelude.{◌≡◌, ◌≢◌, ◌<◌, ◌^◌, ℕ, [], IfSome, Option, Some, length, option_map, remove};
+ghost use Rattle.std.specs.Prelude.{◌≡◌, ◌<◌, ◌^◌, ℕ, [], IfSome, Option, Some, length, option_map, remove};
 ghost use Rattle.std.specs.Prelude.{slice_get};
 ghost use Rattle.lot_machine.specs.declared.funding.Node.{Node as ANode};
 ghost use Rattle.lot_machine.specs.declared.funding.Node.TheVariants.{Thread as ThreadNode};
@@ -11,9 +11,8 @@ ghost use Rattle.lot_machine.specs.Numbered.{set_number};
 ghost use Rattle.lot_machine.specs.Order.{IsQueue};
 ghost use Rattle.lot_machine.specs.State.{change_record, status_of};
 ghost use Rattle.lot_queues.specs.QueueLists.{IsThere, IsNowhere, IsWaiter};
-ghost use Rattle.lot_value.specs.Caches.{HasNoneTwice};
-ghost use Rattle.lot_threads.specs.Threaded.{IsLiveIn, IsStaleIn, MakesStaleIn, settled_in, with_records, worth_in};
-ghost use Rattle.lot_mutex.specs.Listed.{IsMutexTrap, owners_of, with_mutexes};
+ghost use Rattle.lot_threads.specs.Threaded.{IsLiveIn, IsStaleIn, MakesStaleIn, with_records, worth_in};
+ghost use Rattle.lot_mutex.specs.Listed.{IsMutexTrap, UnlockSettles, owners_of};
 
 use crate::lottery::Lottery;
 use lot_machine::{After, Drawn, MutexNumber, Outcome, Status, ThreadNumber};
@@ -33,16 +32,9 @@ pub fn lock(
     requires nowhere { IsNowhere queues.old thread.number }
     requires same { length threads.old.records ≡ length queues.old.clients }
     requires owners { owners_of queues.old.mutexes ≡ threads.old.owners }
-    ensures outcome { result.outcome
-        ≡ (machine.lock threads.old.records queues.old.mutexes thread.number mutex.number).outcome }
-    ensures after { result.after
-        ≡ (machine.lock threads.old.records queues.old.mutexes thread.number mutex.number).after }
-    ensures threads { threads.new ≡ with_mutexes threads.old
-        (machine.lock threads.old.records queues.old.mutexes thread.number mutex.number) threads.new.stale }
-    ensures queues { queues.new ≡ record queues.old {
-      mutexes =
-          (machine.lock threads.old.records queues.old.mutexes thread.number mutex.number).mutexes;
-    } }
+    ensures trap { IsMutexTrap threads.old queues.old
+        (machine.lock threads.old.records queues.old.mutexes thread.number mutex.number)
+        result threads.new queues.new }
     ensures kept { (node : ANode) → IsStaleIn threads.old node → IsStaleIn threads.new node }
     ensures stale { MakesStaleIn threads.old threads.new }
 {
@@ -80,25 +72,11 @@ pub fn unlock(
     requires same { length threads.old.records ≡ length queues.old.clients }
     requires owners { owners_of queues.old.mutexes ≡ threads.old.owners }
     requires room { queues.old.room ≡ lottery.old.room }
-    ensures outcome { result.outcome
-        ≡ (machine.unlock threads.old.records queues.old.mutexes (worth_in threads.old) mutex.number d).outcome }
-    ensures after { result.after ≡ (machine.unlock threads.old.records queues.old.mutexes
-        (worth_in threads.old) mutex.number d).after }
-    ensures threads { threads.new ≡ record (with_mutexes threads.old
-        (machine.unlock threads.old.records queues.old.mutexes
-        (worth_in threads.old) mutex.number d) threads.new.stale) { meter = threads.new.meter } }
-    ensures queues { queues.new ≡ record queues.old {
-      mutexes =
-          (machine.unlock threads.old.records queues.old.mutexes (worth_in threads.old) mutex.number d).mutexes;
-    } }
+    ensures trap { IsMutexTrap (record threads.old { meter = threads.new.meter }) queues.old
+        (machine.unlock threads.old.records queues.old.mutexes (worth_in threads.old) mutex.number d)
+        result threads.new queues.new }
+    ensures settles { UnlockSettles (mutex_at queues.old.mutexes mutex.number).waiters threads.old threads.new }
     ensures stale { MakesStaleIn threads.old threads.new }
-    ensures kept { (mutex_at queues.old.mutexes mutex.number).waiters ≡ [] → (node : ANode) → IsStaleIn threads.old node
-        → IsStaleIn threads.new node }
-    ensures uncounted { (mutex_at queues.old.mutexes mutex.number).waiters ≡ []
-        → threads.new.meter ≡ threads.old.meter }
-    ensures counted { (mutex_at queues.old.mutexes mutex.number).waiters ≢ []
-        → threads.new.meter ≡ (settled_in threads.old).meter }
-    ensures once { (mutex_at queues.old.mutexes mutex.number).waiters ≢ [] → HasNoneTwice threads.old.stale }
     ensures owners { (next : ℕ) (draw : Option (ℕ × ℕ)) → result.outcome ≡ Passed next draw
         → IsStaleIn threads.new (ThreadNode owner.number) × IsStaleIn threads.new (ThreadNode next) }
     ensures room { lottery.new.room ≡ lottery.old.room }

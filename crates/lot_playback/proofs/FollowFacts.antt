@@ -1,6 +1,6 @@
 -- One more of a program's turns in time.
 use Rattle.std.proofs.Common.{◌≡◌, ℕ, zero, suc, ◌+◌, ◌-◌, ◌^◌, ◌<◌, ◌≤◌, ◌==◌, Bool, true, false, Option, Some, None, List, [], ◌∷◌, ◌++◌, ◌||◌, length, take, drop, refl, sym, ◌∙◌, ap, subst, arith, append_assoc, append-nil, length-append, length-drop, ne_eqb}
-use Rattle.std.specs.Prelude.{map, count_by, replicate, if◌then◌else◌, Result, Ok, Err, IsErr, IfOk}
+use Rattle.std.specs.Prelude.{map, count_by, if◌then◌else◌, Result, Ok, Err, IsErr, IfOk}
 use Rattle.std.proofs.lemmas.List.{length-map, map-append}
 use Rattle.std.proofs.Math.Seq.{take-append_seam, drop-append_seam}
 use Rattle.lot_machine.specs.declared.command.Command.{Command}
@@ -23,6 +23,7 @@ use Rattle.lot_machine.specs.Step.{step}
 use Rattle.lot_playback.specs.Owed.{Answers}
 use Rattle.lot_playback.proofs.AlarmFacts.{none-asleep}
 use Rattle.lot_playback.specs.declared.timekeeper.Timekeeper.{Timekeeper}
+use Rattle.lot_playback.specs.Following.{IsOpened}
 use Rattle.lot_playback.specs.InTime.{AreAlarms, AreNumbered, HasDues, HasFollowed, HasRoomFor, IsFollowed, alarms_in, moment_in, next_turns, turns_done}
 use Rattle.lot_graph.specs.Found.{FoundNodes}
 use Rattle.lot_engine.specs.Searching.{HasLayoutFor}
@@ -238,27 +239,27 @@ unfolding timed_room
 room-few = omega arith
 
 -- a system that was opened has made none of the program's turns
-pub opened-followed : (program : Program) (timekeeper : Timekeeper) → IsWithinBounds program.limits → AreAlarms program.limits.processors timekeeper.alarms → timekeeper.alarms.threads.items ≡ replicate program.limits.threads None → length program.times ≡ length program.commands → timekeeper.clocks.time ≡ 0 → timekeeper.clocks.processors.items ≡ replicate program.limits.processors (record { time = 0; waits = false; idle = 0 }) → HasRoomFor program timekeeper → HasFollowed [] 0 timekeeper → HasDues (opening program.limits) [] 0 (opening program.limits) timekeeper → timekeeper.has_refused ≡ false
+pub opened-followed : (program : Program) (opened_with : Seen) (timekeeper : Timekeeper) → IsWithinBounds program.limits → length program.times ≡ length program.commands → opened_with.setting.program ≡ program → IsOpened program opened_with timekeeper
     → IsFollowed program (record { setting = record { program = program; room = 16000000; timer = true }; history = [] }) timekeeper
-opened-followed program timekeeper bounds sleeping nobody as_many time clocks fits followed dues refused =
+opened-followed program opened_with timekeeper bounds as_many same is =
     let seen : Seen = record { setting = record { program = program; room = 16000000; timer = true }; history = [] } in
-    let none_asleep : alarms_in timekeeper.alarms.threads.items ≡ (λ (t : ℕ). None) = ap alarms_in nobody ∙ none-asleep program.limits.threads in
-    let moment : moment_in seen timekeeper ≡ opening_moment program = λ i. record { world = world_of seen; time = time i; clocks = clocks i; times = program.times; alarms = none_asleep i; has_refused = refused i } in
+    let none_asleep : alarms_in timekeeper.alarms.threads.items ≡ (λ (t : ℕ). None) = ap alarms_in is.alarms ∙ none-asleep program.limits.threads in
+    let moment : moment_in seen timekeeper ≡ opening_moment program = λ i. record { world = world_of seen; time = is.time i; clocks = is.clocks i; times = program.times; alarms = none_asleep i; has_refused = is.refused i } in
     let none : timed_room - 0 ≡ timed_room = omega arith in
     record {
       program_is = refl;
       room_is = room-is;
       timer_is = refl;
       bounds = bounds;
-      sleeping = sleeping;
+      sleeping = is.sleeping;
       sleepers = λ t at there. let wrong : None ≡ Some at = ap (λ (f : ℕ → Option ℕ). f t) (sym none_asleep) ∙ there in cc;
       history = refl;
       moment = moment;
       rest = ap (λ n. turns_from program n (opening_moment program)) (sym none) ∙ ap (turns_from program (timed_room - 0)) (sym moment);
       left = sym as_many;
-      room = fits;
-      followed = followed;
-      dues = dues;
+      room = is.room same;
+      followed = is.followed;
+      dues = is.dues;
     }
 
 -- a search before a turn leaves the records those of the turns made

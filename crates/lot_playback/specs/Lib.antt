@@ -4,6 +4,8 @@ pub mod Turns
 pub mod Stages
 -- Timed turns of a system.
 pub mod InTime
+-- A timekeeper before the first turn, and one more turn, which it follows.
+pub mod Following
 -- The next turn of a play.
 pub mod Orders
 -- Those who share the time by their values: the threads, or the currencies.

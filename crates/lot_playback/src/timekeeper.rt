@@ -1,22 +1,18 @@
 //! The records of a timed play, which its report needs in addition to the system.
-ghost use Rattle.std.specs.Prelude.{◌≡◌, ℕ, ◌<◌, ◌≤◌, ◌+◌, ◌^◌, ◌++◌, ◌||◌, List, [], ◌∷◌, None, false, length};
-ghost use Rattle.std.specs.Prelude.{IfOk, IfSome, replicate, vec_len};
+ghost use Rattle.std.specs.Prelude.{◌≡◌, ◌<◌, ◌≤◌, ◌^◌, [], None, false, IfOk, IfSome, replicate, vec_len};
 ghost use Rattle.lot_machine.specs.Bounds.{IsWithinBounds};
-ghost use Rattle.lot_machine.specs.State.{State, opening};
+ghost use Rattle.lot_machine.specs.State.{opening};
 ghost use Rattle.lot_machine.specs.declared.sizes.Sizes.{Sizes};
 ghost use Rattle.lot_simulation.specs.TimedReport as reports;
 ghost use Rattle.lot_simulation.specs.Timed as timed;
-ghost use Rattle.lot_simulation.specs.Timed.{Moment, TimedTurn, alarms_after, clocks_after, is_idle_draw};
-ghost use Rattle.lot_simulation.specs.Timed.{is_refusal};
-ghost use Rattle.lot_simulation.specs.World.{Program as ProgramRecord, sleeper_on};
 ghost use Rattle.lot_simulation.specs.World.Answer.{Answered};
 ghost use Rattle.lot_engine.specs.Searching.{HasLayoutFor};
-ghost use Rattle.lot_engine.specs.Seen.{Seen, world_of};
+ghost use Rattle.lot_engine.specs.Seen.{Seen};
 ghost use Rattle.lot_playback.specs.declared.sharers.Sharers.TheVariants.{Threads};
-ghost use Rattle.lot_playback.specs.InTime.{AreAlarms, AreRefusedTraps, CanFollow, HasDues, HasFollowed, HasRoomFor};
-ghost use Rattle.lot_playback.specs.InTime.{IsFollowed, alarms_in, moment_in};
-ghost use Rattle.lot_playback.specs.Owed.{Answers, AreDue};
-ghost use Rattle.lot_playback.specs.TicksBelow.{AreCurrencies, HasFoundFor};
+ghost use Rattle.lot_playback.specs.Following.{CanFollowTurn, FollowsTurn, IsOpened};
+ghost use Rattle.lot_playback.specs.InTime.{AreRefusedTraps, IsFollowed, moment_in};
+ghost use Rattle.lot_playback.specs.Owed.{AreDue};
+ghost use Rattle.lot_playback.specs.TicksBelow.{AreCurrencies};
 ghost use Rattle.lot_program.specs.Programs.{IsProgram};
 
 use crate::alarms::Alarms;
@@ -84,17 +80,7 @@ impl Timekeeper {
     /// The records of a system before the program's first turn. It allocates all the memory that they will ever use,
     /// and fails only if out of memory.
     pub fn open(alloc: Global, program: &Program, system: &System) -> Result<Timekeeper, AllocError>
-        ensures time { IfOk result (λ timekeeper. timekeeper.clocks.time ≡ 0) }
-        ensures clocks { IfOk result (λ timekeeper. timekeeper.clocks.processors.items
-            ≡ replicate program.now.limits.processors (record { time = 0; waits = false; idle = 0 })) }
-        ensures alarms { IfOk result (λ timekeeper. timekeeper.alarms.threads.items
-            ≡ replicate program.now.limits.threads None) }
-        ensures sleeping { IfOk result (λ timekeeper. AreAlarms program.now.limits.processors timekeeper.alarms) }
-        ensures room { IfOk result (λ timekeeper. system.now.setting.program ≡ program.now
-            → HasRoomFor program.now timekeeper) }
-        ensures followed { IfOk result (HasFollowed [] 0) }
-        ensures dues { IfOk result (HasDues (opening program.now.limits) [] 0 (opening program.now.limits)) }
-        ensures refused { IfOk result (λ timekeeper. timekeeper.has_refused ≡ false) }
+        ensures opened { IfOk result (IsOpened program.now system.now) }
         ensures legal { IsProgram program.now }
     {
         let limits = program.limits();
@@ -164,37 +150,23 @@ impl Timekeeper {
         reply: Reply,
         sleeper: Option<Sleeper>,
     )
-        requires processors { vec_len self.old.clocks.processors ≤ 64 }
-        requires sleeping { AreAlarms (vec_len self.old.clocks.processors) self.old.alarms }
-        requires can { CanFollow actor (vec_len self.old.clocks.processors)
-            (length self.old.alarms.threads.items) sleeper }
-        requires followed { (done : List TimedTurn) × (n : ℕ) × (n < 2 ^ 31) × HasFollowed done n self.old }
-        requires threads { vec_len self.old.ready.threads ≤ 4096 }
-        requires currencies { vec_len self.old.currencies.ticks ≤ self.old.currencies.above.layout.currencies }
-        requires bounds { IsWithinBounds system.old.setting.program.limits }
-        requires dues { (first before : State) × (done : List TimedTurn) × (n : ℕ) × (n < 2 ^ 24)
-            × HasDues first done n before self.old × Answers before event.now reply (world_of system.old).state
-            × HasFoundFor before reply self.old.currencies.above }
+        requires can { CanFollowTurn (record {
+          seen = system.old;
+          time = time;
+          actor = actor;
+          event = event.now;
+          reply = reply;
+          sleeper = sleeper;
+        }) self.old }
+        ensures follows { FollowsTurn (record {
+          seen = system.old;
+          time = time;
+          actor = actor;
+          event = event.now;
+          reply = reply;
+          sleeper = sleeper;
+        }) self.old self.new }
         ensures same { system.new ≡ system.old }
-        ensures time { self.new.clocks.time ≡ time }
-        ensures clocks { self.new.clocks.processors.items
-            ≡ clocks_after (world_of system.old).state self.old.clocks.processors.items
-            (record { time = time; actor = actor }) (is_idle_draw (Answered event.now reply)) }
-        ensures alarms { (m : Moment) → m.alarms ≡ alarms_in self.old.alarms.threads.items
-            → length m.clocks ≡ length self.old.clocks.processors.items
-            → (0 < actor → actor ≤ length self.old.clocks.processors.items → sleeper ≡ sleeper_on m.world actor)
-            → alarms_in self.new.alarms.threads.items ≡ alarms_after m time actor }
-        ensures sleeping { AreAlarms (vec_len self.old.clocks.processors) self.new.alarms }
-        ensures refused { self.new.has_refused ≡ (self.old.has_refused || is_refusal (Answered event.now reply)) }
-        ensures followed { (done : List TimedTurn) (n : ℕ) (turn : TimedTurn) → turn.time ≡ time
-            → turn.turn.answer ≡ Answered event.now reply → turn.turn.world ≡ world_of system.old
-            → HasFollowed done n self.old → HasFollowed (done ++ turn ∷ []) (n + 1) self.new }
-        ensures dues { (first before : State) (done : List TimedTurn) (n : ℕ) (turn : TimedTurn) → n < 2 ^ 24
-            → turn.time ≡ time → turn.turn.answer ≡ Answered event.now reply → turn.turn.world ≡ world_of system.old
-            → Answers before event.now reply (world_of system.old).state
-            → HasFoundFor before reply self.old.currencies.above → HasDues first done n before self.old
-            → HasDues first (done ++ turn ∷ []) (n + 1) (world_of system.old).state self.new }
-        ensures room { (program : ProgramRecord) → HasRoomFor program self.old → HasRoomFor program self.new }
     {
         self.ready.queue(system, time, event, reply);
         self.dues.follow(system, time, event, reply);

@@ -1,13 +1,17 @@
-use Rattle.std.proofs.Common.{◌∙◌, Option, List, ℕ, ap, sym, rules}
+use Rattle.std.proofs.Common.{◌∙◌, Option, List, ℕ, ap, sym, refl, rules}
 use Rattle.std.specs.Option.{option_flatten}
 use Rattle.lot_machine.specs.Numbered.{at_number}
 use Rattle.lot_threads.proofs.Ways.{live-there, live-apart}
 use Rattle.lot_mutex.proofs.Owners.{owned-there, owner-at, free-owner, lock-waits, lock-takes}
 use Rattle.lot_mutex.proofs.mutexes.lock.Goals as goal
 
-pub returns-then-is_some-clause-threads : goal.returns-then-is_some-clause-threads
-returns-then-is_some-clause-threads c =
-    lock-waits c.args.threads.now c.args.queues.now.mutexes c.args.thread.number c.args.mutex.number c.requires.mutex c.requires.owners c.owner.result (sym c.owner.ensures) (search rules)
+pub returns-then-is_some-clause-trap : goal.returns-then-is_some-clause-trap
+returns-then-is_some-clause-trap c = record {
+  outcome = search rules;
+  after = search rules;
+  threads = lock-waits c.args.threads.now c.args.queues.now.mutexes c.args.thread.number c.args.mutex.number c.requires.mutex c.requires.owners c.owner.result (sym c.owner.ensures) (search rules);
+  queues = search rules;
+}
 
 pub apply-requires-clause-allowed : goal.apply-requires-clause-allowed
 apply-requires-clause-allowed c =
@@ -16,5 +20,12 @@ apply-requires-clause-allowed c =
     let free = ap (λ (xs : List (Option ℕ)). option_flatten (at_number xs c.args.mutex.number)) (sym c.requires.owners) ∙ ap option_flatten (owner-at mutexes c.args.mutex.number c.requires.mutex) ∙ free-owner mutexes c.args.mutex.number c.owner.result c.owner.ensures (search rules) in
     ((owned-there mutexes v.owners c.args.mutex.number c.requires.mutex c.requires.owners, live-there v c.args.thread.number c.requires.thread, live-apart v c.args.thread.number c.args.mutex.number c.requires.thread), free)
 
-pub returns-clause-threads : goal.returns-clause-threads
-returns-clause-threads c = lock-takes c.args.threads.now c.args.queues.now.mutexes c.args.thread.number c.args.mutex.number c.requires.mutex c.requires.owners c.apply.new.self (free-owner c.args.queues.now.mutexes c.args.mutex.number c.owner.result c.owner.ensures (search rules)) c.apply.ensures.applied
+pub returns-clause-trap : goal.returns-clause-trap
+returns-clause-trap c =
+    let free = free-owner c.args.queues.now.mutexes c.args.mutex.number c.owner.result c.owner.ensures (search rules) in
+    record {
+      outcome = rw free refl;
+      after = rw free refl;
+      threads = lock-takes c.args.threads.now c.args.queues.now.mutexes c.args.thread.number c.args.mutex.number c.requires.mutex c.requires.owners c.apply.new.self free c.apply.ensures.applied;
+      queues = rw free c.set_owner.ensures;
+    }

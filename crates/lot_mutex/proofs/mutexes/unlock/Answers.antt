@@ -1,16 +1,16 @@
-use Rattle.std.proofs.Common.{◌≡◌, ◌≢◌, ◌∙◌, Some, [], map, remove, slice_get, slice_index, ◌<◌, length, ap, sym, subst, refl}
+use Rattle.std.proofs.Common.{◌≡◌, ◌≢◌, ◌∙◌, Some, [], map, remove, slice_get, slice_index, ◌<◌, length, ap, sym, subst, refl, rules}
 use Rattle.std.specs.Option.{IfSome}
 use Rattle.std.proofs.lemmas.Option.{slice_get-get_or}
 use Rattle.lot_machine.specs.declared.drawn.Drawn.{Drawn}
 use Rattle.lot_machine.specs.declared.funding.Node.TheVariants.{Thread}
 use Rattle.lot_machine.specs.declared.reply.Outcome.TheVariants.{Freed, Passed}
 use Rattle.lot_machine.specs.Lottery.{winner}
-use Rattle.lot_machine.specs.Mutexes.{MutexTrap, mutex_at, unlock}
+use Rattle.lot_machine.specs.Mutexes.{mutex_at, unlock}
 use Rattle.lot_machine.specs.Numbered.{set_number}
 use Rattle.lot_machine.specs.State.{status_of}
 use Rattle.lot_value.specs.declared.meter.Meter.{Meter}
 use Rattle.lot_threads.specs.Threaded.{Threaded, IsLiveIn, IsStaleIn, MakesStaleIn, worth_in}
-use Rattle.lot_mutex.specs.Listed.{Listed, with_mutexes}
+use Rattle.lot_mutex.specs.Listed.{IsMutexTrap, Listed}
 use Rattle.lot_mutex.proofs.Owners.{owners-after, passing, place-below, place_of, unlock-passes}
 use Rattle.lot_mutex.proofs.Passing.{next-owner, pass-threads, settled-makes}
 use Rattle.lot_mutex.proofs.mutexes.unlock.Goals as goal
@@ -47,45 +47,47 @@ next-at c =
     let below = place-below ws c.hold-drawn.result (some c) (subst (λ xs. IfSome c.hold-drawn.result (λ (w : Drawn). w.place < length xs)) (listed c) c.hold-drawn.ensures.within) in
     slice_get-get_or ws (place_of c.hold-drawn.result) 0 below ∙ ap Some (sym (next c))
 
-pub returns-clause-outcome : goal.returns-clause-outcome
-returns-clause-outcome c =
-    let done = (goal.at.returns-clause-outcome c).After-picked-next in
-    let ws = (mutex_at c.args.queues.now.mutexes c.args.mutex.number).waiters in
-    ap (λ t. Passed t c.drawn_numbers.result) (next done) ∙ ap (Passed (slice_index ws (place_of c.hold-drawn.result))) c.drawn_numbers.ensures ∙ sym (ap (λ (e : MutexTrap). e.outcome) (step done))
+pub returns-then-is_empty-clause-trap : goal.returns-then-is_empty-clause-trap
+returns-then-is_empty-clause-trap c =
+    let frees = c.free.ensures.frees (worth_in c.args.threads.now) c.args.d in
+    subst (λ (v : Threaded). IsMutexTrap v c.args.queues.now (unlock c.args.threads.now.records c.args.queues.now.mutexes (worth_in c.args.threads.now) c.args.mutex.number c.args.d) c.free.result c.free.new.threads c.free.new.queues)
+    (ap (λ (counts : Meter). record c.args.threads.now { meter = counts }) (sym (ap (λ (x : Threaded). x.meter) frees.threads))) frees
 
-pub returns-clause-threads : goal.returns-clause-threads
-returns-clause-threads c =
-    let done = (goal.at.returns-clause-threads c).After-picked-next in
+pub returns-then-is_empty-clause-settles : goal.returns-then-is_empty-clause-settles
+returns-then-is_empty-clause-settles c =
+    let none : (mutex_at c.args.queues.now.mutexes c.args.mutex.number).waiters ≡ [] = search rules in
+    record {
+      kept = λ nobody. c.free.ensures.kept;
+      uncounted = λ nobody. ap (λ (x : Threaded). x.meter) (c.free.ensures.frees (worth_in c.args.threads.now) c.args.d).threads;
+      counted = λ some. absurd (some none);
+      once = λ some. absurd (some none);
+    }
+
+pub returns-clause-trap : goal.returns-clause-trap
+returns-clause-trap c =
+    let done = (goal.at.returns-clause-trap c).After-picked-next in
     let v = c.args.threads.now in
     let mutexes = c.args.queues.now.mutexes in
     let ws = (mutex_at mutexes c.args.mutex.number).waiters in
     let place = place_of c.hold-drawn.result in
     let after = owners-after mutexes v.owners c.args.mutex.number (record { owner = Some (slice_index ws place); waiters = remove ws place }) c.requires.owners in
-    let passes = pass-threads v c.settle.new.self c.pass.new.threads c.picked-next.result (slice_index ws place) c.args.mutex.number _ c.settle.ensures.settled (next done) after c.pass.ensures.threads in
-    passes ∙ sym (ap (λ (e : MutexTrap). record (with_mutexes v e c.pass.new.threads.stale) { meter = c.pass.new.threads.meter }) (step done))
+    rw (step done) (record {
+      outcome = ap (λ t. Passed t c.drawn_numbers.result) (next done) ∙ ap (Passed (slice_index ws place)) c.drawn_numbers.ensures;
+      after = refl;
+      threads = pass-threads v c.settle.new.self c.pass.new.threads c.picked-next.result (slice_index ws place) c.args.mutex.number _ c.settle.ensures.settled (next done) after c.pass.ensures.threads;
+      queues = c.pass.ensures.queues place (next-at done)
+          ∙ ap (λ t. record c.args.queues.now { mutexes = set_number mutexes c.args.mutex.number (record { owner = Some t; waiters = remove ws place }) }) (next done);
+    })
 
-pub returns-then-is_empty-clause-threads : goal.returns-then-is_empty-clause-threads
-returns-then-is_empty-clause-threads c =
-    let v = c.args.threads.now in
-    let step = unlock v.records c.args.queues.now.mutexes (worth_in v) c.args.mutex.number c.args.d in
-    let freed = (c.free.ensures.frees (worth_in v) c.args.d).threads in
-    freed ∙ ap (λ (counts : Meter). record (with_mutexes v step c.free.new.threads.stale) { meter = counts }) (sym (ap (λ (x : Threaded). x.meter) freed))
-
-pub returns-then-is_empty-clause-uncounted : goal.returns-then-is_empty-clause-uncounted
-returns-then-is_empty-clause-uncounted c none = ap (λ (x : Threaded). x.meter) (c.free.ensures.frees (worth_in c.args.threads.now) c.args.d).threads
-
-pub returns-clause-counted : goal.returns-clause-counted
-returns-clause-counted c some = ap (λ (x : Threaded). x.meter) c.pass.ensures.threads ∙ ap (λ (x : Threaded). x.meter) c.settle.ensures.settled
-
-pub returns-clause-queues : goal.returns-clause-queues
-returns-clause-queues c =
-    let done = (goal.at.returns-clause-queues c).After-picked-next in
-    let mutexes = c.args.queues.now.mutexes in
-    let ws = (mutex_at mutexes c.args.mutex.number).waiters in
-    let place = place_of c.hold-drawn.result in
-    c.pass.ensures.queues place (next-at done)
-    ∙ ap (λ t. record c.args.queues.now { mutexes = set_number mutexes c.args.mutex.number (record { owner = Some t; waiters = remove ws place }) }) (next done)
-    ∙ sym (ap (λ (e : MutexTrap). record c.args.queues.now { mutexes = e.mutexes }) (step done))
+pub returns-clause-settles : goal.returns-clause-settles
+returns-clause-settles c =
+    let waits = some (goal.at.returns-clause-settles c).After-picked-next in
+    record {
+      kept = λ none. absurd (waits none);
+      uncounted = λ none. absurd (waits none);
+      counted = λ somebody. ap (λ (x : Threaded). x.meter) c.pass.ensures.threads ∙ ap (λ (x : Threaded). x.meter) c.settle.ensures.settled;
+      once = λ somebody. c.settle.ensures.once;
+    }
 
 pub returns-clause-stale : goal.returns-clause-stale
 returns-clause-stale c = settled-makes c.args.threads.now c.pass.new.threads (subst (λ (x : Threaded). MakesStaleIn x c.pass.new.threads) c.settle.ensures.settled c.pass.ensures.stale)
@@ -95,18 +97,6 @@ returns-then-is_empty-clause-owners c next draw passed = let never : Freed ≡ P
 
 pub returns-clause-owners : goal.returns-clause-owners
 returns-clause-owners c next draw passed = (c.pass.ensures.owners.0, subst (λ t. IsStaleIn c.pass.new.threads (Thread t)) (ap next-owner passed) c.pass.ensures.owners.1)
-
-pub returns-clause-after : goal.returns-clause-after
-returns-clause-after c = sym (ap (λ (e : MutexTrap). e.after) (step (goal.at.returns-clause-after c).After-picked-next))
-
-pub returns-clause-kept : goal.returns-clause-kept
-returns-clause-kept c none = absurd (some (goal.at.returns-clause-kept c).After-picked-next none)
-
-pub returns-clause-uncounted : goal.returns-clause-uncounted
-returns-clause-uncounted c none = absurd (some (goal.at.returns-clause-uncounted c).After-picked-next none)
-
-pub returns-clause-once : goal.returns-clause-once
-returns-clause-once c some = c.settle.ensures.once
 
 pub pass-requires-clause-live : goal.pass-requires-clause-live
 pass-requires-clause-live c = subst (λ (x : Threaded). IsLiveIn x c.args.owner.number) (sym c.settle.ensures.settled) c.requires.live

@@ -44,10 +44,10 @@ invariant_of-self c =
     let there = cut-there s mid t m c.requires.order c.requires.runs none state in
     let left = lock i.threads.records i.queues.mutexes t m in
     let count = lock-count i.threads.records i.queues.mutexes t m in
-    let threads = held-mutexes (sizes_of i.limits) (freed_in i.freed) i.currencies.items i.threads c.lock.new.threads i.queues c.self.invariant.threads left c.lock.new.queues i.threads.meter c.lock.ensures.threads c.lock.ensures.queues in
-    keeps-both i c.self.invariant c.lock.new.threads c.lock.new.queues threads (ap (λ (v : Threaded). length v.records) c.lock.ensures.threads ∙ count) (ap (λ (v : Threaded). v.threads) c.lock.ensures.threads)
-    (ap (λ (q : QueueLists). length q.clients) c.lock.ensures.queues) (ap (λ (q : QueueLists). q.room) c.lock.ensures.queues)
-    (subst (HasHolders (sizes_of i.limits)) (sym c.lock.ensures.queues) (holders-lock (sizes_of i.limits) i.queues c.self.invariant.holders m there.0.0 there.1 i.threads.records t))
+    let threads = held-mutexes (sizes_of i.limits) (freed_in i.freed) i.currencies.items i.threads c.lock.new.threads i.queues c.self.invariant.threads left c.lock.new.queues i.threads.meter c.lock.ensures.trap.threads c.lock.ensures.trap.queues in
+    keeps-both i c.self.invariant c.lock.new.threads c.lock.new.queues threads (ap (λ (v : Threaded). length v.records) c.lock.ensures.trap.threads ∙ count) (ap (λ (v : Threaded). v.threads) c.lock.ensures.trap.threads)
+    (ap (λ (q : QueueLists). length q.clients) c.lock.ensures.trap.queues) (ap (λ (q : QueueLists). q.room) c.lock.ensures.trap.queues)
+    (subst (HasHolders (sizes_of i.limits)) (sym c.lock.ensures.trap.queues) (holders-lock (sizes_of i.limits) i.queues c.self.invariant.holders m there.0.0 there.1 i.threads.records t))
 
 pub returns-clause-stale : goal.returns-clause-stale
 returns-clause-stale c =
@@ -61,8 +61,8 @@ returns-clause-stale c =
     ap (λ (x : Snapshot). x.state) c.self.view_is ∙ c.cut_before_lock.ensures.state ∙ ap (λ (x : Snapshot). record x.state { mutexes = before_lock x.state t m }) c.lock_refusal.ensures.unchanged in
     let there = lock-there s t m none in
     let left = lock i.threads.records i.queues.mutexes t m in
-    let threads = held-mutexes (sizes_of i.limits) (freed_in i.freed) i.currencies.items i.threads c.lock.new.threads i.queues c.self.invariant.threads left c.lock.new.queues i.threads.meter c.lock.ensures.threads c.lock.ensures.queues in
-    let locked = mutexes-state (sizes_of i.limits) (freed_in i.freed) i.currencies.items i.threads c.lock.new.threads i.queues c.lock.new.queues c.self.invariant.threads left i.threads.meter c.lock.ensures.threads c.lock.ensures.queues in
+    let threads = held-mutexes (sizes_of i.limits) (freed_in i.freed) i.currencies.items i.threads c.lock.new.threads i.queues c.self.invariant.threads left c.lock.new.queues i.threads.meter c.lock.ensures.trap.threads c.lock.ensures.trap.queues in
+    let locked = mutexes-state (sizes_of i.limits) (freed_in i.freed) i.currencies.items i.threads c.lock.new.threads i.queues c.lock.new.queues c.self.invariant.threads left i.threads.meter c.lock.ensures.trap.threads c.lock.ensures.trap.queues in
     let first = subst (λ (x : Snapshot). MakesStale x (the_view i)) c.lock_refusal.ensures.unchanged (subst (λ (y : Snapshot). MakesStale c.lock_refusal.new.self y) (sym c.self.view_is) c.cut_before_lock.ensures.stale) in
     let second = makes-held (sizes_of i.limits) (freed_in i.freed) i.currencies.items i.currencies.items i.threads c.lock.new.threads i.queues c.lock.new.queues c.self.invariant.threads threads c.lock.ensures.stale in
     makes-locked c.args.self.now (the_view i) (snapshot_of (sizes_of i.limits) (freed_in i.freed) i.currencies.items c.lock.new.queues c.lock.new.threads) t m there.0.0 there.1 state locked first second

@@ -14,5 +14,5 @@ invariant_of-result c =
     record {
       timed = subst (λ (s : Seen). IsSome s.setting.program.duration) system c.requires;
       followed = subst (λ (s : Seen). IsFollowed s.setting.program s timekeeper) system
-          (opened-followed program timekeeper opened.legal.limits opened.sleeping opened.alarms (opened.legal.time_count c.requires) opened.time opened.clocks (opened.room (ap (λ (s : Seen). s.setting.program) c.in_ok-system.ensures)) opened.followed opened.dues opened.refused);
+          (opened-followed program c.in_ok-system.system timekeeper opened.legal.limits (opened.legal.time_count c.requires) (ap (λ (s : Seen). s.setting.program) c.in_ok-system.ensures) opened.opened);
     }
