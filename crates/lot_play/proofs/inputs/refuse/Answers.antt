@@ -1,13 +1,12 @@
-use Rattle.std.proofs.Common.{◌≡◌, [], Err, subst, append-nil}
+use Rattle.std.proofs.Common.{◌≡◌, [], Err, rules, subst, append-nil}
 use Rattle.lot_simulation.specs.Texts.{fault_line}
 use Rattle.lot_io.specs.Writing.{Begins}
 use Rattle.lot_io.proofs.WritingFacts.{begins-after}
-use Rattle.lot_play.proofs.PlayedFacts.{err-is}
 use Rattle.lot_play.proofs.inputs.refuse.Goals as goal
 
 pub returns-in_err-flush-clause-played : goal.returns-in_err-flush-clause-played
 returns-in_err-flush-clause-played g c =
-    let is : c.from_residual-in_err-flush.result ≡ Err c.in_err-flush.field-0.0 = err-is c.from_residual-in_err-flush.result _ c.from_residual-in_err-flush.ensures.1 in
+    let is : c.from_residual-in_err-flush.result ≡ Err c.in_err-flush.field-0.0 = search rules in
     let told = c.in_err-flush.ensures.text in
     let old = g.W.Write.contents c.args.writer.now.inner in
     let mid = g.W.Write.contents c.write_fault.new.writer.inner in

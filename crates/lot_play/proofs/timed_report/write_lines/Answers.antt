@@ -1,5 +1,5 @@
 -- Each part is written after those before it.
-use Rattle.std.proofs.Common.{◌≡◌, ◌++◌, ℕ, List, codes, Err, refl, subst, sym}
+use Rattle.std.proofs.Common.{◌≡◌, ◌++◌, ℕ, List, codes, Err, rules, subst}
 use Rattle.std.specs.List.{flat_map, range_with_len}
 use Rattle.lot_simulation.specs.Report.{ticks_in, total_of}
 use Rattle.lot_simulation.specs.Timed.{ended_at, timed_turns}
@@ -7,9 +7,8 @@ use Rattle.lot_simulation.specs.TimedReport.{actor_turns, timed_currency_lines, 
 use Rattle.lot_io.proofs.WritingFacts.{begins-after, begins-front, writes-after}
 use Rattle.lot_io.specs.Writing.{Begins, Written}
 use Rattle.lot_playback.specs.declared.timekeeper.Timekeeper.{Timekeeper}
-use Rattle.lot_playback.specs.InTime.{IsAtEnd, moment_in}
+use Rattle.lot_playback.specs.InTime.{moment_in}
 use Rattle.lot_engine.specs.Seen.{Seen, world_of}
-use Rattle.lot_play.proofs.PlayedFacts.{err-is}
 use Rattle.lot_play.proofs.TimedReportFacts.{lines-are}
 use Rattle.lot_play.proofs.timed_report.write_lines.Goals as goal
 
@@ -38,7 +37,7 @@ lines s w end = threads s ++ after_threads s w end
 
 pub returns-in_err-write_report_line-clause-text : goal.returns-in_err-write_report_line-clause-text
 returns-in_err-write_report_line-clause-text g c =
-    let is : c.from_residual.result ≡ Err c.in_err-write_report_line.field-0.0 = err-is c.from_residual.result _ c.from_residual.ensures.1 in
+    let is : c.from_residual.result ≡ Err c.in_err-write_report_line.field-0.0 = search rules in
     let told = c.in_err-write_report_line.ensures in
     rw is (told.0, told.1, begins-front (g.W.Write.contents c.args.writer.now.inner) (g.W.Write.contents c.write_report_line.new.writer.inner) (codes "report\n") (lines c.args.system.now c.args.timekeeper.now (ended_at c.args.program.now (moment_in c.args.system.now c.args.timekeeper.now))) told.2)
 
@@ -47,7 +46,7 @@ returns-in_err-write_threads-clause-text g c =
     let s = c.args.system.now in
     let w = c.args.timekeeper.now in
     let end = c.ended_at-end.result in
-    let is : c.from_residual-in_err-write_threads.result ≡ Err c.in_err-write_threads.field-0.0 = err-is c.from_residual-in_err-write_threads.result _ c.from_residual-in_err-write_threads.ensures.1 in
+    let is : c.from_residual-in_err-write_threads.result ≡ Err c.in_err-write_threads.field-0.0 = search rules in
     let told = c.in_err-write_threads.ensures.text in
     let old = g.W.Write.contents c.args.writer.now.inner in
     let one = g.W.Write.contents c.write_report_line.new.writer.inner in
@@ -62,7 +61,7 @@ returns-in_err-write_currencies-clause-text g c =
     let s = c.args.system.now in
     let w = c.args.timekeeper.now in
     let end = c.ended_at-end.result in
-    let is : c.from_residual-in_err-write_currencies.result ≡ Err c.in_err-write_currencies.field-0.0 = err-is c.from_residual-in_err-write_currencies.result _ c.from_residual-in_err-write_currencies.ensures.1 in
+    let is : c.from_residual-in_err-write_currencies.result ≡ Err c.in_err-write_currencies.field-0.0 = search rules in
     let told = rw c.in_ok-write_threads.ensures.same at c.in_err-write_currencies.ensures in
     let old = g.W.Write.contents c.args.writer.now.inner in
     let one = g.W.Write.contents c.write_report_line.new.writer.inner in
@@ -79,7 +78,7 @@ returns-in_err-write_processors-clause-text g c =
     let s = c.args.system.now in
     let w = c.args.timekeeper.now in
     let end = c.ended_at-end.result in
-    let is : c.from_residual-in_err-write_processors.result ≡ Err c.in_err-write_processors.field-0.0 = err-is c.from_residual-in_err-write_processors.result _ c.from_residual-in_err-write_processors.ensures.1 in
+    let is : c.from_residual-in_err-write_processors.result ≡ Err c.in_err-write_processors.field-0.0 = search rules in
     let same = c.in_ok-write_threads.ensures.same in
     let third = rw same at c.in_ok-write_currencies.ensures in
     let told = rw same at c.in_err-write_processors.ensures in
@@ -118,51 +117,3 @@ returns-clause-text g c =
     (writes-after one two new failed result (threads s) (after_threads s w end) c.in_ok-write_threads.ensures.text.1
     (writes-after two three new failed result (currencies s) (after_currencies s w end) third.1 (writes-after three four new failed result (processors s w end) (totals s w) fourth.1 last))) in
     subst (Written old new failed result) text written
-
-pub write_report_line-requires : goal.write_report_line-requires
-write_report_line-requires g c = c.requires.working
-
-pub returns-in_err-write_report_line-clause-same : goal.returns-in_err-write_report_line-clause-same
-returns-in_err-write_report_line-clause-same g c = refl
-
-pub ended_at-end-requires-clause-program : goal.ended_at-end-requires-clause-program
-ended_at-end-requires-clause-program g c = c.requires.program
-
-pub ended_at-end-requires-clause-end : goal.ended_at-end-requires-clause-end
-ended_at-end-requires-clause-end g c = c.requires.end
-
-pub write_threads-requires-clause-end : goal.write_threads-requires-clause-end
-write_threads-requires-clause-end g c = c.requires.end
-
-pub write_threads-requires-clause-working : goal.write_threads-requires-clause-working
-write_threads-requires-clause-working g c = c.in_ok-write_report_line.ensures.0
-
-pub returns-in_err-write_threads-clause-same : goal.returns-in_err-write_threads-clause-same
-returns-in_err-write_threads-clause-same g c = c.write_threads.ensures.same
-
-pub write_currencies-requires-clause-end : goal.write_currencies-requires-clause-end
-write_currencies-requires-clause-end g c = subst (λ (s : Seen). IsAtEnd s c.args.timekeeper.now) (sym c.in_ok-write_threads.ensures.same) c.requires.end
-
-pub write_currencies-requires-clause-working : goal.write_currencies-requires-clause-working
-write_currencies-requires-clause-working g c = c.in_ok-write_threads.ensures.text.0
-
-pub returns-in_err-write_currencies-clause-same : goal.returns-in_err-write_currencies-clause-same
-returns-in_err-write_currencies-clause-same g c = c.in_ok-write_threads.ensures.same
-
-pub write_processors-requires-clause-end : goal.write_processors-requires-clause-end
-write_processors-requires-clause-end g c = subst (λ (s : Seen). IsAtEnd s c.args.timekeeper.now) (sym c.in_ok-write_threads.ensures.same) c.requires.end
-
-pub write_processors-requires-clause-working : goal.write_processors-requires-clause-working
-write_processors-requires-clause-working g c = c.in_ok-write_currencies.ensures.0
-
-pub returns-in_err-write_processors-clause-same : goal.returns-in_err-write_processors-clause-same
-returns-in_err-write_processors-clause-same g c = c.in_ok-write_threads.ensures.same
-
-pub write_total-requires-clause-end : goal.write_total-requires-clause-end
-write_total-requires-clause-end g c = subst (λ (s : Seen). IsAtEnd s c.args.timekeeper.now) (sym c.in_ok-write_threads.ensures.same) c.requires.end
-
-pub write_total-requires-clause-working : goal.write_total-requires-clause-working
-write_total-requires-clause-working g c = c.in_ok-write_processors.ensures.0
-
-pub returns-clause-same : goal.returns-clause-same
-returns-clause-same g c = c.in_ok-write_threads.ensures.same

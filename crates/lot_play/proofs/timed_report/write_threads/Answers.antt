@@ -1,4 +1,4 @@
-use Rattle.std.proofs.Common.{◌≡◌, ◌+◌, ℕ, List, [], length, Err, ◌∙◌, ap, subst, sym, arith}
+use Rattle.std.proofs.Common.{◌≡◌, ◌+◌, ℕ, List, [], length, Err, rules, ◌∙◌, ap, subst, arith}
 use Rattle.std.specs.List.{flat_map, range_with_len}
 use Rattle.std.specs.Option.{option_map_or}
 use Rattle.std.specs.Io.KnownBytes.{Appends}
@@ -7,8 +7,6 @@ use Rattle.lot_simulation.specs.Timed.{timed_turns}
 use Rattle.lot_engine.specs.Seen.{Seen, world_of}
 use Rattle.lot_play.specs.declared.form.Form.{Form}
 use Rattle.lot_play.specs.ReportTable.{timed_thread_text}
-use Rattle.lot_playback.specs.InTime.{IsAtEnd}
-use Rattle.lot_play.proofs.PlayedFacts.{err-is}
 use Rattle.lot_play.proofs.WritingFacts.{range-more, range-stops}
 use Rattle.lot_play.proofs.timed_report.write_threads.Goals as goal
 
@@ -18,7 +16,7 @@ line form seen n = option_map_or (timed_thread_text form (world_of seen).state (
 
 pub returns-in_err-write_thread-clause-text : goal.returns-in_err-write_thread-clause-text
 returns-in_err-write_thread-clause-text g c =
-    let is : c.from_residual.result ≡ Err c.in_err-write_thread.field-0.0 = err-is c.from_residual.result _ c.from_residual.ensures.1 in
+    let is : c.from_residual.result ≡ Err c.in_err-write_thread.field-0.0 = search rules in
     let i = c.loop-place.invariant in
     let told = rw i.system at c.in_err-write_thread.ensures.text in
     let count : c.thread_count-place-end.result ≡ length (world_of c.args.system.now).state.records = c.thread_count-place-end.ensures.count ∙ ap (λ (x : Seen). length (world_of x).state.records) c.live_value-all_values.ensures.same in
@@ -45,15 +43,3 @@ returns-clause-text g c =
     let count : c.thread_count-place-end.result ≡ length (world_of c.args.system.now).state.records = c.thread_count-place-end.ensures.count ∙ ap (λ (x : Seen). length (world_of x).state.records) c.live_value-all_values.ensures.same in
     let all : c.loop-place.place ≡ length (world_of c.args.system.now).state.records = omega (arith, c.loop-place-test.false, c.loop-place.auto.place-end, count) in
     (i.working, subst (λ n. Appends (g.W.Write.contents c.args.writer.now.inner) (g.W.Write.contents c.loop-place.writer.inner) (flat_map (line c.args.form c.args.system.now) (range_with_len 1 n))) all i.bytes)
-
-pub write_thread-requires-clause-end : goal.write_thread-requires-clause-end
-write_thread-requires-clause-end g c = subst (λ (s : Seen). IsAtEnd s c.args.timekeeper.now) (sym c.loop-place.invariant.system) c.requires.end
-
-pub write_thread-requires-clause-working : goal.write_thread-requires-clause-working
-write_thread-requires-clause-working g c = c.loop-place.invariant.working
-
-pub returns-in_err-write_thread-clause-same : goal.returns-in_err-write_thread-clause-same
-returns-in_err-write_thread-clause-same g c = c.write_thread.ensures.same ∙ c.loop-place.invariant.system
-
-pub returns-clause-same : goal.returns-clause-same
-returns-clause-same g c = c.loop-place.invariant.system

@@ -1,14 +1,13 @@
 -- The lines of each report, and then that of an early end.
-use Rattle.std.proofs.Common.{◌≡◌, List, ℕ, Err, length, ap, subst, sym, ◌∙◌}
+use Rattle.std.proofs.Common.{◌≡◌, List, ℕ, Err, length, rules, subst}
 use Rattle.lot_simulation.specs.Timed.{ended_at, timed_turns}
 use Rattle.lot_simulation.specs.TimedReport.{early_end, early_text, timed_report_of}
 use Rattle.lot_simulation.specs.World.{Program}
 use Rattle.lot_io.proofs.WritingFacts.{begins-front, writes-after}
 use Rattle.lot_io.specs.Writing.{Begins, Written}
 use Rattle.lot_playback.specs.declared.timekeeper.Timekeeper.{Timekeeper}
-use Rattle.lot_playback.specs.InTime.{IsFollowed, moment_in}
+use Rattle.lot_playback.specs.InTime.{moment_in}
 use Rattle.lot_engine.specs.Seen.{Seen}
-use Rattle.lot_play.proofs.PlayedFacts.{err-is}
 use Rattle.lot_play.proofs.TimedReportFacts.{early-line, report-is}
 use Rattle.lot_play.proofs.timed_report.write_timed_report.Goals as goal
 
@@ -25,7 +24,7 @@ returns-in_err-write_lines-clause-text g c =
     let s = c.args.system.now in
     let w = c.args.timekeeper.now in
     let program = c.args.program.now in
-    let is : c.from_residual.result ≡ Err c.in_err-write_lines.field-0.0 = err-is c.from_residual.result _ c.from_residual.ensures.1 in
+    let is : c.from_residual.result ≡ Err c.in_err-write_lines.field-0.0 = search rules in
     let told = c.in_err-write_lines.ensures.text in
     let old = g.W.Write.contents c.args.writer.now.inner in
     let new = g.W.Write.contents c.write_lines.new.writer.inner in
@@ -45,27 +44,3 @@ returns-clause-text g c =
     let line = early-line s c.write_lines.new.system w program c.early_end.result first.same c.early_end.ensures in
     let second : Written mid new failed result (last s w program) = subst (Written mid new failed result) line c.write_early.ensures in
     subst (Written old new failed result) (report-is s w c.requires.end program c.requires.program) (writes-after old mid new failed result (lines s w program) (last s w program) first.text.1 second)
-
-pub write_lines-requires-clause-program : goal.write_lines-requires-clause-program
-write_lines-requires-clause-program g c = c.requires.program
-
-pub write_lines-requires-clause-end : goal.write_lines-requires-clause-end
-write_lines-requires-clause-end g c = c.requires.end
-
-pub write_lines-requires-clause-working : goal.write_lines-requires-clause-working
-write_lines-requires-clause-working g c = c.requires.working
-
-pub returns-in_err-write_lines-clause-same : goal.returns-in_err-write_lines-clause-same
-returns-in_err-write_lines-clause-same g c = c.write_lines.ensures.same
-
-pub early_end-requires-clause-program : goal.early_end-requires-clause-program
-early_end-requires-clause-program g c = ap (λ (s : Seen). s.setting.program) c.write_lines.ensures.same ∙ c.requires.program
-
-pub early_end-requires-clause-followed : goal.early_end-requires-clause-followed
-early_end-requires-clause-followed g c = subst (λ (s : Seen). IsFollowed s.setting.program s c.args.timekeeper.now) (sym c.write_lines.ensures.same) c.requires.end.followed
-
-pub write_early-requires : goal.write_early-requires
-write_early-requires g c = c.in_ok-write_lines.ensures.text.0
-
-pub returns-clause-same : goal.returns-clause-same
-returns-clause-same g c = c.write_lines.ensures.same
