@@ -8,7 +8,6 @@ use Rattle.lot_simulation.specs.Timed.{alarms_after, clocks_after, is_idle_draw,
 use Rattle.lot_machine.specs.Bounds.{IsWithinBounds}
 use Rattle.lot_machine.specs.State.{opening, thread_on}
 use Rattle.lot_graph.specs.declared.layout.Layout.{Layout}
-use Rattle.lot_graph.specs.Found.{FoundNodes}
 use Rattle.lot_simulation.specs.World.{Program, World, sleeper_on, system_turn}
 use Rattle.lot_simulation.specs.World.Answer.{Answered}
 use Rattle.lot_simulation.proofs.TimedRuns.{room-small}
