@@ -26,7 +26,7 @@ use Rattle.lot_machine.specs.declared.sizes.Sizes.{Sizes}
 use Rattle.lot_simulation.specs.declared.separators.Separators.{Separators}
 use Rattle.lot_simulation.specs.declared.separators.Separators.TheVariants.{Blanks}
 use Rattle.lot_simulation.specs.Lines.{lines_of, without_end, separators_in, tokens_of, is_ignored, is_printable}
-use Rattle.lot_simulation.specs.Words.{word_in, header_words, timed_header_words, header_place, body_words, timed_body_words, script_words, timed_script_words}
+use Rattle.lot_simulation.specs.Words.{word_in, header_words, timed_header_words, header_place, body_place, body_words, timed_body_words, script_words, timed_script_words}
 use Rattle.lot_simulation.specs.Reading.{OpenScript, Reading, opening_reading, ◌>>=◌, checked, each, each_pair, number_between, any_number, actor_below, any_name, any_ticket, new_name, known_name, script_number}
 use Rattle.lot_machine.specs.Lottery.{mixed_seed}
 use Rattle.lot_simulation.specs.World.{Program}
@@ -339,7 +339,7 @@ body_line n r word tokens = Err BadLine
 abbrev pub body_after_header : ℕ → Reading → BodyWord → List (List ℕ) → Result Reading InputRefusal
 body_after_header n r word tokens = do
   after ← body_line n r word tokens
-  Ok (record after { place = 10 })
+  Ok (record after { place = body_place })
 
 -- ---- a line
 

@@ -1,5 +1,5 @@
 -- The words that begin lines of an input.
-use Rattle.std.specs.Prelude.{ℕ, Option, List, [], ◌∷◌, find, option_map, codes}
+use Rattle.std.specs.Prelude.{ℕ, Option, List, [], ◌∷◌, length, find, option_map, codes}
 use Rattle.std.specs.Str.{bytes_eq}
 use Rattle.lot_simulation.specs.declared.input.HeaderWord.{HeaderWord}
 use Rattle.lot_simulation.specs.declared.input.HeaderWord.TheVariants as header
@@ -36,6 +36,10 @@ header_place header.Limits = 6
 header_place header.Reuse = 7
 header_place header.Without = 8
 header_place header.Strict = 9
+
+-- the place of the body, after those of the header's lines
+abbrev pub body_place : ℕ
+body_place = length timed_header_words
 
 -- the words of the body
 abbrev pub body_words : List (List ℕ × BodyWord)

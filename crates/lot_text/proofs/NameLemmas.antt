@@ -8,18 +8,19 @@ use Rattle.lot_simulation.specs.declared.input.InputRefusal.{InputRefusal}
 use Rattle.lot_simulation.specs.declared.input.InputRefusal.TheVariants.{TooLong}
 use Rattle.lot_simulation.specs.Grammar.{add_named, add_naming, body_after_header, script_names}
 use Rattle.lot_simulation.specs.Reading.{Reading, ◌>>=◌, checked, new_name}
+use Rattle.lot_simulation.specs.Words.{body_place}
 use Rattle.lot_text.specs.Alone.{new_name_alone}
 use Rattle.lot_text.specs.Readings.{after_header}
 
 -- a line that names a port is read by its only token
 pub port-line : (n : ℕ) (r : Reading) (tokens : List (List ℕ))
-    → body_after_header n r body.Port tokens ≡ (new_name_alone 256 r.ports tokens >>= λ name. Ok (record r { place = 10; ports = r.ports ++ name ∷ [] }))
+    → body_after_header n r body.Port tokens ≡ (new_name_alone 256 r.ports tokens >>= λ name. Ok (record r { place = body_place; ports = r.ports ++ name ∷ [] }))
 port-line n r [] = refl
 port-line n r (token ∷ []) = at (new_name r.ports token) (nat_le 256 (length r.ports))
   where
     at : (name : Result (List ℕ) InputRefusal) (full : Bool)
-        → ((name >>= λ name. checked ((full, TooLong) ∷ []) (record r { ports = r.ports ++ name ∷ [] })) >>= λ after. Ok (record after { place = 10 }))
-        ≡ ((name >>= λ name. checked ((full, TooLong) ∷ []) name) >>= λ name. Ok (record r { place = 10; ports = r.ports ++ name ∷ [] }))
+        → ((name >>= λ name. checked ((full, TooLong) ∷ []) (record r { ports = r.ports ++ name ∷ [] })) >>= λ after. Ok (record after { place = body_place }))
+        ≡ ((name >>= λ name. checked ((full, TooLong) ∷ []) name) >>= λ name. Ok (record r { place = body_place; ports = r.ports ++ name ∷ [] }))
     at (Err refusal) full = refl
     at (Ok name) true = refl
     at (Ok name) false = refl
@@ -27,13 +28,13 @@ port-line n r (token ∷ other ∷ tokens) = refl
 
 -- a line that names a mutex is read by its only token
 pub mutex-line : (n : ℕ) (r : Reading) (tokens : List (List ℕ))
-    → body_after_header n r body.Mutex tokens ≡ (new_name_alone 256 r.mutexes tokens >>= λ name. Ok (record r { place = 10; mutexes = r.mutexes ++ name ∷ [] }))
+    → body_after_header n r body.Mutex tokens ≡ (new_name_alone 256 r.mutexes tokens >>= λ name. Ok (record r { place = body_place; mutexes = r.mutexes ++ name ∷ [] }))
 mutex-line n r [] = refl
 mutex-line n r (token ∷ []) = at (new_name r.mutexes token) (nat_le 256 (length r.mutexes))
   where
     at : (name : Result (List ℕ) InputRefusal) (full : Bool)
-        → ((name >>= λ name. checked ((full, TooLong) ∷ []) (record r { mutexes = r.mutexes ++ name ∷ [] })) >>= λ after. Ok (record after { place = 10 }))
-        ≡ ((name >>= λ name. checked ((full, TooLong) ∷ []) name) >>= λ name. Ok (record r { place = 10; mutexes = r.mutexes ++ name ∷ [] }))
+        → ((name >>= λ name. checked ((full, TooLong) ∷ []) (record r { mutexes = r.mutexes ++ name ∷ [] })) >>= λ after. Ok (record after { place = body_place }))
+        ≡ ((name >>= λ name. checked ((full, TooLong) ∷ []) name) >>= λ name. Ok (record r { place = body_place; mutexes = r.mutexes ++ name ∷ [] }))
     at (Err refusal) full = refl
     at (Ok name) true = refl
     at (Ok name) false = refl
@@ -55,7 +56,7 @@ script-full n before r token names name same is named full = rw (← same, le-le
 pub script-named : (n : ℕ) (before r : Reading) (token : List ℕ) (names : List (List ℕ)) (name : List ℕ) → before ≡ r → names ≡ script_names before
     → Ok name ≡ new_name names token → length before.scripts < 256
     → body_after_header n r body.Script (token ∷ []) ≡ Ok
-    (record before { place = 10; unclosed = Some (record { name = name; begins = n; lines = []; loops = 0 }) })
+    (record before { place = body_place; unclosed = Some (record { name = name; begins = n; lines = []; loops = 0 }) })
 script-named n before r token names name same is named room = rw (← same, lt-leb 256 (length before.scripts) room, ← is, ← named) refl
 
 -- the name of a ticket is refused

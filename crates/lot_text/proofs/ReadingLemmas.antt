@@ -1,6 +1,6 @@
 -- States of reading stay within the bounds of an input.
 use Rattle.std.proofs.Common.{◌≡◌, ◌∙◌, ◌<◌, ◌≤◌, ◌+◌, ℕ, Bool, false, Option, Some, None, Ok, Err, List, [], ◌∷◌, ◌++◌, length, refl, sym, ap, arith, rules}
-use Rattle.std.specs.Prelude.{All, IsTrue}
+use Rattle.std.specs.Prelude.{All, IsTrue, nat_lt}
 use Rattle.std.specs.List.Sorted.{IsNonDecreasing}
 use Rattle.std.proofs.lemmas.Bool.{le-leb, lt-leb, true≢false}
 use Rattle.std.proofs.lemmas.Grind.{common_steps}
@@ -12,19 +12,24 @@ use Rattle.lot_simulation.specs.declared.input.HeaderWord.TheVariants as header
 use Rattle.lot_simulation.specs.declared.input.InputRefusal.TheVariants.{TooLong}
 use Rattle.lot_simulation.specs.Reading.{NamedScript, OpenScript, Reading, number_between}
 use Rattle.lot_simulation.specs.Grammar.{add_naming, header_line}
+use Rattle.lot_simulation.specs.Words.{body_place}
 use Rattle.lot_text.specs.Readings.{IsBody, IsReading, after_header}
 
+-- the body comes after the header
+past-header : body_place ≡ 0 → ⊥
+past-header none = true≢false (ap (λ (place : ℕ). nat_lt 0 place) none)
+
 -- a line of the body ends the header
-in_body : (r : Reading) → IsReading r → IsBody 10 r.processors r.commands r.schedule
+in_body : (r : Reading) → IsReading r → IsBody body_place r.processors r.commands r.schedule
 in_body r read = record {
   command_count = read.body.command_count;
   actors = read.body.actors;
   schedule_length = read.body.schedule_length;
-  unscheduled = λ none. absurd (omega (arith, none));
+  unscheduled = λ none. absurd (past-header none);
 }
 
 -- one that adds ports
-pub with_ports : (r : Reading) (ports : List (List ℕ)) → IsReading r → length ports ≤ 256 → IsReading (record r { place = 10; ports = ports })
+pub with_ports : (r : Reading) (ports : List (List ℕ)) → IsReading r → length ports ≤ 256 → IsReading (record r { place = body_place; ports = ports })
 with_ports r ports read fits = record {
   sizes = read.sizes;
   names = record {
@@ -39,7 +44,7 @@ with_ports r ports read fits = record {
 }
 
 -- one that adds mutexes
-pub with_mutexes : (r : Reading) (mutexes : List (List ℕ)) → IsReading r → length mutexes ≤ 256 → IsReading (record r { place = 10; mutexes = mutexes })
+pub with_mutexes : (r : Reading) (mutexes : List (List ℕ)) → IsReading r → length mutexes ≤ 256 → IsReading (record r { place = body_place; mutexes = mutexes })
 with_mutexes r mutexes read fits = record {
   sizes = read.sizes;
   names = record {
@@ -54,7 +59,7 @@ with_mutexes r mutexes read fits = record {
 }
 
 -- one that opens a script
-pub with_open : (r : Reading) (script : OpenScript) → IsReading r → length r.scripts < 256 → IsReading (record r { place = 10; unclosed = Some script })
+pub with_open : (r : Reading) (script : OpenScript) → IsReading r → length r.scripts < 256 → IsReading (record r { place = body_place; unclosed = Some script })
 with_open r script read room = record {
   sizes = read.sizes;
   names = record {
@@ -130,7 +135,7 @@ with_without r compensation lending read = record {
 
 -- a command is added, with its time
 pub with_timed : (r : Reading) (commands : List Command) (times : List ℕ) (names : List (Option ℕ)) (command : Command) → IsReading r → length r.commands < 100000 → IsTrue r.is_timed
-    → commands ≡ r.commands ++ command ∷ [] → times ≡ r.times ++ r.time ∷ [] → IsReading (record r { place = 10; commands = commands; times = times; names = names })
+    → commands ≡ r.commands ++ command ∷ [] → times ≡ r.times ++ r.time ∷ [] → IsReading (record r { place = body_place; commands = commands; times = times; names = names })
 with_timed r commands times names command read room timed added now = record {
   sizes = read.sizes;
   names = read.names;
@@ -138,7 +143,7 @@ with_timed r commands times names command read room timed added now = record {
     command_count = omega (arith, room, ap length added, length-append r.commands (command ∷ []));
     actors = read.body.actors;
     schedule_length = read.body.schedule_length;
-    unscheduled = λ none. absurd (omega (arith, none));
+    unscheduled = λ none. absurd (past-header none);
   };
   times = record {
     time_count = λ _. omega (arith, read.times.time_count timed, ap length added, ap length now, length-append r.commands (command ∷ []), length-append r.times (r.time ∷ []));
@@ -154,7 +159,7 @@ with_timed r commands times names command read room timed added now = record {
 -- so the command is read
 pub timed-read : (before r : Reading) (name : Option ℕ) (command : Command) → before ≡ r → IsTrue r.is_timed → length r.commands < 100000
     → after_header (add_naming r name command)
-    ≡ Ok (record before { place = 10; commands = before.commands ++ command ∷ []; times = before.times ++ before.time ∷ []; names = before.names ++ name ∷ [] })
+    ≡ Ok (record before { place = body_place; commands = before.commands ++ command ∷ []; times = before.times ++ before.time ∷ []; names = before.names ++ name ∷ [] })
 timed-read before r name command same timed room = rw (same, lt-leb 100000 (length r.commands) room, timed) refl
 
 -- limits are read from left to right
@@ -165,7 +170,7 @@ limits-read before r first second third tickets currencies threads same is_ticke
 
 -- a command is added without a time
 pub with_command : (r : Reading) (commands : List Command) (command : Command) → IsReading r → length r.commands < 100000 → r.is_timed ≡ false
-    → commands ≡ r.commands ++ command ∷ [] → IsReading (record r { place = 10; commands = commands })
+    → commands ≡ r.commands ++ command ∷ [] → IsReading (record r { place = body_place; commands = commands })
 with_command r commands command read room untimed added = record {
   sizes = read.sizes;
   names = read.names;
@@ -173,7 +178,7 @@ with_command r commands command read room untimed added = record {
     command_count = omega (arith, room, ap length added, length-append r.commands (command ∷ []));
     actors = read.body.actors;
     schedule_length = read.body.schedule_length;
-    unscheduled = λ none. absurd (omega (arith, none));
+    unscheduled = λ none. absurd (past-header none);
   };
   times = record {
     time_count = λ timed. absurd (true≢false (sym timed ∙ untimed));
@@ -185,7 +190,7 @@ with_command r commands command read room untimed added = record {
 
 -- so the command is read
 pub naming-read : (before r : Reading) (name : Option ℕ) (command : Command) → before ≡ r → before.is_timed ≡ false → length before.commands < 100000
-    → after_header (add_naming r name command) ≡ Ok (record before { place = 10; commands = before.commands ++ command ∷ [] })
+    → after_header (add_naming r name command) ≡ Ok (record before { place = body_place; commands = before.commands ++ command ∷ [] })
 naming-read before r name command same untimed room =
     rw (← same, lt-leb 100000 (length before.commands) room, untimed, append-nil before.names, append-nil before.times) refl
 
@@ -196,7 +201,7 @@ naming-full before r name command same full = rw (← same, le-leb 100000 (lengt
 
 -- entries are added to the schedule
 pub with_schedule : (r : Reading) (schedule more : List ℕ) → IsReading r → All (λ (actor : ℕ). actor ≤ r.processors) more
-    → length r.schedule + length more ≤ 1000000 → schedule ≡ r.schedule ++ more → IsReading (record r { place = 10; schedule = schedule })
+    → length r.schedule + length more ≤ 1000000 → schedule ≡ r.schedule ++ more → IsReading (record r { place = body_place; schedule = schedule })
 with_schedule r schedule more read below room added = record {
   sizes = read.sizes;
   names = read.names;
@@ -204,7 +209,7 @@ with_schedule r schedule more read below room added = record {
     command_count = read.body.command_count;
     actors = All-same (λ (actor : ℕ). actor ≤ r.processors) _ _ added (All-append (λ (actor : ℕ). actor ≤ r.processors) r.schedule more read.body.actors below);
     schedule_length = omega (arith, room, ap length added, length-append r.schedule more);
-    unscheduled = λ none. absurd (omega (arith, none));
+    unscheduled = λ none. absurd (past-header none);
   };
   times = read.times;
 }

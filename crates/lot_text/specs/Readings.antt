@@ -9,6 +9,7 @@ use Rattle.lot_simulation.specs.declared.script.Line.{Line}
 use Rattle.lot_machine.specs.Bounds.{IsBetween}
 use Rattle.lot_simulation.specs.Grammar.{Phrase, add_command, add_named, add_runs, is_alone, is_full, names_ticket, run_of, with_line}
 use Rattle.lot_simulation.specs.Reading.{Reading, NamedScript, OpenScript, ◌>>=◌, checked, each_pair}
+use Rattle.lot_simulation.specs.Words.{body_place}
 use Rattle.lot_script.specs.Drafts.{loops_after}
 use Rattle.lot_program.specs.Parts.{AreSeeds}
 
@@ -57,7 +58,7 @@ pub record IsReading (r : Reading) : Type 0 where
 
 -- the reading after a line of the body, which ends the header
 abbrev pub after_header : Result Reading InputRefusal → Result Reading InputRefusal
-after_header read = read >>= λ after. Ok (record after { place = 10 })
+after_header read = read >>= λ after. Ok (record after { place = body_place })
 
 -- the reading with this script open
 abbrev pub within_script : Reading → OpenScript → Reading
