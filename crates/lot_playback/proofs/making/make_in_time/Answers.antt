@@ -6,54 +6,14 @@ use Rattle.lot_playback.specs.declared.timekeeper.Timekeeper.{Timekeeper}
 use Rattle.lot_playback.specs.Orders.{IsAtTime}
 use Rattle.lot_playback.specs.Stages.{IsNext, MakesTurn, Stage}
 use Rattle.lot_playback.specs.Turns.{MadeTurn}
+use Rattle.lot_playback.proofs.FollowFacts.{looked-followed}
 use Rattle.lot_playback.proofs.making.make_in_time.Goals as goal
 
 -- what the search found is no part of the records of the turns made
 looked : (seen : Seen) (timekeeper : Timekeeper) (above : FoundNodes) → above.layout ≡ timekeeper.currencies.above.layout → IsAtTime seen timekeeper
     → IsAtTime seen (record timekeeper { currencies = record timekeeper.currencies { above = above } })
 looked seen timekeeper above layout there =
-    let is = there.followed in
-    let room = is.room in
-    let turns = is.followed in
-    let owed = is.dues in
-    record {
-      timed = there.timed;
-      followed = record {
-        program_is = is.program_is;
-        room_is = is.room_is;
-        timer_is = is.timer_is;
-        bounds = is.bounds;
-        history = is.history;
-        moment = is.moment;
-        rest = is.rest;
-        left = is.left;
-        room = record {
-          clocks = room.clocks;
-          mutexes = room.mutexes;
-          replies = room.replies;
-          lives = room.lives;
-          refused_traps = room.refused_traps;
-          ready = room.ready;
-          dues = room.dues;
-          alarms = room.alarms;
-          ticks = room.ticks;
-          currency_dues = room.currency_dues;
-          above = layout ∙ room.above;
-        };
-        sleeping = is.sleeping;
-        sleepers = is.sleepers;
-        followed = record {
-          idled = turns.idled;
-          mutexes = turns.mutexes;
-          replies = turns.replies;
-          lives = turns.lives;
-          refused_traps = turns.refused_traps;
-          refused = turns.refused;
-          few = turns.few;
-        };
-        dues = record { ready = owed.ready; dues = owed.dues; currencies = record { ticks = owed.currencies.ticks; few = owed.currencies.few; dues = owed.currencies.dues } };
-      };
-    }
+    record { timed = there.timed; followed = looked-followed seen.setting.program seen timekeeper above (layout ∙ there.followed.room.above) there.followed }
 
 pub look-requires : goal.look-requires
 look-requires c = record { layout = c.requires.there.followed.room.above }
