@@ -1,6 +1,6 @@
-use Rattle.std.proofs.Common.{rules, [], ◌∷◌, ◌++◌, length, sum_by, arith, ap, sym, ◌∙◌}
+use Rattle.std.proofs.Common.{rules, [], ◌∷◌, ◌++◌, length, arith, ap, sym, ◌∙◌}
 use Rattle.lot_station.specs.Holders.{Holder}
-use Rattle.lot_station.proofs.Merging.{head_first, moves_on, all_taken, has_one, has_more}
+use Rattle.lot_station.proofs.Merging.{head_first, moves_on, has_one, has_more}
 use Rattle.lot_station.proofs.closing.merged.Goals as goal
 
 pub loop-seat-init : goal.loop-seat-init
@@ -43,18 +43,3 @@ loop-seat-preserved g c =
             c.merge-in-loop-seat.ensures.amount c.merge-in-loop-seat-2.ensures.amount,
       ),
     )
-
-pub returns-clause-parts : goal.returns-clause-parts
-returns-clause-parts g c =
-    let i = c.loop-seat.invariant in
-    let all = ap length (sym (all_taken c.args.seats.items i.3.0 c.loop-seat.seat-iterator.rest.items i.3.1 (sym i.2 ∙ c.in-None.ensures.steps.0))) in
-    (i.3.2.parts_is ∙ all, i.3.2.parts'_is ∙ all, i.3.2.parts''_is ∙ all)
-
-pub returns-clause-amounts : goal.returns-clause-amounts
-returns-clause-amounts g c =
-    let i = c.loop-seat.invariant in
-    let all = sym (all_taken c.args.seats.items i.3.0 c.loop-seat.seat-iterator.rest.items i.3.1 (sym i.2 ∙ c.in-None.ensures.steps.0)) in
-    (i.3.2.turns_is ∙ ap (sum_by (λ (s : Holder). s.turns)) all, i.3.2.quanta_is ∙ ap (sum_by (λ (s : Holder). s.quanta)) all, i.3.2.ticks_is ∙ ap (sum_by (λ (s : Holder). s.ticks)) all)
-
-pub remove-requires : goal.remove-requires
-remove-requires g c = omega (arith, c.requires, c.args.seats.ok.0)

@@ -7,7 +7,6 @@ use Rattle.lot_station.specs.BatonViews.{all_but_first, claim, first_actor, rest
 use Rattle.lot_station.specs.BatonSeats.{baton, seat, seen_in}
 use Rattle.lot_station.proofs.BatonSteps.{opens, deals}
 use Rattle.lot_station.proofs.BatonClosing.{deals_one, dealt_of}
-use Rattle.lot_station.proofs.Errors.{if-ok-none}
 use Rattle.lot_station.proofs.baton.station.BatonStation.open.Goals as goal
 
 pub try_push_as-requires-clause-rule : goal.try_push_as-requires-clause-rule
@@ -48,51 +47,3 @@ invariant_of-seat c =
       c.index.ensures ∙ own ∙ ap (λ (x : Seen). counts_in x c.loop-k.k) (sym seen),
       ap (λ (x : Seen). x.setting.timer) seen ∙ c.requires,
     )
-
-pub returns-in_err-counts-clause-processors : goal.returns-in_err-counts-clause-processors
-returns-in_err-counts-clause-processors c = if-ok-none c.from_residual.result _ c.from_residual.ensures.0
-
-pub returns-in_err-counts-clause-seats : goal.returns-in_err-counts-clause-seats
-returns-in_err-counts-clause-seats c = if-ok-none c.from_residual.result _ c.from_residual.ensures.0
-
-pub returns-in_err-counts-clause-dealt : goal.returns-in_err-counts-clause-dealt
-returns-in_err-counts-clause-dealt c = if-ok-none c.from_residual.result _ c.from_residual.ensures.0
-
-pub returns-in_err-counts-clause-own : goal.returns-in_err-counts-clause-own
-returns-in_err-counts-clause-own c = if-ok-none c.from_residual.result _ c.from_residual.ensures.0
-
-pub returns-in_err-seats-clause-processors : goal.returns-in_err-seats-clause-processors
-returns-in_err-seats-clause-processors c = if-ok-none c.from_residual-in_err-seats.result _ c.from_residual-in_err-seats.ensures.0
-
-pub returns-in_err-seats-clause-seats : goal.returns-in_err-seats-clause-seats
-returns-in_err-seats-clause-seats c = if-ok-none c.from_residual-in_err-seats.result _ c.from_residual-in_err-seats.ensures.0
-
-pub returns-in_err-seats-clause-dealt : goal.returns-in_err-seats-clause-dealt
-returns-in_err-seats-clause-dealt c = if-ok-none c.from_residual-in_err-seats.result _ c.from_residual-in_err-seats.ensures.0
-
-pub returns-in_err-seats-clause-own : goal.returns-in_err-seats-clause-own
-returns-in_err-seats-clause-own c = if-ok-none c.from_residual-in_err-seats.result _ c.from_residual-in_err-seats.ensures.0
-
-pub returns-in_err-queue-clause-processors : goal.returns-in_err-queue-clause-processors
-returns-in_err-queue-clause-processors c = if-ok-none c.from_residual-in_err-queue.result _ c.from_residual-in_err-queue.ensures.0
-
-pub returns-in_err-queue-clause-seats : goal.returns-in_err-queue-clause-seats
-returns-in_err-queue-clause-seats c = if-ok-none c.from_residual-in_err-queue.result _ c.from_residual-in_err-queue.ensures.0
-
-pub returns-in_err-queue-clause-dealt : goal.returns-in_err-queue-clause-dealt
-returns-in_err-queue-clause-dealt c = if-ok-none c.from_residual-in_err-queue.result _ c.from_residual-in_err-queue.ensures.0
-
-pub returns-in_err-queue-clause-own : goal.returns-in_err-queue-clause-own
-returns-in_err-queue-clause-own c = if-ok-none c.from_residual-in_err-queue.result _ c.from_residual-in_err-queue.ensures.0
-
-pub returns-then-is_err-clause-processors : goal.returns-then-is_err-clause-processors
-returns-then-is_err-clause-processors c = tt
-
-pub returns-then-is_err-clause-seats : goal.returns-then-is_err-clause-seats
-returns-then-is_err-clause-seats c = tt
-
-pub returns-then-is_err-clause-dealt : goal.returns-then-is_err-clause-dealt
-returns-then-is_err-clause-dealt c = tt
-
-pub returns-then-is_err-clause-own : goal.returns-then-is_err-clause-own
-returns-then-is_err-clause-own c = tt
