@@ -29,7 +29,7 @@ use Rattle.lot_simulation.specs.World.{Program, World, Answer, action_of, actor_
 use Rattle.lot_simulation.specs.World.Answer.{Answered, Ended}
 use Rattle.lot_simulation.proofs.OtherTurns.{event-for, event_for}
 use Rattle.lot_engine.specs.Searching.{HasThoseAbove}
-use Rattle.lot_play.proofs.ListingFacts.{numbers-push}
+use Rattle.lot_system.proofs.ListingFacts.{numbers-push}
 use Rattle.lot_curves.specs.declared.stretch.Stretch.{Stretch}
 use Rattle.lot_curves.specs.OwnTimes.{EndedTurn}
 use Rattle.lot_curves.specs.declared.by.By.{By}

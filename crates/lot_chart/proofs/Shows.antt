@@ -5,9 +5,9 @@ use Rattle.std.specs.Io.KnownBytes.{Keeps}
 use Rattle.std.specs.declared.alloc.AllocError.{AllocError}
 use Rattle.lot_curves.specs.Curves.{Curves}
 use Rattle.lot_io.specs.Watching.{Watch}
-use Rattle.lot_play.specs.Played.{Plays}
-use Rattle.lot_play.specs.declared.inputs.Played.{Played}
-use Rattle.lot_play.specs.declared.inputs.Played.TheVariants.{Done}
+use Rattle.lot_system.specs.Played.{Plays}
+use Rattle.lot_system.specs.declared.inputs.Played.{Played}
+use Rattle.lot_system.specs.declared.inputs.Played.TheVariants.{Done}
 use Rattle.lot_io.specs.declared.fault.IoFault.{IoFault}
 use Rattle.lot_io.specs.declared.fault.IoFault.TheVariants.{Memory}
 use Rattle.lot_chart.specs.Shown.{Shows}

@@ -12,9 +12,9 @@ use Rattle.lot_chart.specs.Dues.{dues_by}
 use Rattle.lot_chart.specs.Tables.{table}
 use Rattle.lot_chart.specs.Charts.{chart}
 use Rattle.lot_io.specs.Watching.{Watch}
-use Rattle.lot_play.specs.Played.{Plays}
-use Rattle.lot_play.specs.declared.inputs.Played.{Played}
-use Rattle.lot_play.specs.declared.inputs.Played.TheVariants.{Done}
+use Rattle.lot_system.specs.Played.{Plays}
+use Rattle.lot_system.specs.declared.inputs.Played.{Played}
+use Rattle.lot_system.specs.declared.inputs.Played.TheVariants.{Done}
 use Rattle.lot_io.specs.declared.fault.IoFault.{IoFault}
 use Rattle.lot_io.specs.declared.fault.IoFault.TheVariants.{Memory}
 

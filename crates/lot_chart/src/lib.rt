@@ -2,6 +2,8 @@
 //! ticks, in which a timed program also has what each line is due; with a window, both show shares of those in the last
 //! ticks. If numbers are given again, all threads that had one number share a column, and a line. A picture by currency
 //! has a line for each currency other than base instead, for the ticks of the threads below it.
+//!
+//! Its tests stand in `lot_system_tests`.
 #![tactic(auto)]
 
 mod axes;

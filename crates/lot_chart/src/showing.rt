@@ -1,12 +1,12 @@
 //! Writing curves.
 ghost use Rattle.std.specs.Prelude.{◌≡◌, ◌||◌, false, true, MatchResult, OnOk};
 ghost use Rattle.lot_simulation.specs.Grammar.{program_in};
-ghost use Rattle.lot_play.specs.Leaving.{ends_refused};
-ghost use Rattle.lot_play.specs.Played.{Plays, came_of};
+ghost use Rattle.lot_system.specs.Leaving.{ends_refused};
+ghost use Rattle.lot_system.specs.Played.{Plays, came_of};
 ghost use Rattle.lot_io.specs.Writing.{Writes};
 ghost use Rattle.lot_curves.specs.Curves.{curves_by, curves_of, windowed};
 ghost use Rattle.lot_curves.specs.Intervals.{curves_within};
-ghost use Rattle.lot_play.specs.declared.inputs.Played.TheVariants.{Done};
+ghost use Rattle.lot_system.specs.declared.inputs.Played.TheVariants.{Done};
 ghost use Rattle.lot_chart.specs.Charts as charts;
 ghost use Rattle.lot_chart.specs.Dues.{dues_by};
 ghost use Rattle.lot_chart.specs.Shown.{Shows, chart_output, shares_output};
@@ -15,7 +15,7 @@ ghost use Rattle.lot_chart.specs.Tables as tables;
 use crate::{gather, program_chart, table};
 use lot_curves::{By, Interval, Measure};
 use lot_io::{IoFault, Watched, flush, write_bytes};
-use lot_play::{Played, Warnings, refuse};
+use lot_system::{Played, Warnings, refuse};
 use lot_program::Program;
 use lot_text::{ParseFault, parse};
 use std::alloc::{AllocError, Global};

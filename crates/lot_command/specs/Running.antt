@@ -8,8 +8,8 @@ use Rattle.lot_simulation.specs.Texts.{fault_line}
 use Rattle.lot_simulation.specs.World.{Program, without_time}
 use Rattle.lot_io.specs.Watching.{Watch}
 use Rattle.lot_processors.specs.Workers.{IsFreeRun}
-use Rattle.lot_play.specs.declared.inputs.Played.{Played}
-use Rattle.lot_play.specs.declared.inputs.Played.TheVariants.{Done, Refused}
+use Rattle.lot_system.specs.declared.inputs.Played.{Played}
+use Rattle.lot_system.specs.declared.inputs.Played.TheVariants.{Done, Refused}
 use Rattle.lot_io.specs.declared.fault.IoFault.TheVariants.{Read, Write}
 use Rattle.lot_io.specs.Reading.{HasRead}
 use Rattle.lot_io.specs.Writing.{Begins, IsFaultOf}

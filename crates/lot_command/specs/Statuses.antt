@@ -2,12 +2,12 @@
 use Rattle.std.specs.Prelude.{◌≡◌, ◌⊎◌, ℕ, Bool, ◌||◌, Option, Some, None, List, if◌then◌else◌}
 use Rattle.lot_io.specs.Reading.{HasRead}
 use Rattle.lot_simulation.specs.Grammar.{program_in}
-use Rattle.lot_play.specs.Played.{came_of}
-use Rattle.lot_play.specs.declared.inputs.Played.{Played}
-use Rattle.lot_play.specs.declared.inputs.Played.TheVariants as played
+use Rattle.lot_system.specs.Played.{came_of}
+use Rattle.lot_system.specs.declared.inputs.Played.{Played}
+use Rattle.lot_system.specs.declared.inputs.Played.TheVariants as played
 use Rattle.lot_command.specs.declared.exit_status.ExitStatus.{ExitStatus}
 use Rattle.lot_command.specs.declared.exit_status.ExitStatus.TheVariants as status
-use Rattle.lot_command_line.specs.declared.request.View.{View}
+use Rattle.lot_command.specs.declared.request.View.{View}
 use Rattle.lot_command.specs.Views.{input_ends_refused}
 
 -- the number of a status

@@ -6,17 +6,17 @@ use Rattle.lot_simulation.specs.Output.{played_output}
 use Rattle.lot_simulation.specs.Seeded.{seeded}
 use Rattle.lot_simulation.specs.Texts.{fault_line}
 use Rattle.lot_simulation.specs.World.{Program}
-use Rattle.lot_play.specs.Leaving.{any_ends_refused, ends_refused}
-use Rattle.lot_play.specs.ReportTable.{report_text}
-use Rattle.lot_play.specs.Seeds.{seeds_between, seeds_report}
+use Rattle.lot_system.specs.Leaving.{any_ends_refused, ends_refused}
+use Rattle.lot_system.specs.ReportTable.{report_text}
+use Rattle.lot_system.specs.Seeds.{seeds_between, seeds_report}
 use Rattle.lot_curves.specs.Curves.{curves_by, curves_of, windowed}
 use Rattle.lot_curves.specs.Intervals.{curves_within}
 use Rattle.lot_explain.specs.Explained.{explained_program}
 use Rattle.lot_chart.specs.Charts.{chart}
 use Rattle.lot_chart.specs.Dues.{dues_by}
 use Rattle.lot_chart.specs.Tables.{table}
-use Rattle.lot_command_line.specs.declared.request.View.{View}
-use Rattle.lot_command_line.specs.declared.request.View.TheVariants as views
+use Rattle.lot_command.specs.declared.request.View.{View}
+use Rattle.lot_command.specs.declared.request.View.TheVariants as views
 
 -- the output for a program, where a picture has this title; a table and a picture may be those of an interval of the
 -- time, and of the shares in a window, and a picture by thread or by currency

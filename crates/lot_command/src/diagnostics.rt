@@ -7,7 +7,7 @@ use lot_io::{IoFault, Watched};
 use lot_simulation::InputFault;
 use lot_system::Warnings;
 use lot_text::{ParseFault, parse};
-use lot_words::{
+use lot_diagnostics::{
     Asked, Place, line_to_skip, write_no_thread, write_notes, write_warnings, write_words,
 };
 use std::alloc::{AllocError, Global};

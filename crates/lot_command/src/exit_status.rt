@@ -3,7 +3,7 @@ ghost use Rattle.std.specs.Prelude.{◌≡◌, ◌≢◌, ◌≤◌, false, IfOk
 ghost use Rattle.std.specs.Result.{result_ok};
 ghost use Rattle.lot_command.specs.Statuses as statuses;
 ghost use Rattle.lot_command.specs.Statuses.{HasCome, IsStatusFor};
-ghost use Rattle.lot_command_line.specs.declared.request.Showing.{Showing};
+ghost use Rattle.lot_command.specs.declared.request.Showing.{Showing};
 
 use crate::diagnostics::{Diagnostics, say_failure, say_no_memory};
 use crate::run::{InputRunFault, run};
@@ -11,10 +11,10 @@ use crate::source::{Inputs, Recorded};
 use crate::view::shown;
 use clap::Error;
 use clap::error::ErrorKind;
-use lot_command_line::{CommandLine, Request, View, command_line_of};
+use crate::command_line::{CommandLine, Request, View, command_line_of};
 use lot_io::{IoFault, Watched};
 use lot_system::Played;
-use lot_words::Asked;
+use lot_diagnostics::Asked;
 use std::alloc::Global;
 use std::convert::AsStr;
 use std::io;

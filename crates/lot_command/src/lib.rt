@@ -1,7 +1,10 @@
 //! The program as a function of its words, its inputs and its outputs: the requests of command lines, diagnostics in
 //! words, and the exit status. `main` of `lot_sim` adds the terminal and the files.
+//!
+//! Its tests stand in `lot_command_tests`.
 #![tactic(auto)]
 
+mod command_line;
 mod diagnostics;
 mod exit_status;
 pub mod laws;

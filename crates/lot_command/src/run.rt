@@ -2,7 +2,7 @@
 ghost use Rattle.std.specs.Prelude.{◌≡◌, ℕ, List, false, true, IfErr, IfOk, OnOk};
 ghost use Rattle.lot_simulation.specs.Grammar.{program_in};
 ghost use Rattle.lot_io.specs.Reading.{Reads};
-ghost use Rattle.lot_play.specs.declared.inputs.Played.TheVariants.{Done};
+ghost use Rattle.lot_system.specs.declared.inputs.Played.TheVariants.{Done};
 ghost use Rattle.lot_command.specs.Running.{HasRun, IsStopOf, RunLeaves, Runs, timeless};
 
 use crate::diagnostics::Diagnostics;

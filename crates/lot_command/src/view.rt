@@ -1,20 +1,19 @@
 //! The views of an input's turns.
 ghost use Rattle.std.specs.Prelude.{◌≡◌, ◌||◌, false, true, IfOk, OnOk};
 ghost use Rattle.lot_simulation.specs.Grammar.{program_in};
-ghost use Rattle.lot_play.specs.Played.{Plays, PlaysInput, came_of};
-ghost use Rattle.lot_play.specs.declared.inputs.Played.TheVariants.{Done};
+ghost use Rattle.lot_system.specs.Played.{Plays, PlaysInput, came_of};
+ghost use Rattle.lot_system.specs.declared.inputs.Played.TheVariants.{Done};
 ghost use Rattle.lot_command.specs.Statuses.{HasCome};
 ghost use Rattle.lot_command.specs.Views.{input_ends_refused, text_of, view_ends_refused, view_of};
 
 use crate::diagnostics::Diagnostics;
 use crate::run::InputRunFault;
 use lot_chart::{chart_program, shares_program};
-use lot_command_line::{Showing, View};
+use crate::command_line::{Showing, View};
 use lot_explain::explain_program;
 use lot_io::{IoFault, Watched, read_input};
-use lot_play::{play_program, report_program, report_seeds};
+use lot_system::{Played, Warnings, play_program, refuse, report_program, report_seeds};
 use lot_program::Program;
-use lot_system::{Played, Warnings, refuse};
 use lot_text::{ParseFault, parse_seeded};
 use std::alloc::Global;
 use std::io::{Read, Write};

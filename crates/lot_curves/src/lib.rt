@@ -1,5 +1,7 @@
 //! Curves: the ticks and the draws of each thread over time, or the ticks below each currency, computed from the turns
 //! of a run.
+//!
+//! Its tests stand in `lot_system_tests`.
 #![tactic(auto)]
 
 mod by;

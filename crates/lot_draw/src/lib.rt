@@ -4,6 +4,8 @@
 //! `RunQueue::set_competitor` and `RunQueue::settle` write nothing to the tree: they list the threads whose weight
 //! may have to change. `RunQueue::draw` settles stale nodes, sets the weights of the listed threads, and visits the
 //! tree once. Only `RunQueue::new` allocates memory.
+//!
+//! Its tests stand in `lot_kernel_tests`.
 #![tactic(auto)]
 
 mod competing;

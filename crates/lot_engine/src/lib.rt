@@ -1,5 +1,7 @@
 //! The engine: a simulated system of a console with commands, processors with generators, and threads with scripts.
 //! It makes one turn at a time, records its actor, and counts it.
+//!
+//! Its tests stand in `lot_system_tests`.
 #![tactic(auto)]
 
 mod counts;

@@ -21,7 +21,7 @@ use Rattle.lot_print.specs.Loans.{loan_line}
 use Rattle.lot_print.specs.Lots.{lot_line, mark, part_word, weight_word, why_text}
 use Rattle.lot_explain.specs.declared.won.Won.{Won}
 use Rattle.lot_explain.specs.Loans.{loan_lines}
-use Rattle.lot_explain.specs.Lots.{lot_lines, total_of}
+use Rattle.lot_explain.specs.Lots.{lot_diagnostics, total_of}
 
 -- a list that is joined of two is no longer than their bounds add up to
 both : (m n : ℕ) (xs ys : List ℕ) → length xs ≤ m → length ys ≤ n → length (xs ++ ys) ≤ m + n
@@ -196,13 +196,13 @@ module _ (style : LineStyle) (unit actor : ℕ) (timely : HasShortTime style) (i
       omega (arith, both 11 _ (front style) (decimal actor ++ (part_word lottery ++ rest)) (front-short style timely) after_actor, line_most-is style)
 
   -- the lines of lots that weigh less than 2 ^ 66 together
-  pub lines-short : (won : Won) (first : ℕ) (lots : List Lot) → All IsShortLot lots → first + total_of lots < 2 ^ 66 → length (lot_lines style unit actor won first lots) ≤ length lots * line_most style
+  pub lines-short : (won : Won) (first : ℕ) (lots : List Lot) → All IsShortLot lots → first + total_of lots < 2 ^ 66 → length (lot_diagnostics style unit actor won first lots) ≤ length lots * line_most style
   lines-short won first [] short small = omega arith
   lines-short won first (lot ∷ lots) short small =
       let total = sum_by-cons (λ (x : Lot). x.weight) lot lots in
       let head = line-short won.lottery won.winner first lot (All-head IsShortLot lot lots short) (omega (arith, small, total)) in
       let tail = lines-short won (first + lot.weight) lots (All-tail IsShortLot lot lots short) (omega (arith, small, total)) in
-      let joined = both (line_most style) (length lots * line_most style) (lot_line style unit actor won.lottery won.winner first lot) (lot_lines style unit actor won (first + lot.weight) lots) head tail in
+      let joined = both (line_most style) (length lots * line_most style) (lot_line style unit actor won.lottery won.winner first lot) (lot_diagnostics style unit actor won (first + lot.weight) lots) head tail in
       omega (arith, joined)
 
 module _ (time unit actor : ℕ) (timely : time < 2 ^ 32) (is : IsUnit unit) (few : actor ≤ 64) where

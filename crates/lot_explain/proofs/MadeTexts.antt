@@ -3,7 +3,7 @@ use Rattle.std.proofs.Common.{◌≡◌, ℕ, Option, None, Some, List, [], ◌�
 use Rattle.lot_simulation.specs.declared.style.LineStyle.TheVariants.{Whole, Timed}
 use Rattle.lot_simulation.specs.Timed.{TimedTurn, timed_turns}
 use Rattle.lot_simulation.specs.World.{Program, World, opening_world, system_turn}
-use Rattle.lot_play.specs.Texts.{last_report}
+use Rattle.lot_system.specs.Texts.{last_report}
 use Rattle.lot_playback.specs.Turns.{scheduled_turns, turns_by, turns_in_time}
 use Rattle.lot_explain.specs.declared.detail.Detail.{Detail}
 use Rattle.lot_explain.specs.Explained.{explained_program, explained_text, explained_texts, explained_times}

@@ -34,7 +34,7 @@ use Rattle.lot_simulation.specs.World.{Program, World, number_of, slice_on, even
 use Rattle.lot_explain.specs.declared.won.Won.{Won}
 use Rattle.lot_explain.specs.Explained.{lots_text}
 use Rattle.lot_explain.specs.Loans.{loan_lines}
-use Rattle.lot_explain.specs.Lots.{entrants_in, loans_of, lot_lines, lots_of, won_in, won_lines}
+use Rattle.lot_explain.specs.Lots.{entrants_in, loans_of, lot_diagnostics, lots_of, won_in, won_lines}
 use Rattle.lot_explain.specs.Short.{HasShortName}
 use Rattle.lot_explain.proofs.Lengths.{HasShortTime, both-short, line_most, lines-short, loans-short}
 use Rattle.lot_explain.proofs.PartQuanta.{AreParts, IsOnTime, IsPart, command-parts, step-parts}
@@ -97,7 +97,7 @@ module _ (style : LineStyle) (timely : HasShortTime style) (s : State) (short : 
       let unit = s.limits.unit in
       let lots = lines-short style unit actor timely short.order.bounds.of_unit few won 0 (lots_of s e) entries.each (omega (arith, entries.total)) in
       let loans = loans-short style unit actor timely short.order.bounds.of_unit few (loans_of s e) entries.each_loan in
-      let lines = both-short style (lot_lines style unit actor won 0 (lots_of s e)) (loan_lines style unit actor (loans_of s e)) (length (lots_of s e)) (length (loans_of s e)) lots loans in
+      let lines = both-short style (lot_diagnostics style unit actor won 0 (lots_of s e)) (loan_lines style unit actor (loans_of s e)) (length (lots_of s e)) (length (loans_of s e)) lots loans in
       omega (arith, lines, mul-le-mul_right (line_most style) entries.few)
 
   -- so are those of a lottery that an event holds: if it isn't refused, its processor is there

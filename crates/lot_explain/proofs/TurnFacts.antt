@@ -24,7 +24,7 @@ use Rattle.lot_simulation.specs.World.Answer.{Answered, Ended}
 use Rattle.lot_engine.specs.Seen.{Seen, world_of}
 use Rattle.lot_playback.specs.declared.turn.Turn.{Turn as ATurn}
 use Rattle.lot_playback.specs.Stages.{HasJustMade, answer_in}
-use Rattle.lot_play.specs.Texts.{style_at}
+use Rattle.lot_system.specs.Texts.{style_at}
 use Rattle.lot_playback.specs.Turns.{MadeTurn}
 use Rattle.lot_playback.proofs.MadeFacts.{world-one_more}
 use Rattle.lot_explain.specs.declared.detail.Detail.{Detail}

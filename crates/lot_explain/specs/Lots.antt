@@ -90,11 +90,11 @@ won_in e other = None
 -- ---- the lines
 
 -- The lines of lots, whose numbers begin with this one: the numbers of each follow those of the lot before it.
-abbrev pub lot_lines : LineStyle → ℕ → ℕ → Won → ℕ → List Lot → List ℕ
-lot_lines style unit actor won first [] = []
-lot_lines style unit actor won first (lot ∷ lots) = lot_line style unit actor won.lottery won.winner first lot ++ lot_lines style unit actor won (first + lot.weight) lots
+abbrev pub lot_diagnostics : LineStyle → ℕ → ℕ → Won → ℕ → List Lot → List ℕ
+lot_diagnostics style unit actor won first [] = []
+lot_diagnostics style unit actor won first (lot ∷ lots) = lot_line style unit actor won.lottery won.winner first lot ++ lot_diagnostics style unit actor won (first + lot.weight) lots
 
 -- the lines of the lots of a won lottery, whose numbers begin with 0, and then those of the loans at it
 abbrev pub won_lines : LineStyle → ℕ → ℕ → List Lot → List Loan → Option Won → List ℕ
 won_lines style unit actor lots loans None = []
-won_lines style unit actor lots loans (Some won) = lot_lines style unit actor won 0 lots ++ loan_lines style unit actor loans
+won_lines style unit actor lots loans (Some won) = lot_diagnostics style unit actor won 0 lots ++ loan_lines style unit actor loans

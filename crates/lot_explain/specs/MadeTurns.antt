@@ -8,7 +8,7 @@ use Rattle.lot_simulation.specs.World.Answer.{Answered}
 use Rattle.lot_engine.specs.Seen.{Seen, world_of}
 use Rattle.lot_playback.specs.declared.turn.Turn.{Turn}
 use Rattle.lot_playback.specs.Stages.{Reports}
-use Rattle.lot_play.specs.Texts.{style_at}
+use Rattle.lot_system.specs.Texts.{style_at}
 use Rattle.lot_playback.specs.Turns.{MadeTurn}
 use Rattle.lot_explain.specs.declared.detail.Detail.{Detail}
 use Rattle.lot_explain.specs.Explained.{explained_text}

@@ -18,7 +18,7 @@ use crate::lines::put_lots;
 use lot_engine::System;
 use lot_io::{IoFault, Watched};
 use lot_machine::{Event, Reply};
-use lot_play::{Warnings, heading, play_through, printed_actor, put_answer, style_of};
+use lot_system::{Warnings, heading, play_through, printed_actor, put_answer, style_of};
 use lot_playback::{Observer, Playback, Turn};
 use lot_print::{Heading, Page, write_ended};
 use lot_program::Program;

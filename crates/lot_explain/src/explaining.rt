@@ -1,16 +1,16 @@
 //! Explaining an input.
 ghost use Rattle.std.specs.Prelude.{◌≡◌, ◌||◌, false, true, MatchResult, OnOk};
 ghost use Rattle.lot_simulation.specs.Grammar.{program_in};
-ghost use Rattle.lot_play.specs.Leaving.{ends_refused};
-ghost use Rattle.lot_play.specs.Played.{Plays, came_of};
-ghost use Rattle.lot_play.specs.declared.inputs.Played.TheVariants.{Done};
+ghost use Rattle.lot_system.specs.Leaving.{ends_refused};
+ghost use Rattle.lot_system.specs.Played.{Plays, came_of};
+ghost use Rattle.lot_system.specs.declared.inputs.Played.TheVariants.{Done};
 ghost use Rattle.lot_explain.specs.Explained.{explained_output, explained_program};
 
 use crate::detail::Detail;
 use crate::explained::explain_turns;
 use crate::gathering::Lots;
 use lot_io::{IoFault, Watched};
-use lot_play::{Played, Warnings, end_play, refuse};
+use lot_system::{Played, Warnings, end_play, refuse};
 use lot_playback::Playback;
 use lot_program::Program;
 use lot_text::{ParseFault, parse};

@@ -13,14 +13,14 @@ ghost use Rattle.lot_simulation.specs.Timed.{end_of, timed_turns};
 ghost use Rattle.lot_simulation.specs.World.{Program, World, system_run, system_turn};
 ghost use Rattle.lot_simulation.specs.World.Answer.{Answered};
 ghost use Rattle.lot_simulation.specs.declared.style.LineStyle.{LineStyle};
-ghost use Rattle.lot_play.specs.Texts.{last_report};
+ghost use Rattle.lot_system.specs.Texts.{last_report};
 ghost use Rattle.lot_playback.specs.Turns.{program_turns};
 ghost use Rattle.lot_explain.specs.declared.detail.Detail.{Detail};
 ghost use Rattle.lot_explain.specs.declared.detail.Detail.TheVariants.{Lots};
 ghost use Rattle.lot_explain.specs.Explained.{explained_in_time, explained_output, explained_program};
 ghost use Rattle.lot_explain.specs.Explained.{explained_schedule};
 ghost use Rattle.lot_explain.specs.Loans.{IsLent, all_loans};
-ghost use Rattle.lot_explain.specs.Lots.{compensation_of, lot_lines, lots_of, total_of, won_in};
+ghost use Rattle.lot_explain.specs.Lots.{compensation_of, lot_diagnostics, lots_of, total_of, won_in};
 ghost use Rattle.lot_explain.specs.MadeTurns.{explained_turns};
 ghost use Rattle.lot_explain.specs.Numbers.{HasNumber, number_in};
 ghost use Rattle.lot_explain.specs.Short.{HasShortName, line_bytes, turn_count};
@@ -68,10 +68,10 @@ pub fn loans_are_lends()
 /// drawn in a turn's lottery is among those of the winner, and of no other thread.
 pub fn winners_have_the_number()
     ensures printed { (style : LineStyle) (unit actor : ℕ) (won : Won) (before after : List Lot) (lot : Lot)
-        → lot_lines style unit actor won 0 (before ++ lot ∷ after)
-        ≡ lot_lines style unit actor won 0 before
+        → lot_diagnostics style unit actor won 0 (before ++ lot ∷ after)
+        ≡ lot_diagnostics style unit actor won 0 before
         ++ (lot_line style unit actor won.lottery won.winner (total_of before) lot
-        ++ lot_lines style unit actor won (total_of before + lot.weight) after) }
+        ++ lot_diagnostics style unit actor won (total_of before + lot.weight) after) }
     ensures winner { (program : Program) (w : World) (actor : ℕ) (e : Event) (r : Reply) (won : Won) (number : ℕ)
         → (system_turn program w actor).answer ≡ Answered e r → won_in e r ≡ Some won → number_in r ≡ Some number
         → (lot : Lot) × HasNumber (lots_of w.state e) number lot × (lot.thread ≡ won.winner) }

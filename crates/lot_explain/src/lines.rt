@@ -4,7 +4,7 @@ ghost use Rattle.std.specs.List.{flat_map};
 ghost use Rattle.lot_io.specs.Writing.{Puts, Writes};
 ghost use Rattle.lot_print.specs.Loans.{loan_line};
 ghost use Rattle.lot_explain.specs.Loans.{loan_lines};
-ghost use Rattle.lot_explain.specs.Lots.{lot_lines, total_of, won_in as won_in_spec, won_lines};
+ghost use Rattle.lot_explain.specs.Lots.{lot_diagnostics, total_of, won_in as won_in_spec, won_lines};
 
 use crate::gathering::Lots;
 use crate::won::{Won, won_in};
@@ -68,7 +68,7 @@ fn write_lots<W: Write>(
     requires unit { 0 < heading.unit }
     requires total { won.total ≡ total_of lots.now }
     ensures { Writes W.contents writer.old writer.new result
-        (lot_lines heading.style heading.unit heading.actor won 0 lots.now) }
+        (lot_diagnostics heading.style heading.unit heading.actor won 0 lots.now) }
 {
     let mut first: u128 = 0;
     for lot in lots {

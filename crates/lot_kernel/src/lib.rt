@@ -1,5 +1,7 @@
 //! The kernel: a library that takes events, such as commands, draws and traps, and returns the reply that the paper's
 //! machine gives to each.
+//!
+//! Its tests stand in `lot_kernel_tests`.
 #![tactic(auto)]
 
 mod counts;

@@ -3,7 +3,9 @@
 #![tactic(auto)]
 
 mod replies;
+mod nodes;
 #[cfg(test)]
 mod tests;
 
 pub use replies::{trapped, won};
+pub use nodes::{is_mutex, is_target, is_thread, may_fund};

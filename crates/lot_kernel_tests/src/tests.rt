@@ -1,5 +1,6 @@
 mod amounts;
 mod bounds;
+mod funding;
 mod kills;
 mod nameless;
 mod names;
@@ -7,6 +8,7 @@ mod pauses;
 mod reads;
 mod removals;
 mod same;
+mod threads;
 mod traps;
 
 use crate::{trapped, won};

@@ -1,4 +1,6 @@
 //! The vocabulary of the machine: requests to a lottery-scheduled kernel, its replies, and the parts of its state.
+//!
+//! Its tests stand in `lot_kernel_tests`.
 #![tactic(auto)]
 
 mod action;

@@ -4,6 +4,8 @@
 //! definitions. The thread that makes the trap remains Running: the function returns its disposition as an `After`. A
 //! `Lottery` holds a lottery over the waiters' values, with scratch memory for it; only `Lottery::new` allocates.
 //! `pass_all_on` passes on the mutexes of a killed thread.
+//!
+//! Its tests stand in `lot_kernel_tests`.
 #![tactic(auto)]
 
 mod checks;

@@ -1,4 +1,6 @@
 //! A program's turns, one after another, in either order: those of a schedule, or those due by clocks.
+//!
+//! Its tests stand in `lot_system_tests`.
 #![tactic(auto)]
 
 mod alarms;

@@ -1,4 +1,6 @@
 //! Worker threads: one for each processor of a shared system, and one for its console.
+//!
+//! Its tests stand in `lot_command_tests`.
 #![tactic(auto)]
 
 mod baton_workers;

@@ -1,4 +1,6 @@
 //! Programs: a system, what the console does with it, and whose turns are made.
+//!
+//! Its tests stand in `lot_text_tests`.
 #![tactic(auto)]
 
 mod commands;

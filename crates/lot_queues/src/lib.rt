@@ -3,6 +3,8 @@
 //!
 //! A thread is in at most one queue, and every call except `list_waiters` and `owners` takes a constant number of
 //! steps. `Queues::new` allocates all memory, so no other call can fail.
+//!
+//! Its tests stand in `lot_kernel_tests`.
 #![tactic(auto)]
 
 pub mod laws;

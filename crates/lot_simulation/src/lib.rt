@@ -1,5 +1,7 @@
 //! The vocabulary of a simulated system: scripts, the words of an input, and the reasons for refusing one. Its
 //! definitions build on those of the machine.
+//!
+//! Its tests stand in `lot_text_tests`.
 #![tactic(auto)]
 
 pub mod currencies;

@@ -1,4 +1,6 @@
 //! One system shared by many threads: under a lock, or as a baton that its seats pass around.
+//!
+//! Its tests stand in `lot_system_tests`.
 #![tactic(auto)]
 
 mod baton;

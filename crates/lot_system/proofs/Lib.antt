@@ -1,0 +1,10 @@
+pub mod WritingFacts
+pub mod ListingFacts
+pub mod TimedReportFacts
+pub mod TextFacts
+pub mod LineFacts
+pub mod PlayedFacts
+pub mod SeedFacts
+pub mod ChangedFacts
+pub mod RefusedFacts
+mod TableFacts

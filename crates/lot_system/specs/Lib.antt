@@ -1,11 +1,18 @@
-pub use Rattle.lot_engine.specs.Seen
-pub use Rattle.lot_engine.specs.Steps
-pub use Rattle.lot_engine.specs.Held
-pub use Rattle.lot_engine.specs.Turns
-pub use Rattle.lot_engine.specs.Counted
-pub use Rattle.lot_engine.specs.Playing
-pub use Rattle.lot_engine.specs.Fitting
-pub use Rattle.lot_play.specs.Listing
-pub use Rattle.lot_play.specs.Played
-pub use Rattle.lot_play.specs.Kept
-pub use Rattle.lot_play.specs.Leaving
+-- The output of `play` for a program's turns.
+pub mod Texts
+-- The contents of a listing, number by number.
+pub mod Listing
+-- The outcome of an input that is played, or shown in another way.
+pub mod Played
+-- The first few items of a kind.
+pub mod Kept
+-- The warnings of a run.
+pub mod Leaving
+-- The end of a play.
+pub mod Last
+-- The report over several plays of a program, each with another seed.
+pub mod Seeds
+-- The report of a program, in lines or as a table.
+pub mod ReportTable
+-- The end of a run's output.
+pub mod Endings

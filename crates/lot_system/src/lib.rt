@@ -1,10 +1,45 @@
-//! The simulated system, and `play`, which makes the turns of a program and writes them. It re-exports `lot_engine`
-//! and `lot_play`, so that callers find both here.
+//! The simulated system, and `play`, which makes the turns of a program and writes a line for each, the listings, and
+//! the report. It hands on the engine's `System` and what reads an input.
+//!
+//! Its tests stand in `lot_command_tests`.
 #![tactic(auto)]
 
-pub use lot_engine::{Answer, Counts, Stack, System, TurnFault, Work, laws, slice_for, slice_in};
+mod answers;
+mod ending;
+mod figures;
+mod first_few;
+mod form;
+mod inputs;
+mod lack;
+pub mod laws;
+mod lines;
+mod listing;
+mod playing;
+mod refused_traps;
+mod report;
+mod report_table;
+mod reports;
+pub mod rows;
+mod seeds;
+mod spreads;
+mod summary;
+mod timed_currencies;
+mod timed_report;
+mod warnings;
+
+pub use answers::{heading, printed_actor, put_answer, style_of};
+pub use ending::write_end;
+pub use first_few::FirstFew;
+pub use form::Form;
+pub use inputs::{Played, play, play_bytes, refuse};
+pub use lack::Lack;
+pub use lines::play_program;
+pub use lot_engine::{Answer, Counts, Stack, System, TurnFault, Work, slice_for, slice_in};
 pub use lot_io::{IoFault as PlayFault, read_input};
-pub use lot_play::{
-    FirstFew, Owner, Played, RefusedCommand, RefusedTrap, StuckThread, Warnings, play, play_bytes,
-    put_answer, refuse, write_end, write_report,
-};
+pub use playing::play_through;
+pub use refused_traps::RefusedTrap;
+pub use report::write_report;
+pub use reports::{end_play, note_last};
+pub use seeds::{Seeds, report_seeds};
+pub use summary::report_program;
+pub use warnings::{Owner, RefusedCommand, StuckThread, Warnings};

@@ -9,6 +9,8 @@ mod named;
 mod reports;
 mod same;
 mod shown;
+mod sizes;
+mod stations;
 mod timed;
 mod turns;
 

@@ -1,4 +1,6 @@
 //! Parsing of inputs.
+//!
+//! Its tests stand in `lot_text_tests`.
 #![tactic(auto)]
 
 mod body;

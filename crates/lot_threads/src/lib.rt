@@ -3,6 +3,8 @@
 //!
 //! `Threads` keeps all of these together, so that a thread's record changes by one call, `Threads::change`. Only
 //! `Threads::new` allocates memory.
+//!
+//! Its tests stand in `lot_kernel_tests`.
 #![tactic(auto)]
 
 mod effect;

@@ -5,6 +5,8 @@
 //! one, from the first on, keeps the sum of its weights, at its last place. No two blocks share
 //! that place, so there is at most one partial sum for each weight, and a descent that halves the
 //! places in question reads at most one for each binary digit of their number.
+//!
+//! Its tests stand in `lot_kernel_tests`.
 #![tactic(auto)]
 
 ghost use Rattle.std.specs.Prelude.{◌≡◌, ℕ, ◌*◌, ◌^◌, ◌<◌, List, length, sum, slice_index, slice_set, IfOk, replicate};

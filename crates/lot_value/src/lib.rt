@@ -6,6 +6,8 @@
 //!
 //! A `ValuedGraph` holds a graph, its activity and its values together. `ValuedGraph::apply` makes one `Change`, and
 //! makes stale the nodes that depend on it. Only `new` allocates memory.
+//!
+//! Its tests stand in `lot_kernel_tests`.
 #![tactic(auto)]
 
 mod change;

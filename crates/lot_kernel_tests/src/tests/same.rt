@@ -17,3 +17,8 @@ pub(crate) fn check_same_at<T: PartialEq + Debug>(
 ) {
     assert_eq!(rt; *found, *wanted, "at {at:?}");
 }
+
+/// Ends the test unless a step of a row comes out as it says.
+pub(crate) fn check_step(rt: &impl Abort, step: usize, is_so: bool) {
+    assert!(rt; is_so, "step {step}");
+}

@@ -1,5 +1,5 @@
 use Rattle.std.proofs.Common.{◌||◌, ◌∙◌, ap, refl}
-use Rattle.lot_play.specs.Leaving.{ends_refused}
+use Rattle.lot_system.specs.Leaving.{ends_refused}
 use Rattle.lot_chart.proofs.Notes.{gathered}
 use Rattle.lot_chart.proofs.gathering.gather_by.Goals as goal
 

@@ -1,7 +1,7 @@
 use Rattle.std.proofs.Common.{◌≡◌, Err, rules}
 use Rattle.lot_engine.specs.Seen.{world_of}
 use Rattle.lot_io.proofs.WritingFacts.{begins-front}
-use Rattle.lot_play.proofs.WritingFacts.{put-written}
+use Rattle.lot_system.proofs.WritingFacts.{put-written}
 use Rattle.lot_explain.specs.Funding.{funding_at, funding_lines}
 use Rattle.lot_explain.proofs.FundingFacts.{funding-timed}
 use Rattle.lot_explain.proofs.funding.put_funding_at.Goals as goal

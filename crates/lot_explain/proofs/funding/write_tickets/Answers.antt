@@ -2,7 +2,7 @@ use Rattle.std.proofs.Common.{◌≡◌, ◌+◌, ◌∙◌, Err, List, ℕ, ap,
 use Rattle.std.specs.List.{flat_map, range_with_len}
 use Rattle.std.specs.Io.KnownBytes.{Appends}
 use Rattle.lot_engine.specs.Seen.{world_of}
-use Rattle.lot_play.proofs.WritingFacts.{range-more, range-stops}
+use Rattle.lot_system.proofs.WritingFacts.{range-more, range-stops}
 use Rattle.lot_explain.specs.Funding.{ticket_funds}
 use Rattle.lot_explain.proofs.funding.write_tickets.Goals as goal
 

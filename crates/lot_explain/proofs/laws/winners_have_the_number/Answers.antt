@@ -5,7 +5,7 @@ use Rattle.lot_machine.specs.declared.reply.Reply.{Reply}
 use Rattle.lot_simulation.specs.World.{Program, World, system_turn}
 use Rattle.lot_simulation.specs.World.Answer.{Answered}
 use Rattle.lot_explain.specs.declared.won.Won.{Won}
-use Rattle.lot_explain.specs.Lots.{lot_lines, lots_of, total_of, won_in}
+use Rattle.lot_explain.specs.Lots.{lot_diagnostics, lots_of, total_of, won_in}
 use Rattle.lot_explain.specs.Numbers.{number_in}
 use Rattle.lot_explain.proofs.LineFacts.{lines-both}
 use Rattle.lot_explain.proofs.WonFacts.{IsOnly, turn-won}
@@ -21,7 +21,7 @@ only program w actor e r won number answered is drawn =
 pub returns-clause-printed : goal.returns-clause-printed
 returns-clause-printed c style unit actor won before after lot =
     let none : 0 + total_of before ≡ total_of before = omega arith in
-    lines-both style unit actor won 0 before (lot ∷ after) ∙ ap (λ n. lot_lines style unit actor won 0 before ++ lot_lines style unit actor won n (lot ∷ after)) none
+    lines-both style unit actor won 0 before (lot ∷ after) ∙ ap (λ n. lot_diagnostics style unit actor won 0 before ++ lot_diagnostics style unit actor won n (lot ∷ after)) none
 
 pub returns-clause-winner : goal.returns-clause-winner
 returns-clause-winner c program w actor e r won number answered is drawn = (only program w actor e r won number answered is drawn).0

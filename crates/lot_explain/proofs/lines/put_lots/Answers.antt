@@ -1,6 +1,6 @@
 use Rattle.std.proofs.Common.{◌≡◌, Some, Err, rules, sym, ◌∙◌}
 use Rattle.lot_io.proofs.WritingFacts.{begins-front}
-use Rattle.lot_play.proofs.WritingFacts.{put-written}
+use Rattle.lot_system.proofs.WritingFacts.{put-written}
 use Rattle.lot_explain.specs.Lots.{won_in, won_lines}
 use Rattle.lot_explain.proofs.lines.put_lots.Goals as goal
 

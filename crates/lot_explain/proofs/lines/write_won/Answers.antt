@@ -2,7 +2,7 @@ use Rattle.std.proofs.Common.{◌≡◌, Err, ap, rules, subst, sym}
 use Rattle.lot_io.specs.Writing.{Begins}
 use Rattle.lot_io.proofs.WritingFacts.{begins-front, writes-after}
 use Rattle.lot_explain.specs.Loans.{loan_lines}
-use Rattle.lot_explain.specs.Lots.{lot_lines}
+use Rattle.lot_explain.specs.Lots.{lot_diagnostics}
 use Rattle.lot_explain.proofs.lines.write_won.Goals as goal
 
 pub returns-in_err-write_lots : goal.returns-in_err-write_lots
@@ -10,7 +10,7 @@ returns-in_err-write_lots g c =
     let is : c.from_residual.result ≡ Err c.in_err-write_lots.field-0.0 = search rules in
     let told = c.in_err-write_lots.ensures in
     let h = c.args.heading in
-    let lots = lot_lines h.style h.unit h.actor c.args.won 0 in
+    let lots = lot_diagnostics h.style h.unit h.actor c.args.won 0 in
     let loans = loan_lines h.style h.unit h.actor c.args.lots.now.loans in
     let old = g.W.Write.contents c.args.writer.now.inner in
     let new = g.W.Write.contents c.write_lots.new.writer.inner in
@@ -19,7 +19,7 @@ returns-in_err-write_lots g c =
 pub returns : goal.returns
 returns g c =
     let h = c.args.heading in
-    let lots = lot_lines h.style h.unit h.actor c.args.won 0 in
+    let lots = lot_diagnostics h.style h.unit h.actor c.args.won 0 in
     let loans = loan_lines h.style h.unit h.actor in
     let old = g.W.Write.contents c.args.writer.now.inner in
     let mid = g.W.Write.contents c.write_lots.new.writer.inner in

@@ -2,10 +2,10 @@
 //! time as a library.
 ghost use Rattle.std.specs.Prelude.{◌≡◌, ◌<◌, ◌↔◌, ◌⊎◌, Err, IsTrue, Ok};
 ghost use Rattle.lot_io.specs.declared.fault.IoFault.TheVariants as faults;
-ghost use Rattle.lot_play.specs.declared.inputs.Played.TheVariants as came;
+ghost use Rattle.lot_system.specs.declared.inputs.Played.TheVariants as came;
 
 use lot_io::IoFault;
-use lot_play::Played;
+use lot_system::Played;
 
 /// Whether a run was played to its end and has written something, or lacked memory and has written nothing.
 pub(crate) fn has_written_or_lacked_memory(ended: Result<Played, IoFault>, written: usize) -> bool

@@ -1,7 +1,7 @@
 //! Inputs that are explained, and their explanations.
 use super::{Shown, outcome};
 use crate::tests::same::check_same_at;
-use lot_play::Played;
+use lot_system::Played;
 use std::alloc::Global;
 use std::process::Abort;
 

@@ -4,7 +4,7 @@ use crate::tests::same::{check_same, check_same_at};
 use crate::tests::timed::COMES_LATER;
 use lot_curves::Measure;
 use lot_io::{IoFault, Watched};
-use lot_play::Played;
+use lot_system::Played;
 use std::alloc::Global;
 use std::process::Abort;
 

@@ -2,7 +2,7 @@
 use crate::tests::same::check_same_at;
 use lot_simulation::InputFault;
 use lot_text::{ParseFault, parse};
-use lot_words::line_to_skip;
+use lot_diagnostics::line_to_skip;
 use std::alloc::Global;
 use std::process::Abort;
 

@@ -2,7 +2,7 @@
 use super::{check_said, words_of};
 use crate::tests::same::check_same_at;
 use lot_io::Watched;
-use lot_play::{Warnings, play_bytes};
+use lot_system::{Warnings, play_bytes};
 use std::alloc::Global;
 use std::process::Abort;
 

@@ -2,7 +2,7 @@
 use super::check_said;
 use super::skipped::{fault_of, repeated};
 use crate::tests::same::{check_same, check_same_at};
-use lot_words::{line_of_command, write_words};
+use lot_diagnostics::{line_of_command, write_words};
 use std::alloc::Global;
 use std::process::Abort;
 

@@ -1,0 +1,26 @@
+//! The lines of an input, read again for diagnostics: their words and names, the scripts and commands that they belong
+//! to, and the texts nearest to a misspelt one.
+//!
+//! The reader of inputs keeps none of this, since few inputs need a diagnostic. Contracts say which form a line has in
+//! an input that is timed or isn't, what a word does to an open script, which place and time a command has, and that
+//! only the same text is at no distance. Of everything else the proofs show only that it is safe and terminates; the
+//! tests of `lot_system_tests` check what the diagnostics make of it.
+mod commands;
+mod forms;
+mod header;
+mod keywords;
+mod line;
+mod names;
+mod nearest;
+mod place;
+mod script;
+
+pub use commands::{InputCommand, line_of_command};
+pub use forms::{Shape, argument_at, form_in, form_outside, has_room_for, words_at_end};
+pub use header::{has_header_line, header_number, is_timed};
+pub use keywords::{Keyword, body_word, header_word, is_only_timed, row_of, spelling_of, text_of};
+pub use line::{count_words, ends_line, first_word, word_at, words_of};
+pub use names::{Named, argument_given, is_given, name_given, name_numbered};
+pub use nearest::{Nearest, nearer_word, nearest_name, nearest_word};
+pub use place::Place;
+pub use script::{OpenScript, after_line};

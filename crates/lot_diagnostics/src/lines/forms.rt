@@ -1,0 +1,114 @@
+//! The forms of lines, and the words that stand in their places.
+ghost use Rattle.std.specs.Prelude.{◌≡◌, ◌≢◌, IsTrue, IsFalse};
+
+use crate::lines::keywords::{header_word, row_of};
+use crate::lines::line::word_at;
+use lot_simulation::{Argument, BodyWord, Form, HeaderWord};
+use std::fmt;
+
+/// A whole line: its first word, and placeholders for the others.
+#[derive(Clone, Copy, Debug)]
+pub struct Shape<'a> {
+    /// The first word.
+    pub word: &'a str,
+    /// The form of the line.
+    pub form: Form,
+}
+
+impl fmt::Display for Shape<'_> {
+    fn fmt<W: fmt::Write>(&self, f: &mut fmt::Formatter<W>) -> fmt::Result {
+        f.write_str(self.word)?;
+        for (name, _) in self.form.arguments() {
+            match self.form {
+                Form::PerProcessor(_) => {
+                    write!(f, " {name}1 .. {name}P, with a number for each processor")?
+                }
+                _ => write!(f, " {name}")?,
+            }
+        }
+        match self.form {
+            Form::Repeated(_) => f.write_str(" .."),
+            Form::Naming(_) => f.write_str(" [as NAME]"),
+            _ => Ok(()),
+        }
+    }
+}
+
+/// The argument at this index after the first word, from 0. The name of a new ticket is none.
+pub fn argument_at(form: Form, place: usize) -> Option<Argument> {
+    let arguments = form.arguments();
+    match (form, arguments.len()) {
+        (_, 0) => None,
+        (Form::Naming(_), len) if len <= place => None,
+        (_, len) => Some(arguments[place % len].1),
+    }
+}
+
+/// The form in an input that is timed or isn't. Only a timed one has names of tickets.
+pub fn form_in(is_timed: bool, form: Form) -> Form
+    ensures timed { IsTrue is_timed → result ≡ form }
+    ensures other { ((arguments : _) → form ≢ Form.Naming arguments) → result ≡ form }
+    ensures untimed { (arguments : _) → IsFalse is_timed → form ≡ Form.Naming arguments
+        → result ≡ Form.Command arguments }
+{
+    match form {
+        Form::Naming(arguments) if !is_timed => Form::Command(arguments),
+        _ => form,
+    }
+}
+
+/// Whether a line may have this many words after the first.
+pub fn has_room_for(form: Form, count: usize, processors: u32) -> bool {
+    let len = form.arguments().len();
+    match form {
+        Form::Once(_) | Form::Command(_) => count == len,
+        // With `as` and a name.
+        Form::Naming(_) => count == len || count == len.saturating_add(2),
+        Form::PerProcessor(_) => count == processors as usize,
+        Form::Repeated(_) => count > 0 && len > 0 && count % len == 0,
+    }
+}
+
+/// The two words after the arguments of a line of this form, if it can name a ticket and has them: `as` and the name.
+pub fn words_at_end(form: Form, line: &[u8]) -> Option<(&str, &str)> {
+    let Form::Naming(arguments) = form else {
+        return None;
+    };
+    let place = arguments.len().saturating_add(1);
+    let name = word_at(line, place.saturating_add(1))?;
+    Some((word_at(line, place)?, name))
+}
+
+/// Whether a line of this form is a command.
+pub(crate) fn is_command(form: Form) -> bool {
+    match form {
+        Form::Command(_) | Form::Naming(_) => true,
+        _ => false,
+    }
+}
+
+/// The index in a line of this form of the argument with this name, where the first word has index 0.
+fn place_of(form: Form, name: &str) -> Option<usize> {
+    let mut place = 1usize;
+    for (argument, _) in form.arguments() {
+        if *argument == name {
+            return Some(place);
+        }
+        place = place.saturating_add(1);
+    }
+    None
+}
+
+/// The argument with this name of a line of this form, if it has that many words.
+pub(crate) fn argument_named<'a>(form: Form, line: &'a [u8], name: &str) -> Option<&'a str> {
+    word_at(line, place_of(form, name)?)
+}
+
+/// The form of a line outside scripts that begins with this word.
+pub fn form_outside(word: &str) -> Option<Form> {
+    match header_word(word) {
+        Some(HeaderWord::Lottery) => None,
+        Some(_) => Some(row_of::<HeaderWord>(word)?.2),
+        None => Some(row_of::<BodyWord>(word)?.2),
+    }
+}

@@ -1,0 +1,112 @@
+//! What makes a run of a timed input show less than its author may expect.
+
+use crate::lines::{InputCommand, Place, has_header_line, header_number, is_timed};
+use lot_simulation::{BodyWord, HeaderWord};
+use std::io;
+use std::io::Write;
+
+/// The length of a quantum, if the header doesn't give it.
+const QUANTUM: u32 = 100;
+
+/// What was asked of an input that isn't refused.
+#[derive(Clone, Copy)]
+pub enum Asked {
+    /// A play that ended at this time if it ended early, of which what comes from a time on is shown.
+    Play {
+        ended: Option<u32>,
+        from: Option<u64>,
+    },
+    /// A run by threads.
+    Run,
+}
+
+/// Writes what makes a run of the input show less than its author may expect, if something does: it has no turns, it is
+/// shorter than a quantum, or what is shown begins after its end. The input is that of the file with this name or of
+/// standard input. It fails if the writer does.
+pub fn write_notes<W: Write>(
+    writer: &mut W,
+    asked: Asked,
+    input: &[u8],
+    file: Option<&str>,
+) -> io::Result<()> {
+    if !is_timed(input) {
+        return Ok(());
+    }
+    match asked {
+        Asked::Run => write_no_turns(writer, input, file),
+        Asked::Play { ended, from } => {
+            let duration = header_number(input, HeaderWord::For, "TICKS").unwrap_or(0);
+            write_short(writer, duration, input, file)?;
+            write_beginning(writer, ended.unwrap_or(duration), from, file)
+        }
+    }
+}
+
+/// Writes that the input has no thread, if it is timed and has none.
+pub fn write_no_thread<W: Write>(
+    writer: &mut W,
+    input: &[u8],
+    file: Option<&str>,
+) -> io::Result<()> {
+    if !is_timed(input) || has_thread(input) {
+        return Ok(());
+    }
+    let place = Place { file, line: None };
+    writeln!(
+        writer,
+        "{place}nothing runs: no line makes a thread, as 'fundx AMOUNT CURRENCY NAME SCRIPT' does"
+    )
+}
+
+/// Whether the input has a command that makes a thread.
+fn has_thread(input: &[u8]) -> bool {
+    InputCommand::count(input, usize::MAX, BodyWord::MakeThread) > 0
+        || InputCommand::count(input, usize::MAX, BodyWord::MakeFunded) > 0
+}
+
+/// Writes that the processors make no turns in a run, if the input doesn't say how many.
+fn write_no_turns<W: Write>(writer: &mut W, input: &[u8], file: Option<&str>) -> io::Result<()> {
+    if has_header_line(input, HeaderWord::Turns) {
+        return Ok(());
+    }
+    let place = Place { file, line: None };
+    writeln!(
+        writer,
+        "{place}the processors make no turns: the header has no 'turns T', how many each makes in a run"
+    )
+}
+
+/// Writes that a run of so many ticks is shorter than a quantum of the input, if it is.
+fn write_short<W: Write>(
+    writer: &mut W,
+    duration: u32,
+    input: &[u8],
+    file: Option<&str>,
+) -> io::Result<()> {
+    let quantum = header_number(input, HeaderWord::Quantum, "Q").unwrap_or(QUANTUM);
+    if quantum <= duration {
+        return Ok(());
+    }
+    let place = Place { file, line: None };
+    writeln!(
+        writer,
+        "{place}the run of {duration} ticks is shorter than a quantum of {quantum}, whose ticks count when it is over"
+    )
+}
+
+/// Writes that what is shown begins at the end of the run or after it, if it does.
+fn write_beginning<W: Write>(
+    writer: &mut W,
+    end: u32,
+    from: Option<u64>,
+    file: Option<&str>,
+) -> io::Result<()> {
+    let place = Place { file, line: None };
+    match from {
+        Some(from) if u64::from(end) <= from => writeln!(
+            writer,
+            "{place}nothing is left to show: '--from {from}' isn't before the end of the run at {end}"
+        ),
+        _ => Ok(()),
+    }
+}

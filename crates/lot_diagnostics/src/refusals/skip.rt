@@ -1,0 +1,135 @@
+//! Whether a refused line can be skipped, since its fault has no consequences for other lines.
+ghost use Rattle.std.specs.Prelude.{◌≡◌, IsFalse};
+
+use crate::refusals::input::Refused;
+use crate::refusals::problem::{ByteProblem, KeywordProblem, Problem};
+use crate::lines::{
+    Keyword, body_word, count_words, first_word, form_outside, header_word, nearer_word,
+    nearest_word, row_of, words_of,
+};
+use lot_simulation::{AS_WORD, BodyWord, Form, HeaderWord, ScriptWord};
+use std::alloc::Global;
+use std::str;
+
+/// Whether the refused line can be skipped, if this is the problem with it.
+pub(crate) fn can_be_skipped(alloc: Global, refused: &Refused<'_>, problem: Problem<'_>) -> bool
+    ensures start { IsFalse refused.entry.now.has_start → IsFalse result }
+    ensures long { (len : _) → problem.entry ≡ Problem.Byte (ByteProblem.LongLine len) → IsFalse result }
+    ensures header { (it : _) → problem.entry ≡ Problem.Header it → IsFalse result }
+    ensures limit { (it : _) → problem.entry ≡ Problem.Limit it → IsFalse result }
+    ensures unclosed { problem.entry ≡ Problem.Unclosed → IsFalse result }
+{
+    // The words of a line that isn't text are unknown.
+    let is_text = str::from_utf8(refused.line).is_ok();
+    if !refused.has_start || !is_text || !is_of_one_line(problem) {
+        return false;
+    }
+    match refused.script {
+        Some(_) => can_skip_steps(alloc, refused),
+        None => can_skip_body_line(alloc, refused),
+    }
+}
+
+/// Whether only the line itself can cause this problem.
+fn is_of_one_line(problem: Problem<'_>) -> bool
+    ensures long { (len : _) → problem.entry ≡ Problem.Byte (ByteProblem.LongLine len) → IsFalse result }
+    ensures header { (it : _) → problem.entry ≡ Problem.Header it → IsFalse result }
+    ensures limit { (it : _) → problem.entry ≡ Problem.Limit it → IsFalse result }
+    ensures unclosed { problem.entry ≡ Problem.Unclosed → IsFalse result }
+{
+    match problem {
+        Problem::Byte(ByteProblem::LongLine(_)) => false,
+        Problem::Keyword(KeywordProblem::NoBodyLine { .. } | KeywordProblem::NoScriptWord { .. }) =>
+            true,
+        Problem::Byte(_) | Problem::Form(_) | Problem::Number(_) | Problem::Name(_) => true,
+        _ => false,
+    }
+}
+
+/// Whether a line outside scripts can be skipped, by its first word.
+fn can_skip_body_line(alloc: Global, refused: &Refused<'_>) -> bool {
+    let word = first_word(refused.line);
+    let is_timed = refused.is_timed();
+    let nearest = nearest_word(alloc, BodyWord::rows(), is_timed, word);
+    let nearest = nearer_word(alloc, nearest, HeaderWord::rows(), is_timed, word);
+    let nearest = nearer_word(alloc, nearest, ScriptWord::rows(), is_timed, word);
+    match nearest.text() {
+        Some(meant) => {
+            let is_elsewhere = header_word(meant).is_some()
+                || row_of::<ScriptWord>(meant).is_some();
+            let is_needed = others_depend_on(meant) || may_name_ticket(refused, meant);
+            is_plain(word) && !is_elsewhere && !is_needed
+        }
+        None => false,
+    }
+}
+
+/// Whether a line inside a script can be skipped, by its words up to a comment.
+fn can_skip_steps(alloc: Global, refused: &Refused<'_>) -> bool {
+    let mut is_argument = false;
+    for word in words_of(refused.line) {
+        if word.starts_with('#') {
+            return true;
+        }
+        if is_argument {
+            if others_depend_on(word) {
+                return false;
+            }
+            is_argument = false;
+        } else {
+            let Some(is_followed) = has_argument(alloc, refused.is_timed(), word) else {
+                return false;
+            };
+            is_argument = is_followed;
+        }
+    }
+    true
+}
+
+/// Whether an argument follows this word of a script, or the one meant by it. None if the line can't be skipped because
+/// of the word, or if out of memory.
+fn has_argument(alloc: Global, is_timed: bool, word: &str) -> Option<bool> {
+    let nearest = nearest_word(alloc, ScriptWord::rows(), is_timed, word);
+    let nearest = nearer_word(alloc, nearest, BodyWord::rows(), is_timed, word);
+    match nearest.text() {
+        Some(meant) if is_plain(word) && !others_depend_on(meant) => Some(takes_argument(meant)),
+        _ => None,
+    }
+}
+
+/// Whether the line, which is meant to begin with this word, may give a name to a ticket. Lines after it may have the
+/// name.
+fn may_name_ticket(refused: &Refused<'_>, meant: &str) -> bool {
+    let Some(Form::Naming(arguments)) = form_outside(meant) else {
+        return false;
+    };
+    let has_as = words_of(refused.line).any(|word| word.as_bytes() == AS_WORD);
+    let is_longer = count_words(refused.line) > arguments.len().saturating_add(1);
+    refused.is_timed() && (has_as || is_longer)
+}
+
+/// Whether each byte of the word may stand in an input. Otherwise the word may be several, with a space between them
+/// that isn't ASCII.
+fn is_plain(word: &str) -> bool {
+    word.bytes().all(|byte| byte.is_ascii_graphic())
+}
+
+/// Whether this word of a script takes an argument.
+fn takes_argument(word: &str) -> bool {
+    match row_of::<ScriptWord>(word) {
+        Some((_, _, form)) => !form.arguments().is_empty(),
+        None => false,
+    }
+}
+
+/// Whether other lines depend on one with this word, which opens or closes a script or a loop, or declares a name.
+fn others_depend_on(word: &str) -> bool {
+    match row_of::<ScriptWord>(word) {
+        Some((_, ScriptWord::Loop | ScriptWord::End | ScriptWord::EndScript, _)) => true,
+        Some(_) => false,
+        None => match body_word(word) {
+            Some(BodyWord::Script | BodyWord::Port | BodyWord::Mutex) => true,
+            _ => false,
+        },
+    }
+}

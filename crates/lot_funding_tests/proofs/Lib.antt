@@ -1,3 +1,0 @@
-pub mod SumLemmas
-pub mod BothLemmas
-pub mod RoomLemmas

@@ -1,0 +1,3 @@
+pub mod BothLemmas
+pub mod RoomLemmas
+pub mod SumLemmas

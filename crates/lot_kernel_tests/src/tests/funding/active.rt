@@ -1,0 +1,533 @@
+//! A caller that holds a graph and its activity together, and worked rows.
+use super::required::{
+    check_issue, check_may_lend, check_may_own, check_mutex, check_room, check_thread,
+};
+use crate::tests::same::check_step;
+use crate::is_target;
+use lot_active::{Active, ends_of_edge};
+use lot_graph::Graph;
+use lot_machine::{Edge, Lend, Limits, Sizes, Target};
+use std::alloc::{AllocError, Global};
+use std::marker::Model;
+use std::process::Abort;
+
+struct Kept {
+    graph: Graph,
+    active: Active,
+}
+
+impl Drop for Kept {
+    // An explicit drop: code that drops a `Kept` is then proved without unfolding its fields.
+    fn drop(self) {
+        let Self {
+            graph: _,
+            active: _,
+        } = self;
+    }
+}
+
+impl Model for Kept {
+    ghost use Rattle.lot_kernel_tests.specs.Both.{Both, Agree};
+
+    ghost Value = { Both };
+
+    ghost view = { λ s. record { graph = s.graph; activity = s.active } };
+
+    ghost invariant = { λ s. Agree (record { graph = s.graph; activity = s.active }) };
+}
+
+impl Kept {
+    fn new(rt: &impl Abort, alloc: Global, limits: Option<Limits>) -> Result<Self, AllocError> {
+        let limits = limits.expect(rt, "limits are not in bounds");
+        let graph = Graph::new(alloc, &limits)?;
+        let active = Active::new(alloc, &graph)?;
+        Ok(Kept { graph, active })
+    }
+
+    fn add_thread(&mut self, rt: &impl Abort) {
+        check_room(rt, &self.graph);
+        self.graph.add_thread();
+    }
+
+    fn make_currency(&mut self, rt: &impl Abort) -> u32 {
+        let made = self.graph.make_currency();
+        made.expect(rt, "there is no room for a currency")
+    }
+
+    fn issue(&mut self, rt: &impl Abort, currency: u32, amount: u32) -> u32 {
+        check_issue(rt, &self.graph, currency, amount);
+        let made = self.graph.issue(currency, amount);
+        made.expect(rt, "there is no room for a ticket")
+    }
+
+    fn fund(&mut self, rt: &impl Abort, ticket: u32, target: Target) {
+        assert!(rt; self.graph.is_unfunded(ticket));
+        assert!(rt; is_target(&self.graph, target));
+        match self.graph.fund(ticket, target) {
+            Ok(()) => self.active.attach(&self.graph, Edge::OfTicket(ticket)),
+            Err(_) => {}
+        }
+    }
+
+    fn unfund(&mut self, rt: &impl Abort, ticket: u32) {
+        assert!(rt; self.graph.is_funding(ticket));
+        let Some(ends) = ends_of_edge(&self.graph, Edge::OfTicket(ticket)) else {
+            return;
+        };
+        self.graph.unfund(ticket);
+        self.active.detach(&self.graph, ends);
+    }
+
+    fn lend(&mut self, rt: &impl Abort, thread: u32, lend: Lend) {
+        check_may_lend(rt, &mut self.graph, thread, lend);
+        self.graph.lend(thread, lend);
+        self.active.attach(&self.graph, Edge::OfLender(thread));
+    }
+
+    fn unlend(&mut self, thread: u32) {
+        let Some(ends) = ends_of_edge(&self.graph, Edge::OfLender(thread)) else {
+            return;
+        };
+        self.graph.unlend(thread);
+        self.active.detach(&self.graph, ends);
+    }
+
+    fn take_mutex(&mut self, rt: &impl Abort, mutex: u32, owner: u32) {
+        check_may_own(rt, &mut self.graph, mutex, owner);
+        self.graph.take_mutex(mutex, owner);
+        self.active.attach(&self.graph, Edge::OfMutex(mutex));
+    }
+
+    fn give_up_mutex(&mut self, rt: &impl Abort, mutex: u32) {
+        check_mutex(rt, &self.graph, mutex);
+        let Some(ends) = ends_of_edge(&self.graph, Edge::OfMutex(mutex)) else {
+            return;
+        };
+        self.graph.give_up_mutex(mutex);
+        self.active.detach(&self.graph, ends);
+    }
+
+    fn set_live(&mut self, rt: &impl Abort, thread: u32, live: bool) {
+        check_thread(rt, &self.graph, thread);
+        self.active.set_live(&self.graph, thread, live);
+    }
+
+    fn amount(&self, rt: &impl Abort, currency: u32) -> u64 {
+        assert!(rt; self.graph.is_currency(currency));
+        self.active.active_amount(currency)
+    }
+
+    fn is_backed(&self, rt: &impl Abort, thread: u32) -> bool {
+        check_thread(rt, &self.graph, thread);
+        self.active.is_backed(thread)
+    }
+
+    /// Whether a ticket is there and active.
+    fn is_active(&self, ticket: u32) -> bool {
+        match self.graph.ticket(ticket) {
+            Some(record) => self.active.is_active(record.target),
+            None => false,
+        }
+    }
+
+    /// Whether the last call switched this many nodes, and changed the amount alone of this many.
+    fn has_changed(&self, switched: usize, adjusted: usize) -> bool {
+        self.active.switched().count() == switched && self.active.adjusted().count() == adjusted
+    }
+
+    /// A ticket that funds.
+    fn funding(&mut self, rt: &impl Abort, currency: u32, amount: u32, target: Target) {
+        let ticket = self.issue(rt, currency, amount);
+        self.fund(rt, ticket, target);
+    }
+
+    /// This many threads and currencies.
+    fn add_nodes(&mut self, rt: &impl Abort, threads: u32, currencies: u32) {
+        for _ in 0..threads {
+            self.add_thread(rt);
+        }
+        for _ in 0..currencies {
+            self.make_currency(rt);
+        }
+    }
+
+    /// Takes the steps of a row in turn.
+    fn play_all(&mut self, rt: &impl Abort, steps: &[Step]) {
+        for (i, step) in steps.iter().enumerate() {
+            check_step(rt, i, self.play(rt, *step));
+        }
+    }
+
+    /// Takes a step, and returns whether it comes out as the row says.
+    fn play(&mut self, rt: &impl Abort, step: Step) -> bool {
+        match step {
+            Step::IsAmount(currency, amount) => self.amount(rt, currency) == amount,
+            Step::IsBacked(thread, is) => self.is_backed(rt, thread) == is,
+            Step::IsActive(ticket, is) => self.is_active(ticket) == is,
+            Step::HavePassed(edges) => self.active.passed() == edges,
+            Step::Changed(switched, adjusted) => self.has_changed(switched, adjusted),
+            _ => {
+                self.change(rt, step);
+                true
+            }
+        }
+    }
+
+    /// Takes a step that comes out in one way.
+    fn change(&mut self, rt: &impl Abort, step: Step) {
+        match step {
+            Step::Funding(currency, amount, target) => self.funding(rt, currency, amount, target),
+            Step::Unfund(ticket) => self.unfund(rt, ticket),
+            Step::Lend(thread, lend) => self.lend(rt, thread, lend),
+            Step::Unlend(thread) => self.unlend(thread),
+            Step::Take(mutex, owner) => self.take_mutex(rt, mutex, owner),
+            Step::GiveUp(mutex) => self.give_up_mutex(rt, mutex),
+            Step::Wake(thread) => self.set_live(rt, thread, true),
+            Step::Sleep(thread) => self.set_live(rt, thread, false),
+            _ => {}
+        }
+    }
+}
+
+/// A step of a row: a change, or what must then be so.
+#[derive(Clone, Copy)]
+enum Step {
+    Funding(u32, u32, Target),
+    Unfund(u32),
+    Lend(u32, Lend),
+    Unlend(u32),
+    Take(u32, u32),
+    GiveUp(u32),
+    Wake(u32),
+    Sleep(u32),
+    IsAmount(u32, u64),
+    IsBacked(u32, bool),
+    IsActive(u32, bool),
+    Changed(usize, usize),
+    HavePassed(u64),
+}
+
+fn limits() -> Option<Limits> {
+    Limits::new(Sizes {
+        tickets: 64,
+        currencies: 16,
+        threads: 16,
+        ports: 4,
+        mutexes: 4,
+        processors: 4,
+        scripts: 4,
+        quantum: 1000,
+        unit: 1,
+        reuse: false,
+        plain_names: false,
+        without_compensation: false,
+        without_lending: false,
+        queued_lend: false,
+    })
+}
+
+/// Plays a row within these limits, after this many threads and currencies were made.
+fn play_within(
+    rt: &impl Abort,
+    alloc: Global,
+    limits: Option<Limits>,
+    (threads, currencies): (u32, u32),
+    steps: &[Step],
+) {
+    let mut kept = Kept::new(rt, alloc, limits).expect(rt, "memory");
+    kept.add_nodes(rt, threads, currencies);
+    kept.play_all(rt, steps);
+}
+
+/// Plays a row after this many threads and currencies were made.
+fn play(rt: &impl Abort, alloc: Global, threads: u32, currencies: u32, steps: &[Step]) {
+    play_within(rt, alloc, limits(), (threads, currencies), steps)
+}
+
+const TWO_LEVELS: &[Step] = &[
+    Step::Funding(0, 1000, Target::Currency(1)),
+    Step::Funding(1, 200, Target::Currency(2)),
+    Step::Funding(1, 300, Target::Thread(1)),
+    Step::Funding(2, 7, Target::Thread(2)),
+    Step::IsAmount(0, 0),
+    Step::IsAmount(1, 0),
+    Step::Changed(0, 0),
+    Step::Wake(2),
+    Step::Changed(4, 0),
+    Step::IsAmount(2, 7),
+    Step::IsAmount(1, 200),
+    Step::IsAmount(0, 1000),
+    Step::IsActive(3, false),
+    Step::Wake(1),
+    Step::Changed(1, 1),
+    Step::IsAmount(1, 500),
+    Step::IsAmount(0, 1000),
+    Step::Sleep(2),
+    Step::Changed(2, 1),
+    Step::IsAmount(2, 0),
+    Step::IsAmount(1, 300),
+    Step::Sleep(1),
+    Step::Changed(3, 0),
+    Step::IsAmount(1, 0),
+    Step::IsAmount(0, 0),
+];
+
+#[test]
+fn two_levels_all_blocked_one_wakes(rt: HostRuntime) {
+    play(&rt, rt.alloc(), 2, 2, TWO_LEVELS)
+}
+
+const DIAMOND: &[Step] = &[
+    Step::Funding(0, 50, Target::Currency(1)),
+    Step::Funding(1, 1, Target::Currency(2)),
+    Step::Funding(1, 2, Target::Currency(3)),
+    Step::Funding(2, 3, Target::Currency(4)),
+    Step::Funding(3, 4, Target::Currency(4)),
+    Step::Funding(4, 5, Target::Thread(1)),
+    Step::Wake(1),
+    Step::Changed(6, 0),
+    Step::IsAmount(4, 5),
+    Step::IsAmount(2, 3),
+    Step::IsAmount(3, 4),
+    Step::IsAmount(1, 3),
+    Step::IsAmount(0, 50),
+    Step::Unfund(5),
+    Step::Changed(1, 1),
+    Step::IsAmount(3, 0),
+    Step::IsAmount(1, 1),
+    Step::IsAmount(0, 50),
+    Step::Sleep(1),
+    Step::IsAmount(1, 0),
+    Step::IsAmount(0, 0),
+];
+
+#[test]
+fn diamond(rt: HostRuntime) {
+    play(&rt, rt.alloc(), 1, 4, DIAMOND)
+}
+
+const LAST_AND_ANOTHER: &[Step] = &[
+    Step::Wake(1),
+    Step::Funding(0, 60, Target::Currency(1)),
+    Step::Funding(1, 10, Target::Thread(1)),
+    Step::IsAmount(1, 10),
+    Step::IsAmount(0, 60),
+    Step::Unfund(2),
+    Step::Changed(2, 0),
+    Step::IsAmount(1, 0),
+    Step::IsAmount(0, 0),
+    Step::Funding(1, 25, Target::Thread(1)),
+    Step::Changed(2, 0),
+    Step::IsAmount(1, 25),
+    Step::IsAmount(0, 60),
+];
+
+#[test]
+fn the_last_goes_and_another_comes(rt: HostRuntime) {
+    play(&rt, rt.alloc(), 1, 1, LAST_AND_ANOTHER)
+}
+
+const FUNDED_BEFORE: &[Step] = &[
+    Step::Funding(1, 3, Target::Thread(1)),
+    Step::Wake(2),
+    Step::Funding(0, 8, Target::Currency(1)),
+    Step::Funding(1, 5, Target::Thread(2)),
+    Step::IsAmount(1, 5),
+    Step::IsActive(1, false),
+    Step::Wake(1),
+    Step::Changed(1, 1),
+    Step::IsActive(1, true),
+    Step::IsAmount(1, 8),
+    Step::IsAmount(0, 8),
+];
+
+/// A ticket that is funded while its target is inactive has no part in any amount until the target wakes.
+#[test]
+fn funded_before_it_wakes(rt: HostRuntime) {
+    play(&rt, rt.alloc(), 2, 1, FUNDED_BEFORE)
+}
+
+const ELSEWHERE: &[Step] = &[
+    Step::Funding(0, 9, Target::Currency(1)),
+    Step::Funding(1, 3, Target::Thread(1)),
+    Step::Funding(1, 4, Target::Thread(2)),
+    Step::Funding(1, 5, Target::Thread(3)),
+    Step::HavePassed(0),
+    Step::Wake(1),
+    Step::HavePassed(2),
+    Step::Wake(2),
+    Step::HavePassed(3),
+    Step::Wake(3),
+    Step::HavePassed(4),
+    Step::Unfund(2),
+    Step::HavePassed(5),
+    Step::Sleep(1),
+    Step::HavePassed(5),
+    Step::Sleep(2),
+    Step::HavePassed(6),
+    Step::Sleep(3),
+    Step::HavePassed(8),
+];
+
+/// A change passes on the edges into the nodes that it switches, each once, and no edge elsewhere.
+#[test]
+fn edges_elsewhere_stay(rt: HostRuntime) {
+    play(&rt, rt.alloc(), 3, 1, ELSEWHERE)
+}
+
+const FUNDED_TWICE: &[Step] = &[
+    Step::Funding(0, 9, Target::Currency(1)),
+    Step::Funding(1, 3, Target::Thread(1)),
+    Step::Funding(1, 4, Target::Thread(1)),
+    Step::Wake(1),
+    Step::Changed(3, 0),
+    Step::IsAmount(1, 7),
+    Step::Unfund(2),
+    Step::Changed(0, 1),
+    Step::IsAmount(1, 4),
+    Step::Sleep(1),
+    Step::Changed(3, 0),
+    Step::IsAmount(1, 0),
+];
+
+/// Two tickets of one currency fund the same thread: both count.
+#[test]
+fn funded_twice(rt: HostRuntime) {
+    play(&rt, rt.alloc(), 1, 1, FUNDED_TWICE)
+}
+
+const CALL: &[Step] = &[
+    Step::Funding(0, 10, Target::Thread(2)),
+    Step::Wake(2),
+    Step::Sleep(2),
+    Step::Changed(2, 0),
+    Step::Lend(2, Lend::ToThread(1)),
+    Step::Changed(0, 0),
+    Step::IsBacked(2, false),
+    Step::Wake(1),
+    Step::Changed(3, 0),
+    Step::IsBacked(2, true),
+    Step::IsActive(1, true),
+    Step::IsAmount(0, 10),
+    Step::Unlend(2),
+    Step::Changed(2, 0),
+    Step::IsAmount(0, 0),
+    Step::IsBacked(1, true),
+];
+
+/// A client calls a server: what funds the client stays active while the server runs.
+#[test]
+fn a_call(rt: HostRuntime) {
+    play(&rt, rt.alloc(), 2, 0, CALL)
+}
+
+const OWNER_CALLS: &[Step] = &[
+    Step::Funding(0, 10, Target::Thread(2)),
+    Step::Take(1, 1),
+    Step::Wake(1),
+    Step::Lend(2, Lend::ToMutex(1)),
+    Step::Changed(2, 0),
+    Step::IsBacked(2, true),
+    Step::Wake(3),
+    Step::Lend(1, Lend::ToThread(3)),
+    Step::Changed(0, 1),
+    Step::Sleep(1),
+    Step::Changed(0, 0),
+    Step::IsBacked(1, true),
+    Step::IsBacked(2, true),
+    Step::IsAmount(0, 10),
+    Step::Sleep(3),
+    Step::Changed(5, 0),
+    Step::IsBacked(2, false),
+    Step::IsAmount(0, 0),
+    Step::GiveUp(1),
+    Step::Wake(3),
+    Step::IsBacked(1, true),
+    Step::IsBacked(2, false),
+];
+
+/// The owner of a mutex blocks on a call: a thread that waits for the mutex stays backed, by the server.
+#[test]
+fn an_owner_calls(rt: HostRuntime) {
+    play(&rt, rt.alloc(), 3, 0, OWNER_CALLS)
+}
+
+/// Each currency funds the next, and the last one a thread.
+fn chain(rt: &impl Abort, kept: &mut Kept) {
+    for last in 0..4096 {
+        let next = kept.make_currency(rt);
+        kept.funding(rt, last, 2, Target::Currency(next));
+    }
+    kept.add_thread(rt);
+    kept.funding(rt, 4096, 3, Target::Thread(1));
+}
+
+const CHAIN: &[Step] = &[
+    Step::Wake(1),
+    Step::Changed(4098, 0),
+    Step::IsAmount(0, 2),
+    Step::IsAmount(2048, 2),
+    Step::IsAmount(4096, 3),
+    Step::Sleep(1),
+    Step::Changed(4098, 0),
+    Step::IsAmount(0, 0),
+    Step::IsAmount(4096, 0),
+];
+
+fn play_chain(rt: &impl Abort, alloc: Global) {
+    let mut kept = Kept::new(rt, alloc, Limits::new(Sizes::LARGEST)).expect(rt, "memory");
+    chain(rt, &mut kept);
+    kept.play_all(rt, CHAIN);
+}
+
+#[test]
+fn chain_of_4096_on_and_off(rt: HostRuntime) {
+    play_chain(&rt, rt.alloc())
+}
+
+const LARGEST: &[Step] = &[
+    Step::Wake(1),
+    Step::Changed(2, 0),
+    Step::IsAmount(0, 281470681677825),
+    Step::Unfund(65535),
+    Step::Changed(0, 1),
+    Step::IsAmount(0, 281466386710530),
+    Step::Sleep(1),
+    Step::IsAmount(0, 0),
+];
+
+/// Tickets of base that fund a thread, as many as the limit allows.
+fn fill(rt: &impl Abort, kept: &mut Kept) {
+    for _ in 0..65535 {
+        kept.funding(rt, 0, u32::MAX, Target::Thread(1));
+    }
+}
+
+fn play_filled(rt: &impl Abort, alloc: Global) {
+    let mut kept = Kept::new(rt, alloc, Limits::new(Sizes::LARGEST)).expect(rt, "memory");
+    kept.add_thread(rt);
+    fill(rt, &mut kept);
+    kept.play_all(rt, LARGEST);
+}
+
+/// As many tickets as the limit allows, each of the largest amount, fund one thread.
+#[test]
+fn largest_sizes(rt: HostRuntime) {
+    play_filled(&rt, rt.alloc())
+}
+
+const LEAST: &[Step] = &[
+    Step::Funding(0, 1, Target::Thread(1)),
+    Step::Wake(1),
+    Step::Changed(2, 0),
+    Step::IsAmount(0, 1),
+    Step::IsAmount(1, 0),
+    Step::Sleep(1),
+    Step::Changed(2, 0),
+    Step::IsAmount(0, 0),
+];
+
+#[test]
+fn least_sizes(rt: HostRuntime) {
+    play_within(&rt, rt.alloc(), Limits::new(Sizes::SMALLEST), (1, 1), LEAST)
+}

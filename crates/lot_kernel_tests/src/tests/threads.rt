@@ -1,0 +1,7 @@
+//! One module for each of `lot_threads`, `lot_ports`, `lot_mutex` and `lot_queues`, and what they share.
+
+mod helpers;
+mod mutexes;
+mod ports;
+mod queues;
+mod threads;

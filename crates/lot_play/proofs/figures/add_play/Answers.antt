@@ -1,9 +1,0 @@
-use Rattle.std.proofs.Common.{subst, sym}
-use Rattle.lot_playback.proofs.ClockFacts.{time-end}
-use Rattle.lot_playback.specs.InTime.{IsAtEnd}
-use Rattle.lot_play.proofs.figures.add_play.Goals as goal
-
-pub add_timed-requires-clause-end : goal.add_timed-requires-clause-end
-add_timed-requires-clause-end c =
-    subst (λ seen. IsAtEnd seen c.in-InTime.timekeeper) (sym c.add_threads.ensures.same)
-    (time-end c.args.system.now c.in-InTime.timekeeper (rw c.in-InTime.is at c.requires.over.there) (rw c.in-InTime.is at c.requires.over.ended))

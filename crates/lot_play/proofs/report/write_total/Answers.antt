@@ -1,9 +1,0 @@
-use Rattle.std.proofs.Common.{ap}
-use Rattle.lot_engine.specs.declared.counts.Counts.{Counts}
-use Rattle.lot_play.proofs.report.write_total.Goals as goal
-
-pub returns : goal.returns
-returns g c =
-    let quanta = ap (λ (t : Counts). t.quanta) c.total-counts.ensures in
-    let ticks = ap (λ (t : Counts). t.ticks) c.total-counts.ensures in
-    rw (← quanta, ← ticks, ← c.turn_count.ensures.world) c.write_whole_total.ensures

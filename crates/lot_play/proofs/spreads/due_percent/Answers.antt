@@ -1,6 +1,0 @@
-use Rattle.std.proofs.Common.{arith}
-use Rattle.lot_play.proofs.SeedFacts.{due-percent}
-use Rattle.lot_play.proofs.spreads.due_percent.Goals as goal
-
-pub returns : goal.returns
-returns c = rw c.from-whole.ensures (due-percent c.args.due c.args.time (omega (arith, c.if-time-eq0.false)))

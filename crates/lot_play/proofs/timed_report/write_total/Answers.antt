@@ -1,8 +1,0 @@
-use Rattle.std.proofs.Common.{ap, subst}
-use Rattle.lot_io.specs.Writing.{Written}
-use Rattle.lot_print.specs.Totals.{timed_total_line}
-use Rattle.lot_play.proofs.timed_report.write_total.Goals as goal
-
-pub returns : goal.returns
-returns g c =
-    subst (Written (g.W.Write.contents c.args.writer.now.inner) (g.W.Write.contents c.write_timed_whole_total.new.writer.inner) c.write_timed_whole_total.new.writer.failed c.write_timed_whole_total.result) (ap timed_total_line c.whole_total.ensures.total) c.write_timed_whole_total.ensures

@@ -1,6 +1,0 @@
-use Rattle.std.proofs.Common.{rules}
-use Rattle.lot_station_tests.proofs.Seats.{removed}
-use Rattle.lot_station_tests.proofs.tests.outdated.parted.Goals as goal
-
-pub returns : goal.returns
-returns c = removed _ _ c.remove-console.new.self.items _ c.requires (search rules) c.remove-console.ensures.value c.remove-console.ensures.items

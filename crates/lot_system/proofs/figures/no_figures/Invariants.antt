@@ -1,0 +1,7 @@
+use Rattle.std.proofs.Common.{◌≡◌, replicate}
+use Rattle.lot_system.specs.Seeds.{no_figures}
+use Rattle.lot_system.proofs.figures.no_figures.Given as goal
+
+-- those of the threads passed so far
+abbrev pub invariant-loop : goal.invariant-loop
+invariant-loop l = l.figures.items ≡ replicate l.counter no_figures

@@ -1,0 +1,15 @@
+use Rattle.std.proofs.Common.{◌≡◌, [], Err, rules, subst, append-nil}
+use Rattle.lot_simulation.specs.Texts.{fault_line}
+use Rattle.lot_io.specs.Writing.{Begins}
+use Rattle.lot_io.proofs.WritingFacts.{begins-after}
+use Rattle.lot_system.proofs.inputs.refuse.Goals as goal
+
+pub returns-in_err-flush-clause-played : goal.returns-in_err-flush-clause-played
+returns-in_err-flush-clause-played g c =
+    let is : c.from_residual-in_err-flush.result ≡ Err c.in_err-flush.field-0.0 = search rules in
+    let told = c.in_err-flush.ensures.text in
+    let old = g.W.Write.contents c.args.writer.now.inner in
+    let mid = g.W.Write.contents c.write_fault.new.writer.inner in
+    let new = g.W.Write.contents c.flush.new.writer.inner in
+    let text = fault_line c.args.fault in
+    rw (is, told.0) (told.1, subst (Begins old new) (append-nil text) (begins-after old mid new text [] c.in_ok-write_fault.ensures.1 told.2))

@@ -1,0 +1,26 @@
+-- The columns' names, and then the rows of the threads.
+use Rattle.std.proofs.Common.{◌≡◌, ℕ, List, Err, rules}
+use Rattle.lot_machine.specs.Numbered.{numbers}
+use Rattle.lot_machine.specs.Rows.{thread_row}
+use Rattle.lot_simulation.specs.Texts.{lines_for}
+use Rattle.lot_engine.specs.Seen.{Seen, world_of}
+use Rattle.lot_io.proofs.WritingFacts.{begins-front, writes-after}
+use Rattle.lot_print.specs.declared.table_rows.Columns.TheVariants.{Totals}
+use Rattle.lot_print.specs.TableRows.{header_row}
+use Rattle.lot_system.specs.declared.form.Form.TheVariants.{Table}
+use Rattle.lot_system.specs.ReportTable.{thread_text}
+use Rattle.lot_system.proofs.report_table.write_scheduled.Goals as goal
+
+abbrev threads : Seen → List ℕ
+threads s = lines_for (thread_text Table) (thread_row (world_of s).state) (numbers (world_of s).state.records)
+
+pub returns-in_err-write_header-clause-text : goal.returns-in_err-write_header-clause-text
+returns-in_err-write_header-clause-text g c =
+    let is : c.from_residual.result ≡ Err c.in_err-write_header.field-0.0 = search rules in
+    let told = c.in_err-write_header.ensures in
+    rw is (told.0, told.1, begins-front (g.W.Write.contents c.args.writer.now.inner) (g.W.Write.contents c.write_header.new.writer.inner) (header_row Totals) (threads c.args.system.now) told.2)
+
+pub returns-clause-text : goal.returns-clause-text
+returns-clause-text g c =
+    writes-after (g.W.Write.contents c.args.writer.now.inner) (g.W.Write.contents c.write_header.new.writer.inner) (g.W.Write.contents c.write_threads.new.writer.inner) c.write_threads.new.writer.failed c.write_threads.result
+    (header_row Totals) (threads c.args.system.now) c.in_ok-write_header.ensures.1 c.write_threads.ensures.text

@@ -1,0 +1,13 @@
+use Rattle.std.proofs.Common.{◌≡◌, false}
+use Rattle.std.specs.List.{flat_map, range_with_len}
+use Rattle.std.specs.Io.KnownBytes.{Appends}
+use Rattle.lot_system.specs.Seeds.{processor_over, processor_text, seeds_between}
+use Rattle.lot_system.proofs.seeds.write_processors.Given as goal
+
+-- the lines of the processors passed so far are written
+abbrev pub invariant-loop-place : goal.invariant-loop-place
+invariant-loop-place g l = record {
+  working : l.writer.failed ≡ false;
+  bytes : Appends (g.W.Write.contents l.fn.writer.inner) (g.W.Write.contents l.writer.inner)
+      (flat_map (λ p. processor_text l.fn.table p (processor_over l.fn.program (seeds_between l.fn.seeds.first l.fn.seeds.last) p)) (range_with_len 1 l.place));
+}

@@ -1,0 +1,20 @@
+use Rattle.std.proofs.Common.{length, ◌∙◌, ap}
+use Rattle.lot_simulation.specs.Report.{turns_of}
+use Rattle.lot_simulation.specs.Timed.{timed_turns}
+use Rattle.lot_simulation.specs.TimedReport.{actor_turns}
+use Rattle.lot_engine.specs.Counted.{counted}
+use Rattle.lot_playback.specs.InTime.{moment_in}
+use Rattle.lot_system.proofs.TimedReportFacts.{history-short, processor-is, turns-are}
+use Rattle.lot_system.proofs.timed_report.processor_total.Goals as goal
+
+pub idle_until-requires-clause-idled : goal.idle_until-requires-clause-idled
+idle_until-requires-clause-idled c =
+    let s = c.args.system.now in
+    (length s.history, history-short s c.args.timekeeper.now c.requires.end, c.requires.end.followed.followed.idled)
+
+pub returns : goal.returns
+returns c =
+    let s = c.args.system.now in
+    let w = c.args.timekeeper.now in
+    let p = c.args.processor in
+    processor-is c.counts-counts.result (actor_turns (timed_turns s.setting.program)) p c.args.end c.idle_until.result (moment_in s w) (c.counts-counts.ensures ∙ ap (λ ts. counted (turns_of p ts)) (turns-are s w c.requires.end)) c.idle_until.ensures

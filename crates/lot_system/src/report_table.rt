@@ -1,0 +1,145 @@
+//! The report as a table.
+ghost use Rattle.std.specs.Prelude.{◌≡◌, ◌||◌, [], false, true, OnOk};
+ghost use Rattle.lot_simulation.specs.Timed.{timed_turns};
+ghost use Rattle.lot_engine.specs.Seen.{world_of};
+ghost use Rattle.lot_io.specs.Writing.{Writes};
+ghost use Rattle.lot_playback.specs.InTime.{IsAtEnd};
+ghost use Rattle.lot_playback.specs.Orders.{IsInOrder, made_in};
+ghost use Rattle.lot_playback.specs.Stages.{HasMade, turns_left};
+ghost use Rattle.lot_playback.specs.Turns.{program_turns};
+ghost use Rattle.lot_system.specs.Leaving.{ends_refused};
+ghost use Rattle.lot_system.specs.ReportTable.{currency_table, last_table, scheduled_table, table_in, timed_table};
+
+use crate::reports::note_ended;
+use crate::timed_currencies::write_currencies;
+use crate::{Form, Warnings, report, timed_report};
+use lot_engine::System;
+use lot_io::{IoFault, Watched, flush};
+use lot_playback::{Order, Playback, Timekeeper};
+use lot_print::{Columns, write_header};
+use lot_program::Program;
+use std::io::Write;
+
+/// Ends a play whose turns are all made: writes the table, flushes, and records the end of the system in the warnings,
+/// also if the writer failed.
+pub(crate) fn end_with_table<W: Write>(
+    program: &Program,
+    playback: Playback,
+    form: Form,
+    warnings: &mut Warnings,
+    writer: &mut Watched<W>,
+) -> Result<(), IoFault>
+    requires made { HasMade program.now (program_turns program.now) playback.seen }
+    requires ended { turns_left playback ≡ [] }
+    requires working { writer.old.failed ≡ false }
+    ensures flushed { OnOk result (writer.new.flushed ≡ true) }
+    ensures text { Writes W.contents writer.old writer.new result (last_table form program.now program.now.duration) }
+    ensures stopped { OnOk result (warnings.new.stopped ≡ (warnings.old.stopped || ends_refused program.now)) }
+{
+    let (mut system, order) = playback.into_parts();
+    let written = write_flushed(program, &mut system, &order, form, writer);
+    note_ended(program, system, order, warnings);
+    written
+}
+
+/// Writes the table of a system that has made all of its program's turns, and flushes.
+fn write_flushed<W: Write>(
+    program: &Program,
+    system: &mut System,
+    order: &Order,
+    form: Form,
+    writer: &mut Watched<W>,
+) -> Result<(), IoFault>
+    requires made { HasMade program.now (program_turns program.now) system.old }
+    requires order { IsInOrder system.old order.now }
+    requires ended { turns_left (record { seen = system.old; made = made_in system.old order.now }) ≡ [] }
+    requires working { writer.old.failed ≡ false }
+    ensures same { system.new ≡ system.old }
+    ensures flushed { OnOk result (writer.new.flushed ≡ true) }
+    ensures text { Writes W.contents writer.old writer.new result (last_table form program.now program.now.duration) }
+{
+    write_table(program, system, order, form, writer)?;
+    flush(writer)
+}
+
+/// Writes the table of a system that has made all of its program's turns.
+fn write_table<W: Write>(
+    program: &Program,
+    system: &mut System,
+    order: &Order,
+    form: Form,
+    writer: &mut Watched<W>,
+) -> Result<(), IoFault>
+    requires made { HasMade program.now (program_turns program.now) system.old }
+    requires order { IsInOrder system.old order.now }
+    requires ended { turns_left (record { seen = system.old; made = made_in system.old order.now }) ≡ [] }
+    requires working { writer.old.failed ≡ false }
+    ensures same { system.new ≡ system.old }
+    ensures text { Writes W.contents writer.old writer.new result (last_table form program.now program.now.duration) }
+{
+    match order {
+        Order::Scheduled(_) => write_scheduled(system, writer),
+        Order::InTime(timekeeper) => write_in_form(system, timekeeper, form, writer),
+    }
+}
+
+/// Writes the table of a schedule: the columns' names, and each thread's row.
+fn write_scheduled<W: Write>(system: &mut System, writer: &mut Watched<W>) -> Result<(), IoFault>
+    requires { writer.old.failed ≡ false }
+    ensures same { system.new ≡ system.old }
+    ensures text { Writes W.contents writer.old writer.new result
+        (scheduled_table (world_of system.old).state) }
+{
+    write_header(writer, Columns::Totals)?;
+    report::write_threads(system, Form::Table, writer)
+}
+
+/// Writes the table of a timed program: that of its currencies if the form says so, and otherwise that of its threads.
+fn write_in_form<W: Write>(
+    system: &mut System,
+    timekeeper: &Timekeeper,
+    form: Form,
+    writer: &mut Watched<W>,
+) -> Result<(), IoFault>
+    requires end { IsAtEnd system.old timekeeper.now }
+    requires working { writer.old.failed ≡ false }
+    ensures same { system.new ≡ system.old }
+    ensures text { Writes W.contents writer.old writer.new result
+        (table_in form (world_of system.old).state (timed_turns system.old.setting.program)) }
+{
+    match form {
+        Form::CurrencyTable => write_currencies_table(system, timekeeper, writer),
+        Form::Lines | Form::Table => write_timed(system, timekeeper, writer),
+    }
+}
+
+/// Writes the table of a timed program: the columns' names, and each thread's row.
+fn write_timed<W: Write>(
+    system: &mut System,
+    timekeeper: &Timekeeper,
+    writer: &mut Watched<W>,
+) -> Result<(), IoFault>
+    requires end { IsAtEnd system.old timekeeper.now }
+    requires working { writer.old.failed ≡ false }
+    ensures same { system.new ≡ system.old }
+    ensures text { Writes W.contents writer.old writer.new result
+        (timed_table (world_of system.old).state (timed_turns system.old.setting.program)) }
+{
+    write_header(writer, Columns::TimedTotals)?;
+    timed_report::write_threads(system, timekeeper, Form::Table, writer)
+}
+
+/// Writes the table of a timed program's currencies: the columns' names, and each currency's row.
+fn write_currencies_table<W: Write>(
+    system: &System,
+    timekeeper: &Timekeeper,
+    writer: &mut Watched<W>,
+) -> Result<(), IoFault>
+    requires end { IsAtEnd system.now timekeeper.now }
+    requires working { writer.old.failed ≡ false }
+    ensures { Writes W.contents writer.old writer.new result
+        (currency_table (world_of system.now).state (timed_turns system.now.setting.program)) }
+{
+    write_header(writer, Columns::Currencies)?;
+    write_currencies(system, timekeeper, Form::CurrencyTable, writer)
+}

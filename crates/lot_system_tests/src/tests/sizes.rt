@@ -1,0 +1,7 @@
+mod embedding;
+mod generated;
+mod histories;
+mod inputs;
+mod kernels;
+mod reads;
+mod sizes;

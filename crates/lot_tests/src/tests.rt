@@ -1,8 +1,0 @@
-mod embedding;
-mod generated;
-mod histories;
-mod inputs;
-mod kernels;
-mod reads;
-mod same;
-mod sizes;

@@ -1,8 +1,0 @@
-//! One module for each of `lot_threads`, `lot_ports`, `lot_mutex` and `lot_queues`, and what they share.
-
-mod helpers;
-mod mutexes;
-mod ports;
-mod queues;
-mod same;
-mod threads;
