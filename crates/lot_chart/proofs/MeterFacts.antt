@@ -15,8 +15,8 @@ use Rattle.lot_machine.specs.Numbered.{option_any}
 use Rattle.lot_machine.specs.State.{State, opening, value_of}
 use Rattle.lot_machine.proofs.Tickets.{at_number-suc}
 use Rattle.lot_simulation.specs.Timed.{TimedTurn, timed_turns}
-use Rattle.lot_simulation.specs.World.{Program, World, Turn, opening_world, system_run, system_turn}
-use Rattle.lot_simulation.specs.World.Answer.{Answered}
+use Rattle.lot_simulation.specs.World.{Program, World, TurnMade, opening_world, system_run, system_turn}
+use Rattle.lot_simulation.specs.World.TurnAnswer.{Answered}
 use Rattle.lot_curves.specs.declared.by.By.{By}
 use Rattle.lot_curves.specs.declared.by.By.TheVariants.{Thread, Currency}
 use Rattle.lot_curves.specs.Curves.{Curves, sample_count, sample_tick}
@@ -36,7 +36,7 @@ use Rattle.lot_chart.specs.declared.gauges.Gauge.{Gauge}
 use Rattle.lot_chart.specs.declared.gauges.Growth.{Growth}
 use Rattle.lot_chart.specs.declared.gauges.Growth.TheVariants.{Live, Due}
 use Rattle.lot_chart.specs.declared.gauges.Marks.{Marks}
-use Rattle.lot_chart.specs.declared.lines.Line.{Line}
+use Rattle.lot_chart.specs.declared.lines.PlotLine.{PlotLine}
 use Rattle.lot_chart.specs.declared.metering.LineDues.{LineDues}
 use Rattle.lot_chart.specs.declared.metering.Meter.{Meter}
 use Rattle.lot_chart.specs.declared.standings.Standing.{Standing}
@@ -284,9 +284,9 @@ module _ (program : Program) (turns : List MadeTurn) (made : MadeTurn) (turn : A
 
       answers : Answers s turn.event turn.reply next
       answers =
-          let machine = turn-answers program made.before made.actor turn.event turn.reply (ap (λ (t : Turn). t.answer) own_turn ∙ answer) in
+          let machine = turn-answers program made.before made.actor turn.event turn.reply (ap (λ (t : TurnMade). t.answer) own_turn ∙ answer) in
           subst (λ (w : World). Answers w.state turn.event turn.reply next) awaits.world_is
-          (subst (λ (x : State). Answers made.before.state turn.event turn.reply x) (ap (λ (t : Turn). t.world.state) own_turn ∙ led) machine)
+          (subst (λ (x : State). Answers made.before.state turn.event turn.reply x) (ap (λ (t : TurnMade). t.world.state) own_turn ∙ led) machine)
 
       whole-same : (what : By) → whole_value what next ≡ whole_value what s
       whole-same Thread = whole-kept s turn.event dispatch turn.reply next answers Threads
@@ -458,7 +458,7 @@ lines-after : (most style least : ℕ) (shown : List Standing) → length (lines
 lines-after most style least [] = refl
 lines-after most style least (s ∷ shown) = ap suc (lines-after most (style + 1) (place_of least (height_of most s.ticks) (length shown) + 160) shown)
 
-lines-thread : (most style least : ℕ) (shown : List Standing) (place : ℕ) (d : Line) (e : Standing) → place < length shown → (get_or (lines_after most style least shown) place d).thread ≡ (get_or shown place e).thread
+lines-thread : (most style least : ℕ) (shown : List Standing) (place : ℕ) (d : PlotLine) (e : Standing) → place < length shown → (get_or (lines_after most style least shown) place d).thread ≡ (get_or shown place e).thread
 lines-thread most style least [] place d e below = absurd (omega (arith, below))
 lines-thread most style least (s ∷ shown) zero d e below = refl
 lines-thread most style least (s ∷ shown) (suc place) d e below = lines-thread most (style + 1) (place_of least (height_of most s.ticks) (length shown) + 160) shown place d e (omega (arith, below))

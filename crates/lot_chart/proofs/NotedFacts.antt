@@ -8,8 +8,8 @@ use Rattle.lot_machine.specs.declared.event.Event.{Event}
 use Rattle.lot_machine.specs.declared.reply.Reply.{Reply}
 use Rattle.lot_simulation.specs.Report.{ActorTurn, beside, turns_made}
 use Rattle.lot_simulation.specs.Timed.{Moment, TimedTurn, moment_after, moment_after_all, opening_moment, timed_schedule, timed_turns}
-use Rattle.lot_simulation.specs.World.{Program, World, Answer, Turn, console_turn, opening_world, actor_event, processor_turn, system_after, system_answers, system_run, system_turn}
-use Rattle.lot_simulation.specs.World.Answer.{Answered, Ended}
+use Rattle.lot_simulation.specs.World.{Program, World, TurnAnswer, TurnMade, console_turn, opening_world, actor_event, processor_turn, system_after, system_answers, system_run, system_turn}
+use Rattle.lot_simulation.specs.World.TurnAnswer.{Answered, Ended}
 use Rattle.lot_simulation.proofs.TimedRuns.{timed-world}
 use Rattle.lot_curves.specs.declared.by.By.{By}
 use Rattle.lot_curves.specs.declared.by.By.TheVariants.{Thread, Currency}
@@ -32,7 +32,7 @@ ended-same program w zero is = from w.commands is
 ended-same program w (suc n) is =
     let no : (suc n == 0) ≡ false = ne_eqb (suc n) 0 (λ x. omega arith) in
     let turn : system_turn program w (suc n) ≡ processor_turn w (suc n) (actor_event program w (suc n)) = rw no refl in
-    absurd (let wrong = sym (ap (λ (t : Turn). t.answer) turn) ∙ is in cc)
+    absurd (let wrong = sym (ap (λ (t : TurnMade). t.answer) turn) ∙ is in cc)
 
 -- one that is answered is one more in the history
 answered-more : (program : Program) (w : World) (actor : ℕ) (e : Event) (r : Reply) → (system_turn program w actor).answer ≡ Answered e r → (system_turn program w actor).world.history ≡ w.history ++ actor ∷ []
@@ -44,7 +44,7 @@ answered-more program w zero e r is = from w.commands is
 answered-more program w (suc n) e r is =
     let no : (suc n == 0) ≡ false = ne_eqb (suc n) 0 (λ x. omega arith) in
     let turn : system_turn program w (suc n) ≡ processor_turn w (suc n) (actor_event program w (suc n)) = rw no refl in
-    ap (λ (t : Turn). t.world.history) turn
+    ap (λ (t : TurnMade). t.world.history) turn
 
 -- whose turns were counted
 abbrev actors_in : List ActorTurn → List ℕ
@@ -58,7 +58,7 @@ module _ (program : Program) where
   history-is w [] = sym (append-nil w.history)
   history-is w (a ∷ actors) = from (system_turn program w a).answer refl (history-is (system_turn program w a).world actors)
     where
-      from : (x : Answer) → (system_turn program w a).answer ≡ x
+      from : (x : TurnAnswer) → (system_turn program w a).answer ≡ x
           → (system_after program (system_turn program w a).world actors).history ≡ (system_turn program w a).world.history ++ actors_in (made_by (system_turn program w a).world actors)
           → (system_after program (system_turn program w a).world actors).history ≡ w.history ++ actors_in (counted_turn a x ++ made_by (system_turn program w a).world actors)
       from (Answered e r) is later = later ∙ ap (λ h. h ++ actors_in (made_by (system_turn program w a).world actors)) (answered-more program w a e r is) ∙ append_assoc w.history (a ∷ []) (actors_in (made_by (system_turn program w a).world actors))
@@ -68,11 +68,11 @@ module _ (program : Program) where
   made-is w [] = refl
   made-is w (a ∷ actors) = from (system_turn program w a).answer refl (made-is (system_turn program w a).world actors)
     where
-      from : (x : Answer) → (system_turn program w a).answer ≡ x
+      from : (x : TurnAnswer) → (system_turn program w a).answer ≡ x
           → beside (actors_in (made_by (system_turn program w a).world actors)) (system_answers program (system_turn program w a).world (actors_in (made_by (system_turn program w a).world actors))) ≡ made_by (system_turn program w a).world actors
           → beside (actors_in (counted_turn a x ++ made_by (system_turn program w a).world actors)) (system_answers program w (actors_in (counted_turn a x ++ made_by (system_turn program w a).world actors))) ≡ counted_turn a x ++ made_by (system_turn program w a).world actors
       from (Answered e r) is later =
-          ap (λ (x : Answer). record { actor = a; answer = x } ∷ beside (actors_in (made_by (system_turn program w a).world actors)) (system_answers program (system_turn program w a).world (actors_in (made_by (system_turn program w a).world actors)))) is
+          ap (λ (x : TurnAnswer). record { actor = a; answer = x } ∷ beside (actors_in (made_by (system_turn program w a).world actors)) (system_answers program (system_turn program w a).world (actors_in (made_by (system_turn program w a).world actors)))) is
           ∙ ap (λ (ts : List ActorTurn). record { actor = a; answer = Answered e r } ∷ ts) later
       from Ended is later =
           ap (λ (x : World). beside (actors_in (made_by (system_turn program w a).world actors)) (system_answers program x (actors_in (made_by (system_turn program w a).world actors)))) (sym (ended-same program w a is))
@@ -90,23 +90,23 @@ module _ (program : Program) where
       made : MadeTurn
       made = scheduled_turn program w a
 
-      more : (x : Answer) → (system_turn program w a).answer ≡ x → counted_turns (before ++ made ∷ []) ≡ counted_turns before ++ counted_turn a x
+      more : (x : TurnAnswer) → (system_turn program w a).answer ≡ x → counted_turns (before ++ made ∷ []) ≡ counted_turns before ++ counted_turn a x
       more x is =
           flat_map-append (λ (m : MadeTurn). counted_turn m.actor m.turn.answer) before (made ∷ [])
           ∙ ap (λ ts. counted_turns before ++ ts) (append-nil (counted_turn a (system_turn program w a).answer) ∙ ap (counted_turn a) is)
 
-      from : (x : Answer) → (system_turn program w a).answer ≡ x
+      from : (x : TurnAnswer) → (system_turn program w a).answer ≡ x
           → map stretch_of (ended_after (counted_turns (before ++ made ∷ [])) (made_by (system_turn program w a).world actors)) ≡ stretches_in Thread (before ++ made ∷ []) (scheduled_turns program (system_turn program w a).world actors)
           → map stretch_of (ended_after (counted_turns before) (counted_turn a x ++ made_by (system_turn program w a).world actors)) ≡ stretches_in Thread before (made ∷ scheduled_turns program (system_turn program w a).world actors)
       from (Answered e r) is later =
           let turn : ActorTurn = record { actor = a; answer = Answered e r } in
           ap (λ (ts : List ActorTurn). stretch_of (own_end ts turn) ∷ map stretch_of (ended_after ts (made_by (system_turn program w a).world actors))) (sym (more (Answered e r) is))
           ∙ ap (λ (ss : List Stretch). stretch_of (own_end (counted_turns (before ++ made ∷ [])) turn) ∷ ss) later
-          ∙ ap (λ (x : Answer). flat_map (turn_stretches Thread w.state) (map (own_end (counted_turns (before ++ made ∷ []))) (counted_turn a x)) ++ stretches_in Thread (before ++ made ∷ []) (scheduled_turns program (system_turn program w a).world actors)) (sym is)
+          ∙ ap (λ (x : TurnAnswer). flat_map (turn_stretches Thread w.state) (map (own_end (counted_turns (before ++ made ∷ []))) (counted_turn a x)) ++ stretches_in Thread (before ++ made ∷ []) (scheduled_turns program (system_turn program w a).world actors)) (sym is)
       from Ended is later =
           ap (λ (ts : List ActorTurn). map stretch_of (ended_after ts (made_by (system_turn program w a).world actors))) (sym (more Ended is ∙ append-nil (counted_turns before)))
           ∙ later
-          ∙ ap (λ (x : Answer). flat_map (turn_stretches Thread w.state) (map (own_end (counted_turns (before ++ made ∷ []))) (counted_turn a x)) ++ stretches_in Thread (before ++ made ∷ []) (scheduled_turns program (system_turn program w a).world actors)) (sym is)
+          ∙ ap (λ (x : TurnAnswer). flat_map (turn_stretches Thread w.state) (map (own_end (counted_turns (before ++ made ∷ []))) (counted_turn a x)) ++ stretches_in Thread (before ++ made ∷ []) (scheduled_turns program (system_turn program w a).world actors)) (sym is)
 
   world-scheduled : (w : World) (actors : List ℕ) → system_after program w actors ≡ world_after_turns w (scheduled_turns program w actors)
   world-scheduled w [] = refl

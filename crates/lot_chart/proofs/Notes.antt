@@ -6,8 +6,8 @@ use Rattle.lot_machine.specs.declared.event.Event.{Event}
 use Rattle.lot_machine.specs.declared.reply.Reply.{Reply}
 use Rattle.lot_simulation.specs.Report.{ActorTurn, ticks_in, total_of, turns_made, turns_of}
 use Rattle.lot_simulation.specs.Timed.{TimedTurn, opening_moment, timed_room, timed_turns}
-use Rattle.lot_simulation.specs.World.{Program, World, Answer, Turn, opening_world, system_turn}
-use Rattle.lot_simulation.specs.World.Answer.{Answered, Ended}
+use Rattle.lot_simulation.specs.World.{Program, World, TurnAnswer, TurnMade, opening_world, system_turn}
+use Rattle.lot_simulation.specs.World.TurnAnswer.{Answered, Ended}
 use Rattle.lot_simulation.proofs.ActorCounts.{turns_made-length}
 use Rattle.lot_simulation.proofs.TimedRuns.{turns-few}
 use Rattle.lot_program.specs.Programs.{IsProgram}
@@ -54,7 +54,7 @@ counted-few : (turns : List MadeTurn) → length (counted_turns turns) ≤ lengt
 counted-few [] = omega arith
 counted-few (t ∷ turns) = from t.turn.answer (counted-few turns)
   where
-    from : (x : Answer) → length (counted_turns turns) ≤ length turns → length (counted_turn t.actor x ++ counted_turns turns) ≤ suc (length turns)
+    from : (x : TurnAnswer) → length (counted_turns turns) ≤ length turns → length (counted_turn t.actor x ++ counted_turns turns) ≤ suc (length turns)
     from (Answered e r) few = omega (arith, few)
     from Ended few = omega (arith, few)
 
@@ -86,13 +86,13 @@ module _ (program : Program) (turns : List MadeTurn) (made : MadeTurn) (turn : A
   pub turn-ran : turn.has_ended ≡ false → RanOn made.before.state made.actor turn.reply
   turn-ran answered =
       let answer : made.turn.answer ≡ Answered turn.event turn.reply = just.reports.answer ∙ ap (λ b. answer_in b turn.event turn.reply) answered in
-      ran-on program made.before made.actor turn.event turn.reply (ap (λ (t : Turn). t.answer) (sym just.turn_is) ∙ answer)
+      ran-on program made.before made.actor turn.event turn.reply (ap (λ (t : TurnMade). t.answer) (sym just.turn_is) ∙ answer)
 
   -- a turn that is answered ends once
   ended-is : (e : Event) (r : Reply) → made.turn.answer ≡ Answered e r → (time : Option ℕ) → ended_at time turns made ≡ record { time = end_in seen time made.actor; answer = Answered e r } ∷ []
-  ended-is e r is (Some time) = ap (λ (x : Answer). record { time = time; answer = x } ∷ []) is
+  ended-is e r is (Some time) = ap (λ (x : TurnAnswer). record { time = time; answer = x } ∷ []) is
   ended-is e r is None =
-      ap (λ (x : Answer). map (own_end (counted_turns all)) (counted_turn made.actor x)) is
+      ap (λ (x : TurnAnswer). map (own_end (counted_turns all)) (counted_turn made.actor x)) is
       ∙ ap (λ (ts : List ActorTurn). record { time = total_of ticks_in (turns_of made.actor ts); answer = Answered e r } ∷ []) (sym counted-is)
 
   -- its stretches are noted
@@ -111,7 +111,7 @@ module _ (program : Program) (turns : List MadeTurn) (made : MadeTurn) (turn : A
   ended-noted what ended items noted =
       let answer : made.turn.answer ≡ Ended = just.reports.answer ∙ ap (λ b. answer_in b turn.event turn.reply) ended in
       let none : ended_at made.time turns made ≡ [] =
-      ap (λ (t : Option ℕ). ended_at t turns made) (just.ended answer) ∙ ap (λ (x : Answer). map (own_end (counted_turns all)) (counted_turn made.actor x)) answer in
+      ap (λ (t : Option ℕ). ended_at t turns made) (just.ended answer) ∙ ap (λ (x : TurnAnswer). map (own_end (counted_turns all)) (counted_turn made.actor x)) answer in
       let here : stretches_of_turn what turns made ≡ [] = ap (λ (es : List EndedTurn). flat_map (turn_stretches what made.before.state) es) none in
       noted ∙ sym (append-nil (stretches_in what [] turns)) ∙ ap (λ (ss : List Stretch). stretches_in what [] turns ++ ss) (sym here) ∙ sym (stretches-one_more what [] turns made)
 

@@ -34,8 +34,8 @@ use Rattle.lot_machine.proofs.OrderKept.{opening-order, step-order}
 use Rattle.lot_machine.proofs.CommandsKept.{all-pass}
 use Rattle.lot_machine.proofs.StepChanges.{Console, Keeps, kept, command-leads}
 use Rattle.lot_machine.proofs.StepSizes.{checked-sizes, step-limits}
-use Rattle.lot_simulation.specs.World.{Program, World, Turn, Answer, IsLegal, console_turn, next_name, processor_turn, actor_event, opening_world, resolved, system_turn, system_after, system_answers, system_run}
-use Rattle.lot_simulation.specs.World.Answer.{Answered}
+use Rattle.lot_simulation.specs.World.{Program, World, TurnMade, TurnAnswer, IsLegal, console_turn, next_name, processor_turn, actor_event, opening_world, resolved, system_turn, system_after, system_answers, system_run}
+use Rattle.lot_simulation.specs.World.TurnAnswer.{Answered}
 use Rattle.lot_simulation.specs.Timed.{TimedTurn, last_moment, timed_schedule, timed_turns}
 use Rattle.lot_simulation.specs.TimedReport.{actor_turns}
 use Rattle.lot_simulation.specs.Report.{ActorTurn, beside, turns_made, turns_of, count_in, ticks_in, total_of}
@@ -215,16 +215,16 @@ step-adds s i (event.Trap p ran action) made space =
 -- ---- turns
 
 -- what an answer has for the thread at the place
-abbrev part_of : ℕ → Answer → ℕ
+abbrev part_of : ℕ → TurnAnswer → ℕ
 part_of i answer = cond (count_in charged_thread answer == suc i) (count_in ticks_in answer) 0
 
-record AddsTurn (w : World) (i : ℕ) (turn : Turn) : Type 0 where
+record AddsTurn (w : World) (i : ℕ) (turn : TurnMade) : Type 0 where
   pub own : Comes w.state (own_ticks turn.world.state.records i) (own_ticks w.state.records i + part_of i turn.answer)
   pub short : count_in ticks_in turn.answer ≤ w.state.limits.quantum
   pub order : IsInOrder turn.world.state
   pub limits : turn.world.state.limits ≡ w.state.limits
 
-part-short : (i : ℕ) (answer : Answer) → part_of i answer ≤ count_in ticks_in answer
+part-short : (i : ℕ) (answer : TurnAnswer) → part_of i answer ≤ count_in ticks_in answer
 part-short i answer = at (count_in charged_thread answer == suc i)
   where
     at : (b : Bool) → cond b (count_in ticks_in answer) 0 ≤ count_in ticks_in answer
@@ -235,7 +235,7 @@ module _ (program : Program) (i : ℕ) where
   turn-adds : (w : World) (actor : ℕ) → IsInOrder w.state → own_ticks w.state.records i + w.state.limits.quantum < 2 ^ 64 → AddsTurn w i (system_turn program w actor)
   turn-adds w actor order space = at (actor == 0)
     where
-      of_step : (e : Event) (turn : Turn) → IsMade e → turn.world.state ≡ (step w.state e).state → turn.answer ≡ Answered e (step w.state e).reply → AddsTurn w i turn
+      of_step : (e : Event) (turn : TurnMade) → IsMade e → turn.world.state ≡ (step w.state e).state → turn.answer ≡ Answered e (step w.state e).reply → AddsTurn w i turn
       of_step e turn made state answer =
           let adds = step-adds w.state i e made space in
           record {

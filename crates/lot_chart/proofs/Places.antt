@@ -8,7 +8,7 @@ use Rattle.lot_curves.specs.declared.stretch.Measure.TheVariants.{Ticks}
 use Rattle.lot_curves.specs.Curves.{Curves, row_at}
 use Rattle.lot_curves.specs.Stretches.{last_end}
 use Rattle.lot_curves.specs.Windows.{had_in}
-use Rattle.lot_chart.specs.declared.lines.Line.{Line}
+use Rattle.lot_chart.specs.declared.lines.PlotLine.{PlotLine}
 use Rattle.lot_chart.specs.declared.standings.Standing.{Standing}
 use Rattle.lot_chart.specs.Gauges.{AreColumns}
 use Rattle.lot_chart.specs.Lines.{height_of, lines_after, lines_of, place_of}
@@ -46,7 +46,7 @@ shown-few curves = selected-few curves (ranked (row_at Ticks curves (last_end cu
 -- ---- where names stand
 
 apart-after : (most style least : ℕ) (shown : List Standing) (i : ℕ) → i + 1 < length shown
-    → get_or (map (λ (line : Line). line.place) (lines_after most style least shown)) i 0 + 160 ≤ get_or (map (λ (line : Line). line.place) (lines_after most style least shown)) (i + 1) 0
+    → get_or (map (λ (line : PlotLine). line.place) (lines_after most style least shown)) i 0 + 160 ≤ get_or (map (λ (line : PlotLine). line.place) (lines_after most style least shown)) (i + 1) 0
 apart-after most style least [] i below = absurd (omega (arith, below))
 apart-after most style least (s ∷ []) i below = absurd (omega (arith, below))
 apart-after most style least (s ∷ t ∷ shown) zero below = omega arith
@@ -55,14 +55,14 @@ apart-after most style least (s ∷ t ∷ shown) (suc i) below =
     rw more (apart-after most (style + 1) (place_of least (height_of most s.ticks) (length (t ∷ shown)) + 160) (t ∷ shown) i (omega (arith, below)))
 
 pub names-apart : (most : ℕ) (shown : List Standing) (i : ℕ) → i + 1 < length shown
-    → get_or (map (λ (line : Line). line.place) (lines_of most shown)) i 0 + 160 ≤ get_or (map (λ (line : Line). line.place) (lines_of most shown)) (i + 1) 0
+    → get_or (map (λ (line : PlotLine). line.place) (lines_of most shown)) i 0 + 160 ≤ get_or (map (λ (line : PlotLine). line.place) (lines_of most shown)) (i + 1) 0
 names-apart most shown i below = apart-after most 0 600 shown i below
 
-within-after : (most style least : ℕ) (shown : List Standing) → least + 160 * length shown ≤ 4760 → All (λ (line : Line). line.place ≤ 4600) (lines_after most style least shown)
-within-after most style least [] room = All-nil (λ (line : Line). line.place ≤ 4600)
-within-after most style least (s ∷ shown) room = All-cons (λ (line : Line). line.place ≤ 4600) _ _ (omega (arith, room)) (within-after most (style + 1) (place_of least (height_of most s.ticks) (length shown) + 160) shown (omega (arith, room)))
+within-after : (most style least : ℕ) (shown : List Standing) → least + 160 * length shown ≤ 4760 → All (λ (line : PlotLine). line.place ≤ 4600) (lines_after most style least shown)
+within-after most style least [] room = All-nil (λ (line : PlotLine). line.place ≤ 4600)
+within-after most style least (s ∷ shown) room = All-cons (λ (line : PlotLine). line.place ≤ 4600) _ _ (omega (arith, room)) (within-after most (style + 1) (place_of least (height_of most s.ticks) (length shown) + 160) shown (omega (arith, room)))
 
-pub names-within : (most : ℕ) (shown : List Standing) → length shown ≤ 12 → All (λ (line : Line). line.place ≤ 4600) (lines_of most shown)
+pub names-within : (most : ℕ) (shown : List Standing) → length shown ≤ 12 → All (λ (line : PlotLine). line.place ≤ 4600) (lines_of most shown)
 names-within most shown few = within-after most 0 600 shown (omega (arith, few))
 
 -- ---- numbers of columns

@@ -25,8 +25,8 @@ use Rattle.lot_graph.specs.Found.{FoundNodes, HasFound}
 use Rattle.lot_simulation.specs.declared.script.ScriptTrap.{ScriptTrap}
 use Rattle.lot_simulation.specs.Script.{Slice}
 use Rattle.lot_simulation.specs.Below.{currency_numbers, stands_below}
-use Rattle.lot_simulation.specs.World.{Program, World, Answer, action_of, actor_event, console_turn, event_of_slice, next_name, processor_event, resolved, slice_on, number_of, system_turn}
-use Rattle.lot_simulation.specs.World.Answer.{Answered, Ended}
+use Rattle.lot_simulation.specs.World.{Program, World, TurnAnswer, action_of, actor_event, console_turn, event_of_slice, next_name, processor_event, resolved, slice_on, number_of, system_turn}
+use Rattle.lot_simulation.specs.World.TurnAnswer.{Answered, Ended}
 use Rattle.lot_simulation.proofs.OtherTurns.{event-for, event_for}
 use Rattle.lot_engine.specs.Searching.{HasThoseAbove}
 use Rattle.lot_system.proofs.ListingFacts.{numbers-push}
@@ -97,7 +97,7 @@ runner-there records p t on =
 pub ran-on : (program : Program) (w : World) (actor : ℕ) (e : Event) (r : Reply) → (system_turn program w actor).answer ≡ Answered e r → RanOn w.state actor r
 ran-on program w actor e r is = by (cases_eq actor 0)
   where
-    reply_or : Answer → Reply
+    reply_or : TurnAnswer → Reply
     reply_or (Answered x y) = y
     reply_or Ended = r
 

@@ -14,7 +14,7 @@ use Rattle.lot_curves.specs.declared.stretch.Stretch.{Stretch}
 use Rattle.lot_curves.specs.Curves.{Curves, sample_count, sample_tick}
 use Rattle.lot_curves.specs.Stretches.{last_end}
 use Rattle.lot_curves.specs.Windows.{had_in}
-use Rattle.lot_chart.specs.declared.lines.Line.{Line}
+use Rattle.lot_chart.specs.declared.lines.PlotLine.{PlotLine}
 use Rattle.lot_chart.specs.Axes.{axis_step, lead, mark_count, marks, steps, time_mark_count, time_marks}
 use Rattle.lot_chart.specs.Dues.{Dues, due_height}
 use Rattle.lot_curves.specs.declared.by.By.{By}
@@ -248,7 +248,7 @@ line-short own style short =
     (both 7 27 (colour style) (codes "'" ++ (strokes style ++ codes "/>\n")) (colour-short style)
     (both 1 26 (codes "'") (strokes style ++ codes "/>\n") (omega arith) (both 23 3 (strokes style) (codes "/>\n") (strokes-short style) (omega arith))))))
 
-curve-short : (curves : Curves) (others : List Stretch) (heads : List ℕ) (line : Line) → length (curve curves others heads line) ≤ 2474
+curve-short : (curves : Curves) (others : List Stretch) (heads : List ℕ) (line : PlotLine) → length (curve curves others heads line) ≤ 2474
 curve-short curves others heads line =
     line-short (points curves heads (drawn_of curves others line.thread)) line.style (points-short curves heads (drawn_of curves others line.thread))
 
@@ -259,12 +259,12 @@ due_points-short curves dues shown heads thread =
     let each = λ (k d : ℕ) (below : k < length samples). let sample = get_or samples k d in point_at-short curves (sample_tick last sample) (due_height curves (get_or heads sample 0) dues shown thread (sample_tick last sample)) (omega arith) in
     omega (arith, all-short (due_point curves dues shown heads thread) 12 samples each, length-range_with_len 0 (sample_count last + 1))
 
-due_curve-short : (curves : Curves) (dues : Dues) (shown : List Standing) (heads : List ℕ) (line : Line) → length (due_curve curves dues shown heads line) ≤ 2474
+due_curve-short : (curves : Curves) (dues : Dues) (shown : List Standing) (heads : List ℕ) (line : PlotLine) → length (due_curve curves dues shown heads line) ≤ 2474
 due_curve-short curves dues shown heads line =
     line-short (due_points curves dues shown heads line.thread) line.style (due_points-short curves dues shown heads line.thread)
 
 -- all that is due, of at most twelve lines
-due_curves-short : (curves : Curves) (dues : Option Dues) (shown : List Standing) (heads : List ℕ) (lines : List Line) → length lines ≤ 12 → length (due_curves curves dues shown heads lines) ≤ 29771
+due_curves-short : (curves : Curves) (dues : Option Dues) (shown : List Standing) (heads : List ℕ) (lines : List PlotLine) → length lines ≤ 12 → length (due_curves curves dues shown heads lines) ≤ 29771
 due_curves-short curves None shown heads lines few = omega arith
 due_curves-short curves (Some dues) shown heads lines few =
     let thin : length (flat_map (due_curve curves dues shown heads) lines) ≤ 29688 =
@@ -275,11 +275,11 @@ due_curves-short curves (Some dues) shown heads lines few =
 -- ---- their names
 
 -- a line of a picture, whose ends are in the plot
-record IsDrawn (line : Line) : Type 0 where
+record IsDrawn (line : PlotLine) : Type 0 where
   pub height : line.height ≤ 4600
   pub place : line.place ≤ 4600
 
-leader-short : (line : Line) → IsDrawn line → length (leader line) ≤ 50
+leader-short : (line : PlotLine) → IsDrawn line → length (leader line) ≤ 50
 leader-short line drawn =
     both 14 36 (codes "<path d='M770 ") (tenths line.height ++ (codes "L784 " ++ (tenths line.place ++ (codes "' stroke='" ++ (colour line.style ++ codes "'/>\n"))))) (omega arith)
     (both 5 31 (tenths line.height) (codes "L784 " ++ (tenths line.place ++ (codes "' stroke='" ++ (colour line.style ++ codes "'/>\n")))) (tenths-short line.height (omega (arith, drawn.height)))
@@ -301,7 +301,7 @@ module _ (names : List (List ℕ)) (short : All (λ (name : List ℕ). length na
               let at_place = sym (at_number-suc names i) ∙ there in
               subst (λ (xs : List ℕ). length xs ≤ 16) (get_or_from_slice_get names i name name at_place) (short i name (slice_get_within names i name at_place))
 
-  name_text-short : (all : ℕ) (line : Line) → IsDrawn line → length (name_text names all line) ≤ 126
+  name_text-short : (all : ℕ) (line : PlotLine) → IsDrawn line → length (name_text names all line) ≤ 126
   name_text-short all line drawn =
       let name = escaped (name_of names line.thread) in
       let share = tenths (share_of all line.ticks) in
@@ -312,7 +312,7 @@ module _ (names : List (List ℕ)) (short : All (λ (name : List ℕ). length na
       (both 80 15 name (codes " " ++ (share ++ codes "%</text>\n")) named
       (both 1 14 (codes " ") (share ++ codes "%</text>\n") (omega arith) (both 5 9 share (codes "%</text>\n") (tenths-short (share_of all line.ticks) (omega arith)) (omega arith))))))
 
-  label-short : (all : ℕ) (line : Line) → IsDrawn line → length (label names all line) ≤ 176
+  label-short : (all : ℕ) (line : PlotLine) → IsDrawn line → length (label names all line) ≤ 176
   label-short all line drawn = both 50 126 (leader line) (name_text names all line) (leader-short line drawn) (name_text-short all line drawn)
 
 -- ---- the lines of a selection
@@ -321,9 +321,9 @@ lines-many : (most style least : ℕ) (shown : List Standing) → length (lines_
 lines-many most style least [] = refl
 lines-many most style least (s ∷ shown) = ap (λ n. suc n) (lines-many most (style + 1) (place_of least (height_of most s.ticks) (length shown) + 160) shown)
 
-lines-high : (most style least : ℕ) (shown : List Standing) → All (λ (line : Line). line.height ≤ 4600) (lines_after most style least shown)
-lines-high most style least [] = All-nil (λ (line : Line). line.height ≤ 4600)
-lines-high most style least (s ∷ shown) = All-cons (λ (line : Line). line.height ≤ 4600) _ _ (omega arith) (lines-high most (style + 1) (place_of least (height_of most s.ticks) (length shown) + 160) shown)
+lines-high : (most style least : ℕ) (shown : List Standing) → All (λ (line : PlotLine). line.height ≤ 4600) (lines_after most style least shown)
+lines-high most style least [] = All-nil (λ (line : PlotLine). line.height ≤ 4600)
+lines-high most style least (s ∷ shown) = All-cons (λ (line : PlotLine). line.height ≤ 4600) _ _ (omega arith) (lines-high most (style + 1) (place_of least (height_of most s.ticks) (length shown) + 160) shown)
 
 -- ---- the picture
 
@@ -352,7 +352,7 @@ head-short width title narrow =
     let ten = both 47 (4 + (28 + (4 + (115 + (5 * t + (22 + (4 + (68 + (5 * t + 8))))))))) first (decimal width ++ (second ++ (decimal width ++ (third ++ named)))) (omega arith) nine in
     omega (arith, ten)
 
-chart-short : (title : List ℕ) (dues : Option Dues) (curves : Curves) (n m : ℕ) → ((heads : List ℕ) (lines : List Line) → length lines ≤ 12 → length (due_curves curves dues (selection curves).shown heads lines) ≤ m) → All (λ (name : List ℕ). length name ≤ 16) curves.names → curves.origin < 2 ^ 56 → unwrap_or curves.window 0 < 2 ^ 32 → length (command_marks curves) ≤ n
+chart-short : (title : List ℕ) (dues : Option Dues) (curves : Curves) (n m : ℕ) → ((heads : List ℕ) (lines : List PlotLine) → length lines ≤ 12 → length (due_curves curves dues (selection curves).shown heads lines) ≤ m) → All (λ (name : List ℕ). length name ≤ 16) curves.names → curves.origin < 2 ^ 56 → unwrap_or curves.window 0 < 2 ^ 32 → length (command_marks curves) ≤ n
     → length (chart title dues curves) ≤ 34000 + n + m + 10 * length title
 unfolding picture
 chart-short title dues curves n m thin short early narrow marks =
@@ -364,7 +364,7 @@ chart-short title dues curves n m thin short early narrow marks =
     let heads = tops curves most in
     let many = lines-many top 0 600 shown in
     let few = shown-few curves in
-    let drawn : All (λ (line : Line). length (label curves.names (total curves) line) ≤ 176) lines =
+    let drawn : All (λ (line : PlotLine). length (label curves.names (total curves) line) ≤ 176) lines =
     λ k d below. label-short curves.names short (total curves) (get_or lines k d) (record { height = lines-high top 0 600 shown k d below; place = names-within top shown few k d below }) in
     let curved : length (flat_map (curve curves others heads) lines) ≤ 29688 = omega (arith, all-short (curve curves others heads) 2474 lines (λ k d below. curve-short curves others heads (get_or lines k d)), many, few) in
     let named : length (flat_map (label curves.names (total curves)) lines) ≤ 2112 = omega (arith, all-short (label curves.names (total curves)) 176 lines drawn, many, few) in
@@ -380,7 +380,7 @@ chart-short title dues curves n m thin short early narrow marks =
     omega (arith, whole)
 
 -- without what is due
-none-due : (curves : Curves) (shown : List Standing) (heads : List ℕ) (lines : List Line) → length lines ≤ 12 → length (due_curves curves None shown heads lines) ≤ 0
+none-due : (curves : Curves) (shown : List Standing) (heads : List ℕ) (lines : List PlotLine) → length lines ≤ 12 → length (due_curves curves None shown heads lines) ≤ 0
 none-due curves shown heads lines few = omega arith
 
 pub chart-plain : (title : List ℕ) (curves : Curves) → curves.commands ≡ [] → All (λ (name : List ℕ). length name ≤ 16) curves.names → curves.origin < 2 ^ 56 → unwrap_or curves.window 0 < 2 ^ 32

@@ -3,7 +3,7 @@ use Rattle.std.proofs.Common.{◌≡◌, ℕ, Option, List, [], ◌++◌, codes,
 use Rattle.std.specs.List.{flat_map}
 use Rattle.lot_curves.specs.declared.stretch.Stretch.{Stretch}
 use Rattle.lot_curves.specs.Curves.{Curves}
-use Rattle.lot_chart.specs.declared.lines.Line.{Line}
+use Rattle.lot_chart.specs.declared.lines.PlotLine.{PlotLine}
 use Rattle.lot_chart.specs.declared.standings.Standing.{Standing}
 use Rattle.lot_chart.specs.Charts.{axes, chart, curve, due_curves, head, label, lines_in, longest_name, most_shown, picture, tops, total, width_for}
 use Rattle.lot_chart.specs.Dues.{Dues}
@@ -11,17 +11,17 @@ use Rattle.lot_chart.specs.Standings.{Selected, selection}
 use Rattle.lot_chart.proofs.Parts.{parts-eight}
 
 -- the picture with the lines of those that are selected
-pub chart-is : (title given : List ℕ) (curves : Curves) (dues : Option Dues) (shown : List Standing) (others : List Stretch) (most : ℕ) (lines : List Line) (none text : List ℕ) → none ≡ [] → given ≡ title → record { shown = shown; others = others } ≡ selection curves
+pub chart-is : (title given : List ℕ) (curves : Curves) (dues : Option Dues) (shown : List Standing) (others : List Stretch) (most : ℕ) (lines : List PlotLine) (none text : List ℕ) → none ≡ [] → given ≡ title → record { shown = shown; others = others } ≡ selection curves
     → most ≡ most_shown curves dues shown → lines ≡ lines_in curves most (record { shown = shown; others = others }) → text ≡ none ++ picture given curves dues (record { shown = shown; others = others }) most lines → text ≡ chart title dues curves
 chart-is title given curves dues shown others most lines none text empty same is highest drawn put =
     put ∙ ap (λ xs. xs ++ picture given curves dues (record { shown = shown; others = others }) most lines) empty
     ∙ ap (λ (t : List ℕ). picture t curves dues (record { shown = shown; others = others }) most lines) same
-    ∙ ap (λ (ls : List Line). picture title curves dues (record { shown = shown; others = others }) most ls) drawn
+    ∙ ap (λ (ls : List PlotLine). picture title curves dues (record { shown = shown; others = others }) most ls) drawn
     ∙ ap (λ (n : ℕ). picture title curves dues (record { shown = shown; others = others }) n (lines_in curves n (record { shown = shown; others = others }))) highest
     ∙ ap (λ (s : Selected). picture title curves dues s (most_shown curves dues s.shown) (lines_in curves (most_shown curves dues s.shown) s)) is
 
 -- the picture, if its parts are put one after another
-pub picture-is : (title : List ℕ) (curves : Curves) (dues : Option Dues) (shown : List Standing) (others rest : List Stretch) (lines : List Line) (width most all : ℕ) (heads : List ℕ) (names : List (List ℕ)) (old one two three four five six seven eight : List ℕ)
+pub picture-is : (title : List ℕ) (curves : Curves) (dues : Option Dues) (shown : List Standing) (others rest : List Stretch) (lines : List PlotLine) (width most all : ℕ) (heads : List ℕ) (names : List (List ℕ)) (old one two three four five six seven eight : List ℕ)
     → width ≡ width_for (longest_name curves.names lines) (length title) → heads ≡ tops curves most → rest ≡ others → all ≡ total curves → names ≡ curves.names
     → one ≡ old ++ head width title → two ≡ one ++ axes curves most → three ≡ two ++ due_curves curves dues shown heads lines → four ≡ three ++ codes "<g fill='none' stroke-width='2' stroke-linejoin='round'>\n" → five ≡ four ++ flat_map (curve curves rest heads) lines
     → six ≡ five ++ codes "</g>\n" → seven ≡ six ++ flat_map (label names all) lines → eight ≡ seven ++ codes "</svg>\n" → eight ≡ old ++ picture title curves dues (record { shown = shown; others = others }) most lines

@@ -11,7 +11,7 @@ use Rattle.lot_curves.specs.declared.stretch.Stretch.{Stretch}
 use Rattle.lot_curves.specs.Curves.{Curves, sample_count, sample_tick, sample_ticks, total_at}
 use Rattle.lot_curves.specs.Stretches.{last_end, stretches_of}
 use Rattle.lot_curves.specs.Windows.{had_in}
-use Rattle.lot_chart.specs.declared.lines.Line.{Line}
+use Rattle.lot_chart.specs.declared.lines.PlotLine.{PlotLine}
 use Rattle.lot_chart.specs.declared.standings.Standing.{Standing}
 use Rattle.lot_chart.specs.Axes.{marks, time_marks}
 use Rattle.lot_chart.specs.Dues.{Dues, due_height, most_due}
@@ -142,7 +142,7 @@ abbrev pub stroke : ℕ → List ℕ
 stroke style = codes "' stroke='" ++ (colour style ++ (codes "'" ++ (strokes style ++ codes "/>\n")))
 
 -- a line, with a point for each sample
-abbrev pub curve : Curves → List Stretch → List ℕ → Line → List ℕ
+abbrev pub curve : Curves → List Stretch → List ℕ → PlotLine → List ℕ
 curve curves others tops line = codes "<polyline points='" ++ (points curves tops (drawn_of curves others line.thread) ++ stroke line.style)
 
 -- ---- what they are due
@@ -158,12 +158,12 @@ due_points curves dues shown tops thread =
     flat_map (due_point curves dues shown tops thread) (range_with_len 0 (sample_count (last_end curves.stretches) + 1))
 
 -- what a line is due, as a line of its own in the same colour
-abbrev pub due_curve : Curves → Dues → List Standing → List ℕ → Line → List ℕ
+abbrev pub due_curve : Curves → Dues → List Standing → List ℕ → PlotLine → List ℕ
 due_curve curves dues shown tops line =
     codes "<polyline points='" ++ (due_points curves dues shown tops line.thread ++ stroke line.style)
 
 -- what each line is due, as thin lines; nothing if the program isn't timed
-abbrev pub due_curves : Curves → Option Dues → List Standing → List ℕ → List Line → List ℕ
+abbrev pub due_curves : Curves → Option Dues → List Standing → List ℕ → List PlotLine → List ℕ
 due_curves curves None shown tops lines = []
 due_curves curves (Some dues) shown tops lines =
     codes "<g fill='none' stroke-width='1' stroke-opacity='0.5' stroke-linejoin='round'>\n" ++ (flat_map (due_curve curves dues shown tops) lines ++ codes "</g>\n")
@@ -175,17 +175,17 @@ abbrev pub name_of : List (List ℕ) → ℕ → List ℕ
 name_of names thread = unwrap_or (at_number names thread) (codes "others")
 
 -- the leader from the line's end to its name, in its colour
-abbrev pub leader : Line → List ℕ
+abbrev pub leader : PlotLine → List ℕ
 leader line =
     codes "<path d='M770 " ++ (tenths line.height ++ (codes "L784 " ++ (tenths line.place ++ (codes "' stroke='" ++ (colour line.style ++ codes "'/>\n")))))
 
 -- the line's name, and its share of all ticks
-abbrev pub name_text : List (List ℕ) → ℕ → Line → List ℕ
+abbrev pub name_text : List (List ℕ) → ℕ → PlotLine → List ℕ
 name_text names total line =
     codes "<text x='788' y='" ++ (tenths line.place ++ (codes "' dy='4'>" ++ (escaped (name_of names line.thread) ++ (codes " " ++ (tenths (share_of total line.ticks) ++ codes "%</text>\n")))))
 
 -- the line's leader and name
-abbrev pub label : List (List ℕ) → ℕ → Line → List ℕ
+abbrev pub label : List (List ℕ) → ℕ → PlotLine → List ℕ
 label names total line = leader line ++ name_text names total line
 
 -- ---- the picture
@@ -199,11 +199,11 @@ abbrev pub most_shown : Curves → Option Dues → List Standing → ℕ
 most_shown curves dues shown = max (most_in shown) (most_due curves dues shown)
 
 -- the lines of the selected threads or currencies, given the most ticks
-abbrev pub lines_in : Curves → ℕ → Selected → List Line
+abbrev pub lines_in : Curves → ℕ → Selected → List PlotLine
 lines_in curves most selected = lines_of (top_at curves most (last_end curves.stretches)) selected.shown
 
 -- the bytes of the longest name beside a line
-abbrev pub longest_name : List (List ℕ) → List Line → ℕ
+abbrev pub longest_name : List (List ℕ) → List PlotLine → ℕ
 longest_name names lines = fold (λ most line. max (length (name_of names line.thread)) most) 0 lines
 
 -- the width of the picture, in its unit: room for the longest name and its share, and for the title, but at most 1040
@@ -211,7 +211,7 @@ abbrev pub width_for : ℕ → ℕ → ℕ
 width_for name title = min 1040 (max (848 + 12 * name) (110 + 11 * title))
 
 -- the picture with these lines, behind which is what they are due, given the most ticks
-unfoldable pub picture : List ℕ → Curves → Option Dues → Selected → ℕ → List Line → List ℕ
+unfoldable pub picture : List ℕ → Curves → Option Dues → Selected → ℕ → List PlotLine → List ℕ
 picture title curves dues selected most lines =
     head (width_for (longest_name curves.names lines) (length title)) title ++ (axes curves most
     ++ (due_curves curves dues selected.shown (tops curves most) lines

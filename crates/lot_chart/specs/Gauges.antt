@@ -19,7 +19,7 @@ use Rattle.lot_chart.specs.declared.gauges.Gauge.{Gauge}
 use Rattle.lot_chart.specs.declared.gauges.Growth.{Growth}
 use Rattle.lot_chart.specs.declared.gauges.Growth.TheVariants.{Live, Due}
 use Rattle.lot_chart.specs.declared.gauges.Marks.{Marks}
-use Rattle.lot_chart.specs.declared.lines.Line.{Line}
+use Rattle.lot_chart.specs.declared.lines.PlotLine.{PlotLine}
 use Rattle.lot_chart.specs.declared.metering.LineDues.{LineDues}
 use Rattle.lot_chart.specs.declared.metering.Meter.{Meter}
 use Rattle.lot_chart.specs.declared.standings.Standing.{Standing}
@@ -277,6 +277,6 @@ pub record IsLineOf (shown : List Standing) (place thread : ℕ) : Type 0 where
   pub same : (e : Standing) → thread ≡ (slice_index_or shown place e).thread
 
 -- these are the lines of the standings, in their order
-pub record AreLinesOf (shown : List Standing) (lines : List Line) : Type 0 where
+pub record AreLinesOf (shown : List Standing) (lines : List PlotLine) : Type 0 where
   pub count : length lines ≡ length shown
-  pub each : (place : ℕ) (d : Line) → place < length lines → IsLineOf shown place (slice_index_or lines place d).thread
+  pub each : (place : ℕ) (d : PlotLine) → place < length lines → IsLineOf shown place (slice_index_or lines place d).thread

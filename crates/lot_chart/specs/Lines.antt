@@ -2,7 +2,7 @@
 -- from its top.
 use Rattle.std.specs.Prelude.{ℕ, ◌+◌, ◌-◌, ◌*◌, ◌/◌, min, max, List, [], ◌∷◌, length}
 use Rattle.lot_chart.specs.declared.standings.Standing.{Standing}
-use Rattle.lot_chart.specs.declared.lines.Line.{Line}
+use Rattle.lot_chart.specs.declared.lines.PlotLine.{PlotLine}
 
 -- the position of this value along a length, if the most is at its end
 abbrev pub scaled : ℕ → ℕ → ℕ → ℕ
@@ -22,12 +22,12 @@ abbrev pub place_of : ℕ → ℕ → ℕ → ℕ
 place_of least height more = max (min height (4600 - 160 * more)) least
 
 -- the lines of these standings, with styles from this one on, whose names are at least 160 apart from this height on
-abbrev pub lines_after : ℕ → ℕ → ℕ → List Standing → List Line
+abbrev pub lines_after : ℕ → ℕ → ℕ → List Standing → List PlotLine
 lines_after most style least [] = []
 lines_after most style least (s ∷ shown) =
     record { thread = s.thread; ticks = s.ticks; style = style; height = height_of most s.ticks; place = place_of least (height_of most s.ticks) (length shown) }
     ∷ lines_after most (style + 1) (place_of least (height_of most s.ticks) (length shown) + 160) shown
 
 -- the lines of these standings, which are in descending order of ticks, if the plot's top stands for this many ticks
-abbrev pub lines_of : ℕ → List Standing → List Line
+abbrev pub lines_of : ℕ → List Standing → List PlotLine
 lines_of most shown = lines_after most 0 600 shown

@@ -16,7 +16,7 @@ ghost use Rattle.lot_chart.specs.Standings as standings;
 ghost use Rattle.lot_curves.specs.Curves.{sample_count};
 ghost use Rattle.lot_curves.specs.Stretches.{last_end};
 
-use crate::Line;
+use crate::PlotLine;
 use crate::axes::{axis_step, lead, mark_count, time_mark_count};
 use crate::due_lines::{most_due, push_due_curves};
 use crate::escapes::push_escaped;
@@ -120,7 +120,7 @@ fn push_picture(
     selection: &Selection,
     dues: &Option<LineDues>,
     most: u64,
-    lines: &[Line],
+    lines: &[PlotLine],
 ) -> Result<(), AllocError>
     requires few { length selection.now.others.items < 2 ^ 32 }
     requires lines { AreLinesOf selection.now.shown.items lines.now }
@@ -145,7 +145,7 @@ fn push_picture(
 }
 
 /// The bytes of the longest name beside a line.
-fn longest_name(names: &[Name], lines: &[Line]) -> usize
+fn longest_name(names: &[Name], lines: &[PlotLine]) -> usize
     ensures exact { result ≡ definitions.longest_name names.now lines.now }
     ensures short { result ≤ 16 }
 {
@@ -377,7 +377,7 @@ fn push_curves(
     curves: &Curves,
     others: &[Stretch],
     tops: &[u64],
-    lines: &[Line],
+    lines: &[PlotLine],
 ) -> Result<(), AllocError>
     requires few { length others.now < 2 ^ 32 }
     requires tops { length tops.now ≡ sample_count (last_end curves.now.stretches) + 1 }
@@ -396,7 +396,7 @@ fn push_curve(
     curves: &Curves,
     others: &[Stretch],
     tops: &[u64],
-    line: &Line,
+    line: &PlotLine,
 ) -> Result<(), AllocError>
     requires few { length others.now < 2 ^ 32 }
     requires tops { length tops.now ≡ sample_count (last_end curves.now.stretches) + 1 }
@@ -539,7 +539,7 @@ fn push_labels(
     text: &mut Text,
     names: &[Name],
     total: u64,
-    lines: &[Line],
+    lines: &[PlotLine],
 ) -> Result<(), AllocError>
     ensures { OnOk result (text.new ≡ text.old ++ flat_map (label names.now total) lines.now) }
 {
@@ -550,7 +550,7 @@ fn push_labels(
 }
 
 /// Adds one name, and its leader.
-fn push_label(text: &mut Text, names: &[Name], total: u64, line: &Line) -> Result<(), AllocError>
+fn push_label(text: &mut Text, names: &[Name], total: u64, line: &PlotLine) -> Result<(), AllocError>
     ensures { OnOk result (text.new ≡ text.old ++ label names.now total line.now) }
 {
     push_leader(text, line)?;
@@ -558,7 +558,7 @@ fn push_label(text: &mut Text, names: &[Name], total: u64, line: &Line) -> Resul
 }
 
 /// Adds the leader from the line's end to its name.
-fn push_leader(text: &mut Text, line: &Line) -> Result<(), AllocError>
+fn push_leader(text: &mut Text, line: &PlotLine) -> Result<(), AllocError>
     ensures { OnOk result (text.new ≡ text.old ++ leader line.now) }
 {
     text.push_tenths_within("<path d='M770 ", line.height, "L784 ")?;
@@ -567,7 +567,7 @@ fn push_leader(text: &mut Text, line: &Line) -> Result<(), AllocError>
 }
 
 /// Adds the line's name, and its share of all ticks.
-fn push_name(text: &mut Text, names: &[Name], total: u64, line: &Line) -> Result<(), AllocError>
+fn push_name(text: &mut Text, names: &[Name], total: u64, line: &PlotLine) -> Result<(), AllocError>
     ensures { OnOk result (text.new ≡ text.old ++ name_text names.now total line.now) }
 {
     text.push_tenths_within("<text x='788' y='", line.place, "' dy='4'>")?;

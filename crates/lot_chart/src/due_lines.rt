@@ -16,7 +16,7 @@ use crate::charts::{push_point_at, push_stroke};
 use crate::lines::fine_height_of;
 use crate::metering::{BILLION, LineDues};
 use crate::text::Text;
-use crate::{Line, Standing};
+use crate::{PlotLine, Standing};
 use lot_curves::{Curves, Measure};
 use std::alloc::{AllocError, Global};
 
@@ -31,7 +31,7 @@ pub(crate) fn push_due_curves(
     curves: &Curves,
     dues: &Option<LineDues>,
     tops: &[u64],
-    lines: &[Line],
+    lines: &[PlotLine],
 ) -> Result<(), AllocError>
     requires tops { length tops.now ≡ sample_count (last_end curves.now.stretches) + 1 }
     requires due { (due : Option DuesRecord) × (shown : List StandingRecord)
@@ -56,7 +56,7 @@ fn push_thin_lines(
     curves: &Curves,
     dues: &LineDues,
     tops: &[u64],
-    lines: &[Line],
+    lines: &[PlotLine],
 ) -> Result<(), AllocError>
     requires tops { length tops.now ≡ sample_count (last_end curves.now.stretches) + 1 }
     requires due { (due : DuesRecord) × (shown : List StandingRecord)
@@ -127,7 +127,7 @@ fn push_lines(
     dues: &LineDues,
     tops: &[u64],
     ran: &[u64],
-    lines: &[Line],
+    lines: &[PlotLine],
 ) -> Result<(), AllocError>
     requires tops { length tops.now ≡ sample_count (last_end curves.now.stretches) + 1 }
     requires ran { ran.now ≡ map (total_at Ticks curves.now) (sample_ticks (last_end curves.now.stretches)) }
@@ -150,7 +150,7 @@ fn push_due_curve(
     dues: &LineDues,
     tops: &[u64],
     ran: &[u64],
-    line: Line,
+    line: PlotLine,
     place: usize,
 ) -> Result<(), AllocError>
     requires tops { length tops.now ≡ sample_count (last_end curves.now.stretches) + 1 }

@@ -7,7 +7,7 @@ ghost use Rattle.lot_machine.specs.Rows as rows;
 ghost use Rattle.lot_machine.specs.State.{State, thread_on};
 ghost use Rattle.lot_machine.specs.declared.event.Event.{Event};
 ghost use Rattle.lot_simulation.specs.Below.{currency_numbers, stands_below};
-ghost use Rattle.lot_simulation.specs.World.Answer.{Answered};
+ghost use Rattle.lot_simulation.specs.World.TurnAnswer.{Answered};
 ghost use Rattle.lot_curves.specs.Curves as curves;
 ghost use Rattle.lot_curves.specs.Curves.{curves_by, names_by, numbers_by};
 ghost use Rattle.lot_curves.specs.Stretches.{in_column, last_end, turn_stretches};

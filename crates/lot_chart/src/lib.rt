@@ -25,7 +25,7 @@ mod text;
 
 pub use charts::{chart_of, program_chart};
 pub use gathering::gather;
-pub use lines::Line;
+pub use lines::PlotLine;
 pub use showing::{chart_bytes, chart_program, shares_bytes, shares_program};
 pub use standings::Standing;
 pub use tables::table;

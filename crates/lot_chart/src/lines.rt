@@ -19,7 +19,7 @@ const APART: u32 = 160;
 
 /// A line of the picture.
 #[derive(Clone, Copy, Debug, PartialEq, Eq)]
-pub struct Line {
+pub struct PlotLine {
     /// The number of its thread or currency, or 0 for the others together.
     pub thread: u32,
     /// The ticks at its end.
@@ -37,7 +37,7 @@ pub(crate) fn lines_of(
     alloc: Global,
     most: u64,
     shown: &[Standing],
-) -> Result<Vec<Line>, AllocError>
+) -> Result<Vec<PlotLine>, AllocError>
     requires { length shown.now ≤ 12 }
     ensures { IfOk result (λ v. v.items ≡ definitions.lines_of most shown.now) }
 {
@@ -46,7 +46,7 @@ pub(crate) fn lines_of(
     for (style, standing) in shown.iter().enumerate() {
         let height = height_of(most, standing.ticks);
         let place = place_of(least, height, (shown.len() - style - 1) as u32);
-        lines.push(Line {
+        lines.push(PlotLine {
             thread: standing.thread,
             ticks: standing.ticks,
             style: style as u32,

@@ -8,7 +8,7 @@ use lot_simulation::InputFault;
 use lot_system::Warnings;
 use lot_text::{ParseFault, parse};
 use lot_diagnostics::{
-    Asked, Place, line_to_skip, write_no_thread, write_notes, write_warnings, write_words,
+    Asked, Location, line_to_skip, write_no_thread, write_notes, write_warnings, write_words,
 };
 use std::alloc::{AllocError, Global};
 use std::io::{ErrorKind, Write};
@@ -73,7 +73,7 @@ impl Diagnostics {
             }
         }
         if self.fault(alloc).is_some() {
-            let place = Place { file, line: None };
+            let place = Location { file, line: None };
             let mut words = Vec::new(alloc);
             let made = writeln!(words, "{place}{MORE_FAULTS}");
             say(errors, made, &words);
@@ -161,7 +161,7 @@ pub(crate) fn say_failure<E: Write>(
     let mut words = Vec::new(alloc);
     match write_failure(
         &mut words,
-        Place { file, line: None },
+        Location { file, line: None },
         fault,
         Because(reason),
     ) {
@@ -186,7 +186,7 @@ fn is_closed_pipe(reason: Option<io::Error>) -> bool {
 /// Writes why a request has failed.
 fn write_failure<W: Write>(
     words: &mut W,
-    place: Place<'_>,
+    place: Location<'_>,
     fault: &InputRunFault,
     because: Because,
 ) -> io::Result<()> {

@@ -13,8 +13,8 @@ use Rattle.lot_simulation.specs.Report.{count_in, ticks_in}
 use Rattle.lot_simulation.specs.Timed.{TimedTurn, timed_turns}
 use Rattle.lot_simulation.specs.TimedReport.{ticks_below}
 use Rattle.lot_simulation.specs.Below.{currency_numbers}
-use Rattle.lot_simulation.specs.World.{Answer, Program}
-use Rattle.lot_simulation.specs.World.Answer.{Answered, Ended}
+use Rattle.lot_simulation.specs.World.{TurnAnswer, Program}
+use Rattle.lot_simulation.specs.World.TurnAnswer.{Answered, Ended}
 use Rattle.lot_curves.specs.declared.by.By.TheVariants as by
 use Rattle.lot_curves.specs.declared.stretch.Measure.{Measure}
 use Rattle.lot_curves.specs.declared.stretch.Measure.TheVariants.{Draws, Ticks}
@@ -38,7 +38,7 @@ in-columns c x (d ∷ ds) = at (d == c) (in-columns c x ds) ∙ sym (sum_by-cons
     at false more = omega (arith, more)
 
 -- what a reply has for a currency
-has-below : (s : State) (c : ℕ) (answer : Answer) → cond (ran_below s answer c) (count_in ticks_in answer) 0 ≡ ticks_below s c answer
+has-below : (s : State) (c : ℕ) (answer : TurnAnswer) → cond (ran_below s answer c) (count_in ticks_in answer) 0 ≡ ticks_below s c answer
 has-below s c Ended = refl
 has-below s c (Answered e (reply.Ticket n)) = refl
 has-below s c (Answered e (reply.Currency n)) = refl

@@ -16,7 +16,7 @@ use Rattle.lot_machine.specs.State.{State}
 use Rattle.lot_machine.specs.Step.{step}
 use Rattle.lot_machine.proofs.NamesKept.{AreOwn, opening-own, step-own}
 use Rattle.lot_machine.proofs.StepSizes.{step-limits}
-use Rattle.lot_simulation.specs.World.{Program, Turn, World, console_turn, next_name, opening_world, actor_event, processor_turn, resolved, system_after, system_run, system_turn}
+use Rattle.lot_simulation.specs.World.{Program, TurnMade, World, console_turn, next_name, opening_world, actor_event, processor_turn, resolved, system_after, system_run, system_turn}
 use Rattle.lot_curves.specs.Curves.{name_in}
 
 -- ---- names in a run
@@ -36,7 +36,7 @@ module _ (program : Program) where
   turn-named : (w : World) (actor : ℕ) → AreNamed w.state → AreNamed (system_turn program w actor).world.state
   turn-named w actor named = by (actor == 0)
     where
-      by : (console : Bool) → AreNamed (cond {A = Turn} console (console_turn program w w.commands) (processor_turn w actor (actor_event program w actor))).world.state
+      by : (console : Bool) → AreNamed (cond {A = TurnMade} console (console_turn program w w.commands) (processor_turn w actor (actor_event program w actor))).world.state
       by true = console-named w w.commands named
       by false = step-named w.state (actor_event program w actor) named
 

@@ -1,12 +1,12 @@
 -- Turns, each at its actor's own time.
 use Rattle.std.specs.Prelude.{ℕ, List, [], ◌∷◌, ◌++◌}
-use Rattle.lot_simulation.specs.World.{Program, Answer}
+use Rattle.lot_simulation.specs.World.{Program, TurnAnswer}
 use Rattle.lot_simulation.specs.Report.{ActorTurn, turns_made, turns_of, total_of, ticks_in}
 
 -- the end of a turn, and its answer
 pub record EndedTurn : Type 0 where
   pub time : ℕ
-  pub answer : Answer
+  pub answer : TurnAnswer
 
 -- these turns after the earlier ones, each with its end: the sum of its actor's ticks up to it
 abbrev pub ended_after : List ActorTurn → List ActorTurn → List EndedTurn

@@ -5,8 +5,8 @@ use Rattle.lot_machine.specs.declared.reply.Reply.TheVariants as reply
 use Rattle.lot_machine.specs.State.{State}
 use Rattle.lot_simulation.specs.Report.{count_in, quanta_in, ticks_in}
 use Rattle.lot_simulation.specs.Below.{currency_numbers, stands_below}
-use Rattle.lot_simulation.specs.World.{Answer}
-use Rattle.lot_simulation.specs.World.Answer.{Answered}
+use Rattle.lot_simulation.specs.World.{TurnAnswer}
+use Rattle.lot_simulation.specs.World.TurnAnswer.{Answered}
 use Rattle.lot_curves.specs.declared.by.By.{By}
 use Rattle.lot_curves.specs.declared.by.By.TheVariants as by
 use Rattle.lot_curves.specs.declared.stretch.Measure.{Measure}
@@ -26,13 +26,13 @@ abbrev pub stretch_of : EndedTurn → Stretch
 stretch_of turn = record { thread = count_in charged_thread turn.answer; end = turn.time; ticks = count_in ticks_in turn.answer; draws = count_in quanta_in turn.answer }
 
 -- whether the turn's thread ran, and stood below the currency in this state
-abbrev pub ran_below : State → Answer → ℕ → Bool
+abbrev pub ran_below : State → TurnAnswer → ℕ → Bool
 ran_below s (Answered e (reply.Expired thread ticks)) c = stands_below s c thread
 ran_below s (Answered e (reply.Trapped thread ticks came ends)) c = stands_below s c thread
 ran_below s other c = false
 
 -- the currencies other than base that the turn's thread ran below, in ascending order of number
-abbrev pub currencies_above : State → Answer → List ℕ
+abbrev pub currencies_above : State → TurnAnswer → List ℕ
 currencies_above s answer = filter (ran_below s answer) (currency_numbers s)
 
 -- the same stretch with this number

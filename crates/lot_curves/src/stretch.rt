@@ -1,7 +1,7 @@
 //! The stretch of a turn: its ticks and draws for a thread.
 ghost use Rattle.std.specs.Prelude.{◌≡◌, ◌<◌, ◌≤◌, ◌^◌, length};
 ghost use Rattle.lot_machine.specs.declared.event.Event.{Event};
-ghost use Rattle.lot_simulation.specs.World.Answer.{Answered};
+ghost use Rattle.lot_simulation.specs.World.TurnAnswer.{Answered};
 ghost use Rattle.lot_curves.specs.Stretches as definitions;
 ghost use Rattle.lot_curves.specs.Stretches.{in_column, stretch_between, stretch_of, stretches_of};
 ghost use Rattle.lot_curves.specs.Windows as windows;

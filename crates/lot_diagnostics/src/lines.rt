@@ -22,5 +22,5 @@ pub use keywords::{Keyword, body_word, header_word, is_only_timed, row_of, spell
 pub use line::{count_words, ends_line, first_word, word_at, words_of};
 pub use names::{Named, argument_given, is_given, name_given, name_numbered};
 pub use nearest::{Nearest, nearer_word, nearest_name, nearest_word};
-pub use place::Place;
+pub use place::Location;
 pub use script::{OpenScript, after_line};

@@ -1,6 +1,6 @@
 //! What makes a run of a timed input show less than its author may expect.
 
-use crate::lines::{InputCommand, Place, has_header_line, header_number, is_timed};
+use crate::lines::{InputCommand, Location, has_header_line, header_number, is_timed};
 use lot_simulation::{BodyWord, HeaderWord};
 use std::io;
 use std::io::Write;
@@ -51,7 +51,7 @@ pub fn write_no_thread<W: Write>(
     if !is_timed(input) || has_thread(input) {
         return Ok(());
     }
-    let place = Place { file, line: None };
+    let place = Location { file, line: None };
     writeln!(
         writer,
         "{place}nothing runs: no line makes a thread, as 'fundx AMOUNT CURRENCY NAME SCRIPT' does"
@@ -69,7 +69,7 @@ fn write_no_turns<W: Write>(writer: &mut W, input: &[u8], file: Option<&str>) ->
     if has_header_line(input, HeaderWord::Turns) {
         return Ok(());
     }
-    let place = Place { file, line: None };
+    let place = Location { file, line: None };
     writeln!(
         writer,
         "{place}the processors make no turns: the header has no 'turns T', how many each makes in a run"
@@ -87,7 +87,7 @@ fn write_short<W: Write>(
     if quantum <= duration {
         return Ok(());
     }
-    let place = Place { file, line: None };
+    let place = Location { file, line: None };
     writeln!(
         writer,
         "{place}the run of {duration} ticks is shorter than a quantum of {quantum}, whose ticks count when it is over"
@@ -101,7 +101,7 @@ fn write_beginning<W: Write>(
     from: Option<u64>,
     file: Option<&str>,
 ) -> io::Result<()> {
-    let place = Place { file, line: None };
+    let place = Location { file, line: None };
     match from {
         Some(from) if u64::from(end) <= from => writeln!(
             writer,

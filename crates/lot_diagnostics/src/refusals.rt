@@ -16,7 +16,7 @@ mod word;
 use crate::refusals::explain::problem_of;
 use crate::refusals::input::Refused;
 use crate::refusals::skip::can_be_skipped;
-use crate::lines::Place;
+use crate::lines::Location;
 use lot_simulation::InputFault;
 use std::alloc::Global;
 use std::io;
@@ -34,7 +34,7 @@ pub fn write_words<W: Write>(
     let refused = Refused::of(input, fault.line);
     let problem = problem_of(alloc, &refused, fault.refusal);
     let line = Some(fault.line);
-    writeln!(writer, "{}{problem}", Place { file, line })
+    writeln!(writer, "{}{problem}", Location { file, line })
 }
 
 /// The index in the input of the first byte of the line refused with this fault, if the line can be skipped: its fault

@@ -2,7 +2,7 @@
 
 use crate::stuck::Called;
 use crate::lines::{
-    Named, OpenScript, Place, after_line, argument_given, ends_line, name_given, name_numbered,
+    Named, OpenScript, Location, after_line, argument_given, ends_line, name_given, name_numbered,
     row_of, spelling_of, words_of,
 };
 use lot_machine::TrapRefusal;
@@ -211,7 +211,7 @@ fn write_trap_words<W: fmt::Write>(
         Some(lines) => Some(lines.first),
         None => None,
     };
-    write!(f, "{}'{words}'", Place { file, line })?;
+    write!(f, "{}'{words}'", Location { file, line })?;
     match lines {
         Some(TrapLines { script, others, .. }) => {
             write!(f, " in script '{script}'{}", Others(others))

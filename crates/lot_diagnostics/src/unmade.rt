@@ -2,7 +2,7 @@
 ghost use Rattle.std.specs.Prelude.{◌≡◌, ◌+◌, ◌-◌, ◌≤◌};
 
 use crate::warnings::is_ended_by_refusal;
-use crate::lines::{InputCommand, Place, header_number};
+use crate::lines::{InputCommand, Location, header_number};
 use lot_system::Warnings;
 use lot_simulation::HeaderWord;
 use std::io::Write;
@@ -104,7 +104,7 @@ fn write_group<W: Write>(
         Some(command) => Some(command.number),
         None => None,
     };
-    let place = Place { file, line };
+    let place = Location { file, line };
     match count {
         0 => Ok(()),
         1 => writeln!(writer, "{place}this command was never made: {cause}"),

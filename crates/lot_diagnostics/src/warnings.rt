@@ -4,7 +4,7 @@ use crate::reason::Reason;
 use crate::stuck::{Waiting, Weightless};
 use crate::traps::RefusedWords;
 use crate::unmade::write_unmade;
-use crate::lines::{InputCommand, Place};
+use crate::lines::{InputCommand, Location};
 use lot_system::{FirstFew, RefusedTrap, Warnings};
 use lot_simulation::EarlyEnd;
 use std::io::Write;
@@ -27,8 +27,8 @@ pub fn write_warnings<W: Write>(
 }
 
 /// The place of what is said of the whole input.
-fn whole(file: Option<&str>) -> Place<'_> {
-    Place { file, line: None }
+fn whole(file: Option<&str>) -> Location<'_> {
+    Location { file, line: None }
 }
 
 /// Whether a refusal ended the play that is warned of. Of several plays it is the first, and another may have been
@@ -76,7 +76,7 @@ fn write_refused<W: Write>(
             writeln!(
                 writer,
                 "{}the command was refused: {reason}",
-                Place { file, line }
+                Location { file, line }
             )?;
         }
     }

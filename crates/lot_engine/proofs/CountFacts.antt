@@ -4,8 +4,8 @@ use Rattle.std.proofs.lemmas.List.Sums.{sum_by_push}
 use Rattle.lot_machine.specs.declared.event.Event.{Event}
 use Rattle.lot_machine.specs.declared.reply.Reply.{Reply}
 use Rattle.lot_simulation.specs.Report.{ActorTurn, beside, turns_made, turns_of, count_in, quanta_in, idles_in, ticks_in}
-use Rattle.lot_simulation.specs.World.{Program, World, Answer, opening_world, system_turn, system_after, system_answers, system_run}
-use Rattle.lot_simulation.specs.World.Answer.{Answered}
+use Rattle.lot_simulation.specs.World.{Program, World, TurnAnswer, opening_world, system_turn, system_after, system_answers, system_run}
+use Rattle.lot_simulation.specs.World.TurnAnswer.{Answered}
 use Rattle.lot_engine.specs.declared.counts.Counts.{Counts}
 use Rattle.lot_engine.specs.Counted.{counted, counted_with, IsSmall, IsCount, AreCounts}
 
@@ -63,7 +63,7 @@ each-other turns n counts turn past are actor d below =
 module _ (program : Program) (history : List ℕ) (actor : ℕ) (e : Event) (r : Reply) (is : (system_turn program (system_run program history) actor).answer ≡ Answered e r) where
   pub turns_made-answered : turns_made program (history ++ actor ∷ []) ≡ turns_made program history ++ record { actor = actor; answer = Answered e r } ∷ []
   turns_made-answered =
-      turns_made-one_more program history actor ∙ ap (λ (a : Answer). turns_made program history ++ record { actor = actor; answer = a } ∷ []) is
+      turns_made-one_more program history actor ∙ ap (λ (a : TurnAnswer). turns_made program history ++ record { actor = actor; answer = a } ∷ []) is
 
   -- all turns
   pub counted-one_more : counted (turns_made program (history ++ actor ∷ [])) ≡ counted_with (counted (turns_made program history)) r

@@ -5,7 +5,7 @@ use Rattle.lot_machine.specs.declared.event.Event.TheVariants as event
 use Rattle.lot_machine.specs.Bounds.{IsWithinBounds}
 use Rattle.lot_machine.specs.Order.{IsInOrder}
 use Rattle.lot_machine.proofs.OrderKept.{opening-order, step-order}
-use Rattle.lot_simulation.specs.World.{Program, World, Turn, opening_world, actor_event, console_turn, next_name, processor_turn, resolved, system_turn, system_after, system_run}
+use Rattle.lot_simulation.specs.World.{Program, World, TurnMade, opening_world, actor_event, console_turn, next_name, processor_turn, resolved, system_turn, system_after, system_run}
 
 module _ (program : Program) where
   console-in-order : (w : World) (commands : List Command) → IsInOrder w.state → IsInOrder (console_turn program w commands).world.state
@@ -15,7 +15,7 @@ module _ (program : Program) where
   turn-in-order : (w : World) (actor : ℕ) → IsInOrder w.state → IsInOrder (system_turn program w actor).world.state
   turn-in-order w actor order = by (actor == 0)
     where
-      by : (console : Bool) → IsInOrder (cond {A = Turn} console (console_turn program w w.commands) (processor_turn w actor (actor_event program w actor))).world.state
+      by : (console : Bool) → IsInOrder (cond {A = TurnMade} console (console_turn program w w.commands) (processor_turn w actor (actor_event program w actor))).world.state
       by true = console-in-order w w.commands order
       by false = step-order w.state (actor_event program w actor) order
 

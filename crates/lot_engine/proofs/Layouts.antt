@@ -13,7 +13,7 @@ use Rattle.lot_machine.proofs.StepChanges.{By, Keeps, by_event, kept, step-leads
 use Rattle.lot_graph.specs.declared.layout.Layout.{Layout}
 use Rattle.lot_graph.specs.Found.{FoundNodes}
 use Rattle.lot_kernel.specs.Searching.{HasLayoutOf}
-use Rattle.lot_simulation.specs.World.{Program, World, Turn, opening_world, actor_event, console_turn, next_name, processor_turn, resolved, system_turn, system_after, system_run}
+use Rattle.lot_simulation.specs.World.{Program, World, TurnMade, opening_world, actor_event, console_turn, next_name, processor_turn, resolved, system_turn, system_after, system_run}
 use Rattle.lot_engine.specs.Searching.{HasLayoutFor}
 
 abbrev HasMutexes : ℕ → State → Type 0
@@ -34,7 +34,7 @@ module _ (program : Program) where
   turn-mutexes : (w : World) (actor count : ℕ) → HasMutexes count w.state → HasMutexes count (system_turn program w actor).world.state
   turn-mutexes w actor count has = by (actor == 0)
     where
-      by : (console : Bool) → HasMutexes count (cond {A = Turn} console (console_turn program w w.commands) (processor_turn w actor (actor_event program w actor))).world.state
+      by : (console : Bool) → HasMutexes count (cond {A = TurnMade} console (console_turn program w w.commands) (processor_turn w actor (actor_event program w actor))).world.state
       by true = console-mutexes w w.commands count has
       by false = step-mutexes w.state (actor_event program w actor) count has
 

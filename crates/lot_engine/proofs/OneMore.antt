@@ -8,7 +8,7 @@ use Rattle.lot_machine.specs.State.{State}
 use Rattle.lot_machine.specs.Step.{step}
 use Rattle.lot_simulation.specs.Report.{turns_made}
 use Rattle.lot_simulation.specs.World.{IsLegal, IsLegalInTime, Program, system_turn, system_run}
-use Rattle.lot_simulation.specs.World.Answer.{Answered}
+use Rattle.lot_simulation.specs.World.TurnAnswer.{Answered}
 use Rattle.lot_script.specs.Places.{Place}
 use Rattle.lot_program.specs.Programs.{IsProgram}
 use Rattle.lot_engine.specs.declared.counts.Counts.{Counts}

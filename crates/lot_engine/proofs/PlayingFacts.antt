@@ -3,8 +3,8 @@ use Rattle.std.proofs.Common.{◌≡◌, ℕ, List, [], ◌∷◌, ◌++◌, ref
 use Rattle.lot_machine.specs.declared.event.Event.{Event}
 use Rattle.lot_machine.specs.declared.reply.Reply.{Reply}
 use Rattle.lot_simulation.specs.Report.{report}
-use Rattle.lot_simulation.specs.World.{Program, World, Turn, system_turn, system_run}
-use Rattle.lot_simulation.specs.World.Answer.{Answered}
+use Rattle.lot_simulation.specs.World.{Program, World, TurnMade, system_turn, system_run}
+use Rattle.lot_simulation.specs.World.TurnAnswer.{Answered}
 use Rattle.lot_engine.specs.Playing.{HasPlayed, IsPlayed, turn_in}
 use Rattle.lot_engine.specs.Seen.{Seen, Setting, world_of, after_turn}
 use Rattle.lot_engine.proofs.Runs.{system_run-one_more, past-more}
@@ -34,7 +34,7 @@ module _ (program : Program) (actors : List ℕ) (old : Seen) (has : HasPlayed p
   played-more now is =
       record {
         program_is = ap (λ (x : Setting). x.program) is.setting ∙ has.program_is;
-        world = is.world ∙ ap (λ (t : Turn). t.world) turn-is ∙ sym (system_run-one_more program actors actor);
+        world = is.world ∙ ap (λ (t : TurnMade). t.world) turn-is ∙ sym (system_run-one_more program actors actor);
         past = is.past has.past;
         bounded = omega (arith, length-append actors (actor ∷ []), is.bounded, has.bounded);
       }

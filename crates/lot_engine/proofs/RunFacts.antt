@@ -21,8 +21,8 @@ use Rattle.lot_machine.specs.Step.{event_effect, event_refusal, step, thread_the
 use Rattle.lot_simulation.specs.declared.script.ScriptTrap.{ScriptTrap}
 use Rattle.lot_simulation.specs.Script.{Context, Slice, is_mark, slice}
 use Rattle.lot_simulation.specs.World.{Program, World, action_of, context_of, number_delivered, number_from, seed_from, slice_on, sleeper_by, sleeper_on, system_turn, takes_number}
-use Rattle.lot_simulation.specs.World.Answer.{Answered}
-use Rattle.lot_simulation.specs.declared.script.Line.{Line}
+use Rattle.lot_simulation.specs.World.TurnAnswer.{Answered}
+use Rattle.lot_simulation.specs.declared.script.ScriptLine.{ScriptLine}
 use Rattle.lot_script.specs.Places.{Place, context_at, first_place}
 use Rattle.lot_script.specs.Slices.{Parts, IsSlice}
 use Rattle.lot_engine.specs.declared.turn.Done.{Done}
@@ -163,7 +163,7 @@ module _ (program : Program) (w : World) (s : State) (places : List Place) (seed
       }
 
   -- the slice that moved the thread's place on, and the event and the reply that followed
-  module _ (between : IsBetween 1 program.limits.processors p) (lines : List Line) (lines_are : lines ≡ script_lines program running.script) (done : Done) (now : List Place)
+  module _ (between : IsBetween 1 program.limits.processors p) (lines : List ScriptLine) (lines_are : lines ≡ script_lines program running.script) (done : Done) (now : List Place)
       (exact : IsSlice (slice_between lines (place_of places running.thread) running.budget done (place_of now running.thread))) (moved : now ≡ set_number places running.thread (place_of now running.thread))
       (sum : done.accumulator ≡ (place_of now running.thread).accumulator) (drawn : ℕ) (number : drawn ≡ number_from (is_some program.duration) (unwrap_or (at_number seeds p) 0))
       (e : Event) (event_is : e ≡ event_done p drawn (Some done)) (after : State) (r : Reply) (state : after ≡ (step s e).state) (replied : r ≡ (step s e).reply) where

@@ -3,8 +3,8 @@ use Rattle.std.proofs.Common.{◌≡◌, ℕ, zero, suc, ◌==◌, false, List, 
 use Rattle.lot_machine.specs.declared.command.Command.{Command}
 use Rattle.lot_machine.specs.declared.event.Event.{Event}
 use Rattle.lot_machine.specs.declared.reply.Reply.{Reply}
-use Rattle.lot_simulation.specs.World.Answer.{Answered}
-use Rattle.lot_simulation.specs.World.{Program, World, Turn, console_turn, actor_event, processor_turn, opening_world, system_turn, system_after, system_run}
+use Rattle.lot_simulation.specs.World.TurnAnswer.{Answered}
+use Rattle.lot_simulation.specs.World.{Program, World, TurnMade, console_turn, actor_event, processor_turn, opening_world, system_turn, system_after, system_run}
 
 pub system_after-one_more : (program : Program) (w : World) (actors : List ℕ) (actor : ℕ) → system_after program w (actors ++ actor ∷ []) ≡ (system_turn program (system_after program w actors) actor).world
 system_after-one_more program w [] actor = refl
@@ -23,7 +23,7 @@ answered-more program w zero e r is = from w.commands is
 answered-more program w (suc n) e r is =
     let no : (suc n == 0) ≡ false = ne_eqb (suc n) 0 (λ x. omega arith) in
     let turn : system_turn program w (suc n) ≡ processor_turn w (suc n) (actor_event program w (suc n)) = rw no refl in
-    ap (λ (t : Turn). t.world.history) turn
+    ap (λ (t : TurnMade). t.world.history) turn
 
 -- so the history of a run is what it was run over, if each turn was answered
 pub past-more : (program : Program) (history : List ℕ) (actor : ℕ) (e : Event) (r : Reply) → (system_run program history).history ≡ history → (system_turn program (system_run program history) actor).answer ≡ Answered e r

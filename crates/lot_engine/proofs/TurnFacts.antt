@@ -31,7 +31,7 @@ use Rattle.lot_machine.specs.State.{State, free_threads, status_of, thread_at, t
 use Rattle.lot_machine.specs.Order.{IsInOrder}
 use Rattle.lot_machine.specs.Step.{step, thread_there, used_there}
 use Rattle.lot_simulation.specs.World.{Program, World, action_of, event_of_slice, generator_of, number_from, seed_from, number_of, context_of, slice_on, processor_event, takes_number, delivered_to, number_delivered, contexts_after, contexts_after_command, command_turn, console_turn, next_name, processor_turn, resolved, system_turn, system_run, tickets_after, IsLegal, IsLegalInTime}
-use Rattle.lot_simulation.specs.World.Answer.{Answered}
+use Rattle.lot_simulation.specs.World.TurnAnswer.{Answered}
 use Rattle.lot_machine.proofs.RecordsKept.{found-runs}
 use Rattle.lot_script.specs.Drafts.{IsScript}
 use Rattle.lot_script.specs.Places.{Place, context_at, first_place}

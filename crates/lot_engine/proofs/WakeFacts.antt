@@ -9,7 +9,7 @@ use Rattle.lot_machine.specs.Commands.{unless_refused}
 use Rattle.lot_machine.specs.Step.{event_refusal, step, wake}
 use Rattle.lot_machine.proofs.StepSizes.{other-sizes}
 use Rattle.lot_simulation.specs.World.{Program, World, contexts_after, processor_turn, system_turn}
-use Rattle.lot_simulation.specs.World.Answer.{Answered}
+use Rattle.lot_simulation.specs.World.TurnAnswer.{Answered}
 use Rattle.lot_script.specs.Places.{Place}
 use Rattle.lot_engine.specs.Held.{AreAt, IsHeld}
 use Rattle.lot_engine.proofs.TurnFacts.{kept-in}

@@ -1,6 +1,6 @@
 -- The representation of the history's world in the fields of a system.
 use Rattle.std.specs.Prelude.{◌≡◌, ℕ, ◌≤◌, ⊤, Option, IfSome, List, [], ◌∷◌, length, drop, is_some, unwrap_or}
-use Rattle.lot_simulation.specs.declared.script.Line.{Line}
+use Rattle.lot_simulation.specs.declared.script.ScriptLine.{ScriptLine}
 use Rattle.lot_machine.specs.declared.record.Thread.{Thread}
 use Rattle.lot_machine.specs.Bounds.{IsBetween}
 use Rattle.lot_machine.specs.Numbered.{at_number}
@@ -10,7 +10,7 @@ use Rattle.lot_simulation.specs.World.{Program, World}
 use Rattle.lot_script.specs.Places.{Place, Fits, context_at}
 
 -- the lines of the program's script with this number, or none if there is no such script
-abbrev pub script_lines : Program → ℕ → List Line
+abbrev pub script_lines : Program → ℕ → List ScriptLine
 script_lines program script = unwrap_or (at_number program.scripts script) []
 
 -- the thread's script is one of the program's, and the place in it stands for the thread's context

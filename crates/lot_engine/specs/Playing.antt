@@ -1,10 +1,10 @@
 -- Turns of a schedule.
 use Rattle.std.specs.Prelude.{◌≡◌, ℕ, ◌+◌, ◌≤◌, List, length}
-use Rattle.lot_simulation.specs.World.{Program, Turn, system_turn, system_run}
+use Rattle.lot_simulation.specs.World.{Program, TurnMade, system_turn, system_run}
 use Rattle.lot_engine.specs.Seen.{Seen, world_of}
 
 -- the actor's next turn in a system
-abbrev pub turn_in : Seen → ℕ → Turn
+abbrev pub turn_in : Seen → ℕ → TurnMade
 turn_in seen actor = system_turn seen.setting.program (world_of seen) actor
 
 -- After the actor's turn, or an attempt without a remaining command, the world is that of the turn, and the history

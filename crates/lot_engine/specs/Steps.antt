@@ -9,7 +9,7 @@ use Rattle.lot_machine.specs.declared.reply.Reply.TheVariants as reply
 use Rattle.lot_machine.specs.Bounds.{IsBetween}
 use Rattle.lot_machine.specs.Named.{thread_given}
 use Rattle.lot_machine.specs.Numbered.{at_number, set_number}
-use Rattle.lot_simulation.specs.declared.script.Line.{Line}
+use Rattle.lot_simulation.specs.declared.script.ScriptLine.{ScriptLine}
 use Rattle.lot_simulation.specs.declared.script.ScriptTrap.{ScriptTrap}
 use Rattle.lot_simulation.specs.declared.script.ScriptTrap.TheVariants as script_trap
 use Rattle.lot_simulation.specs.declared.script.MutexTrap.TheVariants.{Unlock}
@@ -138,7 +138,7 @@ places_after places (Some given) (reply.Expired t ticks) = set_number places t g
 places_after places given other = places
 
 -- the slice of these lines with this budget and result, from one place to the other
-abbrev pub slice_between : List Line → Place → ℕ → Done → Place → Parts
+abbrev pub slice_between : List ScriptLine → Place → ℕ → Done → Place → Parts
 slice_between lines start budget done end = record { lines = lines; start = start; budget = budget; ticks = done.ticks; trap = done.trap; end = end }
 
 -- the places after the thread that ran gets the number that it received

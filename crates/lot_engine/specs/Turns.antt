@@ -4,7 +4,7 @@ use Rattle.lot_machine.specs.Bounds.{IsBetween}
 use Rattle.lot_machine.specs.State.{thread_at, thread_on}
 use Rattle.lot_machine.specs.Step.{used_there}
 use Rattle.lot_simulation.specs.World.{Program, World, context_of, system_turn}
-use Rattle.lot_simulation.specs.World.Answer.{Answered}
+use Rattle.lot_simulation.specs.World.TurnAnswer.{Answered}
 use Rattle.lot_script.specs.Drafts.{IsScript}
 use Rattle.lot_script.specs.Places.{Place, Fits, context_at}
 use Rattle.lot_script.specs.Slices.{Parts}

@@ -21,8 +21,8 @@ use Rattle.lot_simulation.specs.declared.input.InputRefusal.{InputRefusal}
 use Rattle.lot_simulation.specs.declared.input.InputRefusal.TheVariants.{BadHeader, BadLine, BadNumber, OpenScript as ScriptIsOpen, TooDeep, TooLong}
 use Rattle.lot_simulation.specs.declared.input.ScriptWord.{ScriptWord}
 use Rattle.lot_simulation.specs.declared.input.ScriptWord.TheVariants as script
-use Rattle.lot_simulation.specs.declared.script.Line.{Line}
-use Rattle.lot_simulation.specs.declared.script.Line.TheVariants as line
+use Rattle.lot_simulation.specs.declared.script.ScriptLine.{ScriptLine}
+use Rattle.lot_simulation.specs.declared.script.ScriptLine.TheVariants as line
 use Rattle.lot_simulation.specs.declared.script.ScriptTrap.TheVariants as trap
 use Rattle.lot_simulation.specs.declared.input.TicketRef.{TicketRef}
 use Rattle.lot_simulation.specs.declared.separators.Separators.{Separators}
@@ -208,7 +208,7 @@ module _ (r : Reading) (kept : IsRead r) where
     script-goes_on next checks = if-passes IsRead checks (record r { unclosed = Some next }) (λ _. (kept.0, kept.1, kept.2, (kept.3.0, room), kept.4))
 
     -- by a line
-    line-kept : (l : Line) → Reads (add_line r s l) IsRead
+    line-kept : (l : ScriptLine) → Reads (add_line r s l) IsRead
     line-kept l = script-goes_on (with_line s l) ((is_full s, TooLong) ∷ [])
 
     -- a line of a script

@@ -19,8 +19,8 @@ use Rattle.lot_print.proofs.PageFacts.{puts-both, puts-stop}
 use Rattle.lot_simulation.specs.declared.style.LineStyle.{LineStyle}
 use Rattle.lot_simulation.specs.Output.{answer_text, printed_actor}
 use Rattle.lot_simulation.specs.Texts.{front, newline, refused, reply_text}
-use Rattle.lot_simulation.specs.World.{Program, World, Answer, Turn, console_turn, next_name, opening_world, actor_event, processor_turn, resolved, system_turn}
-use Rattle.lot_simulation.specs.World.Answer.{Answered, Ended}
+use Rattle.lot_simulation.specs.World.{Program, World, TurnAnswer, TurnMade, console_turn, next_name, opening_world, actor_event, processor_turn, resolved, system_turn}
+use Rattle.lot_simulation.specs.World.TurnAnswer.{Answered, Ended}
 use Rattle.lot_engine.specs.Seen.{Seen, world_of}
 use Rattle.lot_playback.specs.declared.turn.Turn.{Turn as ATurn}
 use Rattle.lot_playback.specs.Stages.{HasJustMade, answer_in}
@@ -69,21 +69,21 @@ module _ (made : MadeTurn) (m : LineStyle) (a : ℕ) (of_m : m ≡ style_at made
       → funding_in detail (won_in e r) m u a made.before.state ++ (won_lines m u a lots loans (won_in e r) ++ (front m ++ (decimal a ++ (codes " " ++ reply_text m s e r)))) ≡ explained_made detail made
   answered-is detail.Funding u lots loans s e r of_u of_lots of_loans of_s is =
       rw (of_m, of_a, of_u, of_lots, of_loans, of_s)
-      (ap (λ (x : Answer). detail_text detail.Funding (style_at made.time) (printed_actor made.turn.world.state made.actor) made.before.state x
+      (ap (λ (x : TurnAnswer). detail_text detail.Funding (style_at made.time) (printed_actor made.turn.world.state made.actor) made.before.state x
       ++ (lots_text (style_at made.time) (printed_actor made.turn.world.state made.actor) made.before.state x ++ (front (style_at made.time) ++ (decimal (printed_actor made.turn.world.state made.actor) ++ (codes " " ++ answer_text (style_at made.time) made.turn.world.state x))))) (sym is))
   answered-is detail.Lots u lots loans s e r of_u of_lots of_loans of_s is =
       rw (of_m, of_a, of_u, of_lots, of_loans, of_s)
-      (ap (λ (x : Answer). lots_text (style_at made.time) (printed_actor made.turn.world.state made.actor) made.before.state x ++ (front (style_at made.time) ++ (decimal (printed_actor made.turn.world.state made.actor) ++ (codes " " ++ answer_text (style_at made.time) made.turn.world.state x)))) (sym is))
+      (ap (λ (x : TurnAnswer). lots_text (style_at made.time) (printed_actor made.turn.world.state made.actor) made.before.state x ++ (front (style_at made.time) ++ (decimal (printed_actor made.turn.world.state made.actor) ++ (codes " " ++ answer_text (style_at made.time) made.turn.world.state x)))) (sym is))
 
   -- and of one without a command
   ended-is : (detail : Detail) → made.turn.answer ≡ Ended → front m ++ (decimal a ++ (codes " " ++ (refused 41 (codes "Ended") ++ newline))) ≡ explained_made detail made
   ended-is detail.Funding is =
       rw (of_m, of_a)
-      (ap (λ (x : Answer). detail_text detail.Funding (style_at made.time) (printed_actor made.turn.world.state made.actor) made.before.state x
+      (ap (λ (x : TurnAnswer). detail_text detail.Funding (style_at made.time) (printed_actor made.turn.world.state made.actor) made.before.state x
       ++ (lots_text (style_at made.time) (printed_actor made.turn.world.state made.actor) made.before.state x ++ (front (style_at made.time) ++ (decimal (printed_actor made.turn.world.state made.actor) ++ (codes " " ++ answer_text (style_at made.time) made.turn.world.state x))))) (sym is))
   ended-is detail.Lots is =
       rw (of_m, of_a)
-      (ap (λ (x : Answer). lots_text (style_at made.time) (printed_actor made.turn.world.state made.actor) made.before.state x ++ (front (style_at made.time) ++ (decimal (printed_actor made.turn.world.state made.actor) ++ (codes " " ++ answer_text (style_at made.time) made.turn.world.state x)))) (sym is))
+      (ap (λ (x : TurnAnswer). lots_text (style_at made.time) (printed_actor made.turn.world.state made.actor) made.before.state x ++ (front (style_at made.time) ++ (decimal (printed_actor made.turn.world.state made.actor) ++ (codes " " ++ answer_text (style_at made.time) made.turn.world.state x)))) (sym is))
 
 -- ---- a turn that the system has made
 
@@ -104,7 +104,7 @@ module _ (seen : Seen) (turn : ATurn) (lots : Gathered) (made : MadeTurn) (is : 
   unit-is : (world_of seen).state.limits.unit ≡ made.before.state.limits.unit
   unit-is =
       ap (λ (w : World). w.state.limits.unit) is.world
-      ∙ ap (λ (t : Turn). t.world.state.limits.unit) is.turn_is
+      ∙ ap (λ (t : TurnMade). t.world.state.limits.unit) is.turn_is
       ∙ ap (λ (l : Sizes). l.unit) (turn-limits program made.before made.actor)
 
   -- the actor is printed as that of the turn
@@ -119,11 +119,11 @@ module _ (seen : Seen) (turn : ATurn) (lots : Gathered) (made : MadeTurn) (is : 
     answer-is = is.reports.answer ∙ ap (λ ended. answer_in ended turn.event turn.reply) answered
 
     system-answer : (system_turn program made.before made.actor).answer ≡ Answered turn.event r
-    system-answer = ap (λ (t : Turn). t.answer) (sym is.turn_is) ∙ answer-is
+    system-answer = ap (λ (t : TurnMade). t.answer) (sym is.turn_is) ∙ answer-is
 
     -- the state that the system is in now is that after the event
     after-is : (world_of seen).state ≡ (step made.before.state turn.event).state
-    after-is = ap (λ (w : World). w.state) is.world ∙ ap (λ (t : Turn). t.world.state) is.turn_is ∙ turn-state program made.before made.actor turn.event r system-answer
+    after-is = ap (λ (w : World). w.state) is.world ∙ ap (λ (t : TurnMade). t.world.state) is.turn_is ∙ turn-state program made.before made.actor turn.event r system-answer
 
     gathered-are : (lots.lots ≡ lots_of made.before.state turn.event) × (lots.loans ≡ loans_of made.before.state turn.event)
     gathered-are = is.gathered turn.event r system-answer

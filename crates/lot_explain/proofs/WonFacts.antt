@@ -21,7 +21,7 @@ use Rattle.lot_machine.proofs.Draws.{winner-is}
 use Rattle.lot_print.specs.declared.lots.Compensation.{Compensation}
 use Rattle.lot_print.specs.declared.lots.Lot.{Lot}
 use Rattle.lot_simulation.specs.World.{Program, World, console_turn, actor_event, next_name, resolved, system_turn}
-use Rattle.lot_simulation.specs.World.Answer.{Answered}
+use Rattle.lot_simulation.specs.World.TurnAnswer.{Answered}
 use Rattle.lot_explain.specs.declared.won.Won.{Won}
 use Rattle.lot_explain.specs.Numbers.{HasNumber, number_in}
 use Rattle.lot_explain.specs.Lots.{compensation_of, draw_lots, lot_of, lots_of, mutex_lots, total_of, won_in}

@@ -11,8 +11,8 @@ use Rattle.lot_simulation.specs.Report.{report}
 use Rattle.lot_simulation.specs.Texts.{fault_line}
 use Rattle.lot_simulation.specs.Timed.{TimedTurn, timed_turns}
 use Rattle.lot_simulation.specs.TimedReport.{timed_report}
-use Rattle.lot_simulation.specs.World.{Program, World, Answer, Turn, opening_world, system_turn, system_run}
-use Rattle.lot_simulation.specs.World.Answer.{Answered, Ended}
+use Rattle.lot_simulation.specs.World.{Program, World, TurnAnswer, TurnMade, opening_world, system_turn, system_run}
+use Rattle.lot_simulation.specs.World.TurnAnswer.{Answered, Ended}
 use Rattle.lot_explain.specs.declared.detail.Detail.{Detail}
 use Rattle.lot_explain.specs.declared.detail.Detail.TheVariants as detail
 use Rattle.lot_explain.specs.Funding.{funding_if_won}
@@ -20,18 +20,18 @@ use Rattle.lot_explain.specs.Lots.{loans_of, lots_of, won_in, won_lines}
 
 -- the lines of the lots of a turn's lottery and of the loans at it, given the state before the turn and its result;
 -- none if no thread won one
-abbrev pub lots_text : LineStyle → ℕ → State → Answer → List ℕ
+abbrev pub lots_text : LineStyle → ℕ → State → TurnAnswer → List ℕ
 lots_text style actor s (Answered e r) = won_lines style s.limits.unit actor (lots_of s e) (loans_of s e) (won_in e r)
 lots_text style actor s Ended = []
 
 -- the funding at a turn's lottery, if the explanation says so much and a thread won one
-abbrev pub detail_text : Detail → LineStyle → ℕ → State → Answer → List ℕ
+abbrev pub detail_text : Detail → LineStyle → ℕ → State → TurnAnswer → List ℕ
 detail_text detail.Lots style actor s answer = []
 detail_text detail.Funding style actor s (Answered e r) = funding_if_won (won_in e r) style s.limits.unit actor s
 detail_text detail.Funding style actor s Ended = []
 
 -- the funding and the lots of a turn's lottery, and then the turn's lines, given the world before it
-abbrev pub explained_text : Detail → LineStyle → ℕ → World → Turn → List ℕ
+abbrev pub explained_text : Detail → LineStyle → ℕ → World → TurnMade → List ℕ
 explained_text detail style actor w turn =
     detail_text detail style (printed_actor turn.world.state actor) w.state turn.answer
     ++ (lots_text style (printed_actor turn.world.state actor) w.state turn.answer ++ turn_text style actor turn)

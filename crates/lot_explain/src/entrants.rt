@@ -5,7 +5,7 @@ ghost use Rattle.lot_machine.specs.declared.reply.Reply.{Reply as AReply};
 ghost use Rattle.lot_script.specs.Slices.{IsSlice};
 ghost use Rattle.lot_simulation.specs.Script.{Slice as ASlice};
 ghost use Rattle.lot_simulation.specs.World.{event_of_slice};
-ghost use Rattle.lot_simulation.specs.World.Answer.{Answered};
+ghost use Rattle.lot_simulation.specs.World.TurnAnswer.{Answered};
 ghost use Rattle.lot_engine.specs.Playing.{turn_in};
 ghost use Rattle.lot_engine.specs.Steps.{event_given};
 ghost use Rattle.lot_explain.specs.Lots.{entrants_in};

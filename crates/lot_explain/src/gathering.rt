@@ -3,7 +3,7 @@ ghost use Rattle.std.specs.Prelude.{◌≡◌, ◌+◌, ◌<◌, ◌≤◌, ◌�
 ghost use Rattle.lot_machine.specs.declared.event.Event.{Event as AnEvent};
 ghost use Rattle.lot_machine.specs.declared.reply.Reply.{Reply as AReply};
 ghost use Rattle.lot_machine.specs.State.{value_of};
-ghost use Rattle.lot_simulation.specs.World.Answer.{Answered};
+ghost use Rattle.lot_simulation.specs.World.TurnAnswer.{Answered};
 ghost use Rattle.lot_engine.specs.Playing.{turn_in};
 ghost use Rattle.lot_engine.specs.Seen.{HasRow, world_of};
 ghost use Rattle.lot_explain.specs.Gathering.{lot_if_ready};

@@ -11,7 +11,7 @@ ghost use Rattle.lot_simulation.specs.Grammar.{program_in};
 ghost use Rattle.lot_simulation.specs.Output.{output, scheduled_output, timed_output};
 ghost use Rattle.lot_simulation.specs.Timed.{end_of, timed_turns};
 ghost use Rattle.lot_simulation.specs.World.{Program, World, system_run, system_turn};
-ghost use Rattle.lot_simulation.specs.World.Answer.{Answered};
+ghost use Rattle.lot_simulation.specs.World.TurnAnswer.{Answered};
 ghost use Rattle.lot_simulation.specs.declared.style.LineStyle.{LineStyle};
 ghost use Rattle.lot_system.specs.Texts.{last_report};
 ghost use Rattle.lot_playback.specs.Turns.{program_turns};

@@ -6,7 +6,7 @@ use Rattle.lot_machine.specs.declared.ticket.Ticket.{Ticket}
 use Rattle.lot_machine.specs.State.{State, Freed, free_tickets, free_currencies}
 use Rattle.lot_machine.specs.Commands.{with_ticket, with_currency}
 use Rattle.lot_queues.specs.QueueLists.{QueueLists}
-use Rattle.lot_value.specs.declared.change.Change.TheVariants.{ReuseTicket, ReuseCurrency}
+use Rattle.lot_value.specs.declared.change.GraphChange.TheVariants.{ReuseTicket, ReuseCurrency}
 use Rattle.lot_threads.specs.Threaded.{Threaded, applied_in}
 use Rattle.lot_kernel.specs.FreePlaces.{none_free}
 use Rattle.lot_kernel.specs.Snapshots.{held, threads_of}

@@ -2,7 +2,7 @@
 use Rattle.std.proofs.Common.{◌≡◌, ◌∙◌, List, length, ap, arith, refl}
 use Rattle.lot_machine.specs.declared.funding.Lend.{Lend}
 use Rattle.lot_machine.specs.declared.funding.Node.{Node}
-use Rattle.lot_value.specs.declared.change.Change.{Change}
+use Rattle.lot_value.specs.declared.change.GraphChange.{GraphChange}
 use Rattle.lot_value.specs.Caches.{IsStale}
 use Rattle.lot_value.specs.Changing.{applied, lends_after}
 use Rattle.lot_value.specs.Valued.{Valued}
@@ -15,7 +15,7 @@ pub record InOrder (v : Valued) (q : Queued) : Type 0 where
   pub competes : CompetesIn q.competitors v
 
 -- it stays so, where the same is lent
-pub changed : (change : Change) (v new : Valued) (q : Queued) → lends_after v.now.funding.lends change ≡ v.now.funding.lends → new ≡ applied v change new.known.stale → ((node : Node) → IsStale v.known node → IsStale new.known node)
+pub changed : (change : GraphChange) (v new : Valued) (q : Queued) → lends_after v.now.funding.lends change ≡ v.now.funding.lends → new ≡ applied v change new.known.stale → ((node : Node) → IsStale v.known node → IsStale new.known node)
     → AreWeights q v.known → CompetesIn q.competitors v → InOrder new q
 changed change v new q lends is kept weights competes =
     let same : length new.now.funding.lends ≡ length v.now.funding.lends = ap (λ (x : Valued). length x.now.funding.lends) is ∙ ap (λ (ls : List Lend). length ls) lends in record {

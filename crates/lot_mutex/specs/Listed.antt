@@ -5,7 +5,7 @@ use Rattle.lot_machine.specs.Kill.{is_owned_by, passed_on}
 use Rattle.lot_machine.specs.Mutexes.{MutexTrap}
 use Rattle.lot_machine.specs.State.{Mutex}
 use Rattle.lot_queues.specs.QueueLists.{QueueLists}
-use Rattle.lot_threads.specs.declared.effect.Effect.{Effect}
+use Rattle.lot_threads.specs.declared.effect.TrapEffect.{TrapEffect}
 use Rattle.lot_threads.specs.Threaded.{Threaded, IsStaleIn, settled_in}
 use Rattle.lot_value.specs.Caches.{HasNoneTwice}
 
@@ -23,7 +23,7 @@ abbrev pub with_mutexes : Threaded → MutexTrap → List Node → Threaded
 with_mutexes v e stale = record v { records = e.records; owners = owners_of e.mutexes; stale = stale }
 
 -- the trap on a mutex has this effect and leads to these threads and queues
-pub record IsMutexTrap (v : Threaded) (q : QueueLists) (trap : MutexTrap) (effect : Effect) (new : Threaded) (left : QueueLists) : Type 0 where
+pub record IsMutexTrap (v : Threaded) (q : QueueLists) (trap : MutexTrap) (effect : TrapEffect) (new : Threaded) (left : QueueLists) : Type 0 where
   pub outcome : effect.outcome ≡ trap.outcome
   pub after : effect.after ≡ trap.after
   pub threads : new ≡ with_mutexes v trap new.stale

@@ -14,7 +14,7 @@ ghost use Rattle.lot_mutex.specs.Listed.{next_from, owners_of, passed_from};
 use lot_machine::{Status, ThreadNumber};
 use lot_queues::Queues;
 use lot_threads::Threads;
-use lot_value::Change;
+use lot_value::GraphChange;
 
 /// Passes each mutex of a thread to the one that has waited longest for it, which becomes Ready; without waiters the
 /// mutex becomes free. The thread itself must wait nowhere.
@@ -58,7 +58,7 @@ fn pass_on(threads: &mut Threads, queues: &mut Queues, mutex: u32)
 {
     let Some(next) = queues.first_waiter(mutex) else {
         queues.set_owner(mutex, None);
-        threads.apply(Change::PutOwner(mutex, None));
+        threads.apply(GraphChange::PutOwner(mutex, None));
         return;
     };
     queues.take_waiter(next);
@@ -78,7 +78,7 @@ fn hand_over(threads: &mut Threads, mutex: u32, next: u32)
     ensures kept { (node : ANode) → IsStaleIn threads.old node → IsStaleIn threads.new node }
     ensures stale { MakesStaleIn threads.old threads.new }
 {
-    threads.apply(Change::PutOwner(mutex, None));
+    threads.apply(GraphChange::PutOwner(mutex, None));
     threads.set_status(ThreadNumber { number: next }, Status::Ready);
-    threads.apply(Change::PutOwner(mutex, Some(next)));
+    threads.apply(GraphChange::PutOwner(mutex, Some(next)));
 }

@@ -17,8 +17,8 @@ ghost use Rattle.lot_mutex.specs.Listed.{IsMutexTrap, UnlockSettles, owners_of};
 use crate::lottery::Lottery;
 use lot_machine::{After, Drawn, MutexNumber, Outcome, Status, ThreadNumber};
 use lot_queues::Queues;
-use lot_threads::{Effect, Threads};
-use lot_value::Change;
+use lot_threads::{TrapEffect, Threads};
+use lot_value::GraphChange;
 
 /// A lock by a running thread: it takes a free mutex, or otherwise waits behind earlier threads.
 pub fn lock(
@@ -26,7 +26,7 @@ pub fn lock(
     queues: &mut Queues,
     thread: ThreadNumber,
     mutex: MutexNumber,
-) -> Effect
+) -> TrapEffect
     requires mutex { IsThere queues.old.mutexes mutex.number }
     requires thread { IsLiveIn threads.old thread.number }
     requires nowhere { IsNowhere queues.old thread.number }
@@ -40,14 +40,14 @@ pub fn lock(
 {
     if queues.owner(mutex.number).is_some() {
         queues.push_waiter(mutex.number, thread.number);
-        return Effect {
+        return TrapEffect {
             outcome: Outcome::Waits,
             after: After::Leaves(Status::Waiting(mutex.number)),
         };
     }
     queues.set_owner(mutex.number, Some(thread.number));
-    threads.apply(Change::PutOwner(mutex.number, Some(thread.number)));
-    Effect {
+    threads.apply(GraphChange::PutOwner(mutex.number, Some(thread.number)));
+    TrapEffect {
         outcome: Outcome::Locked,
         after: After::GoesOn,
     }
@@ -63,7 +63,7 @@ pub fn unlock(
     owner: ThreadNumber,
     mutex: MutexNumber,
     d: u128,
-) -> Effect
+) -> TrapEffect
     requires mutex { IsThere queues.old.mutexes mutex.number }
     requires owner { (mutex_at queues.old.mutexes mutex.number).owner ≡ Some owner.number }
     requires live { IsLiveIn threads.old owner.number }
@@ -89,7 +89,7 @@ pub fn unlock(
     let drawn = lottery.hold(threads, mutex.number, d);
     let next = lottery.picked(drawn);
     pass(threads, queues, owner.number, mutex.number, next);
-    Effect {
+    TrapEffect {
         outcome: Outcome::Passed {
             to: next,
             draw: drawn_numbers(drawn),
@@ -99,7 +99,7 @@ pub fn unlock(
 }
 
 /// Frees a mutex without waiters.
-fn free(threads: &mut Threads, queues: &mut Queues, mutex: u32) -> Effect
+fn free(threads: &mut Threads, queues: &mut Queues, mutex: u32) -> TrapEffect
     requires mutex { IsThere queues.old.mutexes mutex }
     requires nobody { (mutex_at queues.old.mutexes mutex).waiters ≡ [] }
     requires owners { owners_of queues.old.mutexes ≡ threads.old.owners }
@@ -111,8 +111,8 @@ fn free(threads: &mut Threads, queues: &mut Queues, mutex: u32) -> Effect
     ensures stale { MakesStaleIn threads.old threads.new }
 {
     queues.set_owner(mutex, None);
-    threads.apply(Change::PutOwner(mutex, None));
-    Effect {
+    threads.apply(GraphChange::PutOwner(mutex, None));
+    TrapEffect {
         outcome: Outcome::Freed,
         after: After::GoesOn,
     }
@@ -153,5 +153,5 @@ fn pass(threads: &mut Threads, queues: &mut Queues, owner: u32, mutex: u32, next
     queues.take_waiter(next);
     queues.set_owner(mutex, Some(next));
     threads.set_status(ThreadNumber { number: next }, Status::Ready);
-    threads.apply(Change::MoveOwner { mutex, owner, next });
+    threads.apply(GraphChange::MoveOwner { mutex, owner, next });
 }

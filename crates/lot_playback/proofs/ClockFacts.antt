@@ -6,7 +6,7 @@ use Rattle.lot_machine.specs.declared.reply.Reply.{Reply}
 use Rattle.lot_simulation.specs.declared.timed.Due.{Due}
 use Rattle.lot_simulation.specs.Timed.{Moment, TimedTurn, due_first, moment_after, next_due, opening_moment, timed_room, timed_turns, turn_due, turns_from}
 use Rattle.lot_simulation.specs.World.{Program, World, opening_world}
-use Rattle.lot_simulation.specs.World.Answer.{Answered, Ended}
+use Rattle.lot_simulation.specs.World.TurnAnswer.{Answered, Ended}
 use Rattle.lot_playback.specs.InTime.{IsAtEnd, IsDue, IsFollowed, due_turn, moment_in, next_turns, turns_done}
 use Rattle.lot_engine.specs.Playing.{turn_in}
 use Rattle.lot_engine.specs.Seen.{Seen, Setting, after_turn, world_of}

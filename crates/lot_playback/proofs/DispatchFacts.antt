@@ -29,7 +29,7 @@ use Rattle.lot_machine.proofs.Idle.{filter-passes, index-holds, is-ready, there-
 use Rattle.lot_machine.proofs.Queues.{status-other}
 use Rattle.lot_machine.proofs.Tickets.{some-injective}
 use Rattle.lot_machine.proofs.TrapCycles.{at_number-map}
-use Rattle.lot_simulation.specs.World.Answer.{Answered}
+use Rattle.lot_simulation.specs.World.TurnAnswer.{Answered}
 use Rattle.lot_simulation.specs.TimedReport.{makes, makes_currency}
 use Rattle.lot_playback.specs.declared.sharers.Sharers.{Sharers}
 use Rattle.lot_playback.specs.declared.sharers.Sharers.TheVariants.{Threads, Currencies}

@@ -19,8 +19,8 @@ use Rattle.lot_machine.proofs.Tickets.{some-injective}
 use Rattle.lot_simulation.specs.declared.timed.Spans.{Spans}
 use Rattle.lot_simulation.specs.Timed.{TimedTurn}
 use Rattle.lot_simulation.specs.TimedReport.{no_spans, span_begun, span_ended}
-use Rattle.lot_simulation.specs.World.{Answer}
-use Rattle.lot_simulation.specs.World.Answer.{Answered}
+use Rattle.lot_simulation.specs.World.{TurnAnswer}
+use Rattle.lot_simulation.specs.World.TurnAnswer.{Answered}
 use Rattle.lot_playback.specs.declared.dues.DueTable.{DueTable}
 use Rattle.lot_playback.specs.declared.dues.Owing.{Owing}
 use Rattle.lot_playback.specs.declared.sharers.Sharers.{Sharers}
@@ -35,7 +35,7 @@ use Rattle.lot_playback.specs.Owed.{Answers, AreDue, AreOwed, AreReadyFor, AreWa
 
 -- ---- one turn more
 
-pub due-more : (part : State → ℕ → ℕ) (is_new : Answer → Bool) (first : State) (time due : ℕ) (done : List TimedTurn) (turn : TimedTurn)
+pub due-more : (part : State → ℕ → ℕ) (is_new : TurnAnswer → Bool) (first : State) (time due : ℕ) (done : List TimedTurn) (turn : TimedTurn)
     → due_from part is_new first time due (done ++ turn ∷ []) ≡ due_after part is_new (state_after first done) (turn.time - time_after time done) (due_from part is_new first time due done) turn.turn.answer
 due-more part is_new first time due [] turn = refl
 due-more part is_new first time due (d ∷ done) turn = due-more part is_new d.turn.world.state d.time (due_after part is_new first (d.time - time) due d.turn.answer) done turn
@@ -152,7 +152,7 @@ one-queued time s t old was now low high at is = record { count = length-set old
             ∙ ap (λ b. if b then queued time (slice_index_or old place d) (status_of s.records t) else slice_index_or old place d) (sym no)
 
 -- a new thread has had fewer waits than any
-before-few : (answer : Answer) (t : ℕ) (waits : Spans) → ((waits_before answer t waits).count ≤ waits.count) × ((waits_before answer t waits).total ≤ waits.total)
+before-few : (answer : TurnAnswer) (t : ℕ) (waits : Spans) → ((waits_before answer t waits).count ≤ waits.count) × ((waits_before answer t waits).total ≤ waits.total)
 before-few answer t waits = by (makes t answer)
   where
     by : (b : Bool) → ((if b then no_spans else waits).count ≤ waits.count) × ((if b then no_spans else waits).total ≤ waits.total)
@@ -266,7 +266,7 @@ none-beyond s next e r old mid answers waiting count forgets place d past below 
     by false = was
 
 -- room for one more stays if threads' waits are forgotten
-pub few-forgotten : (answer : Answer) (old mid : List Spans) → length mid ≡ length old → ((place : ℕ) (d : Spans) → place < length old → slice_index_or mid place d ≡ waits_before answer (place + 1) (slice_index_or old place d)) → AreFew old → AreFew mid
+pub few-forgotten : (answer : TurnAnswer) (old mid : List Spans) → length mid ≡ length old → ((place : ℕ) (d : Spans) → place < length old → slice_index_or mid place d ≡ waits_before answer (place + 1) (slice_index_or old place d)) → AreFew old → AreFew mid
 few-forgotten answer old mid count forgets few place d below =
     let there : place < length old = omega (arith, below, count) in
     let was = few place d there in
@@ -281,7 +281,7 @@ few-waits done n s waits room are place d below = let is = are.each place d belo
 pub few-at : (waits : List Spans) (t : ℕ) → AreFew waits → HasFew waits t
 few-at waits t few d low high = few (t - 1) d (omega (arith, low, high))
 
-pub waits-more : (done : List TimedTurn) (n : ℕ) (s next : State) (turn : TimedTurn) (time : ℕ) (answer : Answer) (old new : List Spans) → turn.time ≡ time → time < 2 ^ 32 → turn.turn.answer ≡ answer → turn.turn.world.state ≡ next
+pub waits-more : (done : List TimedTurn) (n : ℕ) (s next : State) (turn : TimedTurn) (time : ℕ) (answer : TurnAnswer) (old new : List Spans) → turn.time ≡ time → time < 2 ^ 32 → turn.turn.answer ≡ answer → turn.turn.world.state ≡ next
     → HaveQueued time answer next old new → AreReadyFor done n s old → AreReadyFor (done ++ turn ∷ []) (n + 1) next new
 waits-more done n s next turn time answer old new at early answered led queues were = record { each = each; now = now }
   where

@@ -11,8 +11,8 @@ use Rattle.std.proofs.lemmas.List.Sums.{sum_by_push}
 use Rattle.lot_simulation.specs.Report.{ActorTurn, count_in, total_of}
 use Rattle.lot_simulation.specs.Timed.{Moment, TimedTurn, turns_from, timed_turns, timed_room, next_due, due_first, turn_due, moment_after, moment_after_all, opening_moment, alarms_after, clocks_after, is_idle_draw, is_refusal}
 use Rattle.lot_simulation.specs.TimedReport.{actor_turns, refusals_in}
-use Rattle.lot_simulation.specs.World.{Program, World, Answer, actor_event, console_turn, next_name, processor_turn, resolved, system_turn}
-use Rattle.lot_simulation.specs.World.Answer.{Answered, Ended}
+use Rattle.lot_simulation.specs.World.{Program, World, TurnAnswer, actor_event, console_turn, next_name, processor_turn, resolved, system_turn}
+use Rattle.lot_simulation.specs.World.TurnAnswer.{Answered, Ended}
 use Rattle.lot_simulation.proofs.OtherTurns.{turn-grows}
 use Rattle.lot_simulation.proofs.TimedRuns.{turns-few}
 use Rattle.lot_simulation.proofs.TimesRise.{AreLater, alarms-later}
@@ -71,17 +71,17 @@ refusals-more done turn e r answered =
     let beside : TimedTurn → ActorTurn = λ t. record { actor = t.actor; answer = t.turn.answer } in
     ap (λ ts. total_of refusals_in ts) (map-append beside done (turn ∷ []))
     ∙ sum_by_push counted (actor_turns done) (beside turn)
-    ∙ ap (λ (a : Answer). total_of refusals_in (actor_turns done) + count_in refusals_in a) answered
+    ∙ ap (λ (a : TurnAnswer). total_of refusals_in (actor_turns done) + count_in refusals_in a) answered
 
 -- a turn's answer is the machine's, in the state before it
 pub turn-answers : (program : Program) (w : World) (actor : ℕ) (e : Event) (r : Reply) → (system_turn program w actor).answer ≡ Answered e r → Answers w.state e r (system_turn program w actor).world.state
 turn-answers program w actor e r is = by (actor == 0) is
   where
-    event_or : Answer → Event
+    event_or : TurnAnswer → Event
     event_or (Answered x y) = x
     event_or Ended = e
 
-    reply_or : Answer → Reply
+    reply_or : TurnAnswer → Reply
     reply_or (Answered x y) = y
     reply_or Ended = r
 
@@ -198,8 +198,8 @@ module _ (program : Program) (seen : Seen) (timekeeper : Timekeeper) (is : IsFol
       moment-more =
           let clocks-are : next.clocks.processors.items ≡ clocks_after turn.turn.world.state timekeeper.clocks.processors.items (record { time = due.time; actor = due.actor }) (is_idle_draw turn.turn.answer) =
           clocks ∙ ap (λ (w : World). clocks_after w.state timekeeper.clocks.processors.items (record { time = due.time; actor = due.actor }) (is_idle_draw (Answered e r))) world-more
-          ∙ ap (λ (a : Answer). clocks_after turn.turn.world.state timekeeper.clocks.processors.items (record { time = due.time; actor = due.actor }) (is_idle_draw a)) (sym answer-is) in
-          let refused-are : next.has_refused ≡ (timekeeper.has_refused || is_refusal turn.turn.answer) = refused ∙ ap (λ (a : Answer). timekeeper.has_refused || is_refusal a) (sym answer-is) in
+          ∙ ap (λ (a : TurnAnswer). clocks_after turn.turn.world.state timekeeper.clocks.processors.items (record { time = due.time; actor = due.actor }) (is_idle_draw a)) (sym answer-is) in
+          let refused-are : next.has_refused ≡ (timekeeper.has_refused || is_refusal turn.turn.answer) = refused ∙ ap (λ (a : TurnAnswer). timekeeper.has_refused || is_refusal a) (sym answer-is) in
           λ i. record { world = world-more i; time = time i; clocks = clocks-are i; times = times-more i; alarms = alarms i; has_refused = refused-are i }
 
       -- the system with this turn is followed

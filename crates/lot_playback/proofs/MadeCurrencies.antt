@@ -16,7 +16,7 @@ use Rattle.lot_machine.specs.Step.{step}
 use Rattle.lot_machine.proofs.StepChanges.{By, Console, Keeps, by_event, kept, step-leads}
 use Rattle.lot_machine.proofs.StepSizes.{step-grown}
 use Rattle.lot_simulation.specs.TimedReport.{makes_currency}
-use Rattle.lot_simulation.specs.World.Answer.{Answered}
+use Rattle.lot_simulation.specs.World.TurnAnswer.{Answered}
 use Rattle.lot_playback.specs.declared.sharers.Sharers.{Sharers}
 use Rattle.lot_playback.specs.declared.sharers.Sharers.TheVariants.{Threads, Currencies}
 use Rattle.lot_playback.specs.Owed.{Answers}

@@ -5,8 +5,8 @@ use Rattle.lot_machine.specs.declared.command.Command.{Command}
 use Rattle.lot_machine.specs.declared.event.Event.{Event}
 use Rattle.lot_machine.specs.declared.reply.Reply.{Reply}
 use Rattle.lot_simulation.specs.Report.{ActorTurn, turns_made}
-use Rattle.lot_simulation.specs.World.{Program, World, Answer, Turn, console_turn, opening_world}
-use Rattle.lot_simulation.specs.World.Answer.{Answered, Ended}
+use Rattle.lot_simulation.specs.World.{Program, World, TurnAnswer, TurnMade, console_turn, opening_world}
+use Rattle.lot_simulation.specs.World.TurnAnswer.{Answered, Ended}
 use Rattle.lot_engine.specs.Playing.{turn_in}
 use Rattle.lot_engine.specs.Seen.{Seen, Setting, after_turn, world_of}
 use Rattle.lot_engine.specs.Turns.{IsEnded}
@@ -41,14 +41,14 @@ module _ (old now : Seen) (actor : ℕ) (setting : now.setting ≡ old.setting) 
   pub made-more : (program : Program) (turns : List MadeTurn) → HasMade program turns old → HasMade program (turns ++ made ∷ []) now
   made-more program turns has = record {
     program_is = ap (λ (s : Setting). s.program) setting ∙ has.program_is;
-    world = world ∙ ap (λ (t : Turn). t.world) (sym its_turn) ∙ sym (world-one_more (opening_world program) turns made);
+    world = world ∙ ap (λ (t : TurnMade). t.world) (sym its_turn) ∙ sym (world-one_more (opening_world program) turns made);
     counted =
         ap (λ (p : Program). turns_made p now.history) (sym has.program_is)
         ∙ counted
         ∙ ap (λ (p : Program). turns_made p old.history ++ counted_turn actor (turn_in old actor).answer) has.program_is
         ∙ ap (λ (ts : List ActorTurn). ts ++ counted_turn actor (turn_in old actor).answer) has.counted
         ∙ ap (λ a. counted_turns turns ++ counted_turn a (turn_in old actor).answer) (sym its_actor)
-        ∙ ap (λ (t : Turn). counted_turns turns ++ counted_turn made.actor t.answer) (sym its_turn)
+        ∙ ap (λ (t : TurnMade). counted_turns turns ++ counted_turn made.actor t.answer) (sym its_turn)
         ∙ sym (counted-one_more turns made);
   }
 
@@ -58,7 +58,7 @@ pub counted-answered : (old now : Seen) (actor : ℕ) (e : Event) (r : Reply) �
 counted-answered old now actor e r next is =
     ap (λ (s : Seen). turns_made old.setting.program s.history) next
     ∙ turns_made-answered old.setting.program old.history actor e r is
-    ∙ ap (λ (a : Answer). turns_made old.setting.program old.history ++ counted_turn actor a) (sym is)
+    ∙ ap (λ (a : TurnAnswer). turns_made old.setting.program old.history ++ counted_turn actor a) (sym is)
 
 -- a turn of the console after its last command has no answer
 pub ended-answer : (seen : Seen) (actor : ℕ) → IsEnded seen actor → (turn_in seen actor).answer ≡ Ended
@@ -72,4 +72,4 @@ pub counted-ended : (old now : Seen) (actor : ℕ) → now ≡ old → (turn_in 
 counted-ended old now actor same is =
     ap (λ (s : Seen). turns_made old.setting.program s.history) same
     ∙ sym (append-nil (turns_made old.setting.program old.history))
-    ∙ ap (λ (a : Answer). turns_made old.setting.program old.history ++ counted_turn actor a) (sym is)
+    ∙ ap (λ (a : TurnAnswer). turns_made old.setting.program old.history ++ counted_turn actor a) (sym is)

@@ -6,12 +6,12 @@ use Rattle.lot_machine.specs.declared.reply.Reply.TheVariants as reply
 use Rattle.lot_machine.specs.declared.reply.Outcome.TheVariants as outcome
 use Rattle.lot_simulation.specs.Timed.{TimedTurn}
 use Rattle.lot_simulation.specs.TimedReport.{refusals_after, refused_traps_in}
-use Rattle.lot_simulation.specs.World.{Answer}
-use Rattle.lot_simulation.specs.World.Answer.{Answered}
+use Rattle.lot_simulation.specs.World.{TurnAnswer}
+use Rattle.lot_simulation.specs.World.TurnAnswer.{Answered}
 use Rattle.lot_playback.specs.InTime.{AreRefusedTraps, HaveCounted}
 
 -- one turn more
-refused-more : (done : List TimedTurn) (turn : TimedTurn) (t : ℕ) (a : Answer) → turn.turn.answer ≡ a → refused_traps_in (done ++ turn ∷ []) t ≡ refusals_after t (refused_traps_in done t) a
+refused-more : (done : List TimedTurn) (turn : TimedTurn) (t : ℕ) (a : TurnAnswer) → turn.turn.answer ≡ a → refused_traps_in (done ++ turn ∷ []) t ≡ refusals_after t (refused_traps_in done t) a
 refused-more done turn t a answered =
     fold_push (λ (n : ℕ) (d : TimedTurn). refusals_after t n d.turn.answer) 0 done turn ∙ ap (refusals_after t (refused_traps_in done t)) answered
 
@@ -20,14 +20,14 @@ if-few : (b : Bool) (m n : ℕ) → m ≤ n + 1 → (if b then m else n) ≤ n +
 if-few true m n few = few
 if-few false m n few = omega arith
 
-after-few : (t n : ℕ) (a : Answer) → refusals_after t n a ≤ n + 1
+after-few : (t n : ℕ) (a : TurnAnswer) → refusals_after t n a ≤ n + 1
 after-few t n (Answered e (reply.Thread thread)) = if-few (thread == t) 0 n (omega arith)
 after-few t n (Answered e (reply.Funded ticket thread)) = if-few (thread == t) 0 n (omega arith)
 after-few t n (Answered e (reply.Trapped thread ticks (outcome.Refused why) ends)) = if-few (thread == t) (n + 1) n (omega arith)
 after-few t n other = omega arith
 
 -- so the counts are those of one turn more
-pub traps-more : (done : List TimedTurn) (n : ℕ) (turn : TimedTurn) (a : Answer) (old new : List ℕ) → turn.turn.answer ≡ a → HaveCounted a old new → AreRefusedTraps done n old → AreRefusedTraps (done ++ turn ∷ []) (n + 1) new
+pub traps-more : (done : List TimedTurn) (n : ℕ) (turn : TimedTurn) (a : TurnAnswer) (old new : List ℕ) → turn.turn.answer ≡ a → HaveCounted a old new → AreRefusedTraps done n old → AreRefusedTraps (done ++ turn ∷ []) (n + 1) new
 traps-more done n turn a old new answered counted were place below =
     let there : place < length old = omega (arith, below, counted.count) in
     let was = were place there in

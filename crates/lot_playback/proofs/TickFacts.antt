@@ -27,8 +27,8 @@ use Rattle.lot_simulation.specs.Report.{ticks_in}
 use Rattle.lot_simulation.specs.Script.{Slice}
 use Rattle.lot_simulation.specs.Timed.{TimedTurn}
 use Rattle.lot_simulation.specs.TimedReport.{currency_ticks_after, currency_ticks_from, currency_ticks_in, makes_currency, ticks_below}
-use Rattle.lot_simulation.specs.World.{Program, World, Answer, action_of, actor_event, console_turn, event_of_slice, next_name, processor_event, resolved, slice_on, number_of, system_turn}
-use Rattle.lot_simulation.specs.World.Answer.{Answered, Ended}
+use Rattle.lot_simulation.specs.World.{Program, World, TurnAnswer, action_of, actor_event, console_turn, event_of_slice, next_name, processor_event, resolved, slice_on, number_of, system_turn}
+use Rattle.lot_simulation.specs.World.TurnAnswer.{Answered, Ended}
 use Rattle.lot_simulation.proofs.OtherTurns.{event-for, event_for}
 use Rattle.lot_playback.specs.declared.currencies.CurrencyTable.{CurrencyTable}
 use Rattle.lot_playback.specs.declared.sharers.Sharers.TheVariants.{Currencies}
@@ -96,7 +96,7 @@ runner-there records p t on =
 pub ran-on : (program : Program) (w : World) (actor : ℕ) (e : Event) (r : Reply) → (system_turn program w actor).answer ≡ Answered e r → RanOn w.state actor r
 ran-on program w actor e r is = by (cases_eq actor 0)
   where
-    reply_or : Answer → Reply
+    reply_or : TurnAnswer → Reply
     reply_or (Answered x y) = y
     reply_or Ended = r
 

@@ -21,7 +21,7 @@ use Rattle.lot_simulation.specs.declared.timed.Spans.{Spans}
 use Rattle.lot_simulation.specs.Report.{total_of}
 use Rattle.lot_simulation.specs.Timed.{Moment, TimedTurn, alarm_due, earliest, moment_after_all, next_due, opening_moment, timed_room, timed_turns, turns_from}
 use Rattle.lot_simulation.specs.TimedReport.{actor_turns, life_change, mutex_change, refusals_after, refusals_in, refused_traps_in, reply_change, spans_after, spans_in}
-use Rattle.lot_simulation.specs.World.{Program, Answer, Turn}
+use Rattle.lot_simulation.specs.World.{Program, TurnAnswer, TurnMade}
 use Rattle.lot_playback.specs.declared.alarms.Alarms.{Alarms}
 use Rattle.lot_playback.specs.declared.timekeeper.Timekeeper.{Timekeeper}
 use Rattle.lot_script.specs.Slices.{Parts}
@@ -100,13 +100,13 @@ change_by locks (reply.Trapped thread ticks (outcome.Passed to drawn) ends) = En
 change_by locks other = Nobody
 
 -- a thread's spans in these turns, which are within the range of n turns
-pub record IsSpans (change : Turn → SpanChange) (done : List TimedTurn) (n t : ℕ) (spans : Spans) : Type 0 where
+pub record IsSpans (change : TurnMade → SpanChange) (done : List TimedTurn) (n t : ℕ) (spans : Spans) : Type 0 where
   pub exact : spans ≡ spans_in change done t
   pub count : spans.count ≤ n
   pub total : spans.total ≤ n * 2 ^ 32
 
 -- each thread's spans in these turns, starting with thread 1
-abbrev pub AreSpans : (Turn → SpanChange) → List TimedTurn → ℕ → List Spans → Type 0
+abbrev pub AreSpans : (TurnMade → SpanChange) → List TimedTurn → ℕ → List Spans → Type 0
 AreSpans change done n spans = (place : ℕ) (d : Spans) → place < length spans → IsSpans change done n (place + 1) (slice_index_or spans place d)
 
 -- each thread's spans are unchanged, except for this change at this time
@@ -128,7 +128,7 @@ abbrev pub AreRefusedTraps : List TimedTurn → ℕ → List ℕ → Type 0
 AreRefusedTraps done n counts = (place : ℕ) → place < length counts → IsRefusedTraps done n (place + 1) (slice_index counts place)
 
 -- each thread's count of refused traps after this answer
-pub record HaveCounted (answer : Answer) (old new : List ℕ) : Type 0 where
+pub record HaveCounted (answer : TurnAnswer) (old new : List ℕ) : Type 0 where
   pub count : length new ≡ length old
   pub each : (place : ℕ) → place < length old → slice_index new place ≡ refusals_after (place + 1) (slice_index old place) answer
 

@@ -11,7 +11,7 @@ use Rattle.lot_machine.specs.Step.{step}
 use Rattle.lot_simulation.specs.declared.timed.Spans.{Spans}
 use Rattle.lot_simulation.specs.Timed.{TimedTurn}
 use Rattle.lot_simulation.specs.TimedReport.{no_spans}
-use Rattle.lot_simulation.specs.World.{Answer}
+use Rattle.lot_simulation.specs.World.{TurnAnswer}
 use Rattle.lot_playback.specs.declared.dues.DueTable.{DueTable}
 use Rattle.lot_playback.specs.declared.dues.Owing.{Owing}
 use Rattle.lot_playback.specs.declared.sharers.Sharers.{Sharers}
@@ -61,11 +61,11 @@ abbrev pub NoneWaitsBeyond : ℕ → List Spans → Type 0
 NoneWaitsBeyond count waits = (place : ℕ) (d : Spans) → count ≤ place → place < length waits → is_some (slice_index_or waits place d).since ≡ false
 
 -- a thread's waits before a turn with this answer: none if it makes the thread
-abbrev pub waits_before : Answer → ℕ → Spans → Spans
+abbrev pub waits_before : TurnAnswer → ℕ → Spans → Spans
 waits_before answer t waits = if makes t answer then no_spans else waits
 
 -- each thread's waits to run are those after a turn at this time, with this answer, which led to this state
-pub record HaveQueued (time : ℕ) (answer : Answer) (s : State) (old new : List Spans) : Type 0 where
+pub record HaveQueued (time : ℕ) (answer : TurnAnswer) (s : State) (old new : List Spans) : Type 0 where
   pub count : length new ≡ length old
   pub each : (place : ℕ) (d : Spans) → place < length old → slice_index_or new place d ≡ queued time (waits_before answer (place + 1) (slice_index_or old place d)) (status_of s.records (place + 1))
 
@@ -111,7 +111,7 @@ abbrev pub forgotten : ℕ → (ℕ → ℕ) → ℕ → ℕ
 forgotten number parts n = if number == n then 0 else parts n
 
 -- the parts that are due before a turn with this answer: one that it makes is due nothing
-abbrev pub parts_before : Sharers → Answer → (ℕ → ℕ) → ℕ → ℕ
+abbrev pub parts_before : Sharers → TurnAnswer → (ℕ → ℕ) → ℕ → ℕ
 parts_before sharers answer parts n = if makes_one sharers n answer then 0 else parts n
 
 -- a place in the table after these turns, the first of which was made in the opening state, and which led to this state

@@ -5,7 +5,7 @@ use Rattle.lot_machine.specs.State.{State, value_of}
 use Rattle.lot_simulation.specs.Below.{worth_of}
 use Rattle.lot_simulation.specs.Timed.{TimedTurn}
 use Rattle.lot_simulation.specs.TimedReport.{due_from, live_part, makes, makes_currency, rate_in, time_from}
-use Rattle.lot_simulation.specs.World.{Answer}
+use Rattle.lot_simulation.specs.World.{TurnAnswer}
 use Rattle.lot_playback.specs.declared.sharers.Sharers.{Sharers}
 use Rattle.lot_playback.specs.declared.sharers.Sharers.TheVariants.{Threads, Currencies}
 
@@ -25,7 +25,7 @@ count_in Threads s = length s.records
 count_in Currencies s = length s.currencies - 1
 
 -- whether the sharer with this number was made
-abbrev pub makes_one : Sharers → ℕ → Answer → Bool
+abbrev pub makes_one : Sharers → ℕ → TurnAnswer → Bool
 makes_one Threads = makes
 makes_one Currencies = makes_currency
 

@@ -3,8 +3,8 @@ use Rattle.std.specs.Prelude.{◌≡◌, ℕ, ◌≤◌, Bool, true, false, None
 use Rattle.lot_machine.specs.declared.event.Event.{Event}
 use Rattle.lot_machine.specs.declared.reply.Reply.{Reply}
 use Rattle.lot_simulation.specs.Report.{turns_made}
-use Rattle.lot_simulation.specs.World.{Program, Answer, opening_world, system_turn}
-use Rattle.lot_simulation.specs.World.Answer.{Answered, Ended}
+use Rattle.lot_simulation.specs.World.{Program, TurnAnswer, opening_world, system_turn}
+use Rattle.lot_simulation.specs.World.TurnAnswer.{Answered, Ended}
 use Rattle.lot_engine.specs.Seen.{Seen, world_of}
 use Rattle.lot_playback.specs.declared.turn.NextTurn.{NextTurn}
 use Rattle.lot_playback.specs.declared.turn.Turn.{Turn}
@@ -29,7 +29,7 @@ abbrev pub IsNext : Stage → NextTurn → Type 0
 IsNext stage next = (made : MadeTurn) × (others : List MadeTurn) × (turns_left stage ≡ made ∷ others) × IsOf made next
 
 -- the answer to a turn: that no command was left, or its event and reply
-abbrev pub answer_in : Bool → Event → Reply → Answer
+abbrev pub answer_in : Bool → Event → Reply → TurnAnswer
 answer_in true e r = Ended
 answer_in false e r = Answered e r
 

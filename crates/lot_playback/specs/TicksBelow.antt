@@ -7,7 +7,7 @@ use Rattle.lot_graph.specs.Found.{FoundNodes, HasFound}
 use Rattle.lot_simulation.specs.Below.{stands_below}
 use Rattle.lot_simulation.specs.Timed.{TimedTurn}
 use Rattle.lot_simulation.specs.TimedReport.{currency_ticks_after, currency_ticks_in}
-use Rattle.lot_simulation.specs.World.{Answer}
+use Rattle.lot_simulation.specs.World.{TurnAnswer}
 use Rattle.lot_playback.specs.declared.currencies.CurrencyTable.{CurrencyTable}
 use Rattle.lot_playback.specs.declared.sharers.Sharers.TheVariants.{Currencies}
 use Rattle.lot_playback.specs.Owed.{AreDue}
@@ -42,7 +42,7 @@ pub record HaveAdded (above : FoundNodes) (ticks first : ℕ) (old new : List �
   pub most : (place : ℕ) → place < length old → slice_index new place ≤ slice_index old place + ticks
 
 -- each currency of the second state has the ticks of those below it after a turn made in the first, with this answer
-pub record HaveRun (s next : State) (answer : Answer) (old new : List ℕ) : Type 0 where
+pub record HaveRun (s next : State) (answer : TurnAnswer) (old new : List ℕ) : Type 0 where
   pub count : length new ≡ length old
   pub each : (place : ℕ) → place < length old → place + 1 < length next.currencies → slice_index new place ≡ currency_ticks_after s (place + 1) (slice_index old place) answer
   pub few : (place : ℕ) → place < length old → slice_index new place ≤ slice_index old place + 2 ^ 32

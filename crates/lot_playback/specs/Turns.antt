@@ -3,15 +3,15 @@ use Rattle.std.specs.Prelude.{ℕ, Option, Some, None, List, [], ◌∷◌}
 use Rattle.std.specs.List.{flat_map}
 use Rattle.lot_simulation.specs.Report.{ActorTurn}
 use Rattle.lot_simulation.specs.Timed.{TimedTurn, timed_turns}
-use Rattle.lot_simulation.specs.World.{Program, World, Answer, Turn, opening_world, system_turn}
-use Rattle.lot_simulation.specs.World.Answer.{Answered, Ended}
+use Rattle.lot_simulation.specs.World.{Program, World, TurnAnswer, TurnMade, opening_world, system_turn}
+use Rattle.lot_simulation.specs.World.TurnAnswer.{Answered, Ended}
 
 -- a turn: its time if the program is timed, its actor, the world before it, and its result
 pub record MadeTurn : Type 0 where
   pub time : Option ℕ
   pub actor : ℕ
   pub before : World
-  pub turn : Turn
+  pub turn : TurnMade
 
 -- ---- turns of a schedule
 
@@ -52,7 +52,7 @@ world_after_turns w [] = w
 world_after_turns w (made ∷ others) = world_after_turns made.turn.world others
 
 -- an actor's turn as a report counts it; none if no command remained
-abbrev pub counted_turn : ℕ → Answer → List ActorTurn
+abbrev pub counted_turn : ℕ → TurnAnswer → List ActorTurn
 counted_turn actor (Answered e r) = record { actor = actor; answer = Answered e r } ∷ []
 counted_turn actor Ended = []
 

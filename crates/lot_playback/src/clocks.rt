@@ -8,7 +8,7 @@ ghost use Rattle.lot_simulation.specs.Timed as timed;
 ghost use Rattle.lot_simulation.specs.Timed.{all_due, clock_of, clocks_after, clocks_after_console, is_idle_draw};
 ghost use Rattle.lot_simulation.specs.TimedReport as reports;
 ghost use Rattle.lot_simulation.specs.World.{processor_event};
-ghost use Rattle.lot_simulation.specs.World.Answer.{Answered};
+ghost use Rattle.lot_simulation.specs.World.TurnAnswer.{Answered};
 ghost use Rattle.lot_simulation.specs.declared.timed.Clock.{Clock as ClockRecord};
 ghost use Rattle.lot_engine.specs.Seen.{world_of};
 ghost use Rattle.lot_playback.specs.InTime as in_time;

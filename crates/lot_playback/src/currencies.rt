@@ -8,7 +8,7 @@ ghost use Rattle.lot_machine.specs.declared.sizes.Sizes.{Sizes};
 ghost use Rattle.lot_simulation.specs.Report as reports;
 ghost use Rattle.lot_simulation.specs.Timed.{TimedTurn};
 ghost use Rattle.lot_simulation.specs.TimedReport.{currency_due_in, currency_ticks_in, makes_currency};
-ghost use Rattle.lot_simulation.specs.World.Answer.{Answered};
+ghost use Rattle.lot_simulation.specs.World.TurnAnswer.{Answered};
 ghost use Rattle.lot_engine.specs.Searching.{HasLayoutFor};
 ghost use Rattle.lot_engine.specs.Seen.{world_of};
 ghost use Rattle.lot_playback.specs.Owed.{Answers};

@@ -2,7 +2,7 @@
 ghost use Rattle.std.specs.Prelude.{◌≡◌, ℕ, ◌<◌, ◌≤◌, [], IfNone, IfSome, Some, length};
 ghost use Rattle.lot_machine.specs.State.{thread_on};
 ghost use Rattle.lot_simulation.specs.World.{sleeper_on};
-ghost use Rattle.lot_simulation.specs.World.Answer.{Answered};
+ghost use Rattle.lot_simulation.specs.World.TurnAnswer.{Answered};
 ghost use Rattle.lot_engine.specs.Playing.{turn_in};
 ghost use Rattle.lot_engine.specs.Seen.{after_turn, world_of};
 ghost use Rattle.lot_playback.specs.InTime.{CanFollow, IsDue};

@@ -2,7 +2,7 @@
 ghost use Rattle.std.specs.Prelude.{◌≡◌, ℕ, ◌+◌, ◌<◌, ◌^◌, length, slice_index_or, vec_len, ◌≤◌};
 ghost use Rattle.lot_machine.specs.State.{State, status_of};
 ghost use Rattle.lot_machine.specs.declared.event.Event.{Event as EventRecord};
-ghost use Rattle.lot_simulation.specs.World.Answer.{Answered};
+ghost use Rattle.lot_simulation.specs.World.TurnAnswer.{Answered};
 ghost use Rattle.lot_simulation.specs.declared.timed.Spans.{Spans as SpansRecord};
 ghost use Rattle.lot_engine.specs.Seen.{world_of};
 ghost use Rattle.lot_simulation.specs.TimedReport as dues;

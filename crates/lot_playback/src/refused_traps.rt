@@ -5,7 +5,7 @@ ghost use Rattle.lot_machine.specs.declared.event.Event.{Event as EventRecord};
 ghost use Rattle.lot_machine.specs.declared.reply.Reply.TheVariants as replies;
 ghost use Rattle.lot_simulation.specs.Timed.{TimedTurn};
 ghost use Rattle.lot_simulation.specs.TimedReport as timed;
-ghost use Rattle.lot_simulation.specs.World.Answer.{Answered};
+ghost use Rattle.lot_simulation.specs.World.TurnAnswer.{Answered};
 ghost use Rattle.lot_playback.specs.InTime.{AreRefusedTraps, HaveChanged, HaveCounted};
 
 use lot_machine::{Outcome, Reply};

@@ -3,7 +3,7 @@ ghost use Rattle.std.specs.Prelude.{◌≡◌, ◌<◌, ◌^◌, ℕ};
 ghost use Rattle.lot_machine.specs.Bounds.{IsBetween, IsWithinBounds};
 ghost use Rattle.lot_machine.specs.declared.event.Event.{Event as EventRecord};
 ghost use Rattle.lot_simulation.specs.TimedReport as reports;
-ghost use Rattle.lot_simulation.specs.World.Answer.{Answered};
+ghost use Rattle.lot_simulation.specs.World.TurnAnswer.{Answered};
 ghost use Rattle.lot_engine.specs.Seen.{world_of};
 ghost use Rattle.lot_playback.specs.Owed.{is_number};
 ghost use Rattle.lot_playback.specs.Sharing as sharing;

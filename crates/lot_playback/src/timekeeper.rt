@@ -5,7 +5,7 @@ ghost use Rattle.lot_machine.specs.State.{opening};
 ghost use Rattle.lot_machine.specs.declared.sizes.Sizes.{Sizes};
 ghost use Rattle.lot_simulation.specs.TimedReport as reports;
 ghost use Rattle.lot_simulation.specs.Timed as timed;
-ghost use Rattle.lot_simulation.specs.World.Answer.{Answered};
+ghost use Rattle.lot_simulation.specs.World.TurnAnswer.{Answered};
 ghost use Rattle.lot_engine.specs.Searching.{HasLayoutFor};
 ghost use Rattle.lot_engine.specs.Seen.{Seen};
 ghost use Rattle.lot_playback.specs.declared.sharers.Sharers.TheVariants.{Threads};

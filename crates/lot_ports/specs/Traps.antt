@@ -3,7 +3,7 @@ use Rattle.std.specs.Prelude.{◌≡◌}
 use Rattle.lot_machine.specs.declared.funding.Node.{Node}
 use Rattle.lot_machine.specs.Ports.{PortTrap}
 use Rattle.lot_queues.specs.QueueLists.{QueueLists}
-use Rattle.lot_threads.specs.declared.effect.Effect.{Effect}
+use Rattle.lot_threads.specs.declared.effect.TrapEffect.{TrapEffect}
 use Rattle.lot_threads.specs.Threaded.{Threaded, IsStaleIn, MakesStaleIn, with_records}
 
 -- the queues with the trap's clients and ports
@@ -12,7 +12,7 @@ with_ports q e = record q { clients = e.clients; ports = e.ports }
 
 -- The trap at a port has this effect and leads to these threads and queues; stale nodes stay stale, and new ones are
 -- reached from touched nodes.
-pub record IsPortTrap (v : Threaded) (q : QueueLists) (trap : PortTrap) (effect : Effect) (new : Threaded) (left : QueueLists) : Type 0 where
+pub record IsPortTrap (v : Threaded) (q : QueueLists) (trap : PortTrap) (effect : TrapEffect) (new : Threaded) (left : QueueLists) : Type 0 where
   pub outcome : effect.outcome ≡ trap.outcome
   pub after : effect.after ≡ trap.after
   pub threads : new ≡ with_records v trap.records new.stale

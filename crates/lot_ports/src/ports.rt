@@ -13,7 +13,7 @@ ghost use Rattle.lot_ports.specs.Traps.{IsPortTrap};
 
 use lot_machine::{After, Outcome, PortNumber, Status, ThreadNumber};
 use lot_queues::Queues;
-use lot_threads::{Effect, Threads};
+use lot_threads::{TrapEffect, Threads};
 
 /// A call to a port: the thread that has waited longest to receive there serves it, or otherwise it is queued.
 pub fn call(
@@ -22,7 +22,7 @@ pub fn call(
     caller: ThreadNumber,
     port: PortNumber,
     number: u32,
-) -> Effect
+) -> TrapEffect
     requires port { IsThere queues.old.ports port.number }
     requires caller { IsThere queues.old.clients caller.number }
     requires nowhere { IsNowhere queues.old caller.number }
@@ -33,14 +33,14 @@ pub fn call(
 {
     let Some(server) = queues.take_receiver(port.number) else {
         queues.push_call(port.number, caller.number, number);
-        return Effect {
+        return TrapEffect {
             outcome: Outcome::Queued,
             after: After::Leaves(Status::Queued(port.number)),
         };
     };
     threads.deliver(ThreadNumber { number: server }, number);
     queues.push_client(server, caller.number);
-    Effect {
+    TrapEffect {
         outcome: Outcome::ServedBy(server),
         after: After::Leaves(Status::Served(server)),
     }
@@ -52,7 +52,7 @@ pub fn receive(
     queues: &mut Queues,
     server: ThreadNumber,
     port: PortNumber,
-) -> Effect
+) -> TrapEffect
     requires port { IsThere queues.old.ports port.number }
     requires server { IsLiveIn threads.old server.number }
     requires nowhere { IsNowhere queues.old server.number }
@@ -63,7 +63,7 @@ pub fn receive(
 {
     let Some(call) = queues.take_call(port.number) else {
         queues.push_receiver(port.number, server.number);
-        return Effect {
+        return TrapEffect {
             outcome: Outcome::Waits,
             after: After::Leaves(Status::Receiving(port.number)),
         };
@@ -73,7 +73,7 @@ pub fn receive(
     };
     threads.set_status(caller, Status::Served(server.number));
     queues.push_client(server.number, call.caller);
-    Effect {
+    TrapEffect {
         outcome: Outcome::Received {
             client: call.caller,
             number: call.number,
@@ -89,7 +89,7 @@ pub fn reply(
     server: ThreadNumber,
     client: ThreadNumber,
     number: u32,
-) -> Effect
+) -> TrapEffect
     requires server { IsThere queues.old.clients server.number }
     requires client { first_client queues.old.clients server.number ≡ Some client.number }
     requires same { length threads.old.records ≡ length queues.old.clients }
@@ -100,7 +100,7 @@ pub fn reply(
 {
     let _ = queues.take_client(server.number);
     threads.deliver(client, number);
-    Effect {
+    TrapEffect {
         outcome: Outcome::Replied(client.number),
         after: After::GoesOn,
     }
@@ -114,7 +114,7 @@ pub fn serve(
     client: ThreadNumber,
     port: PortNumber,
     number: u32,
-) -> Effect
+) -> TrapEffect
     requires port { IsThere queues.old.ports port.number }
     requires server { IsLiveIn threads.old server.number }
     requires nowhere { IsNowhere queues.old server.number }
@@ -126,7 +126,7 @@ pub fn serve(
 {
     let _ = reply(threads, queues, server, client, number);
     let receipt = receive(threads, queues, server, port);
-    Effect {
+    TrapEffect {
         outcome: replied_then(client.number, receipt.outcome),
         after: receipt.after,
     }

@@ -2,39 +2,39 @@
 use Rattle.std.proofs.Common.{◌≡◌, ℕ, ◌<◌, ◌≤◌, ◌∙◌, All, List, [], ◌∷◌, length, map, fold, refl, ap, arith}
 use Rattle.std.proofs.lemmas.List.{length-map}
 use Rattle.std.proofs.lemmas.List.Elements.{All-head, All-tail, All-cons, All-nil}
-use Rattle.lot_simulation.specs.declared.script.Line.{Line}
-use Rattle.lot_simulation.specs.declared.script.Line.TheVariants as line
+use Rattle.lot_simulation.specs.declared.script.ScriptLine.{ScriptLine}
+use Rattle.lot_simulation.specs.declared.script.ScriptLine.TheVariants as line
 use Rattle.lot_simulation.specs.declared.script.ScriptTrap.TheVariants.{Yield, Sleep}
 use Rattle.lot_simulation.specs.Script.{without_sleep}
 use Rattle.lot_script.specs.Drafts.{CanNest, IsLine, IsScript, Nests, loops_after, open_count}
 
-is-line : (l : Line) → IsLine l → IsLine (without_sleep l)
+is-line : (l : ScriptLine) → IsLine l → IsLine (without_sleep l)
 is-line (line.Trap (Sleep n)) good = tt
 is-line other good = good
 
-can-nest : (loops : ℕ) (l : Line) → CanNest loops l → CanNest loops (without_sleep l)
+can-nest : (loops : ℕ) (l : ScriptLine) → CanNest loops l → CanNest loops (without_sleep l)
 can-nest loops (line.Trap (Sleep n)) can = tt
 can-nest loops other can = can
 
-same-loops : (loops : ℕ) (l : Line) → loops_after loops (without_sleep l) ≡ loops_after loops l
+same-loops : (loops : ℕ) (l : ScriptLine) → loops_after loops (without_sleep l) ≡ loops_after loops l
 same-loops loops (line.Trap (Sleep n)) = refl
 same-loops loops other = refl
 
-lines-good : (lines : List Line) → All IsLine lines → All IsLine (map without_sleep lines)
+lines-good : (lines : List ScriptLine) → All IsLine lines → All IsLine (map without_sleep lines)
 lines-good [] all = All-nil IsLine
 lines-good (l ∷ lines) all =
     All-cons IsLine (without_sleep l) (map without_sleep lines) (is-line l (All-head IsLine l lines all)) (lines-good lines (All-tail IsLine l lines all))
 
-lines-nest : (loops : ℕ) (lines : List Line) → Nests loops lines → Nests loops (map without_sleep lines)
+lines-nest : (loops : ℕ) (lines : List ScriptLine) → Nests loops lines → Nests loops (map without_sleep lines)
 lines-nest loops [] nests = tt
 lines-nest loops (l ∷ lines) nests = (can-nest loops l nests.0, rw (same-loops loops l) (lines-nest (loops_after loops l) lines nests.1))
 
-lines-open : (loops : ℕ) (lines : List Line) → fold loops_after loops (map without_sleep lines) ≡ fold loops_after loops lines
+lines-open : (loops : ℕ) (lines : List ScriptLine) → fold loops_after loops (map without_sleep lines) ≡ fold loops_after loops lines
 lines-open loops [] = refl
 lines-open loops (l ∷ lines) =
     ap (λ k. fold loops_after k (map without_sleep lines)) (same-loops loops l) ∙ lines-open (loops_after loops l) lines
 
-pub awake-script : (lines : List Line) → IsScript lines → IsScript (map without_sleep lines)
+pub awake-script : (lines : List ScriptLine) → IsScript lines → IsScript (map without_sleep lines)
 awake-script lines is = record {
   count = omega (arith, is.count, length-map lines without_sleep);
   each = lines-good lines is.each;

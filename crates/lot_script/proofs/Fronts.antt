@@ -2,7 +2,7 @@
 use Rattle.std.proofs.Common.{◌≡◌, ◌<◌, ◌≤◌, ℕ, min, sym, ◌∙◌, Some, None, List, [], ◌∷◌, take, drop, fold, refl, ap, arith, lt-ltb, le-ltb, true, false}
 use Rattle.std.specs.Prelude.{slice_get, nat_lt, option_and_then}
 use Rattle.std.specs.List.{prefix_len}
-use Rattle.lot_simulation.specs.declared.script.Line.{Line}
+use Rattle.lot_simulation.specs.declared.script.ScriptLine.{ScriptLine}
 use Rattle.lot_simulation.specs.declared.script.ScriptTrap.{ScriptTrap}
 use Rattle.lot_simulation.specs.Script.{Item, is_mark, trap_of, accumulated, rest_after, slice}
 use Rattle.lot_simulation.specs.Script.Item.{Work, Set, Add, Traps}
@@ -18,7 +18,7 @@ trap-first (Add n ∷ rest) t is = cc
 trap-first (Traps s ∷ rest) t is = (Traps s, rest, refl, refl)
 
 -- a trap follows the marks that are passed
-pub slice-trap : (lines : List Line) (start there end : Place) (budget k : ℕ) (t : ScriptTrap) → Passes lines start there k → k < budget → MakesTrap lines there end t
+pub slice-trap : (lines : List ScriptLine) (start there end : Place) (budget k : ℕ) (t : ScriptTrap) → Passes lines start there k → k < budget → MakesTrap lines there end t
     → slice (context_at lines start) budget ≡ record { ticks = k; trap = Some t; end = context_at lines end }
 slice-trap lines start there end budget k t passes within makes =
     let items : List Item = rest_at lines start in
@@ -32,7 +32,7 @@ slice-trap lines start there end budget k t passes within makes =
     rw (marks, fewer, before, trap, rest, sum) refl
 
 -- the budget is used up by the marks that are passed
-pub slice-expiry : (lines : List Line) (start end : Place) (budget : ℕ) → Passes lines start end budget
+pub slice-expiry : (lines : List ScriptLine) (start end : Place) (budget : ℕ) → Passes lines start end budget
     → slice (context_at lines start) budget ≡ record { ticks = budget; trap = None; end = context_at lines end }
 slice-expiry lines start end budget passes =
     let first : min budget (prefix_len is_mark (rest_at lines start)) ≡ budget = omega (arith, passes.marks) in

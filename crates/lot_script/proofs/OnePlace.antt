@@ -4,8 +4,8 @@ use Rattle.std.specs.Prelude.{slice_get, ⊤}
 use Rattle.std.proofs.lemmas.List.{take_all, drop_all}
 use Rattle.std.proofs.lemmas.Option.{slice_get_within}
 use Rattle.std.proofs.lemmas.Bool.{cases_lt}
-use Rattle.lot_simulation.specs.declared.script.Line.{Line}
-use Rattle.lot_simulation.specs.declared.script.Line.TheVariants as line
+use Rattle.lot_simulation.specs.declared.script.ScriptLine.{ScriptLine}
+use Rattle.lot_simulation.specs.declared.script.ScriptLine.TheVariants as line
 use Rattle.lot_simulation.specs.declared.script.ScriptTrap.{ScriptTrap}
 use Rattle.lot_simulation.specs.declared.script.ScriptTrap.TheVariants.{Yield, Reply, AtPort, OnMutex, Sleep, Exit}
 use Rattle.lot_simulation.specs.Script.{Item, rest_after, unrolled}
@@ -48,19 +48,19 @@ low-drop i (o ∷ loops) low = low.1
 one-more : (i : ℕ) → i ≤ i + 1
 one-more i = omega arith
 
-low-after : (i : ℕ) (l : Line) (loops : List OpenLoop) → AreLow i loops → AreLow (i + 1) (open_after i l loops)
+low-after : (i : ℕ) (l : ScriptLine) (loops : List OpenLoop) → AreLow i loops → AreLow (i + 1) (open_after i l loops)
 low-after i (line.Loop n) loops low = (omega arith, low-more i (i + 1) loops (one-more i) low)
 low-after i line.End loops low = low-more i (i + 1) (drop 1 loops) (one-more i) (low-drop i loops low)
 low-after i other loops low = low-more i (i + 1) loops (one-more i) low
 
-low-there : (lines : List Line) (i : ℕ) → i ≤ length lines → AreLow i (open_at lines i)
+low-there : (lines : List ScriptLine) (i : ℕ) → i ≤ length lines → AreLow i (open_at lines i)
 low-there lines zero within = tt
 low-there lines (suc i) within = further (low-there lines i (omega (arith, within))) (slice_get lines i) refl
   where
     next : suc i ≡ i + 1
     next = omega arith
 
-    further : AreLow i (open_at lines i) → (o : Option Line) → slice_get lines i ≡ o → AreLow (suc i) (open_at lines (suc i))
+    further : AreLow i (open_at lines i) → (o : Option ScriptLine) → slice_get lines i ≡ o → AreLow (suc i) (open_at lines (suc i))
     further low None none = absurd (omega (arith, within, slice_get_none lines i none))
     further low (Some l) is = rw (open_at-next lines i (suc i) l is next, next) (low-after i l (open_at lines i) low)
 
@@ -68,7 +68,7 @@ low-first : (i : ℕ) (loops : List OpenLoop) (f : OpenLoop) (rest : List OpenLo
 low-first i loops f rest low is = let both : AreLow i (f ∷ rest) = subst (AreLow i) is low in both.0
 
 -- The loop whose body begins at this line is opened by the line before it, inside of those that are open there.
-record IsOpened (lines : List Line) (k : ℕ) (f : OpenLoop) (rest : List OpenLoop) : Type 0 where
+record IsOpened (lines : List ScriptLine) (k : ℕ) (f : OpenLoop) (rest : List OpenLoop) : Type 0 where
   before : ℕ
   times : ℕ
   next : k ≡ before + 1
@@ -76,7 +76,7 @@ record IsOpened (lines : List Line) (k : ℕ) (f : OpenLoop) (rest : List OpenLo
   first : f ≡ record { body = before + 1; left = times - 1 }
   outer : rest ≡ open_at lines before
 
-opened : (lines : List Line) (k : ℕ) (f : OpenLoop) (rest : List OpenLoop) → k ≤ length lines → open_at lines k ≡ f ∷ rest → f.body ≡ k → IsOpened lines k f rest
+opened : (lines : List ScriptLine) (k : ℕ) (f : OpenLoop) (rest : List OpenLoop) → k ≤ length lines → open_at lines k ≡ f ∷ rest → f.body ≡ k → IsOpened lines k f rest
 opened lines zero f rest within here body = cc
 opened lines (suc j) f rest within here body = at_line (slice_get lines j) refl
   where
@@ -86,12 +86,12 @@ opened lines (suc j) f rest within here body = at_line (slice_get lines j) refl
     low : AreLow j (open_at lines j)
     low = low-there lines j (omega (arith, within))
 
-    of_line : (l : Line) → slice_get lines j ≡ Some l → open_after j l (open_at lines j) ≡ f ∷ rest → IsOpened lines (suc j) f rest
+    of_line : (l : ScriptLine) → slice_get lines j ≡ Some l → open_after j l (open_at lines j) ≡ f ∷ rest → IsOpened lines (suc j) f rest
     of_line (line.Loop n) is there = record { before = j; times = n; next = next; is = is; first = cc; outer = cc }
     of_line line.End is there = absurd (omega (arith, body, low-first j (drop 1 (open_at lines j)) f rest (low-drop j (open_at lines j) low) there))
     of_line other is there = absurd (omega (arith, body, low-first j (open_at lines j) f rest low there))
 
-    at_line : (o : Option Line) → slice_get lines j ≡ o → IsOpened lines (suc j) f rest
+    at_line : (o : Option ScriptLine) → slice_get lines j ≡ o → IsOpened lines (suc j) f rest
     at_line None none = absurd (omega (arith, within, slice_get_none lines j none))
     at_line (Some l) is = of_line l is (sym (open_at-next lines j (suc j) l is next) ∙ here)
 
@@ -108,13 +108,13 @@ avoid-drop : (k : ℕ) (loops : List OpenLoop) → Avoid k loops → Avoid k (dr
 avoid-drop k [] avoid = tt
 avoid-drop k (o ∷ loops) avoid = avoid.1
 
-avoid-after : (k i : ℕ) (l : Line) (loops : List OpenLoop) → k ≤ i → Avoid k loops → Avoid k (open_after i l loops)
+avoid-after : (k i : ℕ) (l : ScriptLine) (loops : List OpenLoop) → k ≤ i → Avoid k loops → Avoid k (open_after i l loops)
 avoid-after k i (line.Loop n) loops past avoid = (omega (arith, past), avoid)
 avoid-after k i line.End loops past avoid = avoid-drop k loops avoid
 avoid-after k i other loops past avoid = avoid
 
 -- a loop that was left is never opened again
-avoid-later : (lines : List Line) (k e d m : ℕ) → k ≤ e → m ≡ d + suc e → m ≤ length lines → Avoid k (open_at lines (suc e)) → Avoid k (open_at lines m)
+avoid-later : (lines : List ScriptLine) (k e d m : ℕ) → k ≤ e → m ≡ d + suc e → m ≤ length lines → Avoid k (open_at lines (suc e)) → Avoid k (open_at lines m)
 avoid-later lines k e zero m past is within avoid =
     let same : m ≡ suc e = omega (arith, is) in
     rw same avoid
@@ -124,21 +124,21 @@ avoid-later lines k e (suc d) m past is within avoid =
     next : m ≡ d + suc e + 1
     next = omega (arith, is)
 
-    further : Avoid k (open_at lines (d + suc e)) → (o : Option Line) → slice_get lines (d + suc e) ≡ o → Avoid k (open_at lines m)
+    further : Avoid k (open_at lines (d + suc e)) → (o : Option ScriptLine) → slice_get lines (d + suc e) ≡ o → Avoid k (open_at lines m)
     further earlier None none = absurd (omega (arith, within, next, slice_get_none lines (d + suc e) none))
     further earlier (Some l) here = rw (open_at-next lines (d + suc e) m l here next) (avoid-after k (d + suc e) l (open_at lines (d + suc e)) (omega (arith, past)) earlier)
 
 -- ---- one mark or trap further
 
 -- how much is done of a line, and which loops are open, before the line after it begins
-abbrev IsPassed : Line → Place → Place → Type 0
+abbrev IsPassed : ScriptLine → Place → Place → Type 0
 IsPassed (line.Compute n) p q = (p.done + 1 ≡ n) × (p.loops ≡ q.loops)
 IsPassed (line.Loop n) p q = (p.done ≡ 0) × (q.loops ≡ record { body = p.line + 1; left = n - 1 } ∷ p.loops)
 IsPassed line.End p q = (p.done ≡ 0) × ((o : OpenLoop) × (p.loops ≡ o ∷ q.loops) × (o.left ≡ 0))
 IsPassed other p q = (p.done ≡ 0) × (p.loops ≡ q.loops)
 
 -- an `end` from which the next copy of its loop begins
-record IsAgain (lines : List Line) (p q : Place) : Type 0 where
+record IsAgain (lines : List ScriptLine) (p q : Place) : Type 0 where
   is : slice_get lines p.line ≡ Some line.End
   begun : p.done ≡ 0
   there : q.done ≡ 0
@@ -151,9 +151,9 @@ record IsAgain (lines : List Line) (p q : Place) : Type 0 where
   again : q.loops ≡ record { body = loop.body; left = left } ∷ outer
 
 -- one mark or trap is passed, whatever becomes of the accumulator
-data Step (lines : List Line) (p q : Place) : Type 0 where
+data Step (lines : List ScriptLine) (p q : Place) : Type 0 where
   Within : (n : ℕ) → slice_get lines p.line ≡ Some (line.Compute n) → q.line ≡ p.line → q.done ≡ p.done + 1 → q.loops ≡ p.loops → Step lines p q
-  Past : (l : Line) → slice_get lines p.line ≡ Some l → q.line ≡ p.line + 1 → q.done ≡ 0 → IsPassed l p q → Step lines p q
+  Past : (l : ScriptLine) → slice_get lines p.line ≡ Some l → q.line ≡ p.line + 1 → q.done ≡ 0 → IsPassed l p q → Step lines p q
   Again : IsAgain lines p q → Step lines p q
 
 -- the same place but for the accumulator
@@ -165,7 +165,7 @@ record IsSameSpot (p q : Place) : Type 0 where
 -- ---- a place is reached from one place alone
 
 -- the loops in which the next copy begins are opened by the line before their body
-again-opened : (lines : List Line) (p q : Place) → IsScript lines → Fits lines p → (a : IsAgain lines p q)
+again-opened : (lines : List ScriptLine) (p q : Place) → IsScript lines → Fits lines p → (a : IsAgain lines p q)
     → (f : OpenLoop) × (rest : List OpenLoop) × (open_at lines p.line ≡ f ∷ rest) × (f.body ≡ q.line) × (suc a.left ≤ f.left) × IsOpened lines q.line f rest
 again-opened lines p q script fits a =
     let first = copies-first a.loop a.outer (open_at lines p.line) (subst (λ l. AreCopies l (open_at lines p.line)) a.inside fits.loops) in
@@ -177,7 +177,7 @@ again-opened lines p q script fits a =
     (f, first.1, first.2, body, omega (arith, a.some, first.3.left), opened lines q.line f first.1 within here body)
 
 -- the line before the body doesn't lead to a later copy
-past-again : (lines : List Line) (p r q : Place) (l : Line) → IsScript lines → Fits lines r → slice_get lines p.line ≡ Some l → q.line ≡ p.line + 1 → IsPassed l p q → IsAgain lines r q → ⊥
+past-again : (lines : List ScriptLine) (p r q : Place) (l : ScriptLine) → IsScript lines → Fits lines r → slice_get lines p.line ≡ Some l → q.line ≡ p.line + 1 → IsPassed l p q → IsAgain lines r q → ⊥
 past-again lines p r q l script fits is next passed a =
     let there = again-opened lines r q script fits a in
     let o : IsOpened lines q.line there.0 there.1 = there.5 in
@@ -192,7 +192,7 @@ past-again lines p r q l script fits is next passed a =
     cc_line b n same other = let here : slice_get lines p.line ≡ Some (line.Loop n) = rw (← same) other in cc
 
 -- it ends at one `end` alone
-again-line : (lines : List Line) (p r q : Place) → IsScript lines → Fits lines p → Fits lines r → IsAgain lines p q → IsAgain lines r q → p.line < r.line → ⊥
+again-line : (lines : List ScriptLine) (p r q : Place) → IsScript lines → Fits lines p → Fits lines r → IsAgain lines p q → IsAgain lines r q → p.line < r.line → ⊥
 again-line lines p r q script fits other a b less =
     let here = again-opened lines p q script fits a in
     let there = again-opened lines r q script other b in
@@ -207,7 +207,7 @@ again-line lines p r q script fits other a b less =
     let first : Avoid q.line (there.0 ∷ there.1) = subst (Avoid q.line) there.2 avoid in
     first.0 there.3
 
-again-same : (lines : List Line) (p r q : Place) → IsScript lines → Fits lines p → Fits lines r → IsAgain lines p q → IsAgain lines r q → p.line ≡ r.line
+again-same : (lines : List ScriptLine) (p r q : Place) → IsScript lines → Fits lines p → Fits lines r → IsAgain lines p q → IsAgain lines r q → p.line ≡ r.line
 again-same lines p r q script fits other a b = either (cases_lt p.line r.line) (cases_lt r.line p.line)
   where
     either : (p.line < r.line) ⊎ (r.line ≤ p.line) → (r.line < p.line) ⊎ (p.line ≤ r.line) → p.line ≡ r.line
@@ -216,7 +216,7 @@ again-same lines p r q script fits other a b = either (cases_lt p.line r.line) (
     either (inr most) (inr least) = omega (arith, most, least)
 
 -- the loops before the next copy
-again-loops : (lines : List Line) (p r q : Place) → IsAgain lines p q → IsAgain lines r q → p.loops ≡ r.loops
+again-loops : (lines : List ScriptLine) (p r q : Place) → IsAgain lines p q → IsAgain lines r q → p.loops ≡ r.loops
 again-loops lines p r q a b =
     let loops = sym a.again ∙ b.again in
     let left : a.left ≡ b.left = ap (λ x. x.left) (first_same loops) in
@@ -225,7 +225,7 @@ again-loops lines p r q a b =
     a.inside ∙ rw (loop, outer) refl ∙ sym b.inside
 
 -- the loops before a line was passed
-passed-same : (lines : List Line) (p r q : Place) (l : Line) → Fits lines p → Fits lines r → p.line ≡ r.line → IsPassed l p q → IsPassed l r q → (p.done ≡ r.done) × (p.loops ≡ r.loops)
+passed-same : (lines : List ScriptLine) (p r q : Place) (l : ScriptLine) → Fits lines p → Fits lines r → p.line ≡ r.line → IsPassed l p q → IsPassed l r q → (p.done ≡ r.done) × (p.loops ≡ r.loops)
 passed-same lines p r q (line.Compute n) fits other same one two = (omega (arith, one.0, two.0), one.1 ∙ sym two.1)
 passed-same lines p r q (line.Loop n) fits other same one two = (one.0 ∙ sym two.0, rest_same (sym one.1 ∙ two.1))
 passed-same lines p r q line.End fits other same one two = (one.0 ∙ sym two.0, one.1.1 ∙ ap (λ o. o ∷ q.loops) loop ∙ sym two.1.1)
@@ -244,7 +244,7 @@ passed-same lines p r q line.End fits other same one two = (one.0 ∙ sym two.0,
     loop = same_loop one.1.0 two.1.0 bodies (one.1.2 ∙ sym two.1.2)
 passed-same lines p r q other_line fits other same one two = (one.0 ∙ sym two.0, one.1 ∙ sym two.1)
 
-step-back : (lines : List Line) (p r q : Place) → IsScript lines → Fits lines p → Fits lines r → Step lines p q → Step lines r q → IsSameSpot p r
+step-back : (lines : List ScriptLine) (p r q : Place) → IsScript lines → Fits lines p → Fits lines r → Step lines p q → Step lines r q → IsSameSpot p r
 step-back lines p r q script fits other (Within n is next done loops) (Within m there onward more around) =
     record { line = sym next ∙ onward; done = omega (arith, done, more); loops = sym loops ∙ around }
 step-back lines p r q script fits other (Within n is next done loops) (Past l there onward begun passed) = absurd (omega (arith, done, begun))
@@ -262,11 +262,11 @@ step-back lines p r q script fits other (Again a) (Again b) =
     record { line = again-same lines p r q script fits other a b; done = a.begun ∙ sym b.begun; loops = again-loops lines p r q a b }
 
 -- a step leads to a spot, whatever the accumulator there
-step-spot : (lines : List Line) (r q s : Place) → IsSameSpot s q → Step lines r q → Step lines r s
+step-spot : (lines : List ScriptLine) (r q s : Place) → IsSameSpot s q → Step lines r q → Step lines r s
 step-spot lines r q s spot (Within n is next done loops) = Within n is (spot.line ∙ next) (spot.done ∙ done) (spot.loops ∙ loops)
 step-spot lines r q s spot (Past l is next begun passed) = Past l is (spot.line ∙ next) (spot.done ∙ begun) (passed-spot l passed)
   where
-    passed-spot : (m : Line) → IsPassed m r q → IsPassed m r s
+    passed-spot : (m : ScriptLine) → IsPassed m r q → IsPassed m r s
     passed-spot (line.Compute n) h = (h.0, h.1 ∙ sym spot.loops)
     passed-spot (line.Loop n) h = (h.0, spot.loops ∙ h.1)
     passed-spot line.End h = (h.0, (h.1.0, h.1.1 ∙ ap (λ xs. h.1.0 ∷ xs) (sym spot.loops), h.1.2))
@@ -277,16 +277,16 @@ step-spot lines r q s spot (Again a) =
 -- ---- each place but the last leads to another
 
 -- a place that is one mark or trap further
-record IsStepped (lines : List Line) (p q : Place) : Type 0 where
+record IsStepped (lines : List ScriptLine) (p q : Place) : Type 0 where
   step : Step lines p q
   fits : Fits lines q
   rest : rest_at lines q ≡ drop 1 (rest_at lines p)
 
 -- the line is left
-left_line : (lines : List Line) (p q : Place) (l : Line) → slice_get lines p.line ≡ Some l → q.line ≡ p.line + 1 → q.done ≡ 0 → IsPassed l p q → Fits lines q → rest_at lines q ≡ drop 1 (rest_at lines p) → IsStepped lines p q
+left_line : (lines : List ScriptLine) (p q : Place) (l : ScriptLine) → slice_get lines p.line ≡ Some l → q.line ≡ p.line + 1 → q.done ≡ 0 → IsPassed l p q → Fits lines q → rest_at lines q ≡ drop 1 (rest_at lines p) → IsStepped lines p q
 left_line lines p q l is next begun passed fits rest = record { step = Past l is next begun passed; fits = fits; rest = rest }
 
-stepped-compute : (lines : List Line) (p : Place) (n : ℕ) → Stands lines p (line.Compute n) → (p.done + 1 < n) ⊎ (n ≤ p.done + 1) → (q : Place) × IsStepped lines p q
+stepped-compute : (lines : List ScriptLine) (p : Place) (n : ℕ) → Stands lines p (line.Compute n) → (p.done + 1 < n) ⊎ (n ≤ p.done + 1) → (q : Place) × IsStepped lines p q
 stepped-compute lines p n at (inl more) =
     let passes = Passes-some lines p n 1 at more in
     (record p { done = p.done + 1 }, record { step = Within n at.next refl refl refl; fits = passes.fits; rest = passes.rest })
@@ -297,7 +297,7 @@ stepped-compute lines p n at (inr last) =
     let whole : p.done + 1 ≡ n = omega (arith, done, last) in
     (record p { line = p.line + 1; done = 0 }, left_line lines p (record p { line = p.line + 1; done = 0 }) (line.Compute n) at.next refl refl (whole, refl) passes.fits (passes.rest ∙ ap (λ k. drop k (rest_at lines p)) count))
 
-stepped-end : (lines : List Line) (p : Place) (loops : List OpenLoop) → Stands lines p line.End → p.loops ≡ loops → (q : Place) × IsStepped lines p q
+stepped-end : (lines : List ScriptLine) (p : Place) (loops : List OpenLoop) → Stands lines p line.End → p.loops ≡ loops → (q : Place) × IsStepped lines p q
 stepped-end lines p [] at none = let some : 0 < length p.loops = stands-nests lines p line.End at in absurd (omega (arith, some, ap length none))
 stepped-end lines p (o ∷ outer) at is = of_left o.left refl
   where
@@ -324,7 +324,7 @@ trap-drops (OnMutex asked mutex) items good = refl
 trap-drops (Sleep n) items good = refl
 trap-drops Exit items good = absurd good
 
-stepped : (lines : List Line) (p : Place) (l : Line) → Stands lines p l → (q : Place) × IsStepped lines p q
+stepped : (lines : List ScriptLine) (p : Place) (l : ScriptLine) → Stands lines p l → (q : Place) × IsStepped lines p q
 stepped lines p (line.Compute n) at = stepped-compute lines p n at (cases_lt (p.done + 1) n)
 stepped lines p (line.Loop n) at =
     let q : Place = record p { line = p.line + 1; done = 0; loops = record { body = p.line + 1; left = n - 1 } ∷ p.loops } in
@@ -345,7 +345,7 @@ stepped lines p (line.Trap t) at =
 -- ---- the last place
 
 -- after the last line no loop is open
-none-open : (lines : List Line) (i : ℕ) → IsScript lines → length lines ≤ i → length (open_at lines i) ≡ 0
+none-open : (lines : List ScriptLine) (i : ℕ) → IsScript lines → length lines ≤ i → length (open_at lines i) ≡ 0
 none-open lines i script past = length-open_after_lines 0 [] (take i lines) ∙ ap (λ ls. fold loops_after 0 ls) (take_all i lines past) ∙ script.closed
 
 no-copies : (loops firsts : List OpenLoop) → AreCopies loops firsts → length firsts ≡ 0 → loops ≡ []
@@ -354,13 +354,13 @@ no-copies (o ∷ loops) [] copies none = absurd copies
 no-copies (o ∷ loops) (f ∷ firsts) copies none = cc
 
 -- a place after the last line
-record IsLast (lines : List Line) (p : Place) : Type 0 where
+record IsLast (lines : List ScriptLine) (p : Place) : Type 0 where
   line : p.line ≡ length lines
   done : p.done ≡ 0
   loops : p.loops ≡ []
   rest : rest_at lines p ≡ Traps Exit ∷ []
 
-last-there : (lines : List Line) (p : Place) → IsScript lines → Fits lines p → slice_get lines p.line ≡ None → IsLast lines p
+last-there : (lines : List ScriptLine) (p : Place) → IsScript lines → Fits lines p → slice_get lines p.line ≡ None → IsLast lines p
 last-there lines p script fits none =
     let past : length lines ≤ p.line = slice_get_none lines p.line none in
     let begun : p.done ≡ 0 = subst (λ l. CanBeDone l p.done) none fits.done in
@@ -370,7 +370,7 @@ last-there lines p script fits none =
 -- ---- one place for each rest
 
 -- as much is left at both places
-same-spot : (lines : List Line) (n : ℕ) (p r : Place) → IsScript lines → Fits lines p → Fits lines r → length (rest_at lines p) ≡ n → length (rest_at lines r) ≡ n → IsSameSpot p r
+same-spot : (lines : List ScriptLine) (n : ℕ) (p r : Place) → IsScript lines → Fits lines p → Fits lines r → length (rest_at lines p) ≡ n → length (rest_at lines r) ≡ n → IsSameSpot p r
 same-spot lines zero p r script fits other one two = absurd (omega (arith, one, some-there lines p script fits))
 same-spot lines (suc n) p r script fits other one two =
     either (λ q s back forth a b. same-spot lines n q s script back forth a b) (slice_get lines p.line) (slice_get lines r.line) refl refl
@@ -383,7 +383,7 @@ same-spot lines (suc n) p r script fits other one two =
     ended q s t last next a b = omega (arith, ap length last.rest, a, fewer s t next b, some-there lines t script next.fits)
 
     either : ((q s : Place) → Fits lines q → Fits lines s → length (rest_at lines q) ≡ n → length (rest_at lines s) ≡ n → IsSameSpot q s)
-        → (a b : Option Line) → slice_get lines p.line ≡ a → slice_get lines r.line ≡ b → IsSameSpot p r
+        → (a b : Option ScriptLine) → slice_get lines p.line ≡ a → slice_get lines r.line ≡ b → IsSameSpot p r
     either same None None here there =
         let a = last-there lines p script fits here in
         let b = last-there lines r script other there in
@@ -408,19 +408,19 @@ same-place p r spot accumulator = of_fields p.line p.done p.accumulator r.line r
     of_fields l d a m e b xs ys one two three four = rw (one, two, three, four) refl
 
 -- two places that mean the same are the same
-pub one-place : (lines : List Line) (p r : Place) → IsScript lines → Fits lines p → Fits lines r → context_at lines p ≡ context_at lines r → p ≡ r
+pub one-place : (lines : List ScriptLine) (p r : Place) → IsScript lines → Fits lines p → Fits lines r → context_at lines p ≡ context_at lines r → p ≡ r
 one-place lines p r script fits other same =
     let rests : rest_at lines p ≡ rest_at lines r = ap (λ c. c.rest) same in
     same-place p r (same-spot lines (length (rest_at lines r)) p r script fits other (ap length rests) refl) (ap (λ c. c.accumulator) same)
 
 -- each rest in which something is left is meant by a place that fits
-pub some-place : (lines : List Line) (k : ℕ) → IsScript lines → k < length (unrolled lines) → (p : Place) × Fits lines p × (rest_at lines p ≡ drop k (unrolled lines))
+pub some-place : (lines : List ScriptLine) (k : ℕ) → IsScript lines → k < length (unrolled lines) → (p : Place) × Fits lines p × (rest_at lines p ≡ drop k (unrolled lines))
 some-place lines zero script some = (first_place, Fits-line lines 0 0 [] script (omega arith) tt, refl)
 some-place lines (suc k) script some =
     let before = some-place lines k script (omega (arith, some)) in
     of_line before (slice_get lines before.0.line) refl
   where
-    of_line : (b : (p : Place) × Fits lines p × (rest_at lines p ≡ drop k (unrolled lines))) → (o : Option Line) → slice_get lines b.0.line ≡ o
+    of_line : (b : (p : Place) × Fits lines p × (rest_at lines p ≡ drop k (unrolled lines))) → (o : Option ScriptLine) → slice_get lines b.0.line ≡ o
         → (p : Place) × Fits lines p × (rest_at lines p ≡ drop (suc k) (unrolled lines))
     of_line b None here =
         let last = last-there lines b.0 script b.1 here in

@@ -5,8 +5,8 @@ use Rattle.std.specs.List.{prefix_len}
 use Rattle.std.proofs.lemmas.List.{drop_all}
 use Rattle.std.proofs.lemmas.Option.{slice_get_within}
 use Rattle.std.proofs.lemmas.Bool.{cases_lt}
-use Rattle.lot_simulation.specs.declared.script.Line.{Line}
-use Rattle.lot_simulation.specs.declared.script.Line.TheVariants as line
+use Rattle.lot_simulation.specs.declared.script.ScriptLine.{ScriptLine}
+use Rattle.lot_simulation.specs.declared.script.ScriptLine.TheVariants as line
 use Rattle.lot_simulation.specs.declared.script.ScriptTrap.{ScriptTrap}
 use Rattle.lot_simulation.specs.declared.script.ScriptTrap.TheVariants.{Yield, Reply, AtPort, OnMutex, Sleep, Exit}
 use Rattle.lot_simulation.specs.Script.{Item, pieces, items_of, is_mark, rest_after, accumulated}
@@ -19,22 +19,22 @@ use Rattle.lot_script.proofs.Copies.{copies-length}
 use Rattle.lot_script.proofs.Opened.{open_at-next, nests-there, encloses-there, copies-first}
 use Rattle.lot_script.proofs.Rests.{IsPlain, left_of-plain, left_of-loop, left_of-again, left_of-end, left_of-exit}
 
-pub stands-within : (lines : List Line) (p : Place) (l : Line) → Stands lines p l → p.line < 1024
+pub stands-within : (lines : List ScriptLine) (p : Place) (l : ScriptLine) → Stands lines p l → p.line < 1024
 stands-within lines p l at = omega (arith, slice_get_within lines p.line l at.next, at.script.count)
 
-pub stands-good : (lines : List Line) (p : Place) (l : Line) → Stands lines p l → IsLine l
+pub stands-good : (lines : List ScriptLine) (p : Place) (l : ScriptLine) → Stands lines p l → IsLine l
 stands-good lines p l at = All-element IsLine lines p.line l at.script.each at.next
 
-pub stands-nests : (lines : List Line) (p : Place) (l : Line) → Stands lines p l → CanNest (length p.loops) l
+pub stands-nests : (lines : List ScriptLine) (p : Place) (l : ScriptLine) → Stands lines p l → CanNest (length p.loops) l
 stands-nests lines p l at = rw (copies-length p.loops (open_at lines p.line) at.fits.loops) (nests-there lines p.line l at.script at.next)
 
-pub stands-done : (lines : List Line) (p : Place) (l : Line) → Stands lines p l → CanBeDone (Some l) p.done
+pub stands-done : (lines : List ScriptLine) (p : Place) (l : ScriptLine) → Stands lines p l → CanBeDone (Some l) p.done
 stands-done lines p l at = subst (λ o. CanBeDone o p.done) at.next at.fits.done
 
 -- ---- places that fit
 
 -- at the beginning of a line nothing is done of it
-done-none : (l : Option Line) → ((x : Line) → l ≡ Some x → IsLine x) → CanBeDone l 0
+done-none : (l : Option ScriptLine) → ((x : ScriptLine) → l ≡ Some x → IsLine x) → CanBeDone l 0
 done-none None good = refl
 done-none (Some (line.Compute n)) good = good (line.Compute n) refl
 done-none (Some (line.Set n)) good = refl
@@ -44,7 +44,7 @@ done-none (Some line.End) good = refl
 done-none (Some (line.Trap t)) good = refl
 
 -- the beginning of a line fits
-pub Fits-line : (lines : List Line) (i a : ℕ) (loops : List OpenLoop) → IsScript lines → i ≤ length lines → AreCopies loops (open_at lines i)
+pub Fits-line : (lines : List ScriptLine) (i a : ℕ) (loops : List OpenLoop) → IsScript lines → i ≤ length lines → AreCopies loops (open_at lines i)
     → Fits lines (record { line = i; done = 0; loops = loops; accumulator = a })
 Fits-line lines i a loops script within copies = record {
   line = within;
@@ -53,7 +53,7 @@ Fits-line lines i a loops script within copies = record {
 }
 
 -- after a plain line the same loops are open
-open_at-plain : (lines : List Line) (p : Place) (l : Line) → IsPlain l → Stands lines p l → open_at lines (p.line + 1) ≡ open_at lines p.line
+open_at-plain : (lines : List ScriptLine) (p : Place) (l : ScriptLine) → IsPlain l → Stands lines p l → open_at lines (p.line + 1) ≡ open_at lines p.line
 open_at-plain lines p (line.Loop n) plain at = absurd plain
 open_at-plain lines p line.End plain at = absurd plain
 open_at-plain lines p (line.Compute n) plain at = open_at-next lines p.line (p.line + 1) (line.Compute n) at.next refl
@@ -61,37 +61,37 @@ open_at-plain lines p (line.Set n) plain at = open_at-next lines p.line (p.line 
 open_at-plain lines p (line.Add n) plain at = open_at-next lines p.line (p.line + 1) (line.Add n) at.next refl
 open_at-plain lines p (line.Trap t) plain at = open_at-next lines p.line (p.line + 1) (line.Trap t) at.next refl
 
-next-within : (lines : List Line) (p : Place) (l : Line) → Stands lines p l → p.line + 1 ≤ length lines
+next-within : (lines : List ScriptLine) (p : Place) (l : ScriptLine) → Stands lines p l → p.line + 1 ≤ length lines
 next-within lines p l at = omega (arith, slice_get_within lines p.line l at.next)
 
 -- the beginning of the line after a plain one fits
-Fits-after : (lines : List Line) (p : Place) (l : Line) (a : ℕ) → IsPlain l → Stands lines p l
+Fits-after : (lines : List ScriptLine) (p : Place) (l : ScriptLine) (a : ℕ) → IsPlain l → Stands lines p l
     → Fits lines (record { line = p.line + 1; done = 0; loops = p.loops; accumulator = a })
 Fits-after lines p l a plain at = Fits-line lines (p.line + 1) a p.loops at.script (next-within lines p l at) (rw (open_at-plain lines p l plain at) at.fits.loops)
 
 -- ---- what is left
 
 -- what is left at the beginning of a line
-pub rest_at-begun : (lines : List Line) (p : Place) (l : Line) → Stands lines p l → p.done ≡ 0
+pub rest_at-begun : (lines : List ScriptLine) (p : Place) (l : ScriptLine) → Stands lines p l → p.done ≡ 0
     → rest_at lines p ≡ left_of lines (pieces (l ∷ drop (suc p.line) lines)) p.loops
 rest_at-begun lines p l at none = rw (none, drop-element lines p.line l at.next) refl
 
 -- what is left after it
-rest_at-after : (lines : List Line) (i a : ℕ) (loops : List OpenLoop)
+rest_at-after : (lines : List ScriptLine) (i a : ℕ) (loops : List OpenLoop)
     → rest_at lines (record { line = i + 1; done = 0; loops = loops; accumulator = a }) ≡ left_of lines (pieces (drop (suc i) lines)) loops
 rest_at-after lines i a loops = let next : i + 1 ≡ suc i = omega arith in rw next refl
 
 -- what is left at a plain line
-pub rest_at-plain : (lines : List Line) (p : Place) (l : Line) → IsPlain l → Stands lines p l → p.done ≡ 0
+pub rest_at-plain : (lines : List ScriptLine) (p : Place) (l : ScriptLine) → IsPlain l → Stands lines p l → p.done ≡ 0
     → rest_at lines p ≡ items_of l ++ left_of lines (pieces (drop (suc p.line) lines)) p.loops
 rest_at-plain lines p l plain at none = rest_at-begun lines p l at none ∙ left_of-plain lines l (drop (suc p.line) lines) p.loops plain
 
 -- what is left at a `compute`
-pub rest_at-compute : (lines : List Line) (p : Place) (n : ℕ) → slice_get lines p.line ≡ Some (line.Compute n) → p.done < n
+pub rest_at-compute : (lines : List ScriptLine) (p : Place) (n : ℕ) → slice_get lines p.line ≡ Some (line.Compute n) → p.done < n
     → rest_at lines p ≡ replicate (n - p.done) Work ++ left_of lines (pieces (drop (suc p.line) lines)) p.loops
 rest_at-compute lines p n is some =
     let within : p.done ≤ n = omega arith in
-    let following : List Line = drop (suc p.line) lines in
+    let following : List ScriptLine = drop (suc p.line) lines in
     ap (λ ls. drop p.done (left_of lines (pieces ls) p.loops)) (drop-element lines p.line (line.Compute n) is)
     ∙ ap (λ items. drop p.done items) (left_of-plain lines (line.Compute n) following p.loops tt)
     ∙ drop-work p.done n (left_of lines (pieces following) p.loops) within
@@ -99,11 +99,11 @@ rest_at-compute lines p n is some =
 -- ---- marks
 
 -- nothing is passed
-pub Passes-none : (lines : List Line) (p : Place) → Fits lines p → Passes lines p p 0
+pub Passes-none : (lines : List ScriptLine) (p : Place) → Fits lines p → Passes lines p p 0
 Passes-none lines p fits = record { fits = fits; marks = omega arith; rest = refl; accumulator = refl }
 
 -- marks are passed, and then more
-pub Passes-then : (lines : List Line) (p q r : Place) (j k : ℕ) → Passes lines p q j → Passes lines q r k → Passes lines p r (j + k)
+pub Passes-then : (lines : List ScriptLine) (p q r : Place) (j k : ℕ) → Passes lines p q j → Passes lines q r k → Passes lines p r (j + k)
 Passes-then lines p q r j k first then =
     let items : List Item = rest_at lines p in
     let more : k ≤ prefix_len is_mark (drop j items) = subst (λ xs. k ≤ prefix_len is_mark xs) first.rest then.marks in
@@ -115,7 +115,7 @@ Passes-then lines p q r j k first then =
     }
 
 -- one mark is passed
-Passes-one : (lines : List Line) (p q : Place) (item : Item) → Fits lines q → rest_at lines p ≡ item ∷ rest_at lines q → is_mark item ≡ true
+Passes-one : (lines : List ScriptLine) (p q : Place) (item : Item) → Fits lines q → rest_at lines p ≡ item ∷ rest_at lines q → is_mark item ≡ true
     → q.accumulator ≡ accumulated p.accumulator item → Passes lines p q 1
 Passes-one lines p q item fits rest mark accumulator = record {
   fits = fits;
@@ -125,13 +125,13 @@ Passes-one lines p q item fits rest mark accumulator = record {
 }
 
 -- the accumulator is set, or added to
-pub Passes-set : (lines : List Line) (p : Place) (n : ℕ) → Stands lines p (line.Set n)
+pub Passes-set : (lines : List ScriptLine) (p : Place) (n : ℕ) → Stands lines p (line.Set n)
     → Passes lines p (record p { line = p.line + 1; done = 0; accumulator = n }) 1
 Passes-set lines p n at =
     Passes-one lines p (record p { line = p.line + 1; done = 0; accumulator = n }) (Set n) (Fits-after lines p (line.Set n) n tt at)
     (rest_at-plain lines p (line.Set n) tt at (stands-done lines p (line.Set n) at) ∙ ap (λ items. Set n ∷ items) (sym (rest_at-after lines p.line n p.loops))) refl refl
 
-pub Passes-add : (lines : List Line) (p : Place) (n : ℕ) → Stands lines p (line.Add n)
+pub Passes-add : (lines : List ScriptLine) (p : Place) (n : ℕ) → Stands lines p (line.Add n)
     → Passes lines p (record p { line = p.line + 1; done = 0; accumulator = (p.accumulator + n) % 4294967296 }) 1
 Passes-add lines p n at =
     let sum : ℕ = (p.accumulator + n) % 4294967296 in
@@ -139,7 +139,7 @@ Passes-add lines p n at =
     (rest_at-plain lines p (line.Add n) tt at (stands-done lines p (line.Add n) at) ∙ ap (λ items. Add n ∷ items) (sym (rest_at-after lines p.line sum p.loops))) refl refl
 
 -- a loop is entered
-pub Passes-loop : (lines : List Line) (p : Place) (n : ℕ) → Stands lines p (line.Loop n)
+pub Passes-loop : (lines : List ScriptLine) (p : Place) (n : ℕ) → Stands lines p (line.Loop n)
     → Passes lines p (record p { line = p.line + 1; done = 0; loops = record { body = p.line + 1; left = n - 1 } ∷ p.loops }) 1
 Passes-loop lines p n at =
     let o : OpenLoop = record { body = p.line + 1; left = n - 1 } in
@@ -155,7 +155,7 @@ Passes-loop lines p n at =
     refl refl
 
 -- a loop is left
-pub Passes-after : (lines : List Line) (p : Place) (o : OpenLoop) (outer : List OpenLoop) → Stands lines p line.End → p.loops ≡ o ∷ outer → o.left ≡ 0
+pub Passes-after : (lines : List ScriptLine) (p : Place) (o : OpenLoop) (outer : List OpenLoop) → Stands lines p line.End → p.loops ≡ o ∷ outer → o.left ≡ 0
     → Passes lines p (record p { line = p.line + 1; done = 0; loops = outer }) 1
 Passes-after lines p o outer at loops none =
     let first = copies-first o outer (open_at lines p.line) (subst (λ l. AreCopies l (open_at lines p.line)) loops at.fits.loops) in
@@ -169,7 +169,7 @@ Passes-after lines p o outer at loops none =
     refl refl
 
 -- a loop goes round again
-pub Passes-again : (lines : List Line) (p : Place) (o : OpenLoop) (outer : List OpenLoop) → Stands lines p line.End → p.loops ≡ o ∷ outer → 0 < o.left
+pub Passes-again : (lines : List ScriptLine) (p : Place) (o : OpenLoop) (outer : List OpenLoop) → Stands lines p line.End → p.loops ≡ o ∷ outer → 0 < o.left
     → Passes lines p (record p { line = o.body; done = 0; loops = record o { left = o.left - 1 } ∷ outer }) 1
 Passes-again lines p o outer at loops some =
     let again : OpenLoop = record o { left = o.left - 1 } in
@@ -189,7 +189,7 @@ Passes-again lines p o outer at loops some =
     refl refl
 
 -- some of a `compute` is passed
-pub Passes-some : (lines : List Line) (p : Place) (n k : ℕ) → Stands lines p (line.Compute n) → p.done + k < n
+pub Passes-some : (lines : List ScriptLine) (p : Place) (n k : ℕ) → Stands lines p (line.Compute n) → p.done + k < n
     → Passes lines p (record p { done = p.done + k }) k
 Passes-some lines p n k at within =
     let left : p.done < n = omega arith in
@@ -206,7 +206,7 @@ Passes-some lines p n k at within =
     }
 
 -- the rest of a `compute` is passed
-pub Passes-whole : (lines : List Line) (p : Place) (n : ℕ) → Stands lines p (line.Compute n)
+pub Passes-whole : (lines : List ScriptLine) (p : Place) (n : ℕ) → Stands lines p (line.Compute n)
     → Passes lines p (record p { line = p.line + 1; done = 0 }) (n - p.done)
 Passes-whole lines p n at =
     let left : p.done < n = stands-done lines p (line.Compute n) at in
@@ -233,7 +233,7 @@ trap-after (Sleep n) rest good = refl
 trap-after Exit rest good = absurd good
 
 -- the trap of a line is made
-pub MakesTrap-line : (lines : List Line) (p : Place) (t : ScriptTrap) → Stands lines p (line.Trap t) → MakesTrap lines p (record p { line = p.line + 1; done = 0 }) t
+pub MakesTrap-line : (lines : List ScriptLine) (p : Place) (t : ScriptTrap) → Stands lines p (line.Trap t) → MakesTrap lines p (record p { line = p.line + 1; done = 0 }) t
 MakesTrap-line lines p t at =
     let following : List Item = left_of lines (pieces (drop (suc p.line) lines)) p.loops in
     let here : rest_at lines p ≡ Traps t ∷ following = rest_at-plain lines p (line.Trap t) tt at (stands-done lines p (line.Trap t) at) in
@@ -245,7 +245,7 @@ MakesTrap-line lines p t at =
     }
 
 -- after the last line the exit is made
-pub MakesTrap-exit : (lines : List Line) (p : Place) → Fits lines p → slice_get lines p.line ≡ None → MakesTrap lines p p Exit
+pub MakesTrap-exit : (lines : List ScriptLine) (p : Place) → Fits lines p → slice_get lines p.line ≡ None → MakesTrap lines p p Exit
 MakesTrap-exit lines p fits none =
     let past : length lines ≤ p.line = slice_get_none lines p.line none in
     let undone : p.done ≡ 0 = subst (λ l. CanBeDone l p.done) none fits.done in
@@ -256,7 +256,7 @@ MakesTrap-exit lines p fits none =
 -- ---- what is made or passed at a line, for the code's own goals
 
 -- of a `compute` as much as is left, and at most this much
-pub Passes-compute : (lines : List Line) (p q : Place) (n most k : ℕ) → Stands lines p (line.Compute n) → k ≡ min most (n - p.done)
+pub Passes-compute : (lines : List ScriptLine) (p q : Place) (n most k : ℕ) → Stands lines p (line.Compute n) → k ≡ min most (n - p.done)
     → (most < n - p.done → q ≡ record p { done = p.done + most }) → (n - p.done ≤ most → q ≡ record p { line = p.line + 1; done = 0 }) → Passes lines p q k
 Passes-compute lines p q n most k at count some all = either (cases_lt most (n - p.done))
   where
@@ -269,7 +269,7 @@ Passes-compute lines p q n most k at count some all = either (cases_lt most (n -
         rw (all enough, same) (Passes-whole lines p n at)
 
 -- an `end`
-pub Passes-end : (lines : List Line) (p q : Place) → Stands lines p line.End
+pub Passes-end : (lines : List ScriptLine) (p q : Place) → Stands lines p line.End
     → ((o : OpenLoop) (outer : List OpenLoop) → p.loops ≡ o ∷ outer → 0 < o.left → q ≡ record p { line = o.body; done = 0; loops = record o { left = o.left - 1 } ∷ outer })
     → ((o : OpenLoop) (outer : List OpenLoop) → p.loops ≡ o ∷ outer → o.left ≡ 0 → q ≡ record p { line = p.line + 1; done = 0; loops = outer }) → Passes lines p q 1
 Passes-end lines p q at again following = of_loops p.loops refl

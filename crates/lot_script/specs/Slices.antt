@@ -1,6 +1,6 @@
 -- The fields of a slice.
 use Rattle.std.specs.Prelude.{◌≡◌, ℕ, Option, List}
-use Rattle.lot_simulation.specs.declared.script.Line.{Line}
+use Rattle.lot_simulation.specs.declared.script.ScriptLine.{ScriptLine}
 use Rattle.lot_simulation.specs.declared.script.ScriptTrap.{ScriptTrap}
 use Rattle.lot_machine.specs.Bounds.{IsBetween}
 use Rattle.lot_simulation.specs.Script.{slice}
@@ -9,7 +9,7 @@ use Rattle.lot_script.specs.Places.{Place, Fits, context_at}
 -- a script's lines, the start and the budget of a slice, its ticks of work and the trap after them, if any, and its
 -- end
 pub record Parts : Type 0 where
-  pub lines : List Line
+  pub lines : List ScriptLine
   pub start : Place
   pub budget : ℕ
   pub ticks : ℕ

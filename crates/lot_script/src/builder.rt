@@ -5,14 +5,14 @@ ghost use Rattle.lot_simulation.specs.Reading.{checked};
 ghost use Rattle.lot_script.specs.Drafts.{IsLine, CanNest, line_checks, loops_after, pushed};
 
 use crate::Script;
-use lot_simulation::{InputRefusal, Line, Range, ScriptTrap, ranges};
+use lot_simulation::{InputRefusal, ScriptLine, Range, ScriptTrap, ranges};
 use std::alloc::{AllocError, Global};
 use std::marker::Model;
 
 /// The lines of a script so far: at most 1024, with at most 8 loops open at once.
 #[derive(Debug, Drop)]
 pub struct ScriptBuilder {
-    lines: Vec<Line>,
+    lines: Vec<ScriptLine>,
     open_loops: u32,
 }
 
@@ -59,25 +59,25 @@ impl ScriptBuilder {
     /// Returns `Ok` if the line can come next, and otherwise the refusal for an input with it: `BadNumber` for a
     /// `compute`, a `sleep` or a `loop` out of its range, `TooDeep` for a ninth open loop, `BadLine` for an `end`
     /// without a loop and for an exit, which no line is, and `TooLong` for line 1025, checked in this order.
-    pub fn check(&self, line: Line) -> Result<(), InputRefusal>
+    pub fn check(&self, line: ScriptLine) -> Result<(), InputRefusal>
         ensures checks { result ≡ checked (line_checks self.now line) tt }
         ensures number { OnOk result (IsLine line) }
         ensures nesting { OnOk result (CanNest self.now.loops line) }
         ensures room { OnOk result (length self.now.lines < 1024) }
     {
         match line {
-            Line::Compute(ticks) if !is_in(ranges::WORK, ticks) => {
+            ScriptLine::Compute(ticks) if !is_in(ranges::WORK, ticks) => {
                 return Err(InputRefusal::BadNumber);
             }
-            Line::Trap(ScriptTrap::Sleep(ticks)) if !is_in(ranges::SLEEP, ticks) => {
+            ScriptLine::Trap(ScriptTrap::Sleep(ticks)) if !is_in(ranges::SLEEP, ticks) => {
                 return Err(InputRefusal::BadNumber);
             }
-            Line::Loop(times) if !is_in(ranges::TIMES, times) => {
+            ScriptLine::Loop(times) if !is_in(ranges::TIMES, times) => {
                 return Err(InputRefusal::BadNumber);
             }
-            Line::Loop(_) if 8 <= self.open_loops => return Err(InputRefusal::TooDeep),
-            Line::End if self.open_loops == 0 => return Err(InputRefusal::BadLine),
-            Line::Trap(ScriptTrap::Exit) => return Err(InputRefusal::BadLine),
+            ScriptLine::Loop(_) if 8 <= self.open_loops => return Err(InputRefusal::TooDeep),
+            ScriptLine::End if self.open_loops == 0 => return Err(InputRefusal::BadLine),
+            ScriptLine::Trap(ScriptTrap::Exit) => return Err(InputRefusal::BadLine),
             _ => {}
         }
         if Self::MOST_LINES <= self.lines.len() {
@@ -87,7 +87,7 @@ impl ScriptBuilder {
     }
 
     /// Adds one line. If out of memory, it changes nothing.
-    pub fn push(&mut self, line: Line) -> Result<(), AllocError>
+    pub fn push(&mut self, line: ScriptLine) -> Result<(), AllocError>
         requires number { IsLine line }
         requires nesting { CanNest self.old.loops line }
         requires room { length self.old.lines < 1024 }
@@ -121,13 +121,13 @@ fn is_in(range: Range, number: u32) -> bool
 }
 
 /// The number of open loops after a line, given the number before it.
-fn loops_after(open_loops: u32, line: Line) -> u32
+fn loops_after(open_loops: u32, line: ScriptLine) -> u32
     requires { CanNest open_loops line }
     ensures { result ≡ loops_after open_loops line }
 {
     match line {
-        Line::Loop(_) => open_loops + 1,
-        Line::End => open_loops - 1,
+        ScriptLine::Loop(_) => open_loops + 1,
+        ScriptLine::End => open_loops - 1,
         _ => open_loops,
     }
 }

@@ -4,7 +4,7 @@ ghost use Rattle.lot_script.specs.Drafts.{CanNest, IsLine};
 ghost use Rattle.lot_script.specs.Places.{AreCopies, IsCopy, open_after};
 
 use arrayvec::ArrayVec;
-use lot_simulation::Line;
+use lot_simulation::ScriptLine;
 use std::marker::Model;
 
 /// A loop around a thread's place.
@@ -98,18 +98,18 @@ impl OpenLoops {
     }
 
     /// Passes the line with this number: a `loop` opens a loop, in its first copy, and an `end` closes one.
-    pub(crate) fn follow(&mut self, number: usize, line: Line)
+    pub(crate) fn follow(&mut self, number: usize, line: ScriptLine)
         requires line { IsLine line }
         requires nests { CanNest (length self.old) line }
         requires number { number < 1024 }
         ensures { self.new ≡ open_after number line self.old }
     {
         match line {
-            Line::Loop(times) => self.push(OpenLoop {
+            ScriptLine::Loop(times) => self.push(OpenLoop {
                 body: number as u16 + 1,
                 left: (times - 1) as u16,
             }),
-            Line::End => {
+            ScriptLine::End => {
                 self.pop();
             }
             _ => {}

@@ -4,7 +4,7 @@ ghost use Rattle.lot_script.specs.Drafts.{IsScript};
 ghost use Rattle.lot_script.specs.Places.{Advances, Fits, IsMarked, Passes, Stands};
 
 use crate::{Place, Script};
-use lot_simulation::{Line, ScriptTrap};
+use lot_simulation::{ScriptLine, ScriptTrap};
 
 /// The next step of a thread.
 #[derive(Clone, Copy, Debug)]
@@ -25,7 +25,7 @@ impl Script {
         let Some(line) = self.next_line(place) else {
             return Advance::Trap(ScriptTrap::Exit);
         };
-        if let Line::Trap(trap) = line {
+        if let ScriptLine::Trap(trap) = line {
             place.leave_line();
             return Advance::Trap(trap);
         }
@@ -34,7 +34,7 @@ impl Script {
 
     /// Passes marks of the line at the place, at least one and at most `most`. Returns their number.
     #[inline(always)]
-    fn pass(&self, place: &mut Place, line: Line, most: u32) -> u32
+    fn pass(&self, place: &mut Place, line: ScriptLine, most: u32) -> u32
         requires stands { Stands self.now place.old line }
         requires marked { IsMarked line }
         requires some { 0 < most }
@@ -43,19 +43,19 @@ impl Script {
         ensures passes { Passes self.now place.old place.new result }
     {
         match line {
-            Line::Compute(ticks) => return place.work(ticks, most),
-            Line::Set(number) => place.set(number),
-            Line::Add(number) => place.add(number),
-            Line::Loop(times) => place.enter(times),
-            Line::End => place.end_copy(),
-            Line::Trap(_) => unreachable!(),
+            ScriptLine::Compute(ticks) => return place.work(ticks, most),
+            ScriptLine::Set(number) => place.set(number),
+            ScriptLine::Add(number) => place.add(number),
+            ScriptLine::Loop(times) => place.enter(times),
+            ScriptLine::End => place.end_copy(),
+            ScriptLine::Trap(_) => unreachable!(),
         }
         1
     }
 
     /// The next line, or `None` after the last.
     #[inline(always)]
-    pub(crate) fn next_line(&self, place: &Place) -> Option<Line>
+    pub(crate) fn next_line(&self, place: &Place) -> Option<ScriptLine>
         ensures line { result ≡ slice_get self.now place.now.line }
         ensures legal { IsScript self.now }
     {

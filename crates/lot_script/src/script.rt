@@ -6,23 +6,23 @@ ghost use Rattle.lot_script.specs.Places.{CanBeDone, Fits, IsRestOf, context_at,
 
 use crate::Place;
 use crate::open_loops::OpenLoops;
-use lot_simulation::{Line, ScriptTrap};
+use lot_simulation::{ScriptLine, ScriptTrap};
 use std::alloc::{AllocError, Global};
 use std::marker::Model;
 
 /// The script of a simulated thread, line by line. A `ScriptBuilder` makes one.
 #[derive(Debug, Drop)]
 pub struct Script {
-    pub(crate) lines: Vec<Line>,
+    pub(crate) lines: Vec<ScriptLine>,
 }
 
 impl Model for Script {
     ghost use Rattle.std.specs.Prelude.{List};
-    ghost use Rattle.lot_simulation.specs.declared.script.Line.{Line};
+    ghost use Rattle.lot_simulation.specs.declared.script.ScriptLine.{ScriptLine};
     ghost use Rattle.lot_simulation.specs.Script.{start as whole_context, unrolled};
     ghost use Rattle.lot_script.specs.Drafts.{IsScript};
 
-    ghost Value = { List Line };
+    ghost Value = { List ScriptLine };
 
     ghost view = { λ s. s.lines.items };
 
@@ -31,7 +31,7 @@ impl Model for Script {
 
 impl Script {
     /// The lines, in order, at most 1024.
-    pub fn lines(&self) -> &[Line]
+    pub fn lines(&self) -> &[ScriptLine]
         ensures lines { result.now ≡ self.now }
         ensures legal { IsScript result.now }
     {
@@ -105,21 +105,21 @@ impl Script {
 }
 
 /// The line as a run without time takes it: a `sleep` is a `yield`.
-fn without_sleep(line: Line) -> Line
+fn without_sleep(line: ScriptLine) -> ScriptLine
     ensures { result ≡ without_sleep line }
 {
     match line {
-        Line::Trap(ScriptTrap::Sleep(_)) => Line::Trap(ScriptTrap::Yield),
+        ScriptLine::Trap(ScriptTrap::Sleep(_)) => ScriptLine::Trap(ScriptTrap::Yield),
         other => other,
     }
 }
 
 /// Whether this many ticks of the line may be done.
-fn can_be_done(line: Option<Line>, done: u32) -> bool
+fn can_be_done(line: Option<ScriptLine>, done: u32) -> bool
     ensures { IsTrue result ↔ CanBeDone line done }
 {
     match line {
-        Some(Line::Compute(ticks)) => done < ticks,
+        Some(ScriptLine::Compute(ticks)) => done < ticks,
         _ => done == 0,
     }
 }

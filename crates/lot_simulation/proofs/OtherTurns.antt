@@ -30,7 +30,7 @@ use Rattle.lot_machine.proofs.NamedThreads.{named-apart}
 use Rattle.lot_machine.proofs.StepSizes.{other-sizes, killed-length, step-grown, step-sizes, step-limits, command-grown}
 use Rattle.lot_simulation.specs.declared.script.ScriptTrap.{ScriptTrap}
 use Rattle.lot_simulation.specs.Script.{Context, Slice, slice}
-use Rattle.lot_simulation.specs.World.{Program, World, Turn, number_of, context_of, slice_on, event_of_slice, processor_event, actor_event, contexts_after, contexts_after_command, new_context, command_turn, console_turn, next_name, processor_turn, resolved, system_turn}
+use Rattle.lot_simulation.specs.World.{Program, World, TurnMade, number_of, context_of, slice_on, event_of_slice, processor_event, actor_event, contexts_after, contexts_after_command, new_context, command_turn, console_turn, next_name, processor_turn, resolved, system_turn}
 use Rattle.lot_simulation.specs.Timed.{cost_of}
 use Rattle.lot_simulation.proofs.DrawnThreads.{number-some}
 
@@ -201,7 +201,7 @@ abbrev pub IsSpared : ℕ → State → ℕ → Type 0
 IsSpared actor s p = actor ≡ 0 → is_none (thread_on s.records p) ≡ false
 
 -- the world stays orderly, and what the next turn of another processor costs stays, unless its thread was killed
-abbrev pub TurnKeeps : World → ℕ → Turn → Type 0
+abbrev pub TurnKeeps : World → ℕ → TurnMade → Type 0
 TurnKeeps w actor turn = IsOrderly turn.world × ((p : ℕ) → ¬ (p ≡ actor) → 1 ≤ p → IsSpared actor turn.world.state p → cost_of turn.world (processor_event turn.world p) ≡ cost_of w (processor_event w p))
 
 -- an event of a processor kills nobody

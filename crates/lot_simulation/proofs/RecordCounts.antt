@@ -34,8 +34,8 @@ use Rattle.lot_machine.specs.Step.{is_bad_processor, started, draw, expire, trap
 use Rattle.lot_machine.specs.Order.{IsInOrder}
 use Rattle.lot_simulation.specs.declared.script.ScriptTrap.{ScriptTrap}
 use Rattle.lot_simulation.specs.Script.{Slice}
-use Rattle.lot_simulation.specs.World.{Program, World, Turn, event_of_slice, number_of, slice_on, console_turn, processor_turn, processor_event, actor_event, opening_world, system_turn, system_after, system_answers, system_run, next_name, resolved}
-use Rattle.lot_simulation.specs.World.Answer.{Answered}
+use Rattle.lot_simulation.specs.World.{Program, World, TurnMade, event_of_slice, number_of, slice_on, console_turn, processor_turn, processor_event, actor_event, opening_world, system_turn, system_after, system_answers, system_run, next_name, resolved}
+use Rattle.lot_simulation.specs.World.TurnAnswer.{Answered}
 use Rattle.lot_simulation.specs.Report.{ActorTurn, beside, turns_made, count_in, quanta_in, ticks_in, total_of}
 use Rattle.lot_machine.proofs.OrderKept.{opening-order, step-order}
 use Rattle.lot_machine.proofs.CommandsKept.{all-pass, some-of}
@@ -327,7 +327,7 @@ comes-then s after last middle first more later total limits sum (low, rest) (mo
     (omega (arith, sum, low, most), λ once. omega (arith, sum, rest (ap (λ (sizes : Sizes). sizes.reuse) limits ∙ once), exact once))
 
 -- what a turn adds, and that the state stays in order
-record AddsTurn (w : World) (turn : Turn) : Type 0 where
+record AddsTurn (w : World) (turn : TurnMade) : Type 0 where
   pub quanta : Comes w.state (quanta_of turn.world.state.records) (quanta_of w.state.records + count_in quanta_in turn.answer)
   pub ticks : Comes w.state (ticks_of turn.world.state.records) (ticks_of w.state.records + count_in ticks_in turn.answer)
   pub bounded : count_in quanta_in turn.answer ≤ 1
@@ -339,7 +339,7 @@ module _ (program : Program) where
   system_turn-adds : (w : World) (actor : ℕ) → IsInOrder w.state → HasSpace w.state → AddsTurn w (system_turn program w actor)
   system_turn-adds w actor order space = at (actor == 0)
     where
-      of_step : (e : Event) (turn : Turn) → IsMade e → turn.world.state ≡ (step w.state e).state → turn.answer ≡ Answered e (step w.state e).reply → AddsTurn w turn
+      of_step : (e : Event) (turn : TurnMade) → IsMade e → turn.world.state ≡ (step w.state e).state → turn.answer ≡ Answered e (step w.state e).reply → AddsTurn w turn
       of_step e turn made state answer =
           let adds = step-adds w.state e made space in
           record {

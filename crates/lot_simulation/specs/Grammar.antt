@@ -2,8 +2,8 @@
 use Rattle.std.specs.Prelude.{ℕ, ◌+◌, ◌-◌, ◌%◌, max, ◌==◌, nat_lt, nat_le, Bool, true, false, not, ◌&&◌, ◌||◌, Option, Some, None, is_none, is_some, Result, Ok, Err, List, [], ◌∷◌, ◌++◌, length, map, sum_by, replicate, codes, unwrap_or, option_map, if◌then◌else◌}
 use Rattle.std.specs.List.{flat_map, list_any, range_with_len}
 use Rattle.std.specs.Str.{bytes_eq}
-use Rattle.lot_simulation.specs.declared.script.Line.{Line}
-use Rattle.lot_simulation.specs.declared.script.Line.TheVariants as line
+use Rattle.lot_simulation.specs.declared.script.ScriptLine.{ScriptLine}
+use Rattle.lot_simulation.specs.declared.script.ScriptLine.TheVariants as line
 use Rattle.lot_simulation.specs.declared.script.ScriptTrap.TheVariants as trap
 use Rattle.lot_machine.specs.declared.command.Command.{Command}
 use Rattle.lot_machine.specs.declared.command.Command.TheVariants.{MakeTicket, RemoveTicket, MakeCurrency, RemoveCurrency, Fund, Unfund, SetTicket, MakeThread, RemoveThread, Kill, MakeFunded, List as Listing}
@@ -116,7 +116,7 @@ header_in_order r word tokens = do
 -- ---- lines of a script
 
 -- the script with one more line
-abbrev pub with_line : OpenScript → Line → OpenScript
+abbrev pub with_line : OpenScript → ScriptLine → OpenScript
 with_line s l = record s { lines = s.lines ++ l ∷ [] }
 
 -- whether the script has as many lines as are allowed
@@ -124,7 +124,7 @@ abbrev pub is_full : OpenScript → Bool
 is_full s = nat_le 1024 (length s.lines)
 
 -- the reading after the script gets this line
-abbrev pub add_line : Reading → OpenScript → Line → Result Reading InputRefusal
+abbrev pub add_line : Reading → OpenScript → ScriptLine → Result Reading InputRefusal
 add_line r s l = checked ((is_full s, TooLong) ∷ []) (record r { unclosed = Some (with_line s l) })
 
 -- the reading after a line of a script

@@ -11,11 +11,11 @@ use Rattle.lot_simulation.specs.declared.style.LineStyle.{LineStyle}
 use Rattle.lot_simulation.specs.declared.style.LineStyle.TheVariants.{Whole, Timed}
 use Rattle.lot_simulation.specs.Timed.{TimedTurn, timed_turns}
 use Rattle.lot_simulation.specs.TimedReport.{report_after}
-use Rattle.lot_simulation.specs.World.{Program, World, Answer, Turn, opening_world, system_turn, system_run, without_time}
-use Rattle.lot_simulation.specs.World.Answer.{Answered, Ended}
+use Rattle.lot_simulation.specs.World.{Program, World, TurnAnswer, TurnMade, opening_world, system_turn, system_run, without_time}
+use Rattle.lot_simulation.specs.World.TurnAnswer.{Answered, Ended}
 
 -- the text of an answer, given the state after its turn
-abbrev pub answer_text : LineStyle → State → Answer → List ℕ
+abbrev pub answer_text : LineStyle → State → TurnAnswer → List ℕ
 answer_text style s (Answered e r) = reply_text style s e r
 answer_text style s Ended = refused 41 (codes "Ended") ++ newline
 
@@ -24,7 +24,7 @@ abbrev pub printed_actor : State → ℕ → ℕ
 printed_actor s actor = min actor (s.limits.processors + 1)
 
 -- the lines of a turn; the first begins with the actor
-abbrev pub turn_text : LineStyle → ℕ → Turn → List ℕ
+abbrev pub turn_text : LineStyle → ℕ → TurnMade → List ℕ
 turn_text style actor turn =
     front style ++ (decimal (printed_actor turn.world.state actor) ++ (codes " " ++ answer_text style turn.world.state turn.answer))
 

@@ -1,7 +1,7 @@
 -- The part of an input read so far, and the meaning of tokens.
 use Rattle.std.specs.Prelude.{ℕ, ◌+◌, ◌-◌, ◌^◌, nat_lt, Bool, false, not, ◌&&◌, ◌||◌, Option, Some, None, is_none, Result, Ok, Err, List, [], ◌∷◌, length, position, option_map, unwrap_or, if◌then◌else◌}
 use Rattle.std.specs.Str.{bytes_eq}
-use Rattle.lot_simulation.specs.declared.script.Line.{Line}
+use Rattle.lot_simulation.specs.declared.script.ScriptLine.{ScriptLine}
 use Rattle.lot_machine.specs.declared.command.Command.{Command}
 use Rattle.lot_simulation.specs.declared.input.HeaderWord.{HeaderWord}
 use Rattle.lot_simulation.specs.declared.input.TicketRef.{TicketRef}
@@ -14,13 +14,13 @@ use Rattle.lot_simulation.specs.Lines.{number_of}
 -- a closed script
 pub record NamedScript : Type 0 where
   pub name : List ℕ
-  pub lines : List Line
+  pub lines : List ScriptLine
 
 -- an open script: the line where it begins, its lines so far, and the number of its open loops
 pub record OpenScript : Type 0 where
   pub name : List ℕ
   pub begins : ℕ
-  pub lines : List Line
+  pub lines : List ScriptLine
   pub loops : ℕ
 
 -- The contents of the lines read so far. Header lines up to the place come too late: the place is that of the last

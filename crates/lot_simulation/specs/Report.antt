@@ -9,18 +9,18 @@ use Rattle.lot_machine.specs.Numbered.{numbers}
 use Rattle.lot_machine.specs.Rows.{thread_row}
 use Rattle.lot_simulation.specs.Grammar.{ActorRun}
 use Rattle.lot_simulation.specs.Texts.{newline, lines_for}
-use Rattle.lot_simulation.specs.World.{Program, World, Answer, opening_world, system_answers, system_run}
-use Rattle.lot_simulation.specs.World.Answer.{Answered, Ended}
+use Rattle.lot_simulation.specs.World.{Program, World, TurnAnswer, opening_world, system_answers, system_run}
+use Rattle.lot_simulation.specs.World.TurnAnswer.{Answered, Ended}
 
 -- ---- counts
 
 -- an actor, and the answer to its turn
 pub record ActorTurn : Type 0 where
   pub actor : ℕ
-  pub answer : Answer
+  pub answer : TurnAnswer
 
 -- each actor paired with its answer
-abbrev pub beside : List ℕ → List Answer → List ActorTurn
+abbrev pub beside : List ℕ → List TurnAnswer → List ActorTurn
 beside [] answers = []
 beside (actor ∷ actors) [] = []
 beside (actor ∷ actors) (answer ∷ answers) = record { actor = actor; answer = answer } ∷ beside actors answers
@@ -46,7 +46,7 @@ ticks_in (reply.Trapped thread ticks came ends) = ticks
 ticks_in other = 0
 
 -- the count of an answer's reply, or 0 if it has none
-abbrev pub count_in : (Reply → ℕ) → Answer → ℕ
+abbrev pub count_in : (Reply → ℕ) → TurnAnswer → ℕ
 count_in count (Answered e r) = count r
 count_in count Ended = 0
 

@@ -1,8 +1,8 @@
 -- The meaning of a script, and the slices of it that a processor runs.
 use Rattle.std.specs.Prelude.{ℕ, ◌+◌, ◌%◌, min, nat_lt, Bool, Option, Some, None, is_none, List, [], ◌∷◌, ◌++◌, take, drop, replicate, fold, slice_get, option_and_then, if◌then◌else◌}
 use Rattle.std.specs.List.{repeat, prefix_len}
-use Rattle.lot_simulation.specs.declared.script.Line.{Line}
-use Rattle.lot_simulation.specs.declared.script.Line.TheVariants as line
+use Rattle.lot_simulation.specs.declared.script.ScriptLine.{ScriptLine}
+use Rattle.lot_simulation.specs.declared.script.ScriptLine.TheVariants as line
 use Rattle.lot_simulation.specs.declared.script.ScriptTrap.{ScriptTrap}
 use Rattle.lot_simulation.specs.declared.script.ScriptTrap.TheVariants.{Yield, Sleep, Exit}
 
@@ -14,7 +14,7 @@ pub data Item : Type 0 where
   Traps : ScriptTrap → Item
 
 -- the items of a line that is neither `loop` nor `end`: n marks of work, one mark, or a trap
-abbrev pub items_of : Line → List Item
+abbrev pub items_of : ScriptLine → List Item
 items_of (line.Compute n) = replicate n Work
 items_of (line.Set n) = Set n ∷ []
 items_of (line.Add n) = Add n ∷ []
@@ -38,18 +38,18 @@ abbrev pub looped : ℕ → Pieces → Pieces
 looped n p = record { first = Work ∷ repeat n (p.first ++ Work ∷ []) ++ first_of_list p.others; others = drop 1 p.others }
 
 -- the lines from here on, in pieces; an exit trap follows the last line
-abbrev pub pieces : List Line → Pieces
+abbrev pub pieces : List ScriptLine → Pieces
 pieces [] = record { first = Traps Exit ∷ []; others = [] }
 pieces (line.Loop n ∷ lines) = looped n (pieces lines)
 pieces (line.End ∷ lines) = record { first = []; others = (pieces lines).first ∷ (pieces lines).others }
 pieces (l ∷ lines) = record { first = items_of l ++ (pieces lines).first; others = (pieces lines).others }
 
 -- The meaning of a script: a list of marks and traps, with its loops unrolled, that ends with an exit trap.
-abbrev pub unrolled : List Line → List Item
+abbrev pub unrolled : List ScriptLine → List Item
 unrolled lines = (pieces lines).first
 
 -- A line as a run without time takes it: there a sleep ends at once, so it is a yield.
-abbrev pub without_sleep : Line → Line
+abbrev pub without_sleep : ScriptLine → ScriptLine
 without_sleep (line.Trap (Sleep n)) = line.Trap Yield
 without_sleep other = other
 
@@ -59,7 +59,7 @@ pub record Context : Type 0 where
   pub accumulator : ℕ
 
 -- the context of a new thread: the whole script, and accumulator 0
-abbrev pub start : List Line → Context
+abbrev pub start : List ScriptLine → Context
 start lines = record { rest = unrolled lines; accumulator = 0 }
 
 -- the item's trap, if it is one

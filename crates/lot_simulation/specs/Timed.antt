@@ -12,8 +12,8 @@ use Rattle.lot_machine.specs.Step.{used_there}
 use Rattle.lot_simulation.specs.declared.timed.Clock.{Clock}
 use Rattle.lot_simulation.specs.declared.timed.Due.{Due}
 use Rattle.lot_simulation.specs.declared.timed.Sleeper.{Sleeper}
-use Rattle.lot_simulation.specs.World.{Program, World, Answer, Turn, opening_world, processor_event, sleeper_on, system_turn}
-use Rattle.lot_simulation.specs.World.Answer.{Answered}
+use Rattle.lot_simulation.specs.World.{Program, World, TurnAnswer, TurnMade, opening_world, processor_event, sleeper_on, system_turn}
+use Rattle.lot_simulation.specs.World.TurnAnswer.{Answered}
 
 -- a world at a time: each processor's clock, the times of the remaining commands, when each sleeping thread wakes, and
 -- whether a command or a trap was refused so far
@@ -111,7 +111,7 @@ next_due program m = if is_stopped program m then None else following program m
 -- ---- a turn
 
 -- whether the answer is that of an idle draw
-abbrev pub is_idle_draw : Answer → Bool
+abbrev pub is_idle_draw : TurnAnswer → Bool
 is_idle_draw (Answered e reply.Idle) = true
 is_idle_draw other = false
 
@@ -148,7 +148,7 @@ clocks_after s clocks due is_idle = if due.actor == 0 then clocks_after_console 
 pub record TimedTurn : Type 0 where
   pub time : ℕ
   pub actor : ℕ
-  pub turn : Turn
+  pub turn : TurnMade
 
 -- the turn that is due, made at this moment
 abbrev pub turn_due : Program → Moment → Due → TimedTurn
@@ -172,7 +172,7 @@ alarms_after m time actor =
     else set_alarm m.alarms (actor - length m.clocks) None
 
 -- whether a command or a trap was refused; the wake of a dead thread isn't one
-abbrev pub is_refusal : Answer → Bool
+abbrev pub is_refusal : TurnAnswer → Bool
 is_refusal (Answered (event.Command c) (reply.Refused why)) = true
 is_refusal (Answered e (reply.Trapped thread ticks (outcome.Refused why) ends)) = true
 is_refusal other = false

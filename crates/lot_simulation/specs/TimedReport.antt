@@ -28,8 +28,8 @@ use Rattle.lot_simulation.specs.declared.timed.SpanChange.TheVariants.{Nobody, A
 use Rattle.lot_simulation.specs.declared.timed.Spans.{Spans}
 use Rattle.lot_simulation.specs.Timed.{Moment, TimedTurn, clock_of, end_of, ended_at, following, moment_after_all, opening_moment, timed_turns}
 use Rattle.lot_simulation.specs.Below.{currency_numbers, stands_below, worth_of}
-use Rattle.lot_simulation.specs.World.{Program, Answer, Turn}
-use Rattle.lot_simulation.specs.World.Answer.{Answered}
+use Rattle.lot_simulation.specs.World.{Program, TurnAnswer, TurnMade}
+use Rattle.lot_simulation.specs.World.TurnAnswer.{Answered}
 
 -- ---- spans of time
 
@@ -57,7 +57,7 @@ span_ended time spans = made spans.since
 
 -- A new thread has never waited, whoever had its number before. A thread waits for a mutex from the lock that finds it
 -- taken until the unlock that passes it on (6.1). A wait that a kill ends isn't counted.
-abbrev pub mutex_wait : Answer → SpanChange
+abbrev pub mutex_wait : TurnAnswer → SpanChange
 mutex_wait (Answered e (reply.Thread thread)) = Anew thread
 mutex_wait (Answered e (reply.Funded ticket thread)) = Anew thread
 mutex_wait (Answered (event.Trap p ran (action.Lock mutex)) (reply.Trapped thread ticks outcome.Waits ends)) = Begins thread
@@ -65,7 +65,7 @@ mutex_wait (Answered e (reply.Trapped thread ticks (outcome.Passed to drawn) end
 mutex_wait other = Nobody
 
 -- A thread waits for a reply from its call until the reply to it (4.6); nor is such a wait that a kill ends.
-abbrev pub reply_wait : Answer → SpanChange
+abbrev pub reply_wait : TurnAnswer → SpanChange
 reply_wait (Answered e (reply.Thread thread)) = Anew thread
 reply_wait (Answered e (reply.Funded ticket thread)) = Anew thread
 reply_wait (Answered e (reply.Trapped thread ticks (outcome.ServedBy server) ends)) = Begins thread
@@ -77,7 +77,7 @@ reply_wait other = Nobody
 
 -- A thread lives from the turn that makes it until it exits or is killed. The state is the one after the turn, in which
 -- a killed thread still has its name.
-abbrev pub life : State → Answer → SpanChange
+abbrev pub life : State → TurnAnswer → SpanChange
 life s (Answered e (reply.Thread thread)) = Begins thread
 life s (Answered e (reply.Funded ticket thread)) = Begins thread
 life s (Answered e (reply.Trapped thread ticks outcome.Exited ends)) = Ends thread
@@ -85,15 +85,15 @@ life s (Answered e reply.Done) = option_map_or Ends (killed_by s e) Nobody
 life s other = Nobody
 
 -- the change that a turn makes to waits for mutexes
-abbrev pub mutex_change : Turn → SpanChange
+abbrev pub mutex_change : TurnMade → SpanChange
 mutex_change turn = mutex_wait turn.answer
 
 -- the change that a turn makes to waits for replies
-abbrev pub reply_change : Turn → SpanChange
+abbrev pub reply_change : TurnMade → SpanChange
 reply_change turn = reply_wait turn.answer
 
 -- the change that a turn makes to lives
-abbrev pub life_change : Turn → SpanChange
+abbrev pub life_change : TurnMade → SpanChange
 life_change turn = life turn.world.state turn.answer
 
 -- the thread's spans after this change at this time
@@ -104,13 +104,13 @@ spans_after t time spans (Begins u) = if u == t then span_begun time spans else 
 spans_after t time spans (Ends u) = if u == t then span_ended time spans else spans
 
 -- the thread's spans after these turns
-abbrev pub spans_in : (Turn → SpanChange) → List TimedTurn → ℕ → Spans
+abbrev pub spans_in : (TurnMade → SpanChange) → List TimedTurn → ℕ → Spans
 spans_in change turns t = fold (λ spans done. spans_after t done.time spans (change done.turn)) no_spans turns
 
 -- ---- waits to run
 
 -- whether a thread with this number was made
-abbrev pub makes : ℕ → Answer → Bool
+abbrev pub makes : ℕ → TurnAnswer → Bool
 makes t (Answered e (reply.Thread thread)) = thread == t
 makes t (Answered e (reply.Funded ticket thread)) = thread == t
 makes t other = false
@@ -135,7 +135,7 @@ ready_in turns t = fold (ready_after t) no_spans turns
 
 -- The number of a thread's refused traps after this answer, from their number before it. A new thread has none, whoever
 -- had its number before.
-abbrev pub refusals_after : ℕ → ℕ → Answer → ℕ
+abbrev pub refusals_after : ℕ → ℕ → TurnAnswer → ℕ
 refusals_after t n (Answered e (reply.Thread thread)) = if thread == t then 0 else n
 refusals_after t n (Answered e (reply.Funded ticket thread)) = if thread == t then 0 else n
 refusals_after t n (Answered e (reply.Trapped thread ticks (outcome.Refused why) ends)) = if thread == t then n + 1 else n
@@ -184,12 +184,12 @@ due_part s t ticks = live_part s t (value_of s t) * due_rate s ticks
 
 -- The parts due after a turn, from those before it, when the state before it had lasted so many ticks. What the turn
 -- makes anew is due nothing, whatever had its number before.
-abbrev pub due_after : (State → ℕ → ℕ) → (Answer → Bool) → State → ℕ → ℕ → Answer → ℕ
+abbrev pub due_after : (State → ℕ → ℕ) → (TurnAnswer → Bool) → State → ℕ → ℕ → TurnAnswer → ℕ
 due_after part is_new s ticks due answer = if is_new answer then 0 else due + part s ticks
 
 -- The parts due after these turns, from those before them, when this has been the state since this time. Each state
 -- comes to a part for the ticks that it lasts.
-abbrev pub due_from : (State → ℕ → ℕ) → (Answer → Bool) → State → ℕ → ℕ → List TimedTurn → ℕ
+abbrev pub due_from : (State → ℕ → ℕ) → (TurnAnswer → Bool) → State → ℕ → ℕ → List TimedTurn → ℕ
 due_from part is_new s time due [] = due
 due_from part is_new s time due (done ∷ others) =
     due_from part is_new done.turn.world.state done.time (due_after part is_new s (done.time - time) due done.turn.answer) others
@@ -241,7 +241,7 @@ timed_thread_total s turns all t row =
 -- ---- currencies
 
 -- whether a currency with this number was made
-abbrev pub makes_currency : ℕ → Answer → Bool
+abbrev pub makes_currency : ℕ → TurnAnswer → Bool
 makes_currency c (Answered e (reply.Currency currency)) = currency == c
 makes_currency c other = false
 
@@ -250,14 +250,14 @@ abbrev pub ticks_if_below : State → ℕ → ℕ → ℕ → ℕ
 ticks_if_below s c t ticks = if stands_below s c t then ticks else 0
 
 -- the ticks of a turn made in this state, if its thread stood below the currency
-abbrev pub ticks_below : State → ℕ → Answer → ℕ
+abbrev pub ticks_below : State → ℕ → TurnAnswer → ℕ
 ticks_below s c (Answered e (reply.Expired thread ticks)) = ticks_if_below s c thread ticks
 ticks_below s c (Answered e (reply.Trapped thread ticks came ends)) = ticks_if_below s c thread ticks
 ticks_below s c other = 0
 
 -- The ticks of the threads below the currency after a turn made in this state, from those before it. A new currency has
 -- none, whichever had its number before.
-abbrev pub currency_ticks_after : State → ℕ → ℕ → Answer → ℕ
+abbrev pub currency_ticks_after : State → ℕ → ℕ → TurnAnswer → ℕ
 currency_ticks_after s c ticks answer = if makes_currency c answer then 0 else ticks + ticks_below s c answer
 
 -- the ticks of the threads below the currency after these turns, from those before them, when this is the state

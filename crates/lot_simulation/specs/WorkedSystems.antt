@@ -5,16 +5,16 @@ use Rattle.lot_machine.specs.declared.reference.CurrencyRef.{CurrencyRef}
 use Rattle.lot_machine.specs.declared.reference.CurrencyRef.TheVariants as currency_ref
 use Rattle.lot_machine.specs.declared.reference.TargetRef.TheVariants as target_ref
 use Rattle.lot_machine.specs.declared.reply.Reply.{Reply}
-use Rattle.lot_simulation.specs.declared.script.Line.{Line}
-use Rattle.lot_simulation.specs.declared.script.Line.TheVariants as line
+use Rattle.lot_simulation.specs.declared.script.ScriptLine.{ScriptLine}
+use Rattle.lot_simulation.specs.declared.script.ScriptLine.TheVariants as line
 use Rattle.lot_simulation.specs.declared.script.ScriptTrap.TheVariants as trap
 use Rattle.lot_simulation.specs.declared.script.PortTrap.TheVariants.{Call, Receive, Serve}
-use Rattle.lot_simulation.specs.World.{Program, Answer, opening_world, system_answers}
-use Rattle.lot_simulation.specs.World.Answer.{Answered, Ended}
+use Rattle.lot_simulation.specs.World.{Program, TurnAnswer, opening_world, system_answers}
+use Rattle.lot_simulation.specs.World.TurnAnswer.{Answered, Ended}
 use Rattle.lot_machine.specs.Worked.{base, largest, finer}
 
 -- the replies of these turns, without their events
-abbrev pub replies_of : List Answer → List (Option Reply)
+abbrev pub replies_of : List TurnAnswer → List (Option Reply)
 replies_of [] = []
 replies_of (Answered event reply ∷ rest) = Some reply ∷ replies_of rest
 replies_of (Ended ∷ rest) = None ∷ replies_of rest
@@ -48,15 +48,15 @@ abbrev pub finer_run : Program
 finer_run = record first_run { limits = finer }
 
 -- the line of a script that calls at port 1
-abbrev pub call : Line
+abbrev pub call : ScriptLine
 call = line.Trap (trap.AtPort Call 1)
 
 -- the line of a script that receives at port 1
-abbrev pub receive : Line
+abbrev pub receive : ScriptLine
 receive = line.Trap (trap.AtPort Receive 1)
 
 -- the line of a script that serves at port 1
-abbrev pub serve : Line
+abbrev pub serve : ScriptLine
 serve = line.Trap (trap.AtPort Serve 1)
 
 -- a system with a server, and a client that calls it

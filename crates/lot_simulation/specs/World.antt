@@ -2,7 +2,7 @@
 use Rattle.std.specs.Prelude.{ℕ, ◌-◌, ◌≤◌, ◌==◌, nat_le, Bool, true, false, Option, Some, None, is_some, List, [], ◌∷◌, ◌++◌, length, map, drop, replicate, count_by, All, option_and_then, slice_get, unwrap_or, if◌then◌else◌}
 use Rattle.std.specs.List.{last_or}
 use Rattle.std.specs.Option.{option_flatten}
-use Rattle.lot_simulation.specs.declared.script.Line.{Line}
+use Rattle.lot_simulation.specs.declared.script.ScriptLine.{ScriptLine}
 use Rattle.lot_simulation.specs.declared.script.ScriptTrap.{ScriptTrap}
 use Rattle.lot_simulation.specs.declared.script.ScriptTrap.TheVariants as script_trap
 use Rattle.lot_simulation.specs.declared.script.PortTrap.TheVariants.{Call, Receive, Serve}
@@ -33,7 +33,7 @@ pub record Program : Type 0 where
   pub limits : Sizes
   pub seeds : List ℕ  -- one for each processor
   pub turns : ℕ
-  pub scripts : List (List Line)  -- numbered from 1
+  pub scripts : List (List ScriptLine)  -- numbered from 1
   pub commands : List Command
   pub schedule : List ℕ
   pub duration : Option ℕ
@@ -204,46 +204,46 @@ next_name w = option_flatten (slice_get w.names 0)
 -- ---- turns
 
 -- the answer to a turn: the event and its reply, or that no command is left
-pub data Answer : Type 0 where
-  Answered : Event → Reply → Answer
-  Ended : Answer
+pub data TurnAnswer : Type 0 where
+  Answered : Event → Reply → TurnAnswer
+  Ended : TurnAnswer
 
 -- the world after a turn, and the answer
-pub record Turn : Type 0 where
+pub record TurnMade : Type 0 where
   pub world : World
-  pub answer : Answer
+  pub answer : TurnAnswer
 
 -- the turn in which the console makes this command, and after which these are left
-abbrev pub command_turn : Program → World → Command → List Command → Turn
+abbrev pub command_turn : Program → World → Command → List Command → TurnMade
 command_turn program w c cs = made (step w.state (event.Command c))
   where
-    made : Step → Turn
+    made : Step → TurnMade
     made done = record {
       world = record { state = done.state; contexts = contexts_after_command program w c done.reply; generators = w.generators; is_wide = w.is_wide; commands = cs; names = drop 1 w.names; tickets = tickets_after w.tickets (next_name w) c done.reply; history = w.history ++ 0 ∷ [] };
       answer = Answered (event.Command c) done.reply;
     }
 
 -- the console's next command, for the ticket that it names, if it does; nothing changes if none is left
-abbrev pub console_turn : Program → World → List Command → Turn
+abbrev pub console_turn : Program → World → List Command → TurnMade
 console_turn program w [] = record { world = w; answer = Ended }
 console_turn program w (c ∷ cs) = command_turn program w (resolved w.tickets (next_name w) c) cs
 
 -- the turn in which a processor or the timer makes this event
-abbrev pub processor_turn : World → ℕ → Event → Turn
+abbrev pub processor_turn : World → ℕ → Event → TurnMade
 processor_turn w p e = made (step w.state e)
   where
-    made : Step → Turn
+    made : Step → TurnMade
     made done = record {
       world = record { state = done.state; contexts = contexts_after w p done.reply; generators = generators_after w p e; is_wide = w.is_wide; commands = w.commands; names = w.names; tickets = w.tickets; history = w.history ++ p ∷ [] };
       answer = Answered e done.reply;
     }
 
 -- A turn of actor 0, the console, makes its next command; a turn of a processor or of the timer makes its event.
-abbrev pub system_turn : Program → World → ℕ → Turn
+abbrev pub system_turn : Program → World → ℕ → TurnMade
 system_turn program w actor = if actor == 0 then console_turn program w w.commands else processor_turn w actor (actor_event program w actor)
 
 -- the answers to these actors' turns, in order
-abbrev pub system_answers : Program → World → List ℕ → List Answer
+abbrev pub system_answers : Program → World → List ℕ → List TurnAnswer
 system_answers program w [] = []
 system_answers program w (actor ∷ actors) = (system_turn program w actor).answer ∷ system_answers program (system_turn program w actor).world actors
 
@@ -257,7 +257,7 @@ abbrev pub system_run : Program → List ℕ → World
 system_run program actors = system_after program (opening_world program) actors
 
 -- the answer to the last turn of a run from the program's opening world
-abbrev pub last_answer : Program → List ℕ → Option Answer
+abbrev pub last_answer : Program → List ℕ → Option TurnAnswer
 last_answer program actors = last_or None (system_answers program (opening_world program) actors)
 
 -- A legal history: its actors are the console and the processors, it fits the room, and the console occurs no more

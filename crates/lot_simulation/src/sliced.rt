@@ -1,6 +1,6 @@
 //! Worked rows for small scripts and their slices.
 ghost use Rattle.std.specs.Prelude.{◌≡◌, ◌++◌, [], ◌∷◌, replicate};
-ghost use Rattle.lot_simulation.specs.declared.script.Line.TheVariants as line;
+ghost use Rattle.lot_simulation.specs.declared.script.ScriptLine.TheVariants as line;
 ghost use Rattle.lot_simulation.specs.declared.script.ScriptTrap.TheVariants as trap;
 ghost use Rattle.lot_simulation.specs.declared.script.PortTrap.TheVariants.{Call};
 ghost use Rattle.lot_simulation.specs.Script.{unrolled, start, slice};

@@ -5,11 +5,11 @@ ghost use Rattle.lot_simulation.specs.WorkedSystems.{two_processors};
 ghost use Rattle.lot_simulation.specs.Script.{unrolled};
 ghost use Rattle.lot_simulation.specs.Script.Item.{Work, Set, Traps};
 ghost use Rattle.lot_simulation.specs.World.{IsLegal, last_answer};
-ghost use Rattle.lot_simulation.specs.World.Answer.{Answered, Ended};
+ghost use Rattle.lot_simulation.specs.World.TurnAnswer.{Answered, Ended};
 ghost use Rattle.lot_machine.specs.declared.event.Event.TheVariants as event;
 ghost use Rattle.lot_machine.specs.declared.reply.Reply.TheVariants as reply;
 ghost use Rattle.lot_machine.specs.declared.reply.Outcome.TheVariants as outcome;
-ghost use Rattle.lot_simulation.specs.declared.script.Line.TheVariants as line;
+ghost use Rattle.lot_simulation.specs.declared.script.ScriptLine.TheVariants as line;
 ghost use Rattle.lot_simulation.specs.declared.script.ScriptTrap.TheVariants as script_trap;
 
 /// Whole systems, turn by turn.

@@ -6,15 +6,15 @@ use Rattle.lot_simulation.specs.World.{Program, World}
 use Rattle.lot_engine.specs.Seen.{Seen, world_of}
 use Rattle.lot_playback.specs.Stages.{HasMade}
 use Rattle.lot_playback.specs.Turns.{program_turns}
-use Rattle.lot_system.specs.declared.form.Form.{Form}
+use Rattle.lot_system.specs.declared.form.ReportForm.{ReportForm}
 use Rattle.lot_system.specs.ReportTable.{last_table, scheduled_table, table_in}
 use Rattle.lot_system.specs.Last.{last_world}
 
-table-of : (form : Form) (program : Program) (d : Option ℕ) → IsSome d → table_in form (last_world program).state (timed_turns program) ≡ last_table form program d
+table-of : (form : ReportForm) (program : Program) (d : Option ℕ) → IsSome d → table_in form (last_world program).state (timed_turns program) ≡ last_table form program d
 table-of form program None wrong = absurd (let e : false ≡ true = wrong in cc)
 table-of form program (Some duration) is = refl
 
-module _ (form : Form) (program : Program) (seen : Seen) (has : HasMade program (program_turns program) seen) where
+module _ (form : ReportForm) (program : Program) (seen : Seen) (has : HasMade program (program_turns program) seen) where
   -- with a schedule
   pub scheduled-is : seen.setting.program.duration ≡ None → scheduled_table (world_of seen).state ≡ last_table form program program.duration
   scheduled-is untimed =

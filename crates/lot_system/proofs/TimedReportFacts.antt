@@ -35,20 +35,20 @@ use Rattle.lot_playback.specs.declared.timekeeper.Timekeeper.{Timekeeper}
 use Rattle.lot_engine.specs.Counted.{counted}
 use Rattle.lot_playback.specs.InTime.{AreRefusedTraps, AreSpans, IsAtEnd, moment_in}
 use Rattle.lot_engine.specs.Seen.{Seen, world_of}
-use Rattle.lot_system.specs.declared.form.Form.{Form}
-use Rattle.lot_system.specs.declared.form.Form.TheVariants.{CurrencyTable, Lines, Table}
+use Rattle.lot_system.specs.declared.form.ReportForm.{ReportForm}
+use Rattle.lot_system.specs.declared.form.ReportForm.TheVariants.{CurrencyTable, Lines, Table}
 use Rattle.lot_system.specs.ReportTable.{currency_shares_in, processor_in, shares_in, timed_currency_text, timed_thread_text, whole_in}
 use Rattle.lot_simulation.proofs.TimedRuns.{room-small, timed-made}
 use Rattle.lot_program.proofs.SeedLemmas.{range_with_len-push}
 use Rattle.lot_playback.proofs.FollowFacts.{room-few, within-room}
 
 -- the form of a table
-abbrev pub IsTable : Form → Type 0
+abbrev pub IsTable : ReportForm → Type 0
 IsTable Lines = ⊥
 IsTable Table = ⊤
 IsTable CurrencyTable = ⊤
 
-pub is-table : (form : Form) → (form ≡ Table) ⊎ (form ≡ CurrencyTable) → IsTable form
+pub is-table : (form : ReportForm) → (form ≡ Table) ⊎ (form ≡ CurrencyTable) → IsTable form
 is-table form (inl is) = rw is tt
 is-table form (inr is) = rw is tt
 
@@ -188,7 +188,7 @@ module _ (seen mid : Seen) (t : ℕ) (row : ThreadRow) (shares : ThreadShares) (
       ∙ sym (ap (λ o. option_map_or (timed_thread_text Lines s turns t) o []) there)
 
   -- the same for its row in the table
-  pub thread-record : (form : Form) → IsTable form → timed_thread_record t row shares ≡ option_map_or (timed_thread_text form (world_of seen).state (timed_turns seen.setting.program) t) (thread_row (world_of seen).state t) []
+  pub thread-record : (form : ReportForm) → IsTable form → timed_thread_record t row shares ≡ option_map_or (timed_thread_text form (world_of seen).state (timed_turns seen.setting.program) t) (thread_row (world_of seen).state t) []
   thread-record Table table = ap (timed_thread_record t row) own ∙ sym (ap (λ o. option_map_or (timed_thread_text Table (world_of seen).state (timed_turns seen.setting.program) t) o []) there)
   thread-record CurrencyTable table = ap (timed_thread_record t row) own ∙ sym (ap (λ o. option_map_or (timed_thread_text CurrencyTable (world_of seen).state (timed_turns seen.setting.program) t) o []) there)
   thread-record Lines table = absurd table

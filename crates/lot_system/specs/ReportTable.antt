@@ -19,15 +19,15 @@ use Rattle.lot_print.specs.declared.timed_totals.ThreadShares.{ThreadShares}
 use Rattle.lot_print.specs.declared.timed_totals.TimedProcessorTotal.{TimedProcessorTotal}
 use Rattle.lot_print.specs.declared.timed_totals.TimedWholeTotal.{TimedWholeTotal}
 use Rattle.lot_print.specs.TableRows.{header_row, thread_record, timed_currency_record, timed_thread_record}
-use Rattle.lot_system.specs.declared.form.Form.{Form}
-use Rattle.lot_system.specs.declared.form.Form.TheVariants.{CurrencyTable, Lines, Table}
+use Rattle.lot_system.specs.declared.form.ReportForm.{ReportForm}
+use Rattle.lot_system.specs.declared.form.ReportForm.TheVariants.{CurrencyTable, Lines, Table}
 use Rattle.lot_system.specs.Last.{last_world}
 use Rattle.lot_system.specs.Texts.{last_report}
 
 -- ---- threads
 
 -- a thread's line or row
-abbrev pub thread_text : Form → ℕ → ThreadRow → List ℕ
+abbrev pub thread_text : ReportForm → ℕ → ThreadRow → List ℕ
 thread_text Lines = thread_total
 thread_text Table = thread_record
 thread_text CurrencyTable = thread_record
@@ -48,7 +48,7 @@ shares_in s turns t = record {
 }
 
 -- the line or the row of a timed program's thread after these turns
-abbrev pub timed_thread_text : Form → State → List TimedTurn → ℕ → ThreadRow → List ℕ
+abbrev pub timed_thread_text : ReportForm → State → List TimedTurn → ℕ → ThreadRow → List ℕ
 timed_thread_text Lines s turns = timed_thread_total s turns (total_of ticks_in (actor_turns turns))
 timed_thread_text Table s turns = λ t row. timed_thread_record t row (shares_in s turns t)
 timed_thread_text CurrencyTable s turns = λ t row. timed_thread_record t row (shares_in s turns t)
@@ -65,7 +65,7 @@ currency_shares_in s turns c = record {
 }
 
 -- the line or the row of a timed program's currency after these turns
-abbrev pub timed_currency_text : Form → State → List TimedTurn → ℕ → List ℕ → List ℕ
+abbrev pub timed_currency_text : ReportForm → State → List TimedTurn → ℕ → List ℕ → List ℕ
 timed_currency_text Lines s turns = timed_currency_total s turns (total_of ticks_in (actor_turns turns))
 timed_currency_text Table s turns = λ c name. timed_currency_record c name (currency_shares_in s turns c)
 timed_currency_text CurrencyTable s turns = λ c name. timed_currency_record c name (currency_shares_in s turns c)
@@ -110,20 +110,20 @@ currency_table s turns =
     header_row columns.Currencies ++ lines_for (timed_currency_text CurrencyTable s turns) (currency_name s) (currency_numbers s)
 
 -- the table of a timed program, in this form: of its currencies, or of its threads
-abbrev pub table_in : Form → State → List TimedTurn → List ℕ
+abbrev pub table_in : ReportForm → State → List TimedTurn → List ℕ
 table_in Lines = timed_table
 table_in Table = timed_table
 table_in CurrencyTable = currency_table
 
 -- the table after all turns, of a schedule or of a timed program
-abbrev pub last_table : Form → Program → Option ℕ → List ℕ
+abbrev pub last_table : ReportForm → Program → Option ℕ → List ℕ
 last_table form program None = scheduled_table (last_world program).state
 last_table form program (Some duration) = table_in form (last_world program).state (timed_turns program)
 
 -- ---- the report
 
 -- the report after all turns, in this form
-abbrev pub report_text : Form → Program → List ℕ
+abbrev pub report_text : ReportForm → Program → List ℕ
 report_text Lines program = last_report program program.duration
 report_text Table program = last_table Table program program.duration
 report_text CurrencyTable program = last_table CurrencyTable program program.duration

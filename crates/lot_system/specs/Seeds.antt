@@ -33,8 +33,8 @@ use Rattle.lot_print.specs.declared.timed_totals.TimedProcessorTotal.{TimedProce
 use Rattle.lot_print.specs.declared.timed_totals.TimedWholeTotal.{TimedWholeTotal}
 use Rattle.lot_print.specs.TableRows.{figures_record, header_row}
 use Rattle.lot_system.specs.declared.figures.AllFigures.{AllFigures}
-use Rattle.lot_system.specs.declared.form.Form.{Form}
-use Rattle.lot_system.specs.declared.form.Form.TheVariants.{CurrencyTable, Lines, Table}
+use Rattle.lot_system.specs.declared.form.ReportForm.{ReportForm}
+use Rattle.lot_system.specs.declared.form.ReportForm.TheVariants.{CurrencyTable, Lines, Table}
 use Rattle.lot_system.specs.Kept.{one_more}
 use Rattle.lot_system.specs.Last.{all_ticks, last_world}
 use Rattle.lot_system.specs.ReportTable.{currency_shares_in, processor_in, shares_in, whole_in}
@@ -348,7 +348,7 @@ abbrev pub seeds_between : ℕ → ℕ → List ℕ
 seeds_between first last = first ∷ range_with_len (first + 1) (last - first)
 
 -- the table in this form, of a program with or without a duration; none for lines
-abbrev pub table_of : Form → Option ℕ → Option FiguresTable
+abbrev pub table_of : ReportForm → Option ℕ → Option FiguresTable
 table_of Lines duration = None
 table_of Table None = Some Schedule
 table_of Table (Some duration) = Some Timed
@@ -405,7 +405,7 @@ others_text table program seeds = subjects_text table Currency program seeds ++ 
 
 -- The report over a play with each seed from the first to the last: lines or a row for each thread that a play ended
 -- with, and for each such currency, and lines for the processors and for all actors.
-abbrev pub seeds_report : Form → ℕ → ℕ → Program → List ℕ
+abbrev pub seeds_report : ReportForm → ℕ → ℕ → Program → List ℕ
 seeds_report form first last program = report (table_of form program.duration)
   where
     report : Option FiguresTable → List ℕ

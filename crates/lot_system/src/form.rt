@@ -2,7 +2,7 @@
 
 /// The form of a report.
 #[derive(Clone, Copy, Debug)]
-pub enum Form {
+pub enum ReportForm {
     /// Lines of words and numbers.
     Lines,
     /// A table: the columns' names, and a row for each thread, with commas between the fields.

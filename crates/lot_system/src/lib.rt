@@ -30,7 +30,7 @@ mod warnings;
 pub use answers::{heading, printed_actor, put_answer, style_of};
 pub use ending::write_end;
 pub use first_few::FirstFew;
-pub use form::Form;
+pub use form::ReportForm;
 pub use inputs::{Played, play, play_bytes, refuse};
 pub use lack::Lack;
 pub use lines::play_program;

@@ -11,7 +11,7 @@ ghost use Rattle.lot_engine.specs.Seen.{world_of};
 ghost use Rattle.lot_io.specs.Writing.{Writes};
 ghost use Rattle.lot_system.specs.ReportTable.{thread_text};
 
-use crate::Form;
+use crate::ReportForm;
 use lot_engine::System;
 use lot_io::{IoFault, Watched};
 use lot_print::{
@@ -23,7 +23,7 @@ use std::io::Write;
 /// Writes each thread's line or row.
 pub(crate) fn write_threads<W: Write>(
     system: &mut System,
-    form: Form,
+    form: ReportForm,
     writer: &mut Watched<W>,
 ) -> Result<(), IoFault>
     requires { writer.old.failed ≡ false }
@@ -41,7 +41,7 @@ pub(crate) fn write_threads<W: Write>(
 /// Writes the line or the row of the thread with this number, if it exists.
 fn write_thread<W: Write>(
     system: &mut System,
-    form: Form,
+    form: ReportForm,
     number: u32,
     writer: &mut Watched<W>,
 ) -> Result<(), IoFault>
@@ -54,8 +54,8 @@ fn write_thread<W: Write>(
         return Ok(());
     };
     match form {
-        Form::Lines => write_thread_total(writer, number, &row),
-        Form::Table | Form::CurrencyTable => write_thread_record(writer, number, &row),
+        ReportForm::Lines => write_thread_total(writer, number, &row),
+        ReportForm::Table | ReportForm::CurrencyTable => write_thread_record(writer, number, &row),
     }
 }
 
@@ -117,7 +117,7 @@ pub fn write_report<W: Write>(system: &mut System, writer: &mut Watched<W>) -> R
         (reports.report system.old.setting.program system.old.history) }
 {
     write_report_line(writer)?;
-    write_threads(system, Form::Lines, writer)?;
+    write_threads(system, ReportForm::Lines, writer)?;
     write_processors(system, writer)?;
     write_total(system, writer)
 }

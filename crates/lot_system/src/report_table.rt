@@ -12,7 +12,7 @@ ghost use Rattle.lot_system.specs.ReportTable.{currency_table, last_table, sched
 
 use crate::reports::note_ended;
 use crate::timed_currencies::write_currencies;
-use crate::{Form, Warnings, report, timed_report};
+use crate::{ReportForm, Warnings, report, timed_report};
 use lot_engine::System;
 use lot_io::{IoFault, Watched, flush};
 use lot_playback::{Order, Playback, Timekeeper};
@@ -25,7 +25,7 @@ use std::io::Write;
 pub(crate) fn end_with_table<W: Write>(
     program: &Program,
     playback: Playback,
-    form: Form,
+    form: ReportForm,
     warnings: &mut Warnings,
     writer: &mut Watched<W>,
 ) -> Result<(), IoFault>
@@ -47,7 +47,7 @@ fn write_flushed<W: Write>(
     program: &Program,
     system: &mut System,
     order: &Order,
-    form: Form,
+    form: ReportForm,
     writer: &mut Watched<W>,
 ) -> Result<(), IoFault>
     requires made { HasMade program.now (program_turns program.now) system.old }
@@ -67,7 +67,7 @@ fn write_table<W: Write>(
     program: &Program,
     system: &mut System,
     order: &Order,
-    form: Form,
+    form: ReportForm,
     writer: &mut Watched<W>,
 ) -> Result<(), IoFault>
     requires made { HasMade program.now (program_turns program.now) system.old }
@@ -91,14 +91,14 @@ fn write_scheduled<W: Write>(system: &mut System, writer: &mut Watched<W>) -> Re
         (scheduled_table (world_of system.old).state) }
 {
     write_header(writer, Columns::Totals)?;
-    report::write_threads(system, Form::Table, writer)
+    report::write_threads(system, ReportForm::Table, writer)
 }
 
 /// Writes the table of a timed program: that of its currencies if the form says so, and otherwise that of its threads.
 fn write_in_form<W: Write>(
     system: &mut System,
     timekeeper: &Timekeeper,
-    form: Form,
+    form: ReportForm,
     writer: &mut Watched<W>,
 ) -> Result<(), IoFault>
     requires end { IsAtEnd system.old timekeeper.now }
@@ -108,8 +108,8 @@ fn write_in_form<W: Write>(
         (table_in form (world_of system.old).state (timed_turns system.old.setting.program)) }
 {
     match form {
-        Form::CurrencyTable => write_currencies_table(system, timekeeper, writer),
-        Form::Lines | Form::Table => write_timed(system, timekeeper, writer),
+        ReportForm::CurrencyTable => write_currencies_table(system, timekeeper, writer),
+        ReportForm::Lines | ReportForm::Table => write_timed(system, timekeeper, writer),
     }
 }
 
@@ -126,7 +126,7 @@ fn write_timed<W: Write>(
         (timed_table (world_of system.old).state (timed_turns system.old.setting.program)) }
 {
     write_header(writer, Columns::TimedTotals)?;
-    timed_report::write_threads(system, timekeeper, Form::Table, writer)
+    timed_report::write_threads(system, timekeeper, ReportForm::Table, writer)
 }
 
 /// Writes the table of a timed program's currencies: the columns' names, and each currency's row.
@@ -141,5 +141,5 @@ fn write_currencies_table<W: Write>(
         (currency_table (world_of system.now).state (timed_turns system.now.setting.program)) }
 {
     write_header(writer, Columns::Currencies)?;
-    write_currencies(system, timekeeper, Form::CurrencyTable, writer)
+    write_currencies(system, timekeeper, ReportForm::CurrencyTable, writer)
 }

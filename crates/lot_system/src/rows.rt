@@ -3,7 +3,7 @@ ghost use Rattle.std.specs.Prelude.{◌≡◌, None, Some, [], ◌∷◌};
 ghost use Rattle.lot_print.specs.declared.table_rows.FiguresTable.TheVariants.{OfCurrencies, Schedule, Timed};
 ghost use Rattle.lot_system.specs.Seeds.{end_time, made_time, no_spans, no_spread, percent_of, seeds_between};
 ghost use Rattle.lot_system.specs.Seeds.{spread_after, spread_with, table_of, waits_with};
-ghost use Rattle.lot_system.specs.declared.form.Form.TheVariants.{CurrencyTable, Lines, Table};
+ghost use Rattle.lot_system.specs.declared.form.ReportForm.TheVariants.{CurrencyTable, Lines, Table};
 
 /// A figure of 5, followed by one of 3. The least of one play is its figure. A play without the figure changes nothing.
 pub fn spreads()

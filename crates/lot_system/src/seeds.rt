@@ -15,7 +15,7 @@ ghost use Rattle.lot_print.specs.declared.figures.Subject.TheVariants as subject
 use crate::figures::{AllFigures, add_play};
 use crate::reports::note_ended;
 use crate::summary::note_turns;
-use crate::{Form, Played, Warnings};
+use crate::{ReportForm, Played, Warnings};
 use lot_io::{IoFault, Watched, flush};
 use lot_playback::Playback;
 use lot_print::{
@@ -40,7 +40,7 @@ pub fn report_seeds<W: Write>(
     alloc: Global,
     program: &Program,
     seeds: &Seeds,
-    form: Form,
+    form: ReportForm,
     warnings: &mut Warnings,
     writer: &mut Watched<W>,
 ) -> Result<Played, IoFault>
@@ -189,14 +189,14 @@ fn add_playback(
 }
 
 /// The table in this form of the program, or none for lines.
-fn table_of(form: Form, program: &Program) -> Option<FiguresTable>
+fn table_of(form: ReportForm, program: &Program) -> Option<FiguresTable>
     ensures { result ≡ seeds_specs.table_of form program.now.duration }
 {
     match (form, program.duration()) {
-        (Form::Lines, _) => None,
-        (Form::Table | Form::CurrencyTable, None) => Some(FiguresTable::Schedule),
-        (Form::Table, Some(_)) => Some(FiguresTable::Timed),
-        (Form::CurrencyTable, Some(_)) => Some(FiguresTable::OfCurrencies),
+        (ReportForm::Lines, _) => None,
+        (ReportForm::Table | ReportForm::CurrencyTable, None) => Some(FiguresTable::Schedule),
+        (ReportForm::Table, Some(_)) => Some(FiguresTable::Timed),
+        (ReportForm::CurrencyTable, Some(_)) => Some(FiguresTable::OfCurrencies),
     }
 }
 
@@ -205,7 +205,7 @@ fn write_report<W: Write>(
     program: &Program,
     seeds: &Seeds,
     all: &AllFigures,
-    form: Form,
+    form: ReportForm,
     writer: &mut Watched<W>,
 ) -> Result<(), IoFault>
     requires are { AreAllFigures program.now (seeds_between seeds.now.first seeds.now.last) all.now }

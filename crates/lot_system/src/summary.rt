@@ -9,7 +9,7 @@ ghost use Rattle.lot_playback.specs.Stages.{HasMade, turns_left};
 ghost use Rattle.lot_playback.specs.Turns.{program_turns};
 
 use crate::report_table::end_with_table;
-use crate::{Form, Played, Warnings, end_play, play_through};
+use crate::{ReportForm, Played, Warnings, end_play, play_through};
 use lot_engine::System;
 use lot_io::{IoFault, Watched};
 use lot_playback::{Observer, Playback, Turn};
@@ -73,7 +73,7 @@ pub(crate) fn note_turns(program: &Program, playback: &mut Playback, warnings: &
 pub fn report_program<W: Write>(
     alloc: Global,
     program: &Program,
-    form: Form,
+    form: ReportForm,
     warnings: &mut Warnings,
     writer: &mut Watched<W>,
 ) -> Result<Played, IoFault>
@@ -95,7 +95,7 @@ pub fn report_program<W: Write>(
 fn end_in_form<W: Write>(
     program: &Program,
     playback: Playback,
-    form: Form,
+    form: ReportForm,
     warnings: &mut Warnings,
     writer: &mut Watched<W>,
 ) -> Result<(), IoFault>
@@ -107,8 +107,8 @@ fn end_in_form<W: Write>(
     ensures stopped { OnOk result (warnings.new.stopped ≡ (warnings.old.stopped || ends_refused program.now)) }
 {
     match form {
-        Form::Lines => end_play(program, playback, warnings, writer),
-        Form::Table | Form::CurrencyTable => {
+        ReportForm::Lines => end_play(program, playback, warnings, writer),
+        ReportForm::Table | ReportForm::CurrencyTable => {
             end_with_table(program, playback, form, warnings, writer)
         }
     }

@@ -11,7 +11,7 @@ ghost use Rattle.lot_io.specs.Writing.{Writes};
 ghost use Rattle.lot_playback.specs.InTime.{IsAtEnd};
 ghost use Rattle.lot_system.specs.ReportTable.{currency_shares_in, timed_currency_text};
 
-use crate::Form;
+use crate::ReportForm;
 use lot_engine::System;
 use lot_io::{IoFault, Watched};
 use lot_playback::Timekeeper;
@@ -22,7 +22,7 @@ use std::io::Write;
 pub(crate) fn write_currencies<W: Write>(
     system: &System,
     timekeeper: &Timekeeper,
-    form: Form,
+    form: ReportForm,
     writer: &mut Watched<W>,
 ) -> Result<(), IoFault>
     requires end { IsAtEnd system.now timekeeper.now }
@@ -41,7 +41,7 @@ pub(crate) fn write_currencies<W: Write>(
 fn write_currency<W: Write>(
     system: &System,
     timekeeper: &Timekeeper,
-    form: Form,
+    form: ReportForm,
     currency: u32,
     writer: &mut Watched<W>,
 ) -> Result<(), IoFault>
@@ -58,8 +58,8 @@ fn write_currency<W: Write>(
     };
     let shares = shares_of(system, timekeeper, currency);
     match form {
-        Form::Lines => write_timed_currency_total(writer, currency, &name, shares),
-        Form::Table | Form::CurrencyTable => {
+        ReportForm::Lines => write_timed_currency_total(writer, currency, &name, shares),
+        ReportForm::Table | ReportForm::CurrencyTable => {
             write_timed_currency_record(writer, currency, &name, shares)
         }
     }

@@ -16,7 +16,7 @@ ghost use Rattle.lot_engine.specs.Seen.{world_of};
 ghost use Rattle.lot_io.specs.Writing.{Writes};
 ghost use Rattle.lot_system.specs.ReportTable.{processor_in, shares_in, timed_thread_text, whole_in};
 
-use crate::Form;
+use crate::ReportForm;
 use crate::timed_currencies::write_currencies;
 use lot_engine::System;
 use lot_io::{IoFault, Watched};
@@ -96,8 +96,8 @@ fn write_lines<W: Write>(
 {
     write_report_line(writer)?;
     let end = ended_at(program, system, timekeeper);
-    write_threads(system, timekeeper, Form::Lines, writer)?;
-    write_currencies(system, timekeeper, Form::Lines, writer)?;
+    write_threads(system, timekeeper, ReportForm::Lines, writer)?;
+    write_currencies(system, timekeeper, ReportForm::Lines, writer)?;
     write_processors(system, timekeeper, end, writer)?;
     write_total(system, timekeeper, writer)
 }
@@ -119,7 +119,7 @@ pub(crate) fn ended_at(program: &Program, system: &System, timekeeper: &Timekeep
 pub(crate) fn write_threads<W: Write>(
     system: &mut System,
     timekeeper: &Timekeeper,
-    form: Form,
+    form: ReportForm,
     writer: &mut Watched<W>,
 ) -> Result<(), IoFault>
     requires end { IsAtEnd system.old timekeeper.now }
@@ -140,7 +140,7 @@ pub(crate) fn write_threads<W: Write>(
 fn write_thread<W: Write>(
     system: &mut System,
     timekeeper: &Timekeeper,
-    form: Form,
+    form: ReportForm,
     thread: u32,
     all_values: u128,
     writer: &mut Watched<W>,
@@ -160,8 +160,8 @@ fn write_thread<W: Write>(
         return Ok(());
     };
     match form {
-        Form::Lines => write_timed_thread_total(writer, thread, &row, shares),
-        Form::Table | Form::CurrencyTable => {
+        ReportForm::Lines => write_timed_thread_total(writer, thread, &row, shares),
+        ReportForm::Table | ReportForm::CurrencyTable => {
             write_timed_thread_record(writer, thread, &row, shares)
         }
     }

@@ -5,7 +5,7 @@ use Rattle.std.specs.Option.{ForSome}
 use Rattle.lot_simulation.specs.declared.input.InputRefusal.{InputRefusal}
 use Rattle.lot_simulation.specs.declared.input.InputRefusal.TheVariants.{BadLine, TooLong}
 use Rattle.lot_machine.specs.declared.command.Command.{Command}
-use Rattle.lot_simulation.specs.declared.script.Line.{Line}
+use Rattle.lot_simulation.specs.declared.script.ScriptLine.{ScriptLine}
 use Rattle.lot_machine.specs.Bounds.{IsBetween}
 use Rattle.lot_simulation.specs.Grammar.{Phrase, add_command, add_named, add_runs, is_alone, is_full, names_ticket, run_of, with_line}
 use Rattle.lot_simulation.specs.Reading.{Reading, NamedScript, OpenScript, ◌>>=◌, checked, each_pair}
@@ -73,7 +73,7 @@ abbrev pub phrase_at : List ℕ → List (List ℕ) → Phrase
 phrase_at word tokens = record { word = word; tokens = take (argument_count word) tokens }
 
 -- the reading after the script gets this line, which may open or end a loop
-abbrev pub line_added : Reading → OpenScript → Line → Result Reading InputRefusal
+abbrev pub line_added : Reading → OpenScript → ScriptLine → Result Reading InputRefusal
 line_added r s l = checked ((is_full s, TooLong) ∷ []) (within_script r (record (with_line s l) { loops = loops_after s.loops l }))
 
 -- the reading after the schedule gets each pair of tokens as a run

@@ -11,7 +11,7 @@ use crate::number::only_number;
 use crate::reading::{NamedScript, OpenScript, Reading};
 use crate::tokens::Tokens;
 use lot_script::ScriptBuilder;
-use lot_simulation::{InputRefusal, Line, MutexTrap, PortTrap, ScriptTrap, ScriptWord, ranges};
+use lot_simulation::{InputRefusal, ScriptLine, MutexTrap, PortTrap, ScriptTrap, ScriptWord, ranges};
 
 /// A line of this script, which stays open until `endscript`.
 pub(crate) fn script_line(
@@ -45,7 +45,7 @@ fn compute(reading: &mut Reading, script: OpenScript, tokens: Tokens<'_>) -> Res
         (script_line_read (within_script reading.old script) script ScriptWord.Compute tokens.entry) }
 {
     let ticks = only_number(ranges::WORK, tokens)?;
-    add_line(reading, script, Line::Compute(ticks))
+    add_line(reading, script, ScriptLine::Compute(ticks))
 }
 
 /// `set NUMBER`
@@ -55,7 +55,7 @@ fn set(reading: &mut Reading, script: OpenScript, tokens: Tokens<'_>) -> Result<
         (script_line_read (within_script reading.old script) script ScriptWord.Set tokens.entry) }
 {
     let number = only_number(ranges::NUMBER, tokens)?;
-    add_line(reading, script, Line::Set(number))
+    add_line(reading, script, ScriptLine::Set(number))
 }
 
 /// `add NUMBER`
@@ -65,7 +65,7 @@ fn add(reading: &mut Reading, script: OpenScript, tokens: Tokens<'_>) -> Result<
         (script_line_read (within_script reading.old script) script ScriptWord.Add tokens.entry) }
 {
     let number = only_number(ranges::NUMBER, tokens)?;
-    add_line(reading, script, Line::Add(number))
+    add_line(reading, script, ScriptLine::Add(number))
 }
 
 /// `loop TIMES`
@@ -82,7 +82,7 @@ fn begin_loop(
     if 8 <= script.builder.open_loops() {
         return Err(LineFault::Refused(InputRefusal::TooDeep));
     }
-    add_line(reading, script, Line::Loop(times))
+    add_line(reading, script, ScriptLine::Loop(times))
 }
 
 /// `end`
@@ -95,7 +95,7 @@ fn end_loop(reading: &mut Reading, script: OpenScript, tokens: Tokens<'_>) -> Re
     if script.builder.open_loops() == 0 {
         return Err(LineFault::Refused(InputRefusal::BadLine));
     }
-    add_line(reading, script, Line::End)
+    add_line(reading, script, ScriptLine::End)
 }
 
 /// `yield`
@@ -105,7 +105,7 @@ fn give_way(reading: &mut Reading, script: OpenScript, tokens: Tokens<'_>) -> Re
         (script_line_read (within_script reading.old script) script ScriptWord.Yield tokens.entry) }
 {
     tokens.none()?;
-    add_line(reading, script, Line::Trap(ScriptTrap::Yield))
+    add_line(reading, script, ScriptLine::Trap(ScriptTrap::Yield))
 }
 
 /// `reply`
@@ -115,7 +115,7 @@ fn reply(reading: &mut Reading, script: OpenScript, tokens: Tokens<'_>) -> Resul
         (script_line_read (within_script reading.old script) script ScriptWord.Reply tokens.entry) }
 {
     tokens.none()?;
-    add_line(reading, script, Line::Trap(ScriptTrap::Reply))
+    add_line(reading, script, ScriptLine::Trap(ScriptTrap::Reply))
 }
 
 /// `call PORT`, `receive PORT` or `serve PORT`
@@ -131,7 +131,7 @@ fn at_port(
 {
     let port = tokens.only()?;
     let port = known_name(reading.ports.as_slice(), port)?;
-    add_line(reading, script, Line::Trap(ScriptTrap::AtPort(asked, port)))
+    add_line(reading, script, ScriptLine::Trap(ScriptTrap::AtPort(asked, port)))
 }
 
 /// `lock MUTEX` or `unlock MUTEX`
@@ -150,7 +150,7 @@ fn on_mutex(
     add_line(
         reading,
         script,
-        Line::Trap(ScriptTrap::OnMutex(asked, mutex)),
+        ScriptLine::Trap(ScriptTrap::OnMutex(asked, mutex)),
     )
 }
 
@@ -161,7 +161,7 @@ fn sleep(reading: &mut Reading, script: OpenScript, tokens: Tokens<'_>) -> Resul
         (script_line_read (within_script reading.old script) script ScriptWord.Sleep tokens.entry) }
 {
     let ticks = only_number(ranges::SLEEP, tokens)?;
-    add_line(reading, script, Line::Trap(ScriptTrap::Sleep(ticks)))
+    add_line(reading, script, ScriptLine::Trap(ScriptTrap::Sleep(ticks)))
 }
 
 /// `endscript`
@@ -190,7 +190,7 @@ fn end_script(
 }
 
 /// Adds this line to the script, unless it has as many lines as are allowed.
-fn add_line(reading: &mut Reading, mut script: OpenScript, line: Line) -> Result<(), LineFault>
+fn add_line(reading: &mut Reading, mut script: OpenScript, line: ScriptLine) -> Result<(), LineFault>
     requires room { length reading.old.scripts < 256 }
     requires number { IsLine line }
     requires nesting { CanNest script.loops line }

@@ -7,7 +7,7 @@ use crate::fault_of;
 use lot_machine::{Command, CurrencyRef, Kind, Limits, Name, Sizes, TargetRef, ThreadRef};
 use lot_program::{Commands, Program, Seed};
 use lot_script::Script;
-use lot_simulation::{InputFault, InputRefusal, Line, MutexTrap, PortTrap, ScriptTrap};
+use lot_simulation::{InputFault, InputRefusal, ScriptLine, MutexTrap, PortTrap, ScriptTrap};
 use lot_text::{ParseFault, parse, parse_seeded};
 use same::{check_same, check_same_at};
 use std::alloc::Global;
@@ -36,7 +36,7 @@ struct Said<'a> {
     sizes: Sizes,
     seeds: &'a [u32],
     turns: u32,
-    scripts: &'a [&'a [Line]],
+    scripts: &'a [&'a [ScriptLine]],
     commands: &'a [Asked<'a>],
     schedule: &'a [u8],
     duration: Option<u32>,
@@ -137,7 +137,7 @@ fn check_names(rt: &impl Abort, program: &Program, said: &Said<'_>) {
     check_same(rt, &program.is_strict(), &said.strict);
 }
 
-fn check_scripts(rt: &impl Abort, scripts: &[Script], wanted: &[&[Line]]) {
+fn check_scripts(rt: &impl Abort, scripts: &[Script], wanted: &[&[ScriptLine]]) {
     check_same(rt, &scripts.len(), &wanted.len());
     for (script, lines) in scripts.iter().zip(wanted) {
         check_items(rt, script.lines(), lines);
@@ -193,7 +193,7 @@ const FIRST_RUN_SAYS: &Said<'static> = &Said {
     },
     seeds: &[1],
     turns: 0,
-    scripts: &[&[Line::Compute(1000)]],
+    scripts: &[&[ScriptLine::Compute(1000)]],
     commands: &[
         Asked::MakeTicket(10, "base"),
         Asked::MakeThread("a", 1),
@@ -302,17 +302,17 @@ const WHOLE_GRAMMAR_SAYS: &Said<'static> = &Said {
     turns: 10000,
     scripts: &[
         &[
-            Line::Set(1),
-            Line::Loop(2),
-            Line::Add(3),
-            Line::Compute(4),
-            Line::Trap(ScriptTrap::AtPort(PortTrap::Call, 1)),
-            Line::End,
-            Line::Trap(ScriptTrap::AtPort(PortTrap::Receive, 2)),
-            Line::Trap(ScriptTrap::Reply),
-            Line::Trap(ScriptTrap::OnMutex(MutexTrap::Lock, 1)),
-            Line::Trap(ScriptTrap::OnMutex(MutexTrap::Unlock, 2)),
-            Line::Trap(ScriptTrap::Yield),
+            ScriptLine::Set(1),
+            ScriptLine::Loop(2),
+            ScriptLine::Add(3),
+            ScriptLine::Compute(4),
+            ScriptLine::Trap(ScriptTrap::AtPort(PortTrap::Call, 1)),
+            ScriptLine::End,
+            ScriptLine::Trap(ScriptTrap::AtPort(PortTrap::Receive, 2)),
+            ScriptLine::Trap(ScriptTrap::Reply),
+            ScriptLine::Trap(ScriptTrap::OnMutex(MutexTrap::Lock, 1)),
+            ScriptLine::Trap(ScriptTrap::OnMutex(MutexTrap::Unlock, 2)),
+            ScriptLine::Trap(ScriptTrap::Yield),
         ],
         &[],
     ],
@@ -370,12 +370,12 @@ const TIMED_SAYS: &Said<'static> = &Said {
     seeds: &[48271, 182605794],
     turns: 5,
     scripts: &[&[
-        Line::Loop(2),
-        Line::Trap(ScriptTrap::AtPort(PortTrap::Serve, 1)),
-        Line::Trap(ScriptTrap::Yield),
-        Line::End,
-        Line::Trap(ScriptTrap::Sleep(4294967295)),
-        Line::Trap(ScriptTrap::Sleep(1)),
+        ScriptLine::Loop(2),
+        ScriptLine::Trap(ScriptTrap::AtPort(PortTrap::Serve, 1)),
+        ScriptLine::Trap(ScriptTrap::Yield),
+        ScriptLine::End,
+        ScriptLine::Trap(ScriptTrap::Sleep(4294967295)),
+        ScriptLine::Trap(ScriptTrap::Sleep(1)),
     ]],
     commands: &[
         Asked::MakeThread("a", 1),

@@ -7,8 +7,8 @@ use Rattle.lot_machine.specs.declared.record.Record.{Record}
 use Rattle.lot_machine.specs.declared.record.Thread.{Thread}
 use Rattle.lot_machine.specs.State.{live_in}
 use Rattle.lot_graph.specs.Changes.{with_lends}
-use Rattle.lot_value.specs.declared.change.Change.{Change}
-use Rattle.lot_value.specs.declared.change.Change.TheVariants.{PutThread}
+use Rattle.lot_value.specs.declared.change.GraphChange.{GraphChange}
+use Rattle.lot_value.specs.declared.change.GraphChange.TheVariants.{PutThread}
 use Rattle.lot_value.specs.Caches.{IsStale}
 use Rattle.lot_value.specs.Changing.{StaleBy, applied, lends_after, live_after}
 use Rattle.lot_value.specs.Valued.{Valued}
@@ -16,16 +16,16 @@ use Rattle.lot_draw.specs.Queued.{Queued}
 use Rattle.lot_threads.specs.Threaded.{AreOf, LeavesThreads, lends_in}
 use Rattle.lot_threads.proofs.Together.{IsReached, graph-is, graph-of, stale-of}
 
-lends-stay : (lends : List Lend) (c : Change) → LeavesThreads c → lends_after lends c ≡ lends
+lends-stay : (lends : List Lend) (c : GraphChange) → LeavesThreads c → lends_after lends c ≡ lends
 lends-stay lends (PutThread t lend live) leaves = absurd leaves
 lends-stay lends other leaves = refl
 
-lives-stay : (lives : List Bool) (c : Change) → LeavesThreads c → live_after lives c ≡ lives
+lives-stay : (lives : List Bool) (c : GraphChange) → LeavesThreads c → live_after lives c ≡ lives
 lives-stay lives (PutThread t lend live) leaves = absurd leaves
 lives-stay lives other leaves = refl
 
 module _ {without : Sizes} (v new : Valued) (q : Queued) (threads : List (Option Thread)) (records : List Record) (runners : List (Option ℕ)) (is : AreOf without v q threads records runners)
-    (c : Change) (leaves : LeavesThreads c) (done : new ≡ applied v c new.known.stale) (stale : StaleBy c v new) where
+    (c : GraphChange) (leaves : LeavesThreads c) (done : new ≡ applied v c new.known.stale) (stale : StaleBy c v new) where
   limit : new.now.thread_limit ≡ v.now.thread_limit
   limit = ap (λ (x : Valued). x.now.thread_limit) done
 

@@ -21,8 +21,8 @@ use Rattle.lot_value.specs.declared.meter.Meter.{Meter}
 use Rattle.lot_value.specs.Caches.{edges_into_all}
 use Rattle.lot_value.specs.Counts.{counted_up}
 use Rattle.lot_value.specs.Valued.{Valued}
-use Rattle.lot_value.specs.declared.change.Change.{Change}
-use Rattle.lot_value.specs.declared.change.Change.TheVariants.{PutThread}
+use Rattle.lot_value.specs.declared.change.GraphChange.{GraphChange}
+use Rattle.lot_value.specs.declared.change.GraphChange.TheVariants.{PutThread}
 use Rattle.lot_value.specs.Changing.{CanLend, HoldsOfOwners, MovesNothing, currencies_after, tickets_after, owners_after}
 use Rattle.lot_draw.specs.declared.competing.Winner.{Winner}
 use Rattle.lot_draw.specs.Competing.{AreReady, winner_among}
@@ -114,17 +114,17 @@ MakesStaleIn old new =
 
 -- the change leaves the threads as they are: it sets neither a lend nor whether a thread is live, as these follow
 -- from records
-abbrev pub LeavesThreads : Change → Type 0
+abbrev pub LeavesThreads : GraphChange → Type 0
 LeavesThreads (PutThread t lend live) = ⊥
 LeavesThreads other = ⊤
 
 -- the threads after such a change, with these stale nodes
-abbrev pub applied_in : Threaded → Change → List Node → Threaded
+abbrev pub applied_in : Threaded → GraphChange → List Node → Threaded
 applied_in v c stale = record v { currencies = currencies_after v.currencies c; tickets = tickets_after v.tickets c; owners = owners_after v.owners c; stale = stale }
 
 -- Stale nodes stay stale, new ones are reached from touched nodes, none if the change moves nothing; both owners of a
 -- mutex that moves are stale.
-pub record StaleByIn (change : Change) (old new : Threaded) : Type 0 where
+pub record StaleByIn (change : GraphChange) (old new : Threaded) : Type 0 where
   pub kept : (node : Node) → IsStaleIn old node → IsStaleIn new node
   pub reached : MakesStaleIn old new
   pub same : MovesNothing change → new.stale ≡ old.stale

@@ -13,7 +13,7 @@ ghost use Rattle.lot_threads.specs.Timely.{IsBelowQuantum, IsTimely};
 
 use lot_draw::Competitor;
 use lot_machine::{Lend, Limits, Node, Record, Status};
-use lot_value::{Change, ValuedGraph};
+use lot_value::{GraphChange, ValuedGraph};
 
 /// The receiver of a thread's lend: a served thread's server, a waiting thread's mutex, the holder of a queued thread's
 /// port if queued calls lend, or nobody, as always without lending (3.1, 4.6, 6.1).
@@ -62,7 +62,7 @@ pub(crate) fn follow_status(
     let live = is_live(now);
     let lend = lend_of(limits, now);
     if live != is_live(before) || lend != lend_of(limits, before) {
-        graph.apply(Change::PutThread { thread, lend, live });
+        graph.apply(GraphChange::PutThread { thread, lend, live });
     }
 }
 

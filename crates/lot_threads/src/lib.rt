@@ -13,6 +13,6 @@ mod moves;
 mod runners;
 mod threads;
 
-pub use effect::Effect;
+pub use effect::TrapEffect;
 pub use runners::Runner;
 pub use threads::Threads;

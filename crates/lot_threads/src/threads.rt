@@ -35,7 +35,7 @@ use lot_machine::{
     CurrencyNumber, Limits, Node, Processor, Record, Status, Target, Thread, ThreadNumber,
     TicketNumber, index_of,
 };
-use lot_value::{Change, Meter, ValuedGraph};
+use lot_value::{GraphChange, Meter, ValuedGraph};
 use std::alloc::{AllocError, Global};
 use std::marker::Model;
 use std::mem::size_of;
@@ -220,7 +220,7 @@ impl Threads {
     /// Makes one change of tickets, currencies or owners, and makes stale the nodes that depend on it. Computes no
     /// value.
     #[inline(always)]
-    pub fn apply(&mut self, change: Change)
+    pub fn apply(&mut self, change: GraphChange)
         requires allowed { CanApply (limited_in self.old) (live_in self.old.records) change }
         requires others { LeavesThreads change }
         ensures applied { self.new ≡ applied_in self.old change self.new.stale }

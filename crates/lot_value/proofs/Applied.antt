@@ -10,8 +10,8 @@ use Rattle.lot_machine.specs.Numbered.{set_number}
 use Rattle.lot_graph.specs.Graphs.{LimitedFunding, IsCycle, IsTarget}
 use Rattle.lot_graph.specs.Changes.{with_lends}
 use Rattle.lot_active.specs.Activity.{Activity}
-use Rattle.lot_value.specs.declared.change.Change.{Change}
-use Rattle.lot_value.specs.declared.change.Change.TheVariants.{PutThread}
+use Rattle.lot_value.specs.declared.change.GraphChange.{GraphChange}
+use Rattle.lot_value.specs.declared.change.GraphChange.TheVariants.{PutThread}
 use Rattle.lot_value.specs.Caches.{Known, IsStale}
 use Rattle.lot_value.specs.Changing.{CanTarget, MovesNothing, HoldsOfOwners, StaleBy, applied, graph_after, live_after}
 use Rattle.lot_value.specs.Valued.{Valued, Becomes, Follows, FollowsGraph, FollowsLives, live_of}
@@ -43,19 +43,19 @@ follows-stays w now graph v c is stays = record { now = is; live = stays.live; k
 -- ---- changes
 
 -- the change is made
-pub record Done (change : Change) (old new : Valued) : Type 0 where
+pub record Done (change : GraphChange) (old new : Valued) : Type 0 where
   pub applied_to : new ≡ applied old change new.known.stale
   pub stale : StaleBy change old new
 
 -- one that makes the graph what it is to be, and moves something
-pub done : (change : Change) (old new : Valued) → Becomes old new (graph_after old.now change) (live_after old.live change) → (¬ MovesNothing change) → HoldsOfOwners change (IsStale new.known) → Done change old new
+pub done : (change : GraphChange) (old new : Valued) → Becomes old new (graph_after old.now change) (live_after old.live change) → (¬ MovesNothing change) → HoldsOfOwners change (IsStale new.known) → Done change old new
 done change old new is moves owners = record {
   applied_to = parts new _ _ _ is.now is.live is.known;
   stale = record { kept = is.kept; reached = is.reached; same = λ none. absurd (moves none); owners = owners };
 }
 
 -- one that moves nothing
-pub done-stays : (change : Change) (w now : LimitedFunding) (v : Activity) (c : Known) → now ≡ graph_after w change → live_after (live_of w v) change ≡ live_of w v → HoldsOfOwners change (IsStale c) → Stays now v c (live_of w v)
+pub done-stays : (change : GraphChange) (w now : LimitedFunding) (v : Activity) (c : Known) → now ≡ graph_after w change → live_after (live_of w v) change ≡ live_of w v → HoldsOfOwners change (IsStale c) → Stays now v c (live_of w v)
     → Done change (seen w v c) (seen now v c)
 done-stays change w now v c graph life owners stays = record {
   applied_to = parts (seen now v c) _ _ _ graph (stays.live ∙ sym life) refl;

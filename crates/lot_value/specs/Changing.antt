@@ -12,20 +12,20 @@ use Rattle.lot_machine.specs.Funding.{Funding, ticket_at, target_of, owner_of, i
 use Rattle.lot_machine.specs.Lends.{IsLive}
 use Rattle.lot_machine.specs.Equations.{Reaches}
 use Rattle.lot_graph.specs.Graphs.{LimitedFunding, IsCurrency, IsUserCurrency, IsThread, IsMutex, IsTarget, IsCycle, IsBorrower, LendReaches}
-use Rattle.lot_value.specs.declared.change.Change.{Change}
-use Rattle.lot_value.specs.declared.change.Change.TheVariants.{NewTicket, ReuseTicket, PutTicket, SetAmount, DropTicket, NewCurrency, ReuseCurrency, DropCurrency, PutOwner, MoveOwner, PutThread}
+use Rattle.lot_value.specs.declared.change.GraphChange.{GraphChange}
+use Rattle.lot_value.specs.declared.change.GraphChange.TheVariants.{NewTicket, ReuseTicket, PutTicket, SetAmount, DropTicket, NewCurrency, ReuseCurrency, DropCurrency, PutOwner, MoveOwner, PutThread}
 use Rattle.lot_value.specs.Caches.{IsStale}
 use Rattle.lot_value.specs.Valued.{Valued, MakesStale}
 
 -- the currencies after a change
-abbrev pub currencies_after : List Bool → Change → List Bool
+abbrev pub currencies_after : List Bool → GraphChange → List Bool
 currencies_after there NewCurrency = there ++ true ∷ []
 currencies_after there (ReuseCurrency c) = slice_set there c true
 currencies_after there (DropCurrency c) = slice_set there c false
 currencies_after there other = there
 
 -- the tickets after a change
-abbrev pub tickets_after : List (Option Ticket) → Change → List (Option Ticket)
+abbrev pub tickets_after : List (Option Ticket) → GraphChange → List (Option Ticket)
 tickets_after tickets (NewTicket t) = tickets ++ Some t ∷ []
 tickets_after tickets (ReuseTicket n t) = set_number tickets n (Some t)
 tickets_after tickets (PutTicket n t) = set_number tickets n (Some t)
@@ -34,31 +34,31 @@ tickets_after tickets (DropTicket n) = set_number tickets n None
 tickets_after tickets other = tickets
 
 -- the threads' lends after a change
-abbrev pub lends_after : List Lend → Change → List Lend
+abbrev pub lends_after : List Lend → GraphChange → List Lend
 lends_after lends (PutThread t lend live) = set_number lends t lend
 lends_after lends other = lends
 
 -- the owner of each mutex after a change
-abbrev pub owners_after : List (Option ℕ) → Change → List (Option ℕ)
+abbrev pub owners_after : List (Option ℕ) → GraphChange → List (Option ℕ)
 owners_after owners (PutOwner m owner) = set_number owners m owner
 owners_after owners (MoveOwner m owner next) = set_number owners m (Some next)
 owners_after owners other = owners
 
 -- the live threads after a change
-abbrev pub live_after : List Bool → Change → List Bool
+abbrev pub live_after : List Bool → GraphChange → List Bool
 live_after lives (PutThread t lend live) = set_number lives t live
 live_after lives other = lives
 
 -- the graph after a change
-abbrev pub graph_after : LimitedFunding → Change → LimitedFunding
+abbrev pub graph_after : LimitedFunding → GraphChange → LimitedFunding
 graph_after w c = record w { funding = record { currencies = currencies_after w.funding.currencies c; tickets = tickets_after w.funding.tickets c; lends = lends_after w.funding.lends c; owners = owners_after w.funding.owners c } }
 
 -- the valued graph after a change, with these stale nodes
-abbrev pub applied : Valued → Change → List Node → Valued
+abbrev pub applied : Valued → GraphChange → List Node → Valued
 applied v c stale = record { now = graph_after v.now c; live = live_after v.live c; known = record v.known { stale = stale } }
 
 -- the change moves no edge, and makes no thread live or not
-abbrev pub MovesNothing : Change → Type 0
+abbrev pub MovesNothing : GraphChange → Type 0
 MovesNothing (NewTicket t) = ⊤
 MovesNothing (ReuseTicket n t) = ⊤
 MovesNothing (DropTicket n) = ⊤
@@ -68,13 +68,13 @@ MovesNothing (DropCurrency c) = ⊤
 MovesNothing other = ⊥
 
 -- if the change passes a mutex from one owner to another, this holds for both
-abbrev pub HoldsOfOwners : Change → (Node → Type 0) → Type 0
+abbrev pub HoldsOfOwners : GraphChange → (Node → Type 0) → Type 0
 HoldsOfOwners (MoveOwner m owner next) Is = Is (Thread owner) × Is (Thread next)
 HoldsOfOwners other Is = ⊤
 
 -- Stale nodes stay stale, new ones are reached from touched nodes, none if the change moves nothing; both owners of a
 -- mutex that moves are stale.
-pub record StaleBy (change : Change) (old new : Valued) : Type 0 where
+pub record StaleBy (change : GraphChange) (old new : Valued) : Type 0 where
   pub kept : (node : Node) → IsStale old.known node → IsStale new.known node
   pub reached : MakesStale old new
   pub same : MovesNothing change → new.known ≡ old.known
@@ -98,7 +98,7 @@ CanOwn f m t = IsMutex f m × IsThread f t × (¬ Reaches f (Thread t) (Mutex m)
 
 -- The change is allowed: its ticket, currency, mutex or thread exists, and it makes no cycle. A mutex moves only from
 -- a live thread to another.
-abbrev pub CanApply : LimitedFunding → List Bool → Change → Type 0
+abbrev pub CanApply : LimitedFunding → List Bool → GraphChange → Type 0
 CanApply w live (NewTicket t) = IsCurrency w.funding t.issuer × (0 < t.amount) × (t.target ≡ target.Unfunded) × (length w.funding.tickets < w.ticket_limit)
 CanApply w live (ReuseTicket n t) = (at_number w.funding.tickets n ≡ Some None) × IsCurrency w.funding t.issuer × (0 < t.amount) × (t.target ≡ target.Unfunded)
 CanApply w live (PutTicket n t) = (before : Ticket) × (ticket_at w.funding n ≡ Some before) × (t ≡ retargeted t.target before) × CanTarget w.funding n before.target t.target

@@ -4,7 +4,7 @@ use lot_machine::{Lend, Ticket};
 
 /// One change of the tickets, the currencies, a mutex's owner, or a thread, for `ValuedGraph::apply`.
 #[derive(Clone, Copy, Debug, PartialEq, Eq)]
-pub enum Change {
+pub enum GraphChange {
     /// One more ticket, which funds nothing. Its number is one more than the last.
     NewTicket(Ticket),
     /// A ticket that funds nothing, with the number of one that was removed.

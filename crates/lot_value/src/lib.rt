@@ -4,7 +4,7 @@
 //! stale nodes in an order along the edges, so that it reads each edge into a stale node once, and counts these
 //! reads.
 //!
-//! A `ValuedGraph` holds a graph, its activity and its values together. `ValuedGraph::apply` makes one `Change`, and
+//! A `ValuedGraph` holds a graph, its activity and its values together. `ValuedGraph::apply` makes one `GraphChange`, and
 //! makes stale the nodes that depend on it. Only `new` allocates memory.
 //!
 //! Its tests stand in `lot_kernel_tests`.
@@ -23,7 +23,7 @@ mod touching;
 mod valued_graph;
 mod values;
 
-pub use change::Change;
+pub use change::GraphChange;
 pub use meter::Meter;
 pub use valued_graph::ValuedGraph;
 pub use values::Values;

@@ -4,7 +4,7 @@ ghost use Rattle.lot_machine.specs.declared.ticket.Target.TheVariants.{Unfunded}
 ghost use Rattle.lot_machine.specs.Funding.{ticket_at, with_amount};
 ghost use Rattle.lot_graph.specs.Changes.{with_tickets};
 ghost use Rattle.lot_graph.specs.Graphs.{IsSound};
-ghost use Rattle.lot_value.specs.declared.change.Change.TheVariants.{SetAmount};
+ghost use Rattle.lot_value.specs.declared.change.GraphChange.TheVariants.{SetAmount};
 ghost use Rattle.lot_value.specs.Changing.{CanApply, StaleBy, applied};
 ghost use Rattle.lot_value.specs.Valued.{FollowsGraph};
 

@@ -4,7 +4,7 @@ ghost use Rattle.lot_machine.specs.declared.funding.Lend.TheVariants.{Nobody};
 ghost use Rattle.lot_machine.specs.Numbered.{at_number, set_number};
 ghost use Rattle.lot_graph.specs.Changes.{with_lends};
 ghost use Rattle.lot_graph.specs.Graphs.{IsThread};
-ghost use Rattle.lot_value.specs.declared.change.Change.TheVariants.{PutThread};
+ghost use Rattle.lot_value.specs.declared.change.GraphChange.TheVariants.{PutThread};
 ghost use Rattle.lot_value.specs.Changing.{CanApply, CanLend, StaleBy, applied};
 ghost use Rattle.lot_value.specs.Valued.{FollowsGraph};
 

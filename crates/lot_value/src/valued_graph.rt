@@ -22,12 +22,12 @@ ghost use Rattle.lot_value.specs.Counts.{counted_up};
 ghost use Rattle.lot_value.specs.Caches.{IsStale, IsOnce, Settles, edges_into_all, value_in};
 ghost use Rattle.lot_value.specs.Valued.{FollowsGraph, FollowsLives};
 ghost use Rattle.lot_value.specs.Changing.{CanApply, StaleBy, applied};
-ghost use Rattle.lot_value.specs.declared.change.Change.TheVariants.{NewTicket, PutTicket, DropTicket, NewCurrency};
-ghost use Rattle.lot_value.specs.declared.change.Change.TheVariants.{ReuseTicket, ReuseCurrency, DropCurrency};
-ghost use Rattle.lot_value.specs.declared.change.Change.TheVariants.{PutOwner};
+ghost use Rattle.lot_value.specs.declared.change.GraphChange.TheVariants.{NewTicket, PutTicket, DropTicket, NewCurrency};
+ghost use Rattle.lot_value.specs.declared.change.GraphChange.TheVariants.{ReuseTicket, ReuseCurrency, DropCurrency};
+ghost use Rattle.lot_value.specs.declared.change.GraphChange.TheVariants.{PutOwner};
 ghost use Rattle.lot_graph.specs.Changes.{with_lends, with_owners, with_tickets};
 
-use crate::change::Change;
+use crate::change::GraphChange;
 use crate::edges::{attach, detach};
 use crate::reissuing::set_amount;
 use crate::relending::put_thread;
@@ -115,23 +115,23 @@ impl ValuedGraph {
 
     /// Makes one change, and makes stale the nodes that depend on it. It computes no value.
     #[inline(always)]
-    pub fn apply(&mut self, change: Change)
+    pub fn apply(&mut self, change: GraphChange)
         requires allowed { CanApply self.old.now self.old.live change }
         ensures applied { self.new ≡ applied self.old change self.new.known.stale }
         ensures stale { StaleBy change self.old self.new }
     {
         match change {
-            Change::NewTicket(ticket) => self.new_ticket(ticket),
-            Change::ReuseTicket(number, ticket) => self.reuse_ticket(number, ticket),
-            Change::PutTicket(number, ticket) => self.put_ticket(number, ticket),
-            Change::SetAmount(number, amount) => set_amount(self, number, amount),
-            Change::DropTicket(number) => self.drop_ticket(number),
-            Change::NewCurrency => self.new_currency(),
-            Change::ReuseCurrency(currency) => self.reuse_currency(currency),
-            Change::DropCurrency(currency) => self.drop_currency(currency),
-            Change::PutOwner(mutex, owner) => self.put_owner(mutex, owner),
-            Change::MoveOwner { mutex, owner, next } => self.move_owner(mutex, owner, next),
-            Change::PutThread { thread, lend, live } => put_thread(self, thread, lend, live),
+            GraphChange::NewTicket(ticket) => self.new_ticket(ticket),
+            GraphChange::ReuseTicket(number, ticket) => self.reuse_ticket(number, ticket),
+            GraphChange::PutTicket(number, ticket) => self.put_ticket(number, ticket),
+            GraphChange::SetAmount(number, amount) => set_amount(self, number, amount),
+            GraphChange::DropTicket(number) => self.drop_ticket(number),
+            GraphChange::NewCurrency => self.new_currency(),
+            GraphChange::ReuseCurrency(currency) => self.reuse_currency(currency),
+            GraphChange::DropCurrency(currency) => self.drop_currency(currency),
+            GraphChange::PutOwner(mutex, owner) => self.put_owner(mutex, owner),
+            GraphChange::MoveOwner { mutex, owner, next } => self.move_owner(mutex, owner, next),
+            GraphChange::PutThread { thread, lend, live } => put_thread(self, thread, lend, live),
         }
     }
 

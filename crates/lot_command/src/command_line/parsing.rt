@@ -9,7 +9,7 @@ use clap::error::ErrorKind;
 use clap::{Arg, ArgAction, ArgMatches, Command, Error};
 use lot_curves::{By, Interval, Measure};
 use lot_explain::Detail;
-use lot_system::{Form, Seeds};
+use lot_system::{ReportForm, Seeds};
 use lot_program::Seed;
 use std::alloc::{AllocError, Global};
 use std::convert::AsStr;
@@ -286,13 +286,13 @@ fn seeds_of(given: &ArgMatches<'_>) -> Option<Seeds> {
 }
 
 /// The form of a report.
-fn form_of(given: &ArgMatches<'_>) -> Form {
+fn form_of(given: &ArgMatches<'_>) -> ReportForm {
     if !given.get_flag("csv") {
-        return Form::Lines;
+        return ReportForm::Lines;
     }
     match by_of(given) {
-        By::Thread => Form::Table,
-        By::Currency => Form::CurrencyTable,
+        By::Thread => ReportForm::Table,
+        By::Currency => ReportForm::CurrencyTable,
     }
 }
 

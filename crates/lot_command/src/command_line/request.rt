@@ -2,7 +2,7 @@
 
 use lot_curves::{By, Interval, Measure};
 use lot_explain::Detail;
-use lot_system::{Form, Seeds};
+use lot_system::{ReportForm, Seeds};
 use lot_program::Seed;
 
 /// What a command line asks for.
@@ -35,7 +35,7 @@ pub enum View {
         /// The seeds of several plays, or none for one play.
         seeds: Option<Seeds>,
         /// Lines or a table.
-        form: Form,
+        form: ReportForm,
     },
     /// A line for each turn, after the lots of its lottery if a thread won it, and the report; in so much detail.
     Explain(Detail),

@@ -4,14 +4,14 @@ use std::fmt;
 
 /// Where a message points to, which begins it as compilers' messages do: a file by its name, and a line.
 #[derive(Clone, Copy, Debug)]
-pub struct Place<'a> {
+pub struct Location<'a> {
     /// The name of the file, or none for standard input.
     pub file: Option<&'a str>,
     /// The line, from 1, or none for the whole input.
     pub line: Option<u32>,
 }
 
-impl fmt::Display for Place<'_> {
+impl fmt::Display for Location<'_> {
     fn fmt<W: fmt::Write>(&self, f: &mut fmt::Formatter<W>) -> fmt::Result {
         match (self.file, self.line) {
             (Some(file), Some(line)) => write!(f, "{file}:{line}: "),

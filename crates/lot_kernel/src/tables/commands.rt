@@ -27,7 +27,7 @@ use lot_machine::{
     Command, CurrencyRef, Node, Refusal, Reply, Status, Target, TargetRef, Thread, ThreadNumber,
     ThreadRef, Ticket, TicketNumber, index_of,
 };
-use lot_value::Change;
+use lot_value::GraphChange;
 
 impl Tables {
     /// Makes one command and stores its reply in `reply`.
@@ -122,7 +122,7 @@ impl Tables {
         if count >= self.limits.tickets {
             return None;
         }
-        self.threads.apply(Change::NewTicket(ticket));
+        self.threads.apply(GraphChange::NewTicket(ticket));
         Some(count + 1)
     }
 
@@ -140,7 +140,7 @@ impl Tables {
     {
         let place = self.freed.tickets.pop()?;
         let number = place + 1;
-        self.threads.apply(Change::ReuseTicket(number, ticket));
+        self.threads.apply(GraphChange::ReuseTicket(number, ticket));
         Some(number)
     }
 
@@ -157,7 +157,7 @@ impl Tables {
         if is_funding(found) {
             return Reply::Refused(Refusal::Funding);
         }
-        self.threads.apply(Change::DropTicket(ticket as u32));
+        self.threads.apply(GraphChange::DropTicket(ticket as u32));
         self.freed
             .tickets
             .leave(index_of(ticket as u32) as u32, self.limits.reuse);
@@ -212,7 +212,7 @@ impl Tables {
         if number > self.limits.currencies {
             return None;
         }
-        self.threads.apply(Change::NewCurrency);
+        self.threads.apply(GraphChange::NewCurrency);
         self.currency_index.add(number as usize, name);
         self.currencies.push(Some(name.copied()));
         Some(number)
@@ -228,7 +228,7 @@ impl Tables {
         ensures unchanged { IfNone result (self.new ≡ self.old) }
     {
         let place = self.freed.currencies.pop()?;
-        self.threads.apply(Change::ReuseCurrency(place));
+        self.threads.apply(GraphChange::ReuseCurrency(place));
         self.currency_index.add(place as usize, name);
         self.currencies[place as usize] = Some(name.copied());
         Some(place)
@@ -250,7 +250,7 @@ impl Tables {
         if !self.threads.graph().is_unused(number) {
             return Reply::Refused(Refusal::InUse);
         }
-        self.threads.apply(Change::DropCurrency(number));
+        self.threads.apply(GraphChange::DropCurrency(number));
         self.currency_index.remove(number as usize);
         self.currencies[number as usize] = None;
         self.freed.currencies.leave(number, self.limits.reuse);
@@ -460,7 +460,7 @@ impl Tables {
         ensures meter { self.new.meter ≡ self.old.meter }
     {
         self.threads
-            .apply(Change::PutTicket(ticket, Ticket { target, ..found }));
+            .apply(GraphChange::PutTicket(ticket, Ticket { target, ..found }));
     }
 
     fn fund(&mut self, ticket: u64, target: &TargetRef) -> Reply
@@ -556,7 +556,7 @@ impl Tables {
             return Reply::Refused(Refusal::NoTicket);
         }
         self.threads
-            .apply(Change::SetAmount(ticket as u32, amount as u32));
+            .apply(GraphChange::SetAmount(ticket as u32, amount as u32));
         Reply::Done
     }
 

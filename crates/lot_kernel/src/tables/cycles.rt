@@ -21,7 +21,7 @@ use crate::tables::Tables;
 use lot_machine::{Lend, MutexNumber, ThreadNumber};
 use lot_queues::Queues;
 use lot_threads::Threads;
-use lot_value::Change;
+use lot_value::GraphChange;
 
 impl Tables {
     /// Whether a chain of one lend or more that passes no port leads from the owner of a mutex to a running thread. It
@@ -157,7 +157,7 @@ fn follow_owners(threads: &mut Threads, queues: &Queues)
 {
     for place in 0..queues.mutexes() {
         if queues.owner(place + 1).is_none() {
-            threads.apply(Change::PutOwner(place + 1, None));
+            threads.apply(GraphChange::PutOwner(place + 1, None));
         }
     }
 }

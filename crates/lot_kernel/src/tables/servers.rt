@@ -19,7 +19,7 @@ use crate::leads::does_lead;
 use crate::tables::Tables;
 use lot_machine::{Outcome, PortNumber, ThreadNumber};
 use lot_threads::Threads;
-use lot_value::Change;
+use lot_value::GraphChange;
 
 impl Tables {
     /// Notes the port's server after this outcome of a thread's trap there: the thread that took the call. A queued
@@ -133,9 +133,9 @@ fn replace_owner(threads: &mut Threads, mutex: u32, owner: Option<u32>)
     ensures kept { (node : ANode) → IsStaleIn threads.old node → IsStaleIn threads.new node }
     ensures stale { MakesStaleIn threads.old threads.new }
 {
-    threads.apply(Change::PutOwner(mutex, None));
+    threads.apply(GraphChange::PutOwner(mutex, None));
     let Some(next) = owner else {
         return;
     };
-    threads.apply(Change::PutOwner(mutex, Some(next)));
+    threads.apply(GraphChange::PutOwner(mutex, Some(next)));
 }

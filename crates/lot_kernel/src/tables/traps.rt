@@ -16,11 +16,11 @@ use crate::tables::Tables;
 use lot_machine::{
     Action, After, MutexNumber, Outcome, PortNumber, Status, ThreadNumber, TrapRefusal,
 };
-use lot_threads::Effect;
+use lot_threads::TrapEffect;
 
 impl Tables {
     /// Does the work of a running thread's trap and returns its effect. A refused trap does nothing.
-    pub(super) fn act(&mut self, thread: ThreadNumber, action: &Action) -> Effect
+    pub(super) fn act(&mut self, thread: ThreadNumber, action: &Action) -> TrapEffect
         requires order { IsInOrder self.old.state }
         requires runs { IsRunning self.old.state.records thread.number }
         ensures outcome { result.outcome ≡ (effect_of self.old.state thread.number action.now).outcome }
@@ -30,7 +30,7 @@ impl Tables {
         ensures counts { CountsTrap action.now result.outcome self.old self.new }
     {
         match *action {
-            Action::Yield => Effect {
+            Action::Yield => TrapEffect {
                 outcome: Outcome::Yielded,
                 after: After::Leaves(Status::Ready),
             },
@@ -40,13 +40,13 @@ impl Tables {
             Action::Serve(port, sent) => self.serve(thread, PortNumber { number: port }, sent),
             Action::Lock(mutex) => self.lock(thread, MutexNumber { number: mutex }),
             Action::Unlock(mutex, d) => self.unlock(thread, MutexNumber { number: mutex }, d),
-            Action::Sleep => Effect {
+            Action::Sleep => TrapEffect {
                 outcome: Outcome::Slept,
                 after: After::Leaves(Status::Asleep),
             },
             Action::Exit => {
                 self.leave_ports(thread);
-                Effect {
+                TrapEffect {
                     outcome: Outcome::Exited,
                     after: After::Ends,
                 }
@@ -54,7 +54,7 @@ impl Tables {
         }
     }
 
-    fn call(&mut self, thread: ThreadNumber, port: PortNumber, number: u32) -> Effect
+    fn call(&mut self, thread: ThreadNumber, port: PortNumber, number: u32) -> TrapEffect
         requires order { IsInOrder self.old.state }
         requires runs { IsRunning self.old.state.records thread.number }
         ensures outcome { result.outcome
@@ -74,7 +74,7 @@ impl Tables {
         effect
     }
 
-    fn receive(&mut self, thread: ThreadNumber, port: PortNumber) -> Effect
+    fn receive(&mut self, thread: ThreadNumber, port: PortNumber) -> TrapEffect
         requires order { IsInOrder self.old.state }
         requires runs { IsRunning self.old.state.records thread.number }
         ensures outcome { result.outcome
@@ -93,7 +93,7 @@ impl Tables {
         effect
     }
 
-    fn reply(&mut self, thread: ThreadNumber, number: u32) -> Effect
+    fn reply(&mut self, thread: ThreadNumber, number: u32) -> TrapEffect
         requires runs { IsRunning self.old.state.records thread.number }
         ensures outcome { result.outcome ≡ (effect_of self.old.state thread.number (action.Reply number)).outcome }
         ensures after { result.after ≡ (effect_of self.old.state thread.number (action.Reply number)).after }
@@ -109,7 +109,7 @@ impl Tables {
         lot_ports::reply(&mut self.threads, &mut self.queues, thread, client, number)
     }
 
-    fn serve(&mut self, thread: ThreadNumber, port: PortNumber, number: u32) -> Effect
+    fn serve(&mut self, thread: ThreadNumber, port: PortNumber, number: u32) -> TrapEffect
         requires order { IsInOrder self.old.state }
         requires runs { IsRunning self.old.state.records thread.number }
         ensures outcome { result.outcome
@@ -140,7 +140,7 @@ impl Tables {
         effect
     }
 
-    fn lock(&mut self, thread: ThreadNumber, mutex: MutexNumber) -> Effect
+    fn lock(&mut self, thread: ThreadNumber, mutex: MutexNumber) -> TrapEffect
         requires order { IsInOrder self.old.state }
         requires runs { IsRunning self.old.state.records thread.number }
         ensures outcome { result.outcome ≡ (effect_of self.old.state thread.number (action.Lock mutex.number)).outcome }
@@ -177,7 +177,7 @@ impl Tables {
         None
     }
 
-    fn unlock(&mut self, thread: ThreadNumber, mutex: MutexNumber, d: u128) -> Effect
+    fn unlock(&mut self, thread: ThreadNumber, mutex: MutexNumber, d: u128) -> TrapEffect
         requires order { IsInOrder self.old.state }
         requires runs { IsRunning self.old.state.records thread.number }
         ensures outcome { result.outcome
@@ -220,11 +220,11 @@ impl Tables {
 }
 
 /// The effect of a refused trap: nothing happens, and its thread goes on.
-fn refused(refusal: TrapRefusal) -> Effect
+fn refused(refusal: TrapRefusal) -> TrapEffect
     ensures outcome { result.outcome ≡ Refused refusal }
     ensures after { result.after ≡ GoesOn }
 {
-    Effect {
+    TrapEffect {
         outcome: Outcome::Refused(refusal),
         after: After::GoesOn,
     }

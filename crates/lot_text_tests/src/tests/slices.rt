@@ -1,7 +1,7 @@
 //! Worked scripts. What is expected follows from their lists, unrolled by hand.
 use super::same::{check_same, check_same_at};
 use lot_script::{Place, Script, ScriptBuilder};
-use lot_simulation::{InputRefusal, Line, MutexTrap, PortTrap, ScriptTrap};
+use lot_simulation::{InputRefusal, ScriptLine, MutexTrap, PortTrap, ScriptTrap};
 use std::alloc::Global;
 use std::process::Abort;
 
@@ -25,13 +25,13 @@ const EXIT: Option<ScriptTrap> = Some(ScriptTrap::Exit);
 const CALL_3: ScriptTrap = ScriptTrap::AtPort(PortTrap::Call, 3);
 
 /// Adds a line that can come next.
-fn add_line(rt: &impl Abort, builder: &mut ScriptBuilder, line: Line) {
+fn add_line(rt: &impl Abort, builder: &mut ScriptBuilder, line: ScriptLine) {
     assert!(rt; builder.check(line).is_ok());
     builder.push(line).expect(rt, "memory");
 }
 
 /// Adds the line this often.
-fn add_lines(rt: &impl Abort, builder: &mut ScriptBuilder, line: Line, count: u32) {
+fn add_lines(rt: &impl Abort, builder: &mut ScriptBuilder, line: ScriptLine, count: u32) {
     for _ in 0..count {
         add_line(rt, builder, line);
     }
@@ -44,7 +44,7 @@ fn finished(rt: &impl Abort, builder: ScriptBuilder) -> Script {
 }
 
 /// A script of these lines.
-fn script_of(rt: &impl Abort, alloc: Global, lines: &[Line]) -> Script {
+fn script_of(rt: &impl Abort, alloc: Global, lines: &[ScriptLine]) -> Script {
     let mut builder = ScriptBuilder::new(alloc);
     for line in lines {
         add_line(rt, &mut builder, *line);
@@ -77,14 +77,14 @@ fn slices_in_turn(rt: &impl Abort, script: &Script, slices: &[Sliced]) {
 }
 
 /// Checks slices of a script of these lines: those of each row in turn, from its beginning.
-fn check_slices(rt: &impl Abort, alloc: Global, lines: &[Line], rows: &[&[Sliced]]) {
+fn check_slices(rt: &impl Abort, alloc: Global, lines: &[ScriptLine], rows: &[&[Sliced]]) {
     let script = script_of(rt, alloc, lines);
     for slices in rows {
         slices_in_turn(rt, &script, slices);
     }
 }
 
-const LOOP: &[Line] = &[Line::Loop(2), Line::Compute(3), Line::End];
+const LOOP: &[ScriptLine] = &[ScriptLine::Loop(2), ScriptLine::Compute(3), ScriptLine::End];
 
 const LOOP_SLICES: &[&[Sliced]] = &[
     &[(1000, 9, EXIT, 0), (1000, 0, EXIT, 0)],
@@ -92,7 +92,7 @@ const LOOP_SLICES: &[&[Sliced]] = &[
     &[(2, 2, None, 0), (4, 4, None, 0), (4, 3, EXIT, 0)],
 ];
 
-const EMPTY_LOOP: &[Line] = &[Line::Loop(3), Line::End];
+const EMPTY_LOOP: &[ScriptLine] = &[ScriptLine::Loop(3), ScriptLine::End];
 
 const EMPTY_LOOP_SLICES: &[&[Sliced]] = &[&[(5, 4, EXIT, 0)]];
 
@@ -109,11 +109,11 @@ fn nothing_to_do(rt: HostRuntime) {
     check_slices(&rt, rt.alloc(), &[], NO_LINE_SLICES);
 }
 
-const YIELDS: &[Line] = &[
-    Line::Loop(1),
-    Line::Trap(YIELD),
-    Line::End,
-    Line::Trap(RECEIVE_2),
+const YIELDS: &[ScriptLine] = &[
+    ScriptLine::Loop(1),
+    ScriptLine::Trap(YIELD),
+    ScriptLine::End,
+    ScriptLine::Trap(RECEIVE_2),
 ];
 
 const YIELDS_SLICES: &[&[Sliced]] = &[&[
@@ -123,13 +123,13 @@ const YIELDS_SLICES: &[&[Sliced]] = &[&[
     (1, 0, EXIT, 0),
 ]];
 
-const EACH_TRAP: &[Line] = &[
-    Line::Trap(CALL_3),
-    Line::Trap(REPLY),
-    Line::Trap(SERVE_2),
-    Line::Trap(LOCK_1),
-    Line::Trap(UNLOCK_1),
-    Line::Trap(YIELD),
+const EACH_TRAP: &[ScriptLine] = &[
+    ScriptLine::Trap(CALL_3),
+    ScriptLine::Trap(REPLY),
+    ScriptLine::Trap(SERVE_2),
+    ScriptLine::Trap(LOCK_1),
+    ScriptLine::Trap(UNLOCK_1),
+    ScriptLine::Trap(YIELD),
 ];
 
 const EACH_TRAP_SLICES: &[&[Sliced]] = &[&[
@@ -148,7 +148,7 @@ fn traps(rt: HostRuntime) {
     check_slices(&rt, rt.alloc(), EACH_TRAP, EACH_TRAP_SLICES);
 }
 
-const ROUND_A_CALL: &[Line] = &[Line::Compute(5), Line::Trap(CALL_3), Line::Compute(1)];
+const ROUND_A_CALL: &[ScriptLine] = &[ScriptLine::Compute(5), ScriptLine::Trap(CALL_3), ScriptLine::Compute(1)];
 
 const ROUND_A_CALL_SLICES: &[&[Sliced]] = &[
     &[(4, 4, None, 0), (2, 1, Some(CALL_3), 0), (1, 1, None, 0)],
@@ -161,14 +161,14 @@ fn budgets_round_a_trap(rt: HostRuntime) {
     check_slices(&rt, rt.alloc(), ROUND_A_CALL, ROUND_A_CALL_SLICES);
 }
 
-const SUMS: &[Line] = &[
-    Line::Set(4294967295),
-    Line::Add(3),
-    Line::Trap(CALL_1),
-    Line::Loop(2),
-    Line::Add(7),
-    Line::End,
-    Line::Set(5),
+const SUMS: &[ScriptLine] = &[
+    ScriptLine::Set(4294967295),
+    ScriptLine::Add(3),
+    ScriptLine::Trap(CALL_1),
+    ScriptLine::Loop(2),
+    ScriptLine::Add(7),
+    ScriptLine::End,
+    ScriptLine::Set(5),
 ];
 
 const SUMS_SLICES: &[&[Sliced]] = &[&[
@@ -192,19 +192,19 @@ const EIGHT_LOOPS_SLICES: &[Sliced] = &[
 ];
 
 /// A script of eight loops with these rounds round this line, if there is one.
-fn eight_loops_of(rt: &impl Abort, alloc: Global, rounds: u32, line: Option<Line>) -> Script {
+fn eight_loops_of(rt: &impl Abort, alloc: Global, rounds: u32, line: Option<ScriptLine>) -> Script {
     let mut builder = ScriptBuilder::new(alloc);
-    add_lines(rt, &mut builder, Line::Loop(rounds), 8);
+    add_lines(rt, &mut builder, ScriptLine::Loop(rounds), 8);
     if let Some(line) = line {
         add_line(rt, &mut builder, line);
     }
-    add_lines(rt, &mut builder, Line::End, 8);
+    add_lines(rt, &mut builder, ScriptLine::End, 8);
     finished(rt, builder)
 }
 
 #[test]
 fn eight_loops(rt: HostRuntime) {
-    let line = Some(Line::Compute(4294967295));
+    let line = Some(ScriptLine::Compute(4294967295));
     let script = eight_loops_of(&rt, rt.alloc(), 65535, line);
     slices_in_turn(&rt, &script, EIGHT_LOOPS_SLICES);
 }
@@ -222,17 +222,17 @@ fn ends_of_eight_loops(rt: HostRuntime) {
 }
 
 /// Checks that the line can't come next, and why.
-fn check_refused(rt: &impl Abort, builder: &ScriptBuilder, line: Line, refusal: InputRefusal) {
+fn check_refused(rt: &impl Abort, builder: &ScriptBuilder, line: ScriptLine, refusal: InputRefusal) {
     check_same_at(rt, &line, &builder.check(line), &Err(refusal));
 }
 
 /// Lines that can't come first, and why.
-const REFUSED: &[(Line, InputRefusal)] = &[
-    (Line::Compute(0), InputRefusal::BadNumber),
-    (Line::Loop(0), InputRefusal::BadNumber),
-    (Line::Loop(65536), InputRefusal::BadNumber),
-    (Line::End, InputRefusal::BadLine),
-    (Line::Trap(ScriptTrap::Exit), InputRefusal::BadLine),
+const REFUSED: &[(ScriptLine, InputRefusal)] = &[
+    (ScriptLine::Compute(0), InputRefusal::BadNumber),
+    (ScriptLine::Loop(0), InputRefusal::BadNumber),
+    (ScriptLine::Loop(65536), InputRefusal::BadNumber),
+    (ScriptLine::End, InputRefusal::BadLine),
+    (ScriptLine::Trap(ScriptTrap::Exit), InputRefusal::BadLine),
 ];
 
 fn check_first_lines(rt: &impl Abort, builder: &ScriptBuilder) {
@@ -243,11 +243,11 @@ fn check_first_lines(rt: &impl Abort, builder: &ScriptBuilder) {
 
 /// Adds as many loops as may be open, and then as many lines as a script may have.
 fn check_full(rt: &impl Abort, builder: &mut ScriptBuilder) {
-    add_lines(rt, builder, Line::Loop(1), 8);
-    check_refused(rt, builder, Line::Loop(1), InputRefusal::TooDeep);
-    add_lines(rt, builder, Line::Trap(YIELD), 1016);
-    check_refused(rt, builder, Line::Loop(1), InputRefusal::TooDeep);
-    check_refused(rt, builder, Line::Trap(YIELD), InputRefusal::TooLong);
+    add_lines(rt, builder, ScriptLine::Loop(1), 8);
+    check_refused(rt, builder, ScriptLine::Loop(1), InputRefusal::TooDeep);
+    add_lines(rt, builder, ScriptLine::Trap(YIELD), 1016);
+    check_refused(rt, builder, ScriptLine::Loop(1), InputRefusal::TooDeep);
+    check_refused(rt, builder, ScriptLine::Trap(YIELD), InputRefusal::TooLong);
 }
 
 #[test]
@@ -262,11 +262,11 @@ fn fits(place: &Place, first: &Script, second: &Script, third: &Script) -> [bool
     [first.fits(place), second.fits(place), third.fits(place)]
 }
 
-const THREE_ROUNDS: &[Line] = &[Line::Loop(3), Line::Compute(4), Line::End];
+const THREE_ROUNDS: &[ScriptLine] = &[ScriptLine::Loop(3), ScriptLine::Compute(4), ScriptLine::End];
 
-const TWO_ROUNDS: &[Line] = &[Line::Loop(2), Line::Compute(4), Line::End];
+const TWO_ROUNDS: &[ScriptLine] = &[ScriptLine::Loop(2), ScriptLine::Compute(4), ScriptLine::End];
 
-const NO_ROUND: &[Line] = &[Line::Trap(YIELD), Line::Compute(4)];
+const NO_ROUND: &[ScriptLine] = &[ScriptLine::Trap(YIELD), ScriptLine::Compute(4)];
 
 /// Budgets of a slice of the script of three rounds, and whether its end is a place of each of the others.
 const BUDGETS: &[(u32, bool, bool)] = &[(2, false, false), (7, true, false), (16, true, false)];
@@ -326,9 +326,9 @@ fn handed_accumulator(script: &Script) -> u32 {
     handed.accumulator()
 }
 
-const YIELD_AFTER_3: &[Line] = &[Line::Set(3), Line::Trap(YIELD)];
+const YIELD_AFTER_3: &[ScriptLine] = &[ScriptLine::Set(3), ScriptLine::Trap(YIELD)];
 
-const REPLY_AFTER_3: &[Line] = &[Line::Set(3), Line::Trap(REPLY)];
+const REPLY_AFTER_3: &[ScriptLine] = &[ScriptLine::Set(3), ScriptLine::Trap(REPLY)];
 
 /// Checks what is the same of a script and its copy, and not of the other script.
 fn check_copy(rt: &impl Abort, script: &Script, other: &Script, copy: &Script) {

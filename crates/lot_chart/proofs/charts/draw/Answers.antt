@@ -1,6 +1,6 @@
 use Rattle.std.proofs.Common.{◌≡◌, List, ap, subst, sym, ◌∙◌}
 use Rattle.std.specs.Prelude.{max}
-use Rattle.lot_chart.specs.declared.lines.Line.{Line}
+use Rattle.lot_chart.specs.declared.lines.PlotLine.{PlotLine}
 use Rattle.lot_chart.specs.Charts.{most_shown, top_at}
 use Rattle.lot_chart.specs.declared.standings.Standing.{Standing}
 use Rattle.lot_chart.specs.Dues.{most_due}
@@ -12,7 +12,7 @@ use Rattle.lot_chart.proofs.charts.draw.Goals as goal
 
 pub push_picture-requires-clause-lines : goal.push_picture-requires-clause-lines
 push_picture-requires-clause-lines c =
-    subst (λ (ls : List Line). AreLinesOf c.args.selection.now.shown.items ls) (sym (c.as_slice.ensures.value ∙ c.in_ok-lines.ensures ∙ ap (lines_of c.top_at-top.result) c.as_slice-shown.ensures.value))
+    subst (λ (ls : List PlotLine). AreLinesOf c.args.selection.now.shown.items ls) (sym (c.as_slice.ensures.value ∙ c.in_ok-lines.ensures ∙ ap (lines_of c.top_at-top.result) c.as_slice-shown.ensures.value))
     (lines-are c.top_at-top.result c.args.selection.now.shown.items)
 
 pub most_due-requires : goal.most_due-requires

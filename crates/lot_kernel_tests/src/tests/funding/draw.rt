@@ -6,7 +6,7 @@ use crate::tests::same::check_same_at;
 use crate::may_fund;
 use lot_draw::{Competitor, RunQueue, Winner};
 use lot_machine::{Limits, Sizes, Target, Ticket};
-use lot_value::{Change, ValuedGraph};
+use lot_value::{GraphChange, ValuedGraph};
 use std::alloc::{AllocError, Global};
 use std::marker::Model;
 use std::process::Abort;
@@ -61,7 +61,7 @@ impl Room {
             number <= self.graph.graph().layout().currencies,
             "no currency is left"
         );
-        self.graph.apply(Change::NewCurrency);
+        self.graph.apply(GraphChange::NewCurrency);
         number
     }
 
@@ -96,7 +96,7 @@ impl Room {
         check_issue(rt, graph, currency, amount);
         let made = graph.ticket_count();
         assert!(rt; made < graph.layout().tickets, "no ticket is left");
-        self.graph.apply(Change::NewTicket(Ticket {
+        self.graph.apply(GraphChange::NewTicket(Ticket {
             amount,
             issuer: currency,
             target: Target::Unfunded,
@@ -109,7 +109,7 @@ impl Room {
         assert!(rt; may_fund(&mut self.graph, ticket, target));
         let found = self.graph.graph().ticket(ticket).expect(rt, "a ticket");
         self.graph
-            .apply(Change::PutTicket(ticket, Ticket { target, ..found }));
+            .apply(GraphChange::PutTicket(ticket, Ticket { target, ..found }));
     }
 
     /// Takes a ticket from what it funds.
@@ -120,7 +120,7 @@ impl Room {
             target: Target::Unfunded,
             ..found
         };
-        self.graph.apply(Change::PutTicket(ticket, unfunded));
+        self.graph.apply(GraphChange::PutTicket(ticket, unfunded));
     }
 
     /// A draw, with the counts of what it read and visited.

@@ -9,7 +9,7 @@ use crate::tests::same::check_same;
 use crate::{is_mutex, is_thread, may_fund};
 use lot_graph::Graph;
 use lot_machine::{Lend, Limits, Node, Sizes, Target, Ticket};
-use lot_value::{Change, ValuedGraph, Values};
+use lot_value::{GraphChange, ValuedGraph, Values};
 use std::alloc::Global;
 use std::process::Abort;
 use std::test::Fail;
@@ -90,7 +90,7 @@ fn fund(rt: &impl Abort, graph: &mut ValuedGraph, currency: u32, amount: u32, ta
         issuer: currency,
         target: Target::Unfunded,
     };
-    graph.apply(Change::NewTicket(issued));
+    graph.apply(GraphChange::NewTicket(issued));
     put_target(rt, graph, made + 1, target);
 }
 
@@ -98,7 +98,7 @@ fn fund(rt: &impl Abort, graph: &mut ValuedGraph, currency: u32, amount: u32, ta
 fn put_target(rt: &impl Abort, graph: &mut ValuedGraph, ticket: u32, target: Target) {
     assert!(rt; may_fund(graph, ticket, target));
     let found = graph.graph().ticket(ticket).expect(rt, "a ticket");
-    graph.apply(Change::PutTicket(ticket, Ticket { target, ..found }));
+    graph.apply(GraphChange::PutTicket(ticket, Ticket { target, ..found }));
 }
 
 /// Takes a ticket from what it funds.
@@ -109,14 +109,14 @@ fn unfund(rt: &impl Abort, graph: &mut ValuedGraph, ticket: u32) {
         target: Target::Unfunded,
         ..found
     };
-    graph.apply(Change::PutTicket(ticket, unfunded));
+    graph.apply(GraphChange::PutTicket(ticket, unfunded));
 }
 
 /// Sets a ticket's amount.
 fn set_amount(rt: &impl Abort, graph: &mut ValuedGraph, ticket: u32, amount: u32) {
     let _before = graph.graph().ticket(ticket).expect(rt, "a ticket");
     assert!(rt; 0 < amount);
-    graph.apply(Change::SetAmount(ticket, amount));
+    graph.apply(GraphChange::SetAmount(ticket, amount));
 }
 
 fn lend(rt: &impl Abort, graph: &mut ValuedGraph, thread: u32, lend: Lend) {
@@ -130,7 +130,7 @@ fn put_lend(graph: &mut ValuedGraph, thread: u32, lend: Lend)
     requires thread { IsThread graph.old.now.funding thread }
     requires lend { CanLend graph.old.now.funding thread lend }
 {
-    graph.apply(Change::PutThread {
+    graph.apply(GraphChange::PutThread {
         thread,
         lend,
         live: false,
@@ -161,7 +161,7 @@ fn take(rt: &impl Abort, graph: &mut ValuedGraph, mutex: u32, owner: u32) {
     check_thread(rt, graph.graph(), owner);
     assert!(rt; graph.graph().owner(mutex).is_none());
     assert!(rt; !graph.reaches(Node::Thread(owner), Node::Mutex(mutex)));
-    graph.apply(Change::PutOwner(mutex, Some(owner)));
+    graph.apply(GraphChange::PutOwner(mutex, Some(owner)));
 }
 
 fn set_live(rt: &impl Abort, graph: &mut ValuedGraph, thread: u32, live: bool) {
@@ -172,7 +172,7 @@ fn set_live(rt: &impl Abort, graph: &mut ValuedGraph, thread: u32, live: bool) {
 fn remove_currency(rt: &impl Abort, graph: &mut ValuedGraph, currency: u32) {
     assert!(rt; 0 < currency && graph.graph().is_currency(currency));
     assert!(rt; graph.graph().is_unused(currency));
-    graph.apply(Change::DropCurrency(currency));
+    graph.apply(GraphChange::DropCurrency(currency));
 }
 
 /// Takes a ticket that funds something from it.
@@ -183,7 +183,7 @@ fn take_back(rt: &impl Abort, graph: &mut ValuedGraph, ticket: u32) {
 
 fn destroy(rt: &impl Abort, graph: &mut ValuedGraph, ticket: u32) {
     assert!(rt; graph.graph().is_unfunded(ticket));
-    graph.apply(Change::DropTicket(ticket));
+    graph.apply(GraphChange::DropTicket(ticket));
 }
 
 fn is_lending(graph: &Graph, thread: u32) -> bool {
@@ -201,7 +201,7 @@ fn unlend(rt: &impl Abort, graph: &mut ValuedGraph, thread: u32) {
 
 fn give_up(rt: &impl Abort, graph: &mut ValuedGraph, mutex: u32) {
     check_mutex(rt, graph.graph(), mutex);
-    graph.apply(Change::PutOwner(mutex, None));
+    graph.apply(GraphChange::PutOwner(mutex, None));
 }
 
 fn make(rt: &impl Abort, graph: &mut ValuedGraph, change: Step) {
@@ -261,7 +261,7 @@ fn add_nodes(rt: &impl Abort, graph: &mut ValuedGraph, threads: u32, currencies:
 
 fn make_currency(rt: &impl Abort, graph: &mut ValuedGraph) {
     assert!(rt; graph.graph().currency_count() <= graph.graph().layout().currencies);
-    graph.apply(Change::NewCurrency);
+    graph.apply(GraphChange::NewCurrency);
 }
 
 fn add_thread(rt: &impl Abort, graph: &mut ValuedGraph) {

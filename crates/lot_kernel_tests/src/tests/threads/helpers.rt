@@ -14,7 +14,7 @@ use lot_machine::{
 };
 use lot_queues::Queues;
 use lot_threads::Threads;
-use lot_value::Change;
+use lot_value::GraphChange;
 use std::alloc::Global;
 use std::process::Abort;
 
@@ -143,7 +143,7 @@ pub(crate) fn fund(
     assert!(rt; 0 < amount && graph.is_currency(currency));
     let made = graph.ticket_count();
     assert!(rt; made < graph.layout().tickets, "no ticket is left");
-    threads.apply(Change::NewTicket(Ticket {
+    threads.apply(GraphChange::NewTicket(Ticket {
         amount,
         issuer: currency,
         target: Target::Unfunded,
@@ -155,7 +155,7 @@ pub(crate) fn fund(
 fn put_target(rt: &impl Abort, threads: &mut Threads, ticket: u32, target: Target) {
     assert!(rt; may_fund(threads, ticket, target));
     let found = threads.graph().ticket(ticket).expect(rt, "a ticket");
-    threads.apply(Change::PutTicket(ticket, Ticket { target, ..found }));
+    threads.apply(GraphChange::PutTicket(ticket, Ticket { target, ..found }));
 }
 
 /// Whether a ticket may fund the target in place of nothing.

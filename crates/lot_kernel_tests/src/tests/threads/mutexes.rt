@@ -14,7 +14,7 @@ use lot_kept::Stack;
 use lot_machine::{Limits, MutexNumber, Outcome, Sizes, Status, ThreadNumber};
 use lot_mutex::{Lottery, are_waiting, have_same_owners, lock, pass_all_on, unlock};
 use lot_queues::Queues;
-use lot_threads::{Effect, Threads};
+use lot_threads::{TrapEffect, Threads};
 use std::alloc::Global;
 use std::process::Abort;
 
@@ -64,7 +64,7 @@ fn make_lock(
     queues: &mut Queues,
     thread: ThreadNumber,
     mutex: u32,
-) -> Effect {
+) -> TrapEffect {
     check_mutex(rt, queues, mutex);
     check_may_wait(rt, threads, queues, thread);
     check_live(rt, threads, thread);
@@ -112,7 +112,7 @@ fn make_unlock(
     owner: ThreadNumber,
     mutex: MutexNumber,
     d: u128,
-) -> (Effect, u64) {
+) -> (TrapEffect, u64) {
     let Scene {
         threads,
         queues,

@@ -6,7 +6,7 @@ use super::helpers::{
 use lot_machine::{Limits, Outcome, PortNumber, Sizes, Status, ThreadNumber};
 use lot_ports::{call, receive, release_clients, reply, serve};
 use lot_queues::Queues;
-use lot_threads::{Effect, Threads};
+use lot_threads::{TrapEffect, Threads};
 use std::alloc::Global;
 use std::process::Abort;
 
@@ -32,7 +32,7 @@ enum Step {
 }
 
 /// The outcome of what a thread did at a port, after which it goes on or leaves.
-fn done(rt: &impl Abort, threads: &mut Threads, thread: ThreadNumber, effect: Effect) -> Outcome {
+fn done(rt: &impl Abort, threads: &mut Threads, thread: ThreadNumber, effect: TrapEffect) -> Outcome {
     finish(rt, threads, thread, effect.after);
     effect.outcome
 }

@@ -11,7 +11,7 @@ use lot_machine::{
     ThreadNumber, Ticket,
 };
 use lot_threads::Threads;
-use lot_value::Change;
+use lot_value::GraphChange;
 use std::alloc::Global;
 use std::process::Abort;
 
@@ -24,7 +24,7 @@ enum Step {
     Fund(u32, u32, Target),
     Unfund(u32),
     /// A thread's status and compensation from now on.
-    Change(u32, Status, Option<u32>),
+    GraphChange(u32, Status, Option<u32>),
     End(u32),
     /// A thread may not have this status.
     Refuses(u32, Status),
@@ -78,7 +78,7 @@ fn add_thread(rt: &impl Abort, threads: &mut Threads) {
 fn make_currency(rt: &impl Abort, threads: &mut Threads) {
     let graph = threads.graph();
     assert!(rt; graph.currency_count() <= graph.layout().currencies);
-    threads.apply(Change::NewCurrency);
+    threads.apply(GraphChange::NewCurrency);
 }
 
 fn unfund(rt: &impl Abort, threads: &mut Threads, ticket: u32) {
@@ -88,9 +88,9 @@ fn unfund(rt: &impl Abort, threads: &mut Threads, ticket: u32) {
         target: Target::Unfunded,
         ..found
     };
-    threads.apply(Change::PutTicket(ticket, unfunded));
+    threads.apply(GraphChange::PutTicket(ticket, unfunded));
     assert!(rt; threads.graph().is_unfunded(ticket));
-    threads.apply(Change::DropTicket(ticket));
+    threads.apply(GraphChange::DropTicket(ticket));
 }
 
 /// The thread's record, with another status and compensation.
@@ -137,12 +137,12 @@ fn take(rt: &impl Abort, threads: &mut Threads, mutex: u32, owner: u32) {
     assert!(rt; graph.owner(mutex).is_none());
     check_node(rt, graph, Node::Thread(owner));
     assert!(rt; !threads.reaches(Node::Thread(owner), Node::Mutex(mutex)));
-    threads.apply(Change::PutOwner(mutex, Some(owner)));
+    threads.apply(GraphChange::PutOwner(mutex, Some(owner)));
 }
 
 fn give_up(rt: &impl Abort, threads: &mut Threads, mutex: u32) {
     check_node(rt, threads.graph(), Node::Mutex(mutex));
-    threads.apply(Change::PutOwner(mutex, None));
+    threads.apply(GraphChange::PutOwner(mutex, None));
 }
 
 fn move_mutex(rt: &impl Abort, threads: &mut Threads, mutex: u32, owner: u32, next: u32) {
@@ -154,7 +154,7 @@ fn move_mutex(rt: &impl Abort, threads: &mut Threads, mutex: u32, owner: u32, ne
     check_live(rt, threads, ThreadNumber { number: owner });
     check_live(rt, threads, ThreadNumber { number: next });
     assert!(rt; !threads.reaches(Node::Thread(next), Node::Mutex(mutex)));
-    threads.apply(Change::MoveOwner { mutex, owner, next });
+    threads.apply(GraphChange::MoveOwner { mutex, owner, next });
 }
 
 /// A draw, and the edges that it read.
@@ -184,7 +184,7 @@ fn make_change(rt: &impl Abort, threads: &mut Threads, step: Step) {
         Step::MakeCurrency => make_currency(rt, threads),
         Step::Fund(amount, currency, target) => fund(rt, threads, amount, currency, target),
         Step::Unfund(ticket) => unfund(rt, threads, ticket),
-        Step::Change(thread, status, used) => change(rt, threads, thread, status, used),
+        Step::GraphChange(thread, status, used) => change(rt, threads, thread, status, used),
         Step::End(thread) => end(rt, threads, thread),
         Step::Take(mutex, owner) => take(rt, threads, mutex, owner),
         Step::GiveUp(mutex) => give_up(rt, threads, mutex),
@@ -273,16 +273,16 @@ const RUNNING: &[Step] = &[
     Step::Fund(10, 0, Target::Thread(1)),
     Step::Fund(5, 0, Target::Thread(2)),
     Step::Wins(9, (1, 9, 15)),
-    Step::Change(1, FIRST, None),
+    Step::GraphChange(1, FIRST, None),
     Step::Runs(1, Some((1, 0))),
     Step::Runs(2, None),
     Step::Refuses(2, FIRST),
     Step::Wins(9, (2, 4, 5)),
-    Step::Change(2, SECOND, None),
+    Step::GraphChange(2, SECOND, None),
     Step::Runs(2, Some((2, 30))),
     Step::Idles(3),
-    Step::Change(1, LATER, None),
-    Step::Change(1, Status::Ready, Some(20)),
+    Step::GraphChange(1, LATER, None),
+    Step::GraphChange(1, Status::Ready, Some(20)),
     Step::Runs(1, None),
     Step::Wins(49, (1, 49, 50)),
 ];
@@ -301,8 +301,8 @@ const ENDED: &[Step] = &[
     Step::Fund(10, 0, Target::Thread(1)),
     Step::Fund(20, 0, Target::Thread(2)),
     Step::Fund(5, 0, Target::Thread(3)),
-    Step::Change(1, FIRST, None),
-    Step::Change(2, Status::Ready, Some(50)),
+    Step::GraphChange(1, FIRST, None),
+    Step::GraphChange(2, Status::Ready, Some(50)),
     Step::Wins(44, (3, 44, 45)),
     Step::End(1),
     Step::Runs(1, None),
@@ -325,18 +325,18 @@ const SERVED: &[Step] = &[
     Step::Fund(7, 1, Target::Thread(1)),
     Step::Fund(20, 0, Target::Thread(2)),
     Step::Wins(119, (2, 119, 120)),
-    Step::Change(2, Status::Receiving(1), None),
+    Step::GraphChange(2, Status::Receiving(1), None),
     Step::Wins(0, (1, 0, 100)),
-    Step::Change(2, Status::Ready, None),
-    Step::Change(1, Status::Served(2), None),
+    Step::GraphChange(2, Status::Ready, None),
+    Step::GraphChange(1, Status::Served(2), None),
     Step::Reads(119, (2, 119, 120), 2),
     Step::Active(1, 7),
     Step::Worth(Node::Thread(1), 100),
     Step::Refuses(2, Status::Served(1)),
-    Step::Change(2, Status::Dead, None),
+    Step::GraphChange(2, Status::Dead, None),
     Step::Active(1, 0),
     Step::Idles(0),
-    Step::Change(1, Status::Ready, None),
+    Step::GraphChange(1, Status::Ready, None),
     Step::Wins(99, (1, 99, 100)),
 ];
 
@@ -354,12 +354,12 @@ const WAITING: &[Step] = &[
     Step::Fund(10, 0, Target::Thread(2)),
     Step::Fund(100, 0, Target::Thread(3)),
     Step::Take(1, 1),
-    Step::Change(2, Status::Waiting(1), None),
-    Step::Change(3, Status::Waiting(1), None),
+    Step::GraphChange(2, Status::Waiting(1), None),
+    Step::GraphChange(3, Status::Waiting(1), None),
     Step::Worth(Node::Mutex(1), 110),
     Step::Wins(110, (1, 110, 111)),
     Step::Refuses(1, Status::Waiting(1)),
-    Step::Change(2, Status::Ready, None),
+    Step::GraphChange(2, Status::Ready, None),
     Step::GiveUp(1),
     Step::Take(1, 2),
     Step::Wins(110, (2, 110, 111)),
@@ -392,7 +392,7 @@ const LARGEST: &[Step] = &[
     Step::AddThread,
     Step::Fund(1, 0, Target::Thread(1)),
     Step::Wins(255, (1, 255, 256)),
-    Step::Change(1, LAST, None),
+    Step::GraphChange(1, LAST, None),
     Step::Runs(64, Some((1, 999))),
     Step::Idles(0),
 ];

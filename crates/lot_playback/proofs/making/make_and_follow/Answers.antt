@@ -9,7 +9,7 @@ use Rattle.lot_machine.specs.Bounds.{IsWithinBounds}
 use Rattle.lot_machine.specs.State.{opening, thread_on}
 use Rattle.lot_graph.specs.declared.layout.Layout.{Layout}
 use Rattle.lot_simulation.specs.World.{Program, World, sleeper_on, system_turn}
-use Rattle.lot_simulation.specs.World.Answer.{Answered}
+use Rattle.lot_simulation.specs.World.TurnAnswer.{Answered}
 use Rattle.lot_simulation.proofs.TimedRuns.{room-small}
 use Rattle.lot_engine.specs.Playing.{turn_in}
 use Rattle.lot_engine.specs.Seen.{Seen, after_turn, world_of}

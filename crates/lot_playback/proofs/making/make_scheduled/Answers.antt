@@ -2,7 +2,7 @@ use Rattle.std.proofs.Common.{◌≡◌, ◌+◌, ℕ, Bool, true, false, not, N
 use Rattle.std.specs.Prelude.{IsFalse, IsTrue}
 use Rattle.lot_machine.specs.declared.event.Event.{Event}
 use Rattle.lot_machine.specs.declared.reply.Reply.{Reply}
-use Rattle.lot_simulation.specs.World.Answer.{Answered}
+use Rattle.lot_simulation.specs.World.TurnAnswer.{Answered}
 use Rattle.lot_engine.specs.Playing.{IsPlayed, turn_in}
 use Rattle.lot_engine.specs.Seen.{Seen, after_turn}
 use Rattle.lot_engine.specs.Turns.{IsEnded}

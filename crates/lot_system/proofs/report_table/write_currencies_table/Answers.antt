@@ -8,7 +8,7 @@ use Rattle.lot_engine.specs.Seen.{Seen, world_of}
 use Rattle.lot_io.proofs.WritingFacts.{begins-front, writes-after}
 use Rattle.lot_print.specs.declared.table_rows.Columns.TheVariants.{Currencies}
 use Rattle.lot_print.specs.TableRows.{header_row}
-use Rattle.lot_system.specs.declared.form.Form.TheVariants.{CurrencyTable}
+use Rattle.lot_system.specs.declared.form.ReportForm.TheVariants.{CurrencyTable}
 use Rattle.lot_system.specs.ReportTable.{timed_currency_text}
 use Rattle.lot_system.proofs.report_table.write_currencies_table.Goals as goal
 

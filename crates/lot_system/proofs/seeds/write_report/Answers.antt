@@ -6,7 +6,7 @@ use Rattle.lot_print.specs.declared.table_rows.FiguresTable.{FiguresTable}
 use Rattle.lot_simulation.specs.World.{Program}
 use Rattle.lot_io.specs.Writing.{Begins, Written}
 use Rattle.lot_io.proofs.WritingFacts.{appends-both, begins-after, begins-front, writes-flushed}
-use Rattle.lot_system.specs.declared.form.Form.{Form}
+use Rattle.lot_system.specs.declared.form.ReportForm.{ReportForm}
 use Rattle.lot_system.specs.Seeds.{others_text, seeds_between, seeds_heading, seeds_report, subjects_text, table_of}
 use Rattle.lot_system.proofs.seeds.write_report.Goals as goal
 
@@ -14,7 +14,7 @@ use Rattle.lot_system.proofs.seeds.write_report.Goals as goal
 abbrev lines : Option FiguresTable → Program → ℕ → ℕ → List ℕ
 lines table program first last = subjects_text table Thread program (seeds_between first last) ++ others_text table program (seeds_between first last)
 
-text-is : (form : Form) (program : Program) (first last : ℕ) (table : Option FiguresTable) → table ≡ table_of form program.duration → (seeds_heading table first last ++ lines table program first last) ≡ seeds_report form first last program
+text-is : (form : ReportForm) (program : Program) (first last : ℕ) (table : Option FiguresTable) → table ≡ table_of form program.duration → (seeds_heading table first last ++ lines table program first last) ≡ seeds_report form first last program
 text-is form program first last table is = ap (λ t. seeds_heading t first last ++ lines t program first last) is
 
 pub returns-in_err-write_heading-clause-text : goal.returns-in_err-write_heading-clause-text

@@ -6,13 +6,13 @@ use Rattle.std.proofs.lemmas.List.{length-drop}
 use Rattle.lot_machine.specs.Rows.{currency_name}
 use Rattle.lot_simulation.specs.Timed.{timed_turns}
 use Rattle.lot_engine.specs.Seen.{Seen, world_of}
-use Rattle.lot_system.specs.declared.form.Form.{Form}
+use Rattle.lot_system.specs.declared.form.ReportForm.{ReportForm}
 use Rattle.lot_system.specs.ReportTable.{timed_currency_text}
 use Rattle.lot_system.proofs.WritingFacts.{range-more, range-stops}
 use Rattle.lot_system.proofs.timed_currencies.write_currencies.Goals as goal
 
 -- the line or row of the currency with a number, if there is one
-abbrev line : Form → Seen → ℕ → List ℕ
+abbrev line : ReportForm → Seen → ℕ → List ℕ
 line form seen n = option_map_or (timed_currency_text form (world_of seen).state (timed_turns seen.setting.program) n) (currency_name (world_of seen).state n) []
 
 -- how many currencies there have been, without base

@@ -5,13 +5,13 @@ use Rattle.std.specs.Io.KnownBytes.{Appends}
 use Rattle.lot_machine.specs.Rows.{thread_row}
 use Rattle.lot_simulation.specs.Timed.{timed_turns}
 use Rattle.lot_engine.specs.Seen.{Seen, world_of}
-use Rattle.lot_system.specs.declared.form.Form.{Form}
+use Rattle.lot_system.specs.declared.form.ReportForm.{ReportForm}
 use Rattle.lot_system.specs.ReportTable.{timed_thread_text}
 use Rattle.lot_system.proofs.WritingFacts.{range-more, range-stops}
 use Rattle.lot_system.proofs.timed_report.write_threads.Goals as goal
 
 -- the line or row of the thread with a number, if there is one
-abbrev line : Form → Seen → ℕ → List ℕ
+abbrev line : ReportForm → Seen → ℕ → List ℕ
 line form seen n = option_map_or (timed_thread_text form (world_of seen).state (timed_turns seen.setting.program) n) (thread_row (world_of seen).state n) []
 
 pub returns-in_err-write_thread-clause-text : goal.returns-in_err-write_thread-clause-text

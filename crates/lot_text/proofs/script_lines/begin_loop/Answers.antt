@@ -2,7 +2,7 @@ use Rattle.std.proofs.Common.{◌≡◌, ◌<◌, ◌≤◌, ◌+◌, ℕ, nat_l
 use Rattle.std.proofs.lemmas.Bool.{le-leb, lt-leb}
 use Rattle.lot_simulation.specs.declared.input.InputRefusal.TheVariants.{TooDeep, TooLong}
 use Rattle.lot_simulation.specs.declared.input.ScriptWord.TheVariants as word
-use Rattle.lot_simulation.specs.declared.script.Line.TheVariants as line
+use Rattle.lot_simulation.specs.declared.script.ScriptLine.TheVariants as line
 use Rattle.lot_simulation.specs.Grammar.{is_full, script_line, with_line}
 use Rattle.lot_simulation.specs.Reading.{OpenScript, Reading, ◌>>=◌, checked}
 use Rattle.lot_text.specs.Alone.{number_alone}

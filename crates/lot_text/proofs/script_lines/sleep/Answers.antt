@@ -1,6 +1,6 @@
 use Rattle.std.proofs.Common.{◌≡◌, ℕ, List, [], ◌∷◌, refl}
 use Rattle.lot_simulation.specs.declared.input.ScriptWord.TheVariants as word
-use Rattle.lot_simulation.specs.declared.script.Line.TheVariants as line
+use Rattle.lot_simulation.specs.declared.script.ScriptLine.TheVariants as line
 use Rattle.lot_simulation.specs.declared.script.ScriptTrap.TheVariants as trap
 use Rattle.lot_simulation.specs.Grammar.{add_line, script_line}
 use Rattle.lot_simulation.specs.Reading.{OpenScript, Reading, ◌>>=◌}

@@ -1,6 +1,6 @@
 use Rattle.std.proofs.Common.{[], ◌∷◌, ◌++◌, ◌∙◌, ap, sym, subst, arith, length-append}
 use Rattle.lot_simulation.specs.World.{Program}
-use Rattle.lot_simulation.specs.World.Answer.{Answered}
+use Rattle.lot_simulation.specs.World.TurnAnswer.{Answered}
 use Rattle.lot_curves.specs.Stretches.{turn_stretches}
 use Rattle.lot_chart.specs.Noted.{HasSearched}
 use Rattle.lot_chart.proofs.Notes.{answered-noted, commands-noted, early-noted, ended-commands, ended-noted, turn-ran}

@@ -1,7 +1,7 @@
 -- The command is the next one, and what is held then is what the world comes to.
 use Rattle.std.proofs.Common.{◌≡◌, length, sym, ap, ◌∙◌, subst, refl, arith}
 use Rattle.lot_simulation.specs.World.{next_name, resolved, system_turn, system_run, tickets_after}
-use Rattle.lot_simulation.specs.World.Answer.{Answered}
+use Rattle.lot_simulation.specs.World.TurnAnswer.{Answered}
 use Rattle.lot_machine.specs.declared.event.Event.TheVariants as event
 use Rattle.lot_machine.specs.Order.{IsInOrder}
 use Rattle.lot_engine.specs.Seen.{Seen, world_of}

@@ -3,7 +3,7 @@ use Rattle.std.proofs.Common.{◌≡◌, ◌<◌, length, ap, ◌∙◌, subst, 
 use Rattle.std.specs.Prelude.{if◌then◌else◌}
 use Rattle.lot_machine.specs.Numbered.{at_number, set_number}
 use Rattle.lot_simulation.specs.World.{number_from, seed_from, system_turn, system_run, takes_number}
-use Rattle.lot_simulation.specs.World.Answer.{Answered}
+use Rattle.lot_simulation.specs.World.TurnAnswer.{Answered}
 use Rattle.lot_engine.specs.Seen.{Seen, world_of}
 use Rattle.lot_engine.proofs.OneMore.{processor-more}
 use Rattle.lot_simulation.specs.Report.{turns_made}

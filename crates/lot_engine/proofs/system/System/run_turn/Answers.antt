@@ -4,7 +4,7 @@ use Rattle.std.specs.Prelude.{if◌then◌else◌}
 use Rattle.lot_machine.specs.Numbered.{at_number, set_number}
 use Rattle.lot_simulation.specs.Report.{turns_made}
 use Rattle.lot_simulation.specs.World.{number_from, seed_from, sleeper_by, sleeper_on, system_turn, system_run, takes_number}
-use Rattle.lot_simulation.specs.World.Answer.{Answered}
+use Rattle.lot_simulation.specs.World.TurnAnswer.{Answered}
 use Rattle.lot_script.specs.Places.{Fits}
 use Rattle.lot_engine.specs.Seen.{Seen, world_of}
 use Rattle.lot_engine.specs.Steps.{place_of}

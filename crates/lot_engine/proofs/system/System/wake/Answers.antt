@@ -4,7 +4,7 @@ use Rattle.lot_machine.specs.declared.event.Event.TheVariants as event
 use Rattle.lot_machine.specs.State.{State}
 use Rattle.lot_machine.specs.Step.{step}
 use Rattle.lot_simulation.specs.World.{system_run}
-use Rattle.lot_simulation.specs.World.Answer.{Answered}
+use Rattle.lot_simulation.specs.World.TurnAnswer.{Answered}
 use Rattle.lot_engine.specs.Playing.{IsPlayed, turn_in}
 use Rattle.lot_engine.specs.Seen.{Seen, after_turn, timer_for}
 use Rattle.lot_engine.proofs.OneMore.{timer-more}

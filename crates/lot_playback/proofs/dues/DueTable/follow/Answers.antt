@@ -1,7 +1,7 @@
 use Rattle.std.proofs.Common.{◌≡◌, ℕ, ◌+◌, ◌-◌, ◌<◌, ◌^◌, ◌∙◌, List, ap, length, sym, subst, arith}
 use Rattle.lot_simulation.specs.TimedReport.{rate_in}
 use Rattle.lot_simulation.specs.World.{World}
-use Rattle.lot_simulation.specs.World.Answer.{Answered}
+use Rattle.lot_simulation.specs.World.TurnAnswer.{Answered}
 use Rattle.lot_engine.specs.Seen.{world_of}
 use Rattle.lot_playback.specs.declared.dues.DueTable.{DueTable}
 use Rattle.lot_playback.specs.declared.dues.Owing.{Owing}

@@ -1,5 +1,5 @@
 use Rattle.std.proofs.Common.{sym, subst}
-use Rattle.lot_simulation.specs.World.Answer.{Answered}
+use Rattle.lot_simulation.specs.World.TurnAnswer.{Answered}
 use Rattle.lot_playback.specs.InTime.{HaveCounted}
 use Rattle.lot_playback.proofs.refused_traps.RefusedTraps.follow.Goals as goal
 

@@ -10,7 +10,7 @@ use Rattle.lot_playback.specs.Owed.{Answers}
 use Rattle.lot_playback.specs.TicksBelow.{AreCurrencies}
 use Rattle.lot_playback.proofs.DueFacts.{few-waits, waits-more}
 use Rattle.lot_simulation.specs.World.{World}
-use Rattle.lot_simulation.specs.World.Answer.{Answered}
+use Rattle.lot_simulation.specs.World.TurnAnswer.{Answered}
 use Rattle.lot_playback.proofs.FollowFacts.{refusals-more}
 use Rattle.lot_playback.proofs.RefusedTrapFacts.{traps-more}
 use Rattle.lot_playback.proofs.timekeeper.Timekeeper.follow.Goals as goal

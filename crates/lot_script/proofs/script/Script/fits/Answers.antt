@@ -1,15 +1,15 @@
 use Rattle.std.proofs.Common.{◌≡◌, ◌<◌, List, length}
-use Rattle.lot_simulation.specs.declared.script.Line.{Line}
+use Rattle.lot_simulation.specs.declared.script.ScriptLine.{ScriptLine}
 use Rattle.lot_simulation.specs.Script.{unrolled}
 use Rattle.lot_script.specs.Drafts.{IsScript}
 use Rattle.lot_script.specs.Places.{Place, Fits, IsRestOf, rest_at}
 use Rattle.lot_script.proofs.Reached.{rest-there, some-there}
 use Rattle.lot_script.proofs.script.Script.fits.Goals as goal
 
-rest_of : (lines fields : List Line) (place : Place) → fields ≡ lines → IsScript fields → Fits lines place → IsRestOf (rest_at lines place) (unrolled lines)
+rest_of : (lines fields : List ScriptLine) (place : Place) → fields ≡ lines → IsScript fields → Fits lines place → IsRestOf (rest_at lines place) (unrolled lines)
 rest_of lines fields place view script fits = rest-there lines place (rw view at script) fits
 
-some_of : (lines fields : List Line) (place : Place) → fields ≡ lines → IsScript fields → Fits lines place → 0 < length (rest_at lines place)
+some_of : (lines fields : List ScriptLine) (place : Place) → fields ≡ lines → IsScript fields → Fits lines place → 0 < length (rest_at lines place)
 some_of lines fields place view script fits = some-there lines place (rw view at script) fits
 
 pub returns-then-can_be_done-clause-some : goal.returns-then-can_be_done-clause-some

@@ -1,12 +1,12 @@
 use Rattle.std.proofs.Common.{◌≡◌, rules}
 use Rattle.std.specs.Bool.{Decides}
 use Rattle.std.proofs.lemmas.Slice.Eq.{slice_eq-Decides}
-use Rattle.lot_simulation.specs.declared.script.Line.{Line}
-use Rattle.lot_simulation.specs.contracts.script.LinePartialEq.TheImpl.{eq-value}
+use Rattle.lot_simulation.specs.declared.script.ScriptLine.{ScriptLine}
+use Rattle.lot_simulation.specs.contracts.script.ScriptLinePartialEq.TheImpl.{eq-value}
 use Rattle.lot_script.proofs.script.Script.is_same.Goals as goal
 
 -- `==` of two lines decides whether they are equal
-line_eq-decides : (a b : Line) → Decides (eq-value.it a b) (a ≡ b)
+line_eq-decides : (a b : ScriptLine) → Decides (eq-value.it a b) (a ≡ b)
 line_eq-decides a b = search rules
 
 pub returns : goal.returns

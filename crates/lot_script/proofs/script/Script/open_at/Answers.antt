@@ -1,13 +1,13 @@
 use Rattle.std.proofs.Common.{◌≡◌, ◌<◌, ◌≤◌, ◌+◌, ℕ, List, length, get_or, arith, sym, refl}
 use Rattle.std.proofs.lemmas.Option.{slice_get_read}
-use Rattle.lot_simulation.specs.declared.script.Line.{Line}
+use Rattle.lot_simulation.specs.declared.script.ScriptLine.{ScriptLine}
 use Rattle.lot_script.specs.declared.open_loops.OpenLoop.{OpenLoop}
 use Rattle.lot_script.specs.Drafts.{IsScript, CanNest}
 use Rattle.lot_script.specs.Places.{open_at, open_after}
 use Rattle.lot_script.proofs.Opened.{open_at-next, nests-there}
 use Rattle.lot_script.proofs.script.Script.open_at.Goals as goal
 
-can_nest : (lines fields : List Line) (i stop : ℕ) (l : Line) (loops : List OpenLoop) → fields ≡ lines → IsScript fields → loops ≡ open_at lines i → i < stop → stop ≤ length lines
+can_nest : (lines fields : List ScriptLine) (i stop : ℕ) (l : ScriptLine) (loops : List OpenLoop) → fields ≡ lines → IsScript fields → loops ≡ open_at lines i → i < stop → stop ≤ length lines
     → l ≡ get_or fields i l → CanNest (length loops) l
 can_nest lines fields i stop l loops view script here before within is =
     let inside : i < length fields = rw view (omega (arith, before, within)) in
@@ -16,7 +16,7 @@ can_nest lines fields i stop l loops view script here before within is =
 pub follow-requires-clause-nests : goal.follow-requires-clause-nests
 follow-requires-clause-nests c = can_nest _ _ _ _ _ _ c.self.view_is c.self.invariant c.loop-number.invariant c.loop-number-test.true c.requires c.index.ensures
 
-next : (lines fields : List Line) (i stop : ℕ) (l : Line) (loops after : List OpenLoop) → fields ≡ lines → loops ≡ open_at lines i → i < stop → stop ≤ length lines → l ≡ get_or fields i l
+next : (lines fields : List ScriptLine) (i stop : ℕ) (l : ScriptLine) (loops after : List OpenLoop) → fields ≡ lines → loops ≡ open_at lines i → i < stop → stop ≤ length lines → l ≡ get_or fields i l
     → after ≡ open_after i l loops → after ≡ open_at lines (i + 1)
 next lines fields i stop l loops after view here before within is followed =
     let inside : i < length fields = rw view (omega (arith, before, within)) in

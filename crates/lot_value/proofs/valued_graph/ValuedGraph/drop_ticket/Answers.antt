@@ -1,5 +1,5 @@
 use Rattle.std.proofs.Common.{sym, subst, refl}
-use Rattle.lot_value.specs.declared.change.Change.TheVariants.{DropTicket}
+use Rattle.lot_value.specs.declared.change.GraphChange.TheVariants.{DropTicket}
 use Rattle.lot_value.specs.Changing.{CanApply}
 use Rattle.lot_value.specs.Valued.{Valued, live_of}
 use Rattle.lot_value.proofs.Applied.{Done, done-stays, seen}

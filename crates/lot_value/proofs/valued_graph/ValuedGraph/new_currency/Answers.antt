@@ -1,6 +1,6 @@
 use Rattle.std.proofs.Common.{◌≡◌, ◌∷◌, ◌++◌, true, [], sym, subst, refl}
 use Rattle.lot_graph.specs.Changes.{with_currencies}
-use Rattle.lot_value.specs.declared.change.Change.TheVariants.{NewCurrency}
+use Rattle.lot_value.specs.declared.change.GraphChange.TheVariants.{NewCurrency}
 use Rattle.lot_value.specs.Changing.{CanApply}
 use Rattle.lot_value.specs.Valued.{Valued, live_of}
 use Rattle.lot_value.proofs.Applied.{Done, done-stays, made-in, seen}

@@ -1,5 +1,5 @@
 use Rattle.std.proofs.Common.{true, refl, slice_set}
-use Rattle.lot_value.specs.declared.change.Change.TheVariants.{ReuseCurrency}
+use Rattle.lot_value.specs.declared.change.GraphChange.TheVariants.{ReuseCurrency}
 use Rattle.lot_value.specs.Valued.{live_of}
 use Rattle.lot_value.proofs.Applied.{Done, done-stays, seen}
 use Rattle.lot_value.proofs.Unchanged.{Stays, stays-currencies}

@@ -1,6 +1,6 @@
 use Rattle.std.proofs.Common.{◌≡◌, ◌∙◌, Some, ap, sym, subst, refl}
 use Rattle.lot_machine.specs.Numbered.{set_number}
-use Rattle.lot_value.specs.declared.change.Change.TheVariants.{ReuseTicket}
+use Rattle.lot_value.specs.declared.change.GraphChange.TheVariants.{ReuseTicket}
 use Rattle.lot_value.specs.Changing.{CanApply, graph_after}
 use Rattle.lot_value.specs.Valued.{Valued, live_of}
 use Rattle.lot_graph.specs.Changes.{with_tickets}

@@ -1,5 +1,5 @@
 use Rattle.std.proofs.Common.{refl, subst, sym}
-use Rattle.lot_value.specs.declared.change.Change.TheVariants.{PutTicket}
+use Rattle.lot_value.specs.declared.change.GraphChange.TheVariants.{PutTicket}
 use Rattle.lot_value.specs.Valued.{Valued}
 use Rattle.lot_draw.specs.Queued.{AreWeights, CompetesIn}
 use Rattle.lot_kernel_tests.proofs.RoomLemmas.{changed}

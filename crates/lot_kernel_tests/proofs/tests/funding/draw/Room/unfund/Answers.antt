@@ -1,5 +1,5 @@
 use Rattle.std.proofs.Common.{refl}
-use Rattle.lot_value.specs.declared.change.Change.TheVariants.{PutTicket}
+use Rattle.lot_value.specs.declared.change.GraphChange.TheVariants.{PutTicket}
 use Rattle.lot_kernel_tests.proofs.RoomLemmas.{changed}
 use Rattle.lot_kernel_tests.proofs.tests.funding.draw.Room.unfund.Goals as goal
 
