@@ -51,6 +51,9 @@ const WEIGHTS: &[(u64, Option<u32>, u128)] = &[
     (7, Some(3), 233),
     (400, Some(99), 404),
     (400, Some(1), 40000),
+    // 400 * 100 / 4294967295 is below 1, and what is worth something weighs at least 1.
+    (400, Some(4294967295), 1),
+    (0, Some(4294967295), 0),
 ];
 
 #[test]
