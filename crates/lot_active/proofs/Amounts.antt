@@ -1,30 +1,8 @@
 -- The active amount of a currency, by its tickets and by the edges of the net.
-use Rattle.std.proofs.Common.{◌≡◌, ℕ, zero, suc, ◌+◌, ◌-◌, ◌<◌, ◌≤◌, ◌==◌, ◌&&◌, Bool, true, false, cond, ◌⊎◌, inl, inr, Option, Some, None, List, [], ◌∷◌, length, filter, filter_map, sum_by, slice_get, ap, sym, ◌∙◌, refl, arith, option_map, option_and_then, unwrap_or}
-use Rattle.std.specs.Option.{option_flatten}
-use Rattle.std.proofs.lemmas.Bool.{cases_lt, lt-ltb, le-ltb}
-use Rattle.std.proofs.lemmas.List.Sums.{sum_by-cons}
-use Rattle.std.proofs.lemmas.Option.{slice_get_past}
-use Rattle.lot_machine.specs.declared.ticket.Ticket.{Ticket}
-use Rattle.lot_machine.specs.declared.ticket.Target.{Target}
+use Rattle.lot_active.proofs.Common.{AwakeAre, Bool, Currency, Edge, EdgePlaces, FitsIn, Funding, Layout, List, Mutex, Node, None, OfLender, OfMutex, OfTicket, Option, Some, Target, Tells, Thread, Ticket, active_amount, amount_from, ap, arith, cases_lt, cond, counted_amount, edge-by, edge_at, edge_count, ends-ticket, ends_of, false, filter, filter_map, inl, inr, is_active, is_active-exact, le-ltb, leads_to, leads_to_passed, lender-ends, length, lt-ltb, mutex-ends, net_of, node_place, option_and_then, option_flatten, option_map, part, places_of_edge, refl, same-list, slice_get, slice_get_past, suc, sum_below, sum_by, sum_by-cons, sym, target_node, ticket-ends, ticket_at, ticket_in-suc, true, unwrap_or, zero, ℕ, [], ◌&&◌, ◌+◌, ◌-◌, ◌<◌, ◌==◌, ◌∙◌, ◌∷◌, ◌≡◌, ◌≤◌, ◌⊎◌}
 use Rattle.lot_machine.specs.declared.ticket.Target.TheVariants as target
-use Rattle.lot_machine.specs.declared.funding.Node.{Node}
-use Rattle.lot_machine.specs.declared.funding.Node.TheVariants.{Currency, Thread, Mutex}
-use Rattle.lot_machine.specs.declared.funding.Edge.{Edge}
-use Rattle.lot_machine.specs.declared.funding.Edge.TheVariants.{OfTicket, OfLender, OfMutex}
-use Rattle.lot_machine.specs.Funding.{Funding, ticket_at, target_node, ends_of}
-use Rattle.lot_machine.specs.Activity.{is_active, active_amount}
 use Rattle.lot_machine.specs.Facts as facts
-use Rattle.lot_machine.proofs.Tickets.{ticket_in-suc}
-use Rattle.lot_machine.proofs.TicketDepth.{is_active-exact}
-use Rattle.lot_active.specs.declared.edge_ends.EdgePlaces.{EdgePlaces}
-use Rattle.lot_active.specs.Activity.{Tells, sum_below, part, amount_from, leads_to, leads_to_passed}
 use Rattle.lot_active.proofs.Sums.{sum-same, part-off}
-use Rattle.lot_graph.specs.declared.layout.Layout.{Layout}
-use Rattle.lot_graph.specs.Places.{node_place, edge_at, edge_count, FitsIn}
-use Rattle.lot_active.specs.Fundings.{counted_amount, AwakeAre, places_of_edge, net_of}
-use Rattle.lot_graph.proofs.SpreadLemmas.{same-list}
-use Rattle.lot_graph.proofs.HeadLemmas.{edge-by}
-use Rattle.lot_graph.proofs.EndLemmas.{ticket-ends, lender-ends, mutex-ends, ends-ticket}
 use Rattle.lot_active.proofs.Ends.{places-ends}
 use Rattle.lot_active.proofs.Ways.{net-active, active-net, ticket-active, active-ticket}
 

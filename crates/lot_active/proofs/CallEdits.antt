@@ -1,27 +1,7 @@
 -- What the calls of a graph are to what is kept for it.
-use Rattle.std.proofs.Common.{◌≡◌, ℕ, ◌-◌, ◌⊎◌, inl, inr, Bool, true, false, Option, Some, None, List, [], ◌∷◌, ◌++◌, ap, sym, ◌∙◌, refl, subst, length-set}
-use Rattle.lot_machine.specs.declared.ticket.Ticket.{Ticket}
-use Rattle.lot_machine.specs.declared.ticket.Target.{Target}
+use Rattle.lot_active.proofs.Common.{Activity, AddsEdge, AwakeAre, Bool, Currency, Edge, EdgeEnds, FitsLimits, IsKept, IsKeptFor, IsLive, IsMutex, IsSound, Layout, Lend, LimitedFunding, List, Mutex, Net, Nobody, Node, None, OfLender, OfMutex, OfTicket, Option, Some, Target, Thread, Ticket, ap, at_number, edge_between, false, graph_net, inl, inr, layout_of, lend_node, length-set, number-push, owner_of, refl, set_number, subst, sym, target_node, ticket_at, true, with_amount, with_currencies, with_lends, with_new_ticket, with_owners, with_target, with_tickets, without_ticket, ℕ, [], ◌++◌, ◌-◌, ◌∙◌, ◌∷◌, ◌≡◌, ◌⊎◌}
 use Rattle.lot_machine.specs.declared.ticket.Target.TheVariants as target
-use Rattle.lot_machine.specs.declared.funding.Node.{Node}
-use Rattle.lot_machine.specs.declared.funding.Node.TheVariants.{Currency, Thread, Mutex}
-use Rattle.lot_machine.specs.declared.funding.Edge.{Edge}
-use Rattle.lot_machine.specs.declared.funding.Edge.TheVariants.{OfTicket, OfLender, OfMutex}
-use Rattle.lot_machine.specs.declared.funding.Lend.{Lend}
-use Rattle.lot_machine.specs.declared.funding.Lend.TheVariants.{Nobody}
-use Rattle.lot_machine.specs.Numbered.{at_number, set_number}
-use Rattle.lot_machine.specs.Funding.{ticket_at, owner_of, target_node, lend_node, with_new_ticket, without_ticket, with_target, with_amount}
-use Rattle.lot_machine.specs.Lends.{IsLive}
-use Rattle.lot_machine.proofs.Changes.{number-push}
-use Rattle.lot_graph.specs.declared.layout.Layout.{Layout}
-use Rattle.lot_graph.specs.Graphs.{LimitedFunding, IsSound, IsMutex}
-use Rattle.lot_graph.specs.Places.{layout_of, FitsLimits}
-use Rattle.lot_active.specs.declared.edge_ends.EdgeEnds.{EdgeEnds}
-use Rattle.lot_active.specs.Nets.{Net}
-use Rattle.lot_active.specs.Activity.{Activity, IsKept}
-use Rattle.lot_active.specs.Fundings.{AwakeAre, IsKeptFor, AddsEdge, graph_net, edge_between}
 use Rattle.lot_active.proofs.Edits.{HasMore, fund-adds, unfund-adds, lend-adds, unlend-adds, own-adds, disown-adds, issue-same, again-same, destroy-same, set_amount-same, thread-same}
-use Rattle.lot_graph.specs.Changes.{with_currencies, with_lends, with_owners, with_tickets}
 
 -- ---- one edge
 

@@ -1,15 +1,5 @@
 -- How a call begins and ends.
-use Rattle.std.proofs.Common.{◌≡◌, ℕ, zero, suc, ◌+◌, ◌<◌, ◌≤◌, ◌^◌, nat_lt, Bool, true, false, not, ◌||◌, ◌⊎◌, inl, inr, Option, Some, None, List, [], Contains, length, ap, sym, ◌∙◌, refl, subst, arith, replicate}
-use Rattle.std.proofs.lemmas.Bool.{cases_eq}
-use Rattle.std.proofs.lemmas.List.{get_or-set_same, get_or-set_other, length-replicate}
-use Rattle.lot_lists.specs.NodeLists.{NodeLists, nodes_of, IsFree, IsListed}
-use Rattle.lot_graph.specs.declared.layout.Layout.{Layout}
-use Rattle.lot_active.specs.declared.edge_ends.EdgePlaces.{EdgePlaces}
-use Rattle.lot_active.specs.Nets.{Net, IsNet, Reaches, HasNoCycle}
-use Rattle.lot_graph.proofs.MirrorLemmas.{contains-nothing}
-use Rattle.lot_active.specs.Activity.{Activity, IsKept, Changes, Adds, sum_below, part, leads_to, leads_to_passed, awake_at, amount_at, is_on}
-use Rattle.lot_active.specs.Held.{Held, IsSized, In, Relists, Adjusts, SetsAwake, AllEmpty, on_at, held_at}
-use Rattle.lot_active.specs.Spread.{HasMoved, Noted, AddsUp, Spreading, set_at}
+use Rattle.lot_active.proofs.Common.{Activity, Adds, AddsUp, Adjusts, AllEmpty, Bool, Changes, Contains, EdgePlaces, HasMoved, HasNoCycle, Held, In, IsFree, IsKept, IsListed, IsNet, IsSized, Layout, List, Net, NodeLists, None, Noted, Option, Reaches, Relists, SetsAwake, Some, Spreading, amount_at, ap, arith, awake_at, cases_eq, contains-nothing, false, get_or-set_other, get_or-set_same, held_at, inl, inr, is_on, leads_to, leads_to_passed, length, length-replicate, nat_lt, nodes_of, not, on_at, part, refl, replicate, set_at, subst, suc, sum_below, sym, true, zero, ℕ, [], ◌+◌, ◌<◌, ◌^◌, ◌||◌, ◌∙◌, ◌≡◌, ◌≤◌, ◌⊎◌}
 use Rattle.lot_active.proofs.Sums.{amount-same, amount-added}
 use Rattle.lot_active.proofs.Local.{IsLocal, local-kept}
 use Rattle.lot_active.proofs.Lists.{Place, listed-place, free-or-listed}

@@ -1,34 +1,7 @@
 -- What each change of a funding is to its net: one edge more, one edge less, or nothing.
-use Rattle.std.proofs.Common.{◌≡◌, ℕ, zero, suc, ◌-◌, ◌<◌, ◌≤◌, ◌⊎◌, inl, inr, Bool, true, Option, Some, None, List, [], ◌∷◌, ◌++◌, length, slice_get, slice_set, ap, sym, ◌∙◌, refl, subst, arith, option_map, option_and_then, unwrap_or}
-use Rattle.std.proofs.Math.Path.{fun_ext}
-use Rattle.std.specs.Option.{option_flatten}
-use Rattle.std.proofs.lemmas.Bool.{cases_eq}
-use Rattle.std.proofs.lemmas.Option.{slice_get_within}
-use Rattle.lot_machine.specs.declared.ticket.Ticket.{Ticket}
-use Rattle.lot_machine.specs.declared.ticket.Target.{Target}
+use Rattle.lot_active.proofs.Common.{Adds, AddsEdge, AwakeAre, Bool, Currency, Edge, EdgeEnds, EdgePlaces, FitsLimits, Funding, IsAwake, IsLive, IsNodeWithin, Layout, Lend, LimitedFunding, List, Mutex, Net, Nobody, Node, None, OfLender, OfMutex, OfTicket, Option, Some, Target, Thread, Ticket, ap, arith, at_number, at_number-suc, cases_eq, counted_amount, edge-back, edge_at, edge_between, edge_count, edge_place, ends_of, ends_of_edge, flatten-some, fun_ext, graph_net, inl, inr, layout_of, lend_node, length, net_of, node_count, node_place, number-push, number-set, number-there, option_and_then, option_flatten, option_map, owner_of, pair, place-back, places_of_edge, places_of_ends, refl, reissued, retargeted, set_number, slice_get, slice_get_within, slice_set, some-injective, subst, suc, sym, target_node, ticket_at, ticket_in, true, unwrap_or, with_amount, with_new_ticket, with_target, without_ticket, zero, ℕ, [], ◌++◌, ◌-◌, ◌<◌, ◌∙◌, ◌∷◌, ◌≡◌, ◌≤◌, ◌⊎◌}
 use Rattle.lot_machine.specs.declared.ticket.Target.TheVariants as target
-use Rattle.lot_machine.specs.declared.funding.Node.{Node}
-use Rattle.lot_machine.specs.declared.funding.Node.TheVariants.{Currency, Thread, Mutex}
-use Rattle.lot_machine.specs.declared.funding.Edge.{Edge}
-use Rattle.lot_machine.specs.declared.funding.Edge.TheVariants.{OfTicket, OfLender, OfMutex}
-use Rattle.lot_machine.specs.declared.funding.Lend.{Lend}
-use Rattle.lot_machine.specs.declared.funding.Lend.TheVariants.{Nobody}
-use Rattle.lot_machine.specs.Numbered.{at_number, set_number}
-use Rattle.lot_machine.specs.Funding.{Funding, ticket_at, ticket_in, owner_of, target_node, lend_node, ends_of, with_target, with_amount, with_new_ticket, without_ticket, retargeted, reissued}
-use Rattle.lot_machine.specs.Lends.{IsLive}
-use Rattle.lot_machine.proofs.Tickets.{at_number-suc, flatten-some, some-injective}
-use Rattle.lot_machine.proofs.Changes.{number-set, number-push, number-there}
-use Rattle.lot_active.specs.declared.edge_ends.EdgeEnds.{EdgeEnds}
-use Rattle.lot_active.specs.declared.edge_ends.EdgePlaces.{EdgePlaces}
-use Rattle.lot_active.specs.Nets.{Net}
 use Rattle.lot_active.proofs.Lists.{set-same, set-other}
-use Rattle.lot_active.specs.Activity.{Adds, IsAwake}
-use Rattle.lot_graph.specs.declared.layout.Layout.{Layout}
-use Rattle.lot_graph.specs.Graphs.{LimitedFunding}
-use Rattle.lot_graph.specs.Places.{IsNodeWithin, node_place, edge_place, edge_at, node_count, edge_count, layout_of, FitsLimits}
-use Rattle.lot_active.specs.Fundings.{AwakeAre, AddsEdge, counted_amount, ends_of_edge, places_of_ends, places_of_edge, edge_between, net_of, graph_net}
-use Rattle.lot_graph.proofs.HeadLemmas.{edge-back, place-back}
-use Rattle.lot_graph.proofs.EndLemmas.{pair}
 
 -- ---- ends and places
 

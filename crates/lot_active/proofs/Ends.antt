@@ -1,20 +1,5 @@
 -- Edges, their ends and their places.
-use Rattle.std.proofs.Common.{◌≡◌, ℕ, ◌<◌, ◌^◌, Option, Some, None, ap, sym, ◌∙◌, refl, arith, option_map, unwrap_or}
-use Rattle.lot_machine.specs.declared.ticket.Ticket.{Ticket}
-use Rattle.lot_machine.specs.declared.funding.Node.{Node}
-use Rattle.lot_machine.specs.declared.funding.Edge.{Edge}
-use Rattle.lot_machine.specs.declared.funding.Edge.TheVariants.{OfTicket, OfLender, OfMutex}
-use Rattle.lot_machine.specs.Funding.{Funding, ends_of}
-use Rattle.lot_machine.proofs.Tickets.{some-injective}
-use Rattle.lot_active.specs.declared.edge_ends.EdgePlaces.{EdgePlaces}
-use Rattle.lot_active.specs.Nets.{HasEdge, IsNet}
-use Rattle.lot_graph.specs.declared.layout.Layout.{Layout}
-use Rattle.lot_graph.specs.Places.{node_place, IsNodeWithin, edge_place, edge_at, FitsIn}
-use Rattle.lot_graph.proofs.HeadLemmas.{edge-back}
-use Rattle.lot_graph.proofs.SpreadLemmas.{same-list, list-low}
-use Rattle.lot_graph.proofs.PlaceLemmas.{place-within}
-use Rattle.lot_graph.proofs.EndLemmas.{pair, ticket-ends}
-use Rattle.lot_active.specs.Fundings.{counted_amount, places_of_edge, net_of}
+use Rattle.lot_active.proofs.Common.{Edge, EdgePlaces, FitsIn, Funding, HasEdge, IsNet, IsNodeWithin, Layout, Node, None, OfLender, OfMutex, OfTicket, Option, Some, Ticket, ap, arith, counted_amount, edge-back, edge_at, edge_place, ends_of, list-low, net_of, node_place, option_map, pair, place-within, places_of_edge, refl, same-list, some-injective, sym, ticket-ends, unwrap_or, ℕ, ◌<◌, ◌^◌, ◌∙◌, ◌≡◌}
 
 -- ---- all_places
 

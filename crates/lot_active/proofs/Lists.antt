@@ -1,17 +1,5 @@
 -- Where a node stands in the lists.
-use Rattle.std.proofs.Common.{◌≡◌, ℕ, zero, suc, ◌+◌, ◌<◌, ◌⊎◌, inl, inr, All, Bool, true, false, not, Option, Some, None, List, [], ◌∷◌, ◌++◌, Contains, length, slice_get, slice_set, ap, sym, ◌∙◌, refl, subst, arith, length-append, append_assoc}
-use Rattle.std.specs.List.{remove}
-use mathlib.Core.Bool.{beq}
-use Rattle.std.specs.Option.{IfNone, is_some}
-use Rattle.std.proofs.lemmas.Bool.{cases_lt, cases_eq}
-use Rattle.std.proofs.lemmas.List.{get_or_past, get_or-set_same, get_or-set_other}
-use Rattle.std.proofs.lemmas.List.Elements.{Contains-append_left, Contains-append_right, Contains-push_cases}
-use Rattle.lot_lists.specs.NodeLists.{NodeLists, nodes_of, node_at, IsFree, IsListed, IsConsistent, with_pushed, with_removed}
-use Rattle.lot_active.specs.declared.edge_ends.EdgePlaces.{EdgePlaces}
-use Rattle.lot_graph.specs.Graphs.{HasEachOnce}
-use Rattle.lot_active.specs.Nets.{Net, EntersAt}
-use Rattle.lot_graph.proofs.MirrorLemmas.{contains-at, contains-nothing, place-in, left-before, still-left}
-use Rattle.lot_active.specs.Held.{In, Relists}
+use Rattle.lot_active.proofs.Common.{All, Bool, Contains, Contains-append_left, Contains-append_right, Contains-push_cases, EdgePlaces, EntersAt, HasEachOnce, IfNone, In, IsConsistent, IsFree, IsListed, List, Net, NodeLists, None, Option, Relists, Some, ap, append_assoc, arith, beq, cases_eq, cases_lt, contains-at, contains-nothing, false, get_or-set_other, get_or-set_same, get_or_past, inl, inr, is_some, left-before, length, length-append, node_at, nodes_of, not, place-in, refl, remove, slice_get, slice_set, still-left, subst, suc, sym, true, with_pushed, with_removed, zero, ℕ, [], ◌++◌, ◌+◌, ◌<◌, ◌∙◌, ◌∷◌, ◌≡◌, ◌⊎◌}
 
 -- ---- membership
 

@@ -1,13 +1,7 @@
 -- Marks and amounts that agree at each node are the definitions', if the graph has no cycle.
-use Rattle.std.proofs.Common.{◌≡◌, ℕ, zero, suc, ◌<◌, ◌≤◌, eqb, nat_lt, Bool, true, false, ◌⊎◌, inl, inr, Some, List, [], ◌∷◌, length, ◌↔◌, ap, sym, ◌∙◌, refl, subst, arith}
-use Rattle.std.specs.List.{IsDistinct, AllByRecursion, list_any}
-use Rattle.std.specs.Bool.{IsTrue}
-use Rattle.std.proofs.lemmas.Bool.{ne_eqb, eqb-true, or_cases, or_left, or_right, lt-ltb, ltb-true}
-use Rattle.std.proofs.lemmas.Option.{get_or_from_slice_get}
-use Rattle.std.proofs.lemmas.Map.Steps.{length-le_from_distinct_below}
-use Rattle.lot_active.specs.declared.edge_ends.EdgePlaces.{EdgePlaces}
-use Rattle.lot_active.specs.Nets.{Net, IsNet, HasEdge, IsWay, Reaches, HasNoCycle}
-use Rattle.lot_active.specs.Activity.{IsAwake, IsActive, Tells, Activity, IsKept, part, amount_from, leads_to, leads_to_passed, awake_at, amount_at, is_on}
+use Rattle.lot_active.proofs.Common.{Activity, AllByRecursion, Bool, EdgePlaces, HasEdge, HasNoCycle, IsAwake, IsKept, IsNet, IsTrue, IsWay, List, Net, Reaches, Some, Tells, amount_at, amount_from, ap, arith, awake_at, eqb, eqb-true, false, get_or_from_slice_get, inl, inr, is_on, leads_to, leads_to_passed, length, length-le_from_distinct_below, list_any, lt-ltb, ltb-true, nat_lt, ne_eqb, or_cases, or_left, or_right, part, refl, subst, suc, sym, true, zero, ℕ, [], ◌<◌, ◌↔◌, ◌∙◌, ◌∷◌, ◌≡◌, ◌≤◌, ◌⊎◌}
+use Rattle.std.specs.List.{IsDistinct}
+use Rattle.lot_active.specs.Activity.{IsActive}
 use Rattle.lot_active.proofs.Sums.{amount-same, sum-found, sum-some, part-here, part-some}
 
 -- ---- paths

@@ -1,20 +1,5 @@
 -- An edge that leads elsewhere: from one active node to another.
-use Rattle.std.proofs.Common.{◌≡◌, ℕ, ◌⊎◌, inl, inr, Bool, true, Option, Some, List, [], Contains, ap, sym, ◌∙◌, refl, subst}
-use Rattle.std.proofs.lemmas.Bool.{cases_eq}
-use Rattle.lot_machine.specs.declared.funding.Node.{Node}
-use Rattle.lot_machine.specs.declared.funding.Node.TheVariants.{Thread}
-use Rattle.lot_machine.specs.declared.funding.Edge.{Edge}
-use Rattle.lot_machine.specs.Lends.{IsLive}
-use Rattle.lot_machine.proofs.EachOnce.{contains-nothing}
-use Rattle.lot_graph.specs.Graphs.{LimitedFunding, IsSound}
-use Rattle.lot_graph.specs.Places.{node_place, node_count, IsNodeWithin, edge_place, layout_of, FitsLimits}
-use Rattle.lot_graph.specs.declared.layout.Layout.{Layout}
-use Rattle.lot_active.specs.declared.edge_ends.EdgeEnds.{EdgeEnds}
-use Rattle.lot_active.specs.declared.edge_ends.EdgePlaces.{EdgePlaces}
-use Rattle.lot_active.specs.Nets.{Net, Reaches}
-use Rattle.lot_active.specs.Activity.{Activity, Adds, leads_to_passed, part, sum_below, is_on, mark_of}
-use Rattle.lot_active.specs.Fundings.{AddsEdge, IsKeptFor, graph_net, places_of_ends}
-use Rattle.lot_active.specs.Changes.{ChangesNodes}
+use Rattle.lot_active.proofs.Common.{Activity, Adds, AddsEdge, Bool, ChangesNodes, Contains, Edge, EdgeEnds, EdgePlaces, FitsLimits, IsKeptFor, IsLive, IsNodeWithin, IsSound, Layout, LimitedFunding, List, Net, Node, Option, Reaches, Some, Thread, ap, cases_eq, contains-nothing, edge_place, graph_net, inl, inr, is_on, layout_of, leads_to_passed, mark_of, node_count, node_place, part, places_of_ends, refl, subst, sum_below, sym, true, ℕ, [], ◌∙◌, ◌≡◌, ◌⊎◌}
 use Rattle.lot_active.proofs.Local.{IsLocal, awake-on, kept-local, local-kept}
 use Rattle.lot_active.proofs.Sums.{sum-same}
 use Rattle.lot_active.proofs.Edits.{adds-net}

@@ -1,33 +1,7 @@
 -- What a call changed, by nodes.
-use Rattle.std.proofs.Common.{◌≡◌, ◌≢◌, ℕ, zero, suc, ◌+◌, ◌<◌, ◌≤◌, nat_lt, ◌↔◌, ◌⊎◌, inl, inr, Bool, true, false, ◌||◌, cond, IsTrue, Option, Some, None, List, [], ◌∷◌, Contains, map, ap, ap₂, sym, ◌∙◌, refl, subst, arith, option_map, option_and_then}
-use Rattle.std.proofs.lemmas.Bool.{cases_lt}
-use Rattle.std.proofs.lemmas.List.{get_or_past}
-use Rattle.lot_machine.specs.declared.funding.Node.{Node}
-use Rattle.lot_machine.specs.declared.funding.Node.TheVariants.{Currency, Thread, Mutex}
-use Rattle.lot_machine.specs.declared.funding.Edge.{Edge}
-use Rattle.lot_machine.specs.declared.funding.Edge.TheVariants.{OfTicket, OfLender, OfMutex}
-use Rattle.lot_machine.specs.declared.funding.Lend.{Lend}
-use Rattle.lot_machine.specs.declared.funding.Lend.TheVariants.{Nobody, ToThread, ToMutex}
-use Rattle.lot_machine.specs.Numbered.{at_number, option_any}
-use Rattle.lot_machine.specs.Funding.{Funding, owner_of, lend_node, ends_of}
-use Rattle.lot_machine.specs.Lends.{borrower, is_backed}
-use Rattle.lot_machine.specs.Activity.{active_amount}
+use Rattle.lot_active.proofs.Common.{Activity, AdjustsNode, AwakeAre, Bool, Changes, ChangesNodes, Contains, Currency, Edge, EdgePlaces, FitsIn, Funding, HasEachOnce, IsActiveNode, IsEdgeWithin, IsKeptFor, IsNodeOf, IsNodeWithin, IsTrue, IsWay, Layout, Lend, LimitedFunding, List, Mutex, Nobody, Node, None, OfLender, OfMutex, OfTicket, Option, Some, SwitchesNode, Tells, Thread, ToMutex, ToThread, active_amount, adjusted_nodes, amount_from, amount_of, ap, ap₂, arith, at_number, awake_at, borrower, cases_lt, cond, contains-at, contains-mapped, counted_amount, edge-back, edge-low, edge_at, edge_count, edge_place, ends-lender, ends-mutex, ends_of, false, get_or_past, graph_net, inl, inr, is_backed, is_backed-exact, layout_of, leads_to, leads_to_passed, lend_node, lender-ends, list-back, map, mapped-at, mapped-contains, mark_of, mutex-ends, nat_lt, net_of, node-back, node_amount, node_count, node_of, node_place, option_and_then, option_any, option_map, owner_of, part, place-back, places_of_edge, refl, same-list, subst, suc, sum_below, switched_nodes, sym, ticket-ends, true, zero, ℕ, [], ◌+◌, ◌<◌, ◌||◌, ◌↔◌, ◌∙◌, ◌∷◌, ◌≡◌, ◌≢◌, ◌≤◌, ◌⊎◌}
 use Rattle.lot_machine.specs.Facts as facts
-use Rattle.lot_machine.proofs.LendDepth.{is_backed-exact}
-use Rattle.lot_machine.proofs.EachOnce.{contains-mapped, mapped-contains, contains-at}
-use Rattle.lot_graph.specs.declared.layout.Layout.{Layout}
-use Rattle.lot_graph.specs.Graphs.{LimitedFunding, IsNodeOf, HasEachOnce, Reaches}
-use Rattle.lot_graph.specs.Places.{node_place, node_of, node_count, edge_place, edge_at, edge_count, IsNodeWithin, IsEdgeWithin, FitsIn, layout_of}
-use Rattle.lot_graph.proofs.HeadLemmas.{edge-back, place-back}
-use Rattle.lot_graph.proofs.SpreadLemmas.{same-list, list-back, node-back}
-use Rattle.lot_graph.proofs.PlaceLemmas.{edge-low}
-use Rattle.lot_graph.proofs.EndLemmas.{ticket-ends, lender-ends, mutex-ends, ends-lender, ends-mutex}
-use Rattle.lot_graph.proofs.WalkLemmas.{mapped-at}
-use Rattle.lot_active.specs.declared.edge_ends.EdgePlaces.{EdgePlaces}
-use Rattle.lot_active.specs.Nets.{IsWay}
-use Rattle.lot_active.specs.Activity.{Activity, Tells, Changes, sum_below, part, amount_from, leads_to, leads_to_passed, awake_at, amount_of, mark_of}
-use Rattle.lot_active.specs.Fundings.{AwakeAre, IsKeptFor, counted_amount, places_of_edge, net_of, graph_net}
-use Rattle.lot_active.specs.Changes.{IsActiveNode, node_amount, SwitchesNode, AdjustsNode, switched_nodes, adjusted_nodes, ChangesNodes}
+use Rattle.lot_graph.specs.Graphs.{Reaches}
 use Rattle.lot_active.proofs.Local.{awake-is}
 use Rattle.lot_active.proofs.Sums.{sum-more, part-here, part-off, part-none}
 use Rattle.lot_active.proofs.Ends.{places-ends, places-edge}

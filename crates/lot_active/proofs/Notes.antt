@@ -1,15 +1,5 @@
 -- How each step keeps what is true while a change spreads.
-use Rattle.std.proofs.Common.{◌≡◌, ℕ, zero, ◌<◌, nat_lt, Bool, true, false, not, ◌||◌, cond, ◌⊎◌, inl, inr, Some, List, [], ◌∷◌, ◌++◌, Contains, length, ap, sym, ◌∙◌, refl, subst, arith}
-use Rattle.std.proofs.lemmas.Bool.{cases_eq, cases_lt, eq-eqb, ne_eqb, lt-ltb, le-ltb}
-use Rattle.std.proofs.lemmas.List.{get_or-set_same, get_or-set_other}
-use Rattle.std.proofs.lemmas.List.Elements.{Contains-append_left, Contains-append_right, Contains-push_cases}
-use Rattle.lot_lists.specs.NodeLists.{NodeLists, nodes_of, IsFree, IsListed}
-use Rattle.lot_active.specs.declared.edge_ends.EdgePlaces.{EdgePlaces}
-use Rattle.lot_active.specs.Nets.{Net, IsNet, Reaches}
-use Rattle.lot_graph.proofs.MirrorLemmas.{contains-nothing}
-use Rattle.lot_active.specs.Activity.{amount_from, awake_at, amount_at}
-use Rattle.lot_active.specs.Held.{Held, IsSized, In, NotesChange, Adjusts, Settles, on_at, held_at, moved, MayMove}
-use Rattle.lot_active.specs.Spread.{HasMoved, Noted, AddsUp, Spreading, Crossing, set_at}
+use Rattle.lot_active.proofs.Common.{AddsUp, Adjusts, Bool, Contains, Contains-append_left, Contains-append_right, Contains-push_cases, Crossing, EdgePlaces, HasMoved, Held, In, IsFree, IsListed, IsNet, IsSized, List, MayMove, Net, NodeLists, Noted, NotesChange, Reaches, Settles, Some, Spreading, amount_at, amount_from, ap, arith, awake_at, cases_eq, cases_lt, cond, contains-nothing, eq-eqb, false, get_or-set_other, get_or-set_same, held_at, inl, inr, le-ltb, length, lt-ltb, moved, nat_lt, ne_eqb, nodes_of, not, on_at, refl, set_at, subst, sym, true, zero, ℕ, [], ◌++◌, ◌<◌, ◌||◌, ◌∙◌, ◌∷◌, ◌≡◌, ◌⊎◌}
 use Rattle.lot_active.proofs.Sums.{amount-more, amount-else, amount-fits}
 use Rattle.lot_active.proofs.Lists.{Place, listed-place, free-or-listed}
 

@@ -1,9 +1,5 @@
 -- Sums over edges, and how one edge more or less changes them.
-use Rattle.std.proofs.Common.{◌≡◌, ℕ, zero, suc, ◌+◌, ◌*◌, ◌^◌, ◌<◌, ◌≤◌, Bool, true, false, ◌⊎◌, inl, inr, cond, Option, Some, None, ap, sym, ◌∙◌, refl, subst, arith}
-use Rattle.std.proofs.lemmas.Bool.{cases_eq, cases_lt, eq-eqb, ne_eqb}
-use Rattle.lot_active.specs.declared.edge_ends.EdgePlaces.{EdgePlaces}
-use Rattle.lot_active.specs.Nets.{Net, IsNet}
-use Rattle.lot_active.specs.Activity.{sum_below, part, amount_from}
+use Rattle.lot_active.proofs.Common.{Bool, EdgePlaces, IsNet, Net, None, Option, Some, amount_from, ap, arith, cases_eq, cases_lt, cond, eq-eqb, false, inl, inr, ne_eqb, part, refl, subst, suc, sum_below, sym, true, zero, ℕ, ◌*◌, ◌+◌, ◌<◌, ◌^◌, ◌∙◌, ◌≡◌, ◌≤◌, ◌⊎◌}
 
 -- ---- sums of numbers
 

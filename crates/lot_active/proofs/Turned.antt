@@ -1,17 +1,5 @@
 -- What a call shows that wakes a node or puts it to sleep.
-use Rattle.std.proofs.Common.{◌≡◌, ◌<◌, ◌≤◌, ℕ, Bool, List, [], length, slice_set, ap, sym, ◌∙◌, refl, subst, arith}
-use Rattle.lot_machine.specs.declared.funding.Node.TheVariants.{Thread}
-use Rattle.lot_machine.specs.Numbered.{set_number}
-use Rattle.lot_lists.specs.NodeLists.{nodes_of}
-use Rattle.lot_graph.specs.Graphs.{LimitedFunding, IsThread}
-use Rattle.lot_graph.specs.Places.{layout_of, node_count, node_place}
-use Rattle.lot_graph.specs.declared.layout.Layout.{Layout}
-use Rattle.lot_active.specs.Activity.{Activity, Changes, IsKept}
-use Rattle.lot_active.specs.Changes.{ChangesNodes}
-use Rattle.lot_active.specs.Fundings.{IsKeptFor, graph_net}
-use Rattle.lot_active.specs.Held.{AllEmpty, Held, IsSized, SetsAwake}
-use Rattle.lot_active.specs.Nets.{HasNoCycle, IsNet, Net}
-use Rattle.lot_active.specs.Spread.{Spreading}
+use Rattle.lot_active.proofs.Common.{Activity, AllEmpty, Bool, Changes, ChangesNodes, HasNoCycle, Held, IsKept, IsKeptFor, IsNet, IsSized, IsThread, Layout, LimitedFunding, List, Net, SetsAwake, Spreading, Thread, ap, arith, graph_net, layout_of, length, node_count, node_place, nodes_of, refl, set_number, slice_set, subst, sym, ℕ, [], ◌<◌, ◌∙◌, ◌≡◌, ◌≤◌}
 use Rattle.lot_active.proofs.Bridge.{kept-lives, kept-place, thread-low, thread-within}
 use Rattle.lot_active.proofs.Calls.{awake-spreads, end-changes_from, end-kept, local-by}
 use Rattle.lot_active.proofs.Local.{kept-local}

@@ -1,20 +1,5 @@
 -- A walk over the edges into a node, by the places of the edges.
-use Rattle.std.proofs.Common.{◌≡◌, ℕ, ◌<◌, Some, List, [], ◌∷◌, ◌++◌, Contains, map, slice_get, ◌+◌, suc, ap, sym, ◌∙◌, refl, subst, arith, append_assoc}
-use Rattle.lot_machine.specs.declared.funding.Node.{Node}
-use Rattle.lot_machine.specs.declared.funding.Edge.{Edge}
-use Rattle.lot_machine.specs.Funding.{Funding}
-use Rattle.lot_graph.specs.declared.layout.Layout.{Layout}
-use Rattle.lot_graph.specs.Graphs.{HasEachOnce, LeadsInto}
-use Rattle.lot_graph.specs.Places.{node_of, node_count, edge_place, edge_at, IsEdgeWithin, FitsIn}
-use Rattle.lot_graph.proofs.HeadLemmas.{edge-back, place-back}
-use Rattle.lot_graph.proofs.SpreadLemmas.{same-list, list-back}
-use Rattle.lot_graph.proofs.WalkLemmas.{mapped-at}
-use Rattle.lot_machine.proofs.EachOnce.{contains-mapped, mapped-contains}
-use Rattle.lot_graph.proofs.EndLemmas.{pair}
-use Rattle.lot_graph.proofs.MirrorLemmas.{contains-at}
-use Rattle.lot_active.specs.declared.edge_ends.EdgePlaces.{EdgePlaces}
-use Rattle.lot_active.specs.Nets.{EntersAt}
-use Rattle.lot_active.specs.Fundings.{places_of_edge, net_of}
+use Rattle.lot_active.proofs.Common.{Contains, Edge, EdgePlaces, EntersAt, FitsIn, Funding, HasEachOnce, IsEdgeWithin, Layout, LeadsInto, List, Node, Some, ap, append_assoc, arith, contains-at, contains-mapped, edge-back, edge_at, edge_place, list-back, map, mapped-at, mapped-contains, net_of, node_count, node_of, pair, place-back, places_of_edge, refl, same-list, slice_get, subst, suc, sym, ℕ, [], ◌++◌, ◌+◌, ◌<◌, ◌∙◌, ◌∷◌, ◌≡◌}
 use Rattle.lot_active.proofs.Ends.{places-ends, places-by}
 use Rattle.lot_active.proofs.Lists.{walk-new, walk-all}
 

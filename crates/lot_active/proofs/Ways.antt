@@ -1,28 +1,8 @@
 -- Ways of the net against chains of tickets and of lends.
-use Rattle.std.proofs.Common.{◌≡◌, ℕ, Bool, ◌⊎◌, inl, inr, Option, Some, None, List, [], ◌∷◌, ap, sym, ◌∙◌, refl, subst, option_and_then}
-use Rattle.lot_machine.specs.declared.ticket.Ticket.{Ticket}
-use Rattle.lot_machine.specs.declared.ticket.Target.{Target}
+use Rattle.lot_active.proofs.Common.{AwakeAre, Bool, ChainLeads, Currency, Edge, FitsIn, Funding, HasNoCycle, IsActive, IsActiveNode, IsAwake, IsBacked, IsChain, IsLendChain, IsLive, IsNodeWithin, IsWay, Layout, Lend, LendsLead, LendsOnTo, LendsTo, List, Mutex, Nobody, Node, None, OfLender, OfMutex, OfTicket, Option, Some, Target, Thread, Ticket, ToMutex, ToThread, ap, at_number, borrower, edge_at, ends-lender, ends-mutex, ends-ticket, ends_of, inl, inr, issuer-of, issuer_of, lend_node, lender-ends, mutex-ends, net_of, node_place, option_and_then, owner_of, refl, same-list, some-injective, subst, sym, target-of, target_node, target_of, ticket-ends, ticket-of, ticket_at, ℕ, [], ◌∙◌, ◌∷◌, ◌≡◌, ◌⊎◌}
 use Rattle.lot_machine.specs.declared.ticket.Target.TheVariants as target
-use Rattle.lot_machine.specs.declared.funding.Node.{Node}
-use Rattle.lot_machine.specs.declared.funding.Node.TheVariants.{Currency, Thread, Mutex}
-use Rattle.lot_machine.specs.declared.funding.Edge.{Edge}
-use Rattle.lot_machine.specs.declared.funding.Edge.TheVariants.{OfTicket, OfLender, OfMutex}
-use Rattle.lot_machine.specs.declared.funding.Lend.{Lend}
-use Rattle.lot_machine.specs.declared.funding.Lend.TheVariants.{Nobody, ToThread, ToMutex}
-use Rattle.lot_machine.specs.Numbered.{at_number}
-use Rattle.lot_machine.specs.Funding.{Funding, ticket_at, issuer_of, target_of, owner_of, target_node, lend_node, ends_of, IsChain, ChainLeads}
-use Rattle.lot_machine.specs.Lends.{borrower, LendsTo, IsLendChain, LendsLead, LendsOnTo, IsLive, IsBacked}
-use Rattle.lot_machine.specs.Activity.{IsActive}
 use Rattle.lot_machine.specs.Facts as facts
-use Rattle.lot_machine.proofs.Tickets.{some-injective, target-of, issuer-of, ticket-of}
-use Rattle.lot_active.specs.Nets.{IsWay, HasNoCycle}
-use Rattle.lot_active.specs.Activity.{IsAwake, IsActive as IsNodeActive}
-use Rattle.lot_graph.specs.declared.layout.Layout.{Layout}
-use Rattle.lot_graph.specs.Places.{node_place, IsNodeWithin, FitsIn, edge_at}
-use Rattle.lot_active.specs.Fundings.{AwakeAre, net_of}
-use Rattle.lot_active.specs.Changes.{IsActiveNode}
-use Rattle.lot_graph.proofs.SpreadLemmas.{same-list}
-use Rattle.lot_graph.proofs.EndLemmas.{ticket-ends, lender-ends, mutex-ends, ends-ticket, ends-lender, ends-mutex}
+use Rattle.lot_active.specs.Activity.{IsActive as IsNodeActive}
 use Rattle.lot_active.proofs.Ends.{ends-places, places-edge, places-ends}
 
 -- ---- one edge

@@ -1,43 +1,8 @@
 -- A reply's flag says whether the thread that it names runs on the event's processor.
-use Rattle.std.proofs.Common.{◌≡◌, ℕ, zero, suc, ◌+◌, ◌-◌, ◌^◌, ◌<◌, ◌≤◌, ◌↔◌, Bool, true, false, ◌&&◌, not, ◌⊎◌, inl, inr, Option, Some, None, is_none, List, [], ◌∷◌, length, map, refl, sym, ◌∙◌, ap, arith, nat_lt, nat_le, slice_get, slice_index, get_or}
-use Rattle.std.proofs.lemmas.List.{length-map}
-use Rattle.std.proofs.lemmas.Option.{slice_get_cases, get_or_from_slice_get}
-use Rattle.lot_machine.specs.declared.sizes.Sizes.{Sizes}
-use Rattle.lot_machine.specs.declared.action.Action.{Action}
-use Rattle.lot_machine.specs.declared.action.Action.TheVariants.{Yield, Call, Receive, Reply as ReplyTo, Serve, Lock, Unlock, Sleep, Exit}
-use Rattle.lot_machine.specs.declared.after.After.{After}
-use Rattle.lot_machine.specs.declared.after.After.TheVariants.{GoesOn, Leaves, Ends}
-use Rattle.lot_machine.specs.declared.drawn.Drawn.{Drawn}
-use Rattle.lot_machine.specs.declared.event.Event.{Event}
+use Rattle.lot_c.proofs.Common.{Action, After, BadProcessor, BadTicks, Bool, Call, Drawn, Effect, Ends, Event, GoesOn, IsInOrder, Leaves, List, Lock, None, NotRunning, Option, QueuedCall, Receive, Record, Refusal, RunsApart, Serve, Sizes, Sleep, Some, State, Status, Step, StopsIfLeaves, TrapRefusal, Unlock, Yield, after_trap, all-pass, ap, arith, at_number, at_number-suc, before_lock, change_record, checked-leads, checked-sizes, checked_effect, compensation_for, draw, ends_quantum, event_effect, event_refusal, false, filter-passes, finish_trap, found-runs, get_or, get_or_from_slice_get, inl, inr, is-ready, is_bad_processor, is_none, is_ready, length, length-map, map, mutex_at, nat_le, nat_lt, nobody-runs, not, numbered, numbers, option_any, plain_reply, port_at, processor_of, ready_threads, refl, runs_on, slice_get, slice_get_cases, slice_index, some-injective, started, status-now, status-set, status_of, step, step-order, stopped, suc, sym, there-runs, thread_in, thread_on, thread_there, trap_effect, trap_refusal, true, unless_refused, used_there, weight_of, winner, winner-within, with_ticks, zero, ℕ, [], ◌&&◌, ◌+◌, ◌-◌, ◌<◌, ◌^◌, ◌↔◌, ◌∙◌, ◌∷◌, ◌≡◌, ◌≤◌, ◌⊎◌}
+use Rattle.lot_machine.specs.declared.action.Action.TheVariants.{Reply as ReplyTo, Exit}
 use Rattle.lot_machine.specs.declared.event.Event.TheVariants as event
-use Rattle.lot_machine.specs.declared.record.Record.{Record}
-use Rattle.lot_machine.specs.declared.record.Status.{Status}
 use Rattle.lot_machine.specs.declared.record.Status.TheVariants as status
-use Rattle.lot_machine.specs.declared.refusal.Refusal.{Refusal}
-use Rattle.lot_machine.specs.declared.refusal.Refusal.TheVariants.{BadProcessor, NotRunning, BadTicks}
-use Rattle.lot_machine.specs.declared.refusal.TrapRefusal.{TrapRefusal}
-use Rattle.lot_machine.specs.Commands.{Step, unless_refused}
-use Rattle.lot_machine.specs.Facts.{RunsApart}
-use Rattle.lot_machine.specs.Lottery.{winner}
-use Rattle.lot_machine.specs.Mutexes.{mutex_at}
-use Rattle.lot_machine.specs.Named.{processor_of, thread_in}
-use Rattle.lot_machine.specs.Numbered.{at_number, numbers, option_any}
-use Rattle.lot_machine.specs.Order.{IsInOrder}
-use Rattle.lot_machine.specs.Ports.{port_at}
-use Rattle.lot_machine.specs.Servers.{before_lock}
-use Rattle.lot_machine.specs.State.{State, QueuedCall, change_record, is_ready, ready_threads, status_of, thread_on, weight_of}
-use Rattle.lot_machine.specs.Step.{Effect, checked_effect, draw, ends_quantum, event_effect, event_refusal, stopped, finish_trap, is_bad_processor, started, step, thread_there, trap_effect, trap_refusal, used_there}
-use Rattle.lot_machine.specs.Traps.{after_trap, compensation_for, with_ticks}
-use Rattle.lot_machine.proofs.CommandsKept.{all-pass}
-use Rattle.lot_machine.proofs.Idle.{filter-passes, is-ready, there-runs}
-use Rattle.lot_machine.proofs.NamedThreads.{winner-within}
-use Rattle.lot_machine.proofs.OrderKept.{step-order}
-use Rattle.lot_machine.proofs.Queues.{status-now, status-set}
-use Rattle.lot_machine.proofs.RecordsKept.{StopsIfLeaves, found-runs, nobody-runs, numbered}
-use Rattle.lot_machine.proofs.StepChanges.{checked-leads}
-use Rattle.lot_machine.proofs.StepSizes.{checked-sizes}
-use Rattle.lot_machine.proofs.Tickets.{at_number-suc, some-injective}
-use Rattle.lot_c.specs.Replies.{plain_reply, runs_on}
 
 -- ---- what a status says
 

@@ -1,41 +1,12 @@
 -- A handle of something owns what a box of it owns, and one of nothing is null. Assumes `Logic`.
-use mathlib.Core.Path.{◌≡◌, refl, subst}
-use mathlib.Core.List.{List, [], ◌∷◌, ◌++◌}
-use Prim.Native.Nat.{ℕ}
-use seplogic.Ra.Ura.{Ura}
-use mir.Syntax.{impl, tnil, dnil}
-use mir.Val.{Val, vstruct, of_list}
-use base.Logic.{guard_i, never, fst∗, snd∗, via}
+use Rattle.lot_c.proofs.Common.{Bx, Fits, Fml, Global, Goal, Good, Item, KernelValue, List, Logic, None, P, Ptr, RattleType, Seq, Slot, Some, Testable, Ura, Val, Valss, and_tt, block_ptr, box_owns, dealloc_token-Testable, dict, dnil, drop, fact_use, false, feq_i, feq_l, fjoin, fpack, fpick, fsplit, fst∗, full_share, ghosts, given, guard_i, handle_tells, impl, in_a_block, is_none, layout, learn, lies_at, lit<, lone, move, never, nothing, null_ptr, of_list, plain, ptr_val, refl, sem, shape, snd∗, subst, tnil, to, use1, via, vstruct, within, word, ℕ, [], ‵, ◌$◌, ◌++◌, ◌∷◌, ◌≡◌}
 use mir.Raw.{raw as bare}
-use base.Fml.{Fml}
-use types.Logic.{Logic, sem}
-use types.Kit.{Item, Goal, Seq, Step, step, ‵, given, ◌$◌, move, drop, use1, learn, fsplit, fpick, fjoin, fpack, feq_l, feq_i}
-use contract.Monad.{fact_use}
-use denote.Memory.{lone}
-use denote.RawPtr.{Ptr, block_ptr, null_ptr, ptr_val, in_a_block, lies_at, Testable}
-use base.Fraction.{full_share}
-use denote.RattleType.{RattleType, Valss}
+use types.Kit.{Step, step}
 use denote.Builtin.{RawPtr}
-use denote.Steps.{nothing}
-use denote.Struct.Struct.{within}
-use denote.Struct.Owning.{shape, to}
-use denote.Signature.{Slot, plain}
-use Rattle.std.proofs.alloc.Calls.{Fits, handle_tells}
-use denote.Param.{layout}
-use lib.Dec.{lit<}
-use Rattle.std.proofs.cell.Inside.{Good}
-use Rattle.std.proofs.ResultValues.{and_tt}
-use Rattle.std.proofs.BoxSteps.Form.{Bx, P, word}
 use Rattle.std.specs.contracts.alloc.Global as Heap
-use Rattle.std.specs.declared.alloc.Global.{Global}
-use Rattle.std.specs.contracts.impls.GlobalAllocator.TheImpl.{ghosts, dict}
 use Rattle.std.proofs.alloc.Global.TheLaws as heap
-use Rattle.std.proofs.GlobalToken.{dealloc_token-Testable}
-use Rattle.std.specs.Box.Ownership.{box_owns}
-use Rattle.std.specs.Prelude.{None, Some, is_none, false}
 use Rattle.lot_kernel.specs.contracts.kernel.Kernel as kernel
 use Rattle.lot_kernel.proofs.kernel.Kernel.TheLaws as kernel_laws
-use Rattle.lot_c.specs.Handles.{KernelValue}
 use Rattle.lot_c.specs.contracts.parts.Parts as parts
 use Rattle.lot_c.specs.contracts.handle.Handle as handle
 

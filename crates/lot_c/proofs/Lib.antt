@@ -1,3 +1,4 @@
+pub mod Common
 pub mod GoesOn
 pub mod Handles
 pub mod Plain

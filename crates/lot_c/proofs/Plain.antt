@@ -1,38 +1,16 @@
 -- What is handed out and in again is the same.
-use Rattle.std.proofs.Common.{◌≡◌, ℕ, ◌≤◌, ◌^◌, Bool, true, false, List, [], ◌∷◌, Ok, Some, None, length, refl, sym, ap, ◌∙◌, arith}
-use Rattle.std.specs.Prelude.{◌==◌, Option, nat_lt, unwrap_or}
-use Rattle.std.specs.List.{find}
-use Rattle.std.proofs.Math.Seq.{take-append_seam}
-use Rattle.std.proofs.lemmas.Nat.{div-add-mod'}
-use Rattle.lot_machine.specs.declared.sizes.Sizes.{Sizes}
-use Rattle.lot_machine.specs.Commands.{is_name, is_thread_name}
+use Rattle.lot_c.proofs.Common.{Bool, Currencies, Event, Fund, HasNames, Kill, List, MakeCurrency, MakeFunded, MakeThread, MakeTicket, None, Ok, Option, Outcome, PlainReply, PlainStatus, Refusal, RemoveCurrency, RemoveThread, RemoveTicket, Reply, SetTicket, Sizes, Some, Status, Threads, Tickets, TrapRefusal, Unfund, ap, arith, div-add-mod', event_meant, false, find, is_name, is_thread_name, length, name_meant, name_passing, nat_lt, outcome_number, plain_event, plain_name, plain_outcome, plain_reply, plain_status, plain_wide, refl, refusal_number, reply_number, result_and_then, result_map, spelled, status_number, sym, take-append_seam, thread_name_meant, trap_refusal_number, true, unwrap_or, wide_meant, ℕ, [], ◌==◌, ◌^◌, ◌∙◌, ◌∷◌, ◌≡◌, ◌≤◌}
 use Rattle.lot_machine.specs.declared.action.Action.TheVariants as action
-use Rattle.lot_machine.specs.declared.command.Command.TheVariants.{MakeTicket, RemoveTicket, MakeCurrency, RemoveCurrency, Fund, Unfund, SetTicket, MakeThread, RemoveThread, Kill, MakeFunded, List as Listing}
-use Rattle.lot_machine.specs.declared.command.Kind.TheVariants.{Tickets, Currencies, Threads}
-use Rattle.lot_machine.specs.declared.event.Event.{Event}
+use Rattle.lot_machine.specs.declared.command.Command.TheVariants.{List as Listing}
 use Rattle.lot_machine.specs.declared.event.Event.TheVariants as event
 use Rattle.lot_machine.specs.declared.reference.CurrencyRef.TheVariants as currency_ref
 use Rattle.lot_machine.specs.declared.reference.ThreadRef.TheVariants as thread_ref
 use Rattle.lot_machine.specs.declared.reference.TargetRef.TheVariants as target_ref
-use Rattle.lot_machine.specs.declared.record.Status.{Status}
 use Rattle.lot_machine.specs.declared.record.Status.TheVariants as status
-use Rattle.lot_machine.specs.declared.refusal.Refusal.{Refusal}
 use Rattle.lot_machine.specs.declared.refusal.Refusal.TheVariants as refusal
-use Rattle.lot_machine.specs.declared.refusal.TrapRefusal.{TrapRefusal}
 use Rattle.lot_machine.specs.declared.refusal.TrapRefusal.TheVariants as trap
-use Rattle.lot_machine.specs.declared.reply.Outcome.{Outcome}
 use Rattle.lot_machine.specs.declared.reply.Outcome.TheVariants as outcome
-use Rattle.lot_machine.specs.declared.reply.Reply.{Reply}
 use Rattle.lot_machine.specs.declared.reply.Reply.TheVariants as reply
-use Rattle.lot_c.specs.declared.reply.PlainReply.{PlainReply}
-use Rattle.lot_c.specs.declared.rows.PlainStatus.{PlainStatus}
-use Rattle.lot_c.specs.Events.{event_meant, result_map, result_and_then}
-use Rattle.lot_c.specs.Names.{name_meant, name_passing, plain_name, spelled, thread_name_meant}
-use Rattle.lot_c.specs.Numbers.{outcome_number, refusal_number, reply_number, status_number, trap_refusal_number}
-use Rattle.lot_c.specs.Plain.{HasNames, plain_event}
-use Rattle.lot_c.specs.Replies.{plain_reply, plain_outcome}
-use Rattle.lot_c.specs.Rows.{plain_status}
-use Rattle.lot_c.specs.Wides.{plain_wide, wide_meant}
 
 -- ---- names, numbers and events
 

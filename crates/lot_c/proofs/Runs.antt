@@ -1,17 +1,6 @@
 -- Events in order, a step at a time.
-use Rattle.std.proofs.Common.{◌≡◌, ℕ, ◌+◌, ◌<◌, List, [], ◌∷◌, ◌++◌, length, get_or, take, drop, set, Ok, ap, ◌∙◌, subst, arith}
-use Rattle.std.proofs.lemmas.List.{drop_more, take_more_set, drop-set-lt, append_assoc}
-use Rattle.lot_machine.specs.declared.event.Event.{Event}
-use Rattle.lot_machine.specs.declared.sizes.Sizes.{Sizes}
-use Rattle.lot_machine.specs.State.{State}
-use Rattle.lot_machine.specs.Step.{step, replies}
-use Rattle.lot_kernel.specs.Counted.{AreDone, IsDone}
-use Rattle.lot_kernel.specs.Snapshots.{Snapshot}
-use Rattle.lot_c.specs.declared.event.PlainEvent.{PlainEvent}
-use Rattle.lot_c.specs.declared.reply.PlainReply.{PlainReply}
-use Rattle.lot_c.specs.Calls.{events_meant, first_fault, in_front, fault_or, replies_written, written_by}
-use Rattle.lot_c.specs.Events.{event_meant}
-use Rattle.lot_c.specs.Replies.{plain_reply}
+use Rattle.lot_c.proofs.Common.{AreDone, Event, IsDone, List, Ok, PlainEvent, PlainReply, Sizes, Snapshot, State, ap, append_assoc, arith, drop-set-lt, drop_more, event_meant, events_meant, fault_or, first_fault, get_or, in_front, length, plain_reply, replies, replies_written, set, step, subst, take, take_more_set, written_by, ℕ, [], ◌++◌, ◌+◌, ◌<◌, ◌∙◌, ◌∷◌, ◌≡◌}
+use Rattle.std.proofs.Common.{drop}
 
 module _ (sizes : Sizes) (es : List PlainEvent) (i : ℕ) (d : PlainEvent) (e : Event) (below : i < length es) (ok : event_meant sizes (get_or es i d) ≡ Ok e) where
   -- an event that is meant comes first of those that are left

@@ -1,24 +1,8 @@
 -- What a `&` to a reader shares, from a borrow of what the reader owns. Assumes `Logic`.
-use Prim.Native.Nat.{ℕ}
-use mathlib.Core.List.{[], ◌∷◌}
-use seplogic.Ra.Ura.{Ura}
-use base.Logic.{ent, sep, upd_i, id⊢, apply∗, wand}
-use base.Fml.{Lft, Share, Fml, ftrue, feq, fex, fsep, fseps, fwand, fupd, fdead, fbor, flft}
-use contract.BorrowLft.{meet_⊑_left}
-use ghost.Rules.{span, thinned}
-use types.Logic.{Logic, sem, lfts}
-use types.Kit.{‵, raw, ◌⊛◌, some, later, ◌$◌, ◌∵◌, !, qed, move, keep, use1, use2, split, fsplit, fsplit3, fjoin, pick, assume, suffices, await, updating, now, done}
-use types.Tokens.{bor_open, obor_alter, bor_fracture, one_token}
-use denote.RawPtr.{Ptr, null_ptr, Testable}
-use denote.Sharing.{ShrLaws, said}
-use denote.SharingLaws.{contraction, said_shr_laws, beside_shr_laws}
-use denote.Moves.{moves_from}
-use denote.Steps.{nothing}
-use denote.Struct.Lending.{Lends, lent_at, lent_at_shr_laws}
-use Rattle.std.specs.Prelude.{None, Some}
+use Rattle.lot_c.proofs.Common.{Fml, KernelValue, Lends, Lft, Logic, None, Ptr, Share, ShrLaws, Some, Testable, Ura, apply∗, assume, await, beside_shr_laws, bor_fracture, bor_open, contraction, done, ent, fbor, fdead, feq, fex, fjoin, flft, fsep, fsplit, fsplit3, ftrue, fupd, fwand, handle_shares, id⊢, keep, later, lent_at, lent_at_shr_laws, lfts, meet_⊑_left, move, moves_from, nothing, now, null_ptr, obor_alter, one_token, pick, qed, raw, said, said_shr_laws, sem, sep, some, span, split, suffices, thinned, upd_i, updating, use1, use2, wand, ℕ, !, [], ‵, ◌$◌, ◌∵◌, ◌∷◌, ◌⊛◌}
+use base.Fml.{fseps}
 use Rattle.lot_kernel.specs.contracts.kernel.Kernel as kernel
 use Rattle.lot_kernel.proofs.kernel.Kernel.TheLaws as kernel_laws
-use Rattle.lot_c.specs.Handles.{KernelValue, handle_shares}
 
 -- what a `&` shares may be had twice, and for a shorter time
 pub handle-shares_laws : (p : Ptr) (held : KernelValue) → ShrLaws (handle_shares p held)

@@ -1,23 +1,5 @@
 -- What is due at the end of a picture, and in the report.
-use Rattle.std.proofs.Common.{◌≡◌, ◌≢◌, ℕ, suc, ◌+◌, ◌-◌, ◌*◌, ◌/◌, ◌<◌, ◌≤◌, ◌==◌, max, Bool, true, false, nat_le, List, [], ◌∷◌, length, map, ◌⊎◌, inl, inr, get_or, refl, ◌∙◌, ap, arith, ne_eqb}
-use Rattle.std.specs.Prelude.{⊤, fold, if◌then◌else◌}
-use Rattle.std.specs.List.Sorted.{IsNonDecreasing}
-use Rattle.std.proofs.lemmas.Bool.{cases_eq, eq-eqb, leb-true}
-use Rattle.std.proofs.lemmas.List.{length-map}
-use Rattle.std.proofs.Math.Nat.{div-eq_of_lt}
-use Rattle.lot_machine.specs.Bounds.{IsWithinBounds}
-use Rattle.lot_machine.specs.Facts.{live_value}
-use Rattle.lot_machine.specs.State.{State, opening, value_of}
-use Rattle.lot_simulation.specs.Timed.{TimedTurn, timed_turns}
-use Rattle.lot_simulation.specs.TimedReport.{due_after, due_from, due_in, due_part, due_rate, live_part, live_ticks, live_time, makes, tick_parts, time_from}
-use Rattle.lot_simulation.specs.World.{Program}
-use Rattle.lot_simulation.proofs.TimesRise.{times-rise}
-use Rattle.lot_curves.specs.declared.by.By.TheVariants.{Thread}
-use Rattle.lot_curves.specs.declared.stretch.Stretch.{Stretch}
-use Rattle.lot_curves.specs.Curves.{timed_stretches}
-use Rattle.lot_curves.specs.Stretches.{last_end}
-use Rattle.lot_playback.specs.Owed.{time_after}
-use Rattle.lot_chart.specs.Dues.{dues_in, due_to, sum_until}
+use Rattle.lot_chart.proofs.Common.{Bool, IsNonDecreasing, IsWithinBounds, List, Program, State, Stretch, Thread, TimedTurn, ap, arith, cases_eq, div-eq_of_lt, due_after, due_from, due_in, due_part, due_rate, due_to, dues_in, eq-eqb, false, fold, get_or, if◌then◌else◌, inl, inr, last_end, leb-true, length, length-map, live_part, live_ticks, live_time, live_value, makes, map, max, nat_le, ne_eqb, opening, refl, suc, sum_until, tick_parts, time_after, time_from, timed_stretches, timed_turns, times-rise, true, value_of, ℕ, [], ⊤, ◌*◌, ◌+◌, ◌-◌, ◌/◌, ◌<◌, ◌==◌, ◌∙◌, ◌∷◌, ◌≡◌, ◌≢◌, ◌≤◌, ◌⊎◌}
 use Rattle.lot_chart.proofs.NotedFacts.{timed_stretch}
 
 -- ---- turns in the order of time

@@ -1,13 +1,6 @@
 -- The first command in each column, one command after another.
-use Rattle.std.proofs.Common.{◌≡◌, ℕ, zero, suc, ◌+◌, ◌<◌, ◌==◌, ◌&&◌, Bool, true, false, cond, Option, Some, None, List, [], ◌∷◌, ◌++◌, Contains, length, map, get_or, take, refl, sym, ◌∙◌, ap, arith}
-use Rattle.std.specs.Prelude.{find, slice_get}
-use Rattle.std.specs.List.{range_with_len}
-use Rattle.std.proofs.lemmas.List.{ext_get_or, take_more}
-use Rattle.std.proofs.lemmas.Bool.{eq-eqb}
-use Rattle.std.proofs.lemmas.Option.{same_Some, slice_get-get_or, slice_get_within}
-use Rattle.std.proofs.lemmas.List.FromFn.{get_or-map-range_with_len, length-map-range_with_len}
-use Rattle.lot_curves.specs.Curves.{Curves}
-use Rattle.lot_chart.specs.Marks.{column_of, first_in, first_of, is_within, marked, stands_in}
+use Rattle.lot_chart.proofs.Common.{Bool, Contains, Curves, List, None, Option, Some, ap, arith, column_of, cond, eq-eqb, ext_get_or, false, find, first_in, first_of, get_or, get_or-map-range_with_len, is_within, length, length-map-range_with_len, map, range_with_len, refl, same_Some, slice_get, slice_get-get_or, slice_get_within, stands_in, suc, sym, take, take_more, true, zero, ℕ, [], ◌&&◌, ◌++◌, ◌+◌, ◌<◌, ◌==◌, ◌∙◌, ◌∷◌, ◌≡◌}
+use Rattle.lot_chart.specs.Marks.{marked}
 
 -- the first of one time more
 find-more : (p : ℕ → Bool) (times : List ℕ) (time : ℕ) → find p (times ++ time ∷ []) ≡ first_of (find p times) (p time) time

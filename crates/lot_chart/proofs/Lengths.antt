@@ -1,9 +1,5 @@
 -- Lengths of texts that are put together from parts.
-use Rattle.std.proofs.Common.{ℕ, ◌+◌, ◌*◌, ◌≤◌, List, ◌++◌, length, sym, subst, arith, length-append}
-use Rattle.std.specs.Prelude.{All}
-use Rattle.std.specs.List.{flat_map}
-use Rattle.std.proofs.lemmas.List.Concat.{length-flat_map}
-use Rattle.std.proofs.lemmas.List.Sums.{sum_by-le}
+use Rattle.lot_chart.proofs.Common.{All, List, arith, flat_map, length, length-append, length-flat_map, subst, sum_by-le, sym, ℕ, ◌*◌, ◌++◌, ◌+◌, ◌≤◌}
 
 -- two parts, one after the other
 pub both : (m n : ℕ) (xs ys : List ℕ) → length xs ≤ m → length ys ≤ n → length (xs ++ ys) ≤ m + n

@@ -1,3 +1,4 @@
+pub mod Common
 pub mod FirstMarks
 pub mod Lengths
 pub mod Loops

@@ -1,9 +1,5 @@
 -- Lists that a loop changes, element by element.
-use Rattle.std.proofs.Common.{◌≡◌, ◌≢◌, ℕ, ◌+◌, ◌<◌, ◌≤◌, ◌⊎◌, inl, inr, get_or, set, List, length, refl, sym, ◌∙◌, ap, subst, arith}
-use Rattle.std.proofs.lemmas.Bool.{cases_eq, cases_lt}
-use Rattle.std.proofs.lemmas.Grind.{get_or-set_at}
-use Rattle.std.proofs.lemmas.List.{get_or-set_other, get_or_default, length-set}
-use Rattle.lot_chart.specs.Gauges.{HaveRead}
+use Rattle.lot_chart.proofs.Common.{HaveRead, List, ap, arith, cases_eq, cases_lt, get_or, get_or-set_at, get_or-set_other, get_or_default, inl, inr, length, length-set, refl, set, subst, sym, ℕ, ◌+◌, ◌<◌, ◌∙◌, ◌≡◌, ◌≢◌, ◌≤◌, ◌⊎◌}
 
 -- the elements before this place are changed so, and the others are as they were
 pub record HaveSome {X : Type 0} (R : X → X → Type 0) (place : ℕ) (old new : List X) : Type 0 where

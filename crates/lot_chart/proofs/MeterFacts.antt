@@ -1,48 +1,6 @@
 -- What is due in the turns of a program.
-use Rattle.std.proofs.Common.{◌≡◌, ℕ, zero, suc, ◌+◌, ◌-◌, ◌*◌, ◌^◌, ◌<◌, ◌≤◌, false, max, Option, Some, None, List, [], ◌∷◌, ◌++◌, length, map, ◌⊎◌, inl, inr, get_or, sum_by, refl, sym, ◌∙◌, ap, subst, arith, zero-add}
-use Rattle.std.specs.Prelude.{slice_index, unwrap_or, if◌then◌else◌}
-use Rattle.std.specs.List.{range_with_len}
-use Rattle.std.proofs.lemmas.Bool.{cases_lt}
-use Rattle.std.proofs.lemmas.List.{get_or_append_left, get_or_push, length_push, map_push}
-use Rattle.std.proofs.lemmas.List.FromFn.{get_or-map-range_with_len, length-map-range_with_len}
-use Rattle.std.proofs.lemmas.List.Sums.{sum_by-cons}
-use Rattle.std.proofs.lemmas.Nat.{le-div}
-use Rattle.std.proofs.Math.Nat.{div-mul-le_self, mul-le-mul_right}
-use Rattle.lot_machine.specs.Bounds.{IsWithinBounds}
-use Rattle.lot_machine.specs.Facts.{IsSound}
-use Rattle.lot_machine.specs.Lends.{is_live}
-use Rattle.lot_machine.specs.Numbered.{option_any}
-use Rattle.lot_machine.specs.State.{State, opening, value_of}
-use Rattle.lot_machine.proofs.Tickets.{at_number-suc}
-use Rattle.lot_simulation.specs.Timed.{TimedTurn, timed_turns}
-use Rattle.lot_simulation.specs.World.{Program, World, TurnMade, opening_world, system_run, system_turn}
-use Rattle.lot_simulation.specs.World.TurnAnswer.{Answered}
-use Rattle.lot_curves.specs.declared.by.By.{By}
-use Rattle.lot_curves.specs.declared.by.By.TheVariants.{Thread, Currency}
-use Rattle.lot_curves.specs.Curves.{Curves, sample_count, sample_tick}
-use Rattle.lot_curves.specs.Stretches.{last_end}
-use Rattle.lot_curves.specs.Windows.{start_of}
-use Rattle.lot_engine.specs.Seen.{Seen, world_of}
+use Rattle.lot_chart.proofs.Common.{Answered, Answers, AreColumns, AreDues, AreLinesOf, By, Currencies, Currency, Curves, Due, Dues, EachGauge, Gauge, Growth, HasJustMade, HasPassed, HasPassedAll, HasRenewed, HaveDues, IsAscending, IsAwaiting, IsColumn, IsDispatch, IsGauge, IsGaugeOf, IsMeter, IsNew, IsNewMeter, IsNow, IsRead, IsRenewed, IsSampled, IsSound, IsWithin, IsWithinBounds, KeepThreads, LineDues, List, Live, MadeTurn, Marks, Meter, None, Option, PlotLine, Program, Seen, Some, Standing, State, Thread, Threads, TimedTurn, TurnMade, World, amount_for, answer_in, ap, arith, at_number-suc, cases_lt, div-mul-le_self, due_to, dues_by, dues_in, end_tick, false, flow_at, flow_of, get_or, get_or-map-range_with_len, get_or_append_left, get_or_push, height_of, if◌then◌else◌, inl, inr, is_live, last_end, le-div, length, length-map-range_with_len, length_push, lines_after, lines_of, map, map_push, max, most_of, mul-le-mul_right, opening, opening_world, option_any, own_value, place_of, program_turns, range_with_len, refl, sample_count, sample_tick, slice_index, start_of, start_tick, state_of, subst, suc, sum_by, sum_by-cons, sum_until, sym, system_run, system_turn, thread_of, time-more, time_after, timed_turn, timed_turns, turn-answers, turns_by, turns_in_time, unwrap_or, value-kept, value_of, whole-kept, whole_value, world-one_more, world_of, zero, zero-add, ℕ, [], ◌*◌, ◌++◌, ◌+◌, ◌-◌, ◌<◌, ◌^◌, ◌∙◌, ◌∷◌, ◌≡◌, ◌≤◌, ◌⊎◌}
 use Rattle.lot_playback.specs.declared.turn.Turn.{Turn as ATurn}
-use Rattle.lot_playback.specs.Owed.{Answers, IsDispatch, time_after}
-use Rattle.lot_playback.specs.Stages.{HasJustMade, answer_in}
-use Rattle.lot_playback.specs.Turns.{MadeTurn, program_turns, turns_by, turns_in_time}
-use Rattle.lot_playback.proofs.DispatchFacts.{value-kept, whole-kept}
-use Rattle.lot_playback.specs.declared.sharers.Sharers.TheVariants.{Threads, Currencies}
-use Rattle.lot_playback.proofs.DueFacts.{time-more}
-use Rattle.lot_playback.proofs.FollowFacts.{turn-answers}
-use Rattle.lot_playback.proofs.MadeFacts.{world-one_more}
-use Rattle.lot_chart.specs.declared.gauges.Gauge.{Gauge}
-use Rattle.lot_chart.specs.declared.gauges.Growth.{Growth}
-use Rattle.lot_chart.specs.declared.gauges.Growth.TheVariants.{Live, Due}
-use Rattle.lot_chart.specs.declared.gauges.Marks.{Marks}
-use Rattle.lot_chart.specs.declared.lines.PlotLine.{PlotLine}
-use Rattle.lot_chart.specs.declared.metering.LineDues.{LineDues}
-use Rattle.lot_chart.specs.declared.metering.Meter.{Meter}
-use Rattle.lot_chart.specs.declared.standings.Standing.{Standing}
-use Rattle.lot_chart.specs.Dues.{Dues, dues_by, dues_in, due_to, own_value, sum_until, whole_value}
-use Rattle.lot_chart.specs.Lines.{height_of, lines_after, lines_of, place_of}
-use Rattle.lot_chart.specs.Gauges.{AreColumns, AreDues, AreLinesOf, EachGauge, HasPassed, HasPassedAll, HasRenewed, HaveDues, IsAscending, IsAwaiting, IsColumn, IsGauge, IsGaugeOf, IsMeter, IsNew, IsNewMeter, IsNow, IsRead, IsRenewed, IsSampled, IsWithin, KeepThreads, amount_for, end_tick, flow_at, flow_of, most_of, start_tick, state_of, thread_of, timed_turn}
 use Rattle.lot_chart.proofs.TableSizes.{sample-early}
 use Rattle.lot_chart.proofs.Worth.{run-sound, worth-none}
 use Rattle.lot_chart.proofs.Readings.{flow-is, gauge-more, gauge-renewed, last-read, now-within}

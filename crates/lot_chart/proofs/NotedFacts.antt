@@ -1,24 +1,5 @@
 -- The curves of a program are those of its turns.
-use Rattle.std.proofs.Common.{◌≡◌, ℕ, zero, suc, ◌==◌, Bool, true, false, cond, filter, Option, None, Some, List, [], ◌∷◌, ◌++◌, map, refl, sym, ◌∙◌, ap, subst, arith, ne_eqb, append-nil, append_assoc}
-use Rattle.std.specs.Prelude.{IsSome}
-use Rattle.std.specs.List.{flat_map}
-use Rattle.std.proofs.lemmas.Grind.{flat_map-append}
-use Rattle.lot_machine.specs.declared.command.Command.{Command}
-use Rattle.lot_machine.specs.declared.event.Event.{Event}
-use Rattle.lot_machine.specs.declared.reply.Reply.{Reply}
-use Rattle.lot_simulation.specs.Report.{ActorTurn, beside, turns_made}
-use Rattle.lot_simulation.specs.Timed.{Moment, TimedTurn, moment_after, moment_after_all, opening_moment, timed_schedule, timed_turns}
-use Rattle.lot_simulation.specs.World.{Program, World, TurnAnswer, TurnMade, console_turn, opening_world, actor_event, processor_turn, system_after, system_answers, system_run, system_turn}
-use Rattle.lot_simulation.specs.World.TurnAnswer.{Answered, Ended}
-use Rattle.lot_simulation.proofs.TimedRuns.{timed-world}
-use Rattle.lot_curves.specs.declared.by.By.{By}
-use Rattle.lot_curves.specs.declared.by.By.TheVariants.{Thread, Currency}
-use Rattle.lot_curves.specs.declared.stretch.Stretch.{Stretch}
-use Rattle.lot_curves.specs.Curves.{command_times, currency_stretches_from, curves_by, curves_of, ended_in_time, names_by, scheduled_curves, stretches_made, timed_curves_by, timed_stretches_by}
-use Rattle.lot_curves.specs.OwnTimes.{ended_after}
-use Rattle.lot_curves.specs.Stretches.{stretch_of, turn_stretches}
-use Rattle.lot_playback.specs.Turns.{MadeTurn, counted_turn, counted_turns, program_turns, scheduled_turn, scheduled_turns, turn_in_time, turns_by, turns_in_time, world_after_turns}
-use Rattle.lot_chart.specs.Noted.{commands_in, curves_after, own_end, stretches_in}
+use Rattle.lot_chart.proofs.Common.{ActorTurn, Answered, Bool, By, Command, Currency, Ended, Event, IsSome, List, MadeTurn, Moment, None, Option, Program, Reply, Some, Stretch, Thread, TimedTurn, TurnAnswer, TurnMade, World, actor_event, ap, append-nil, append_assoc, arith, beside, command_times, commands_in, cond, console_turn, counted_turn, counted_turns, currency_stretches_from, curves_after, curves_by, curves_of, ended_after, ended_in_time, false, filter, flat_map, flat_map-append, map, moment_after, moment_after_all, names_by, ne_eqb, opening_moment, opening_world, own_end, processor_turn, program_turns, refl, scheduled_curves, scheduled_turn, scheduled_turns, stretch_of, stretches_in, stretches_made, subst, suc, sym, system_after, system_answers, system_run, system_turn, timed-world, timed_curves_by, timed_schedule, timed_stretches_by, timed_turns, true, turn_in_time, turn_stretches, turns_by, turns_in_time, turns_made, world_after_turns, zero, ℕ, [], ◌++◌, ◌==◌, ◌∙◌, ◌∷◌, ◌≡◌}
 
 -- ---- a schedule
 

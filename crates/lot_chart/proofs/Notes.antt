@@ -1,28 +1,8 @@
 -- Stretches that are noted turn by turn.
-use Rattle.std.specs.List.{flat_map}
-use Rattle.std.proofs.lemmas.Grind.{flat_map-append}
-use Rattle.std.proofs.Common.{◌≡◌, ℕ, suc, ◌+◌, ◌*◌, ◌^◌, ◌<◌, ◌≤◌, true, false, Option, Some, None, List, [], ◌∷◌, ◌++◌, length, map, refl, sym, ◌∙◌, ap, arith, append_assoc, append-nil, length-append, lit<}
-use Rattle.lot_machine.specs.declared.event.Event.{Event}
-use Rattle.lot_machine.specs.declared.reply.Reply.{Reply}
-use Rattle.lot_simulation.specs.Report.{ActorTurn, ticks_in, total_of, turns_made, turns_of}
-use Rattle.lot_simulation.specs.Timed.{TimedTurn, opening_moment, timed_room, timed_turns}
-use Rattle.lot_simulation.specs.World.{Program, World, TurnAnswer, TurnMade, opening_world, system_turn}
-use Rattle.lot_simulation.specs.World.TurnAnswer.{Answered, Ended}
-use Rattle.lot_simulation.proofs.ActorCounts.{turns_made-length}
-use Rattle.lot_simulation.proofs.TimedRuns.{turns-few}
-use Rattle.lot_program.specs.Programs.{IsProgram}
-use Rattle.lot_curves.specs.declared.by.By.{By}
-use Rattle.lot_curves.specs.declared.stretch.Stretch.{Stretch}
-use Rattle.lot_curves.specs.Curves.{names_by}
-use Rattle.lot_curves.specs.OwnTimes.{EndedTurn}
-use Rattle.lot_curves.specs.Stretches.{turn_stretches}
-use Rattle.std.specs.Prelude.{max}
+use Rattle.lot_chart.proofs.Common.{ActorTurn, Answered, By, Ended, EndedTurn, Event, HasJustMade, HasMade, IsProgram, List, MadeTurn, None, Option, Program, RanOn, Reply, Seen, Some, Stretch, TimedTurn, TurnAnswer, TurnMade, World, answer_in, ap, append-nil, append_assoc, arith, command_time, commands_in, counted_turn, counted_turns, curves_after, end_in, ended_at, false, flat_map, flat_map-append, length, length-append, lit<, map, max, names_by, opening_moment, opening_world, own_end, program_turns, refl, scheduled_turns, stretches_in, stretches_of_turn, suc, sym, system_turn, ticks_in, timed_turns, total_of, true, turn_stretches, turns-few, turns_by, turns_in_time, turns_made, turns_made-length, turns_of, world_of, ℕ, [], ◌*◌, ◌++◌, ◌+◌, ◌<◌, ◌^◌, ◌∙◌, ◌∷◌, ◌≡◌, ◌≤◌}
+use Rattle.lot_simulation.specs.Timed.{timed_room}
 use Rattle.lot_chart.proofs.Ran.{ran-on}
-use Rattle.lot_engine.specs.Seen.{Seen, world_of}
 use Rattle.lot_playback.specs.declared.turn.Turn.{Turn as ATurn}
-use Rattle.lot_playback.specs.Stages.{HasJustMade, HasMade, answer_in}
-use Rattle.lot_playback.specs.Turns.{MadeTurn, counted_turn, counted_turns, program_turns, scheduled_turns, turns_by, turns_in_time}
-use Rattle.lot_chart.specs.Noted.{RanOn, command_time, commands_in, curves_after, end_in, ended_at, own_end, stretches_in, stretches_of_turn}
 
 -- ---- how many turns there are
 

@@ -1,55 +1,7 @@
 -- A thread's record has the ticks of the turns that name it.
-use Rattle.std.proofs.Common.{◌≡◌, ◌≢◌, ℕ, zero, suc, ◌+◌, ◌-◌, ◌*◌, ◌^◌, ◌<◌, ◌≤◌, ◌==◌, Bool, true, false, cond, Option, Some, None, is_none, List, [], ◌∷◌, ◌++◌, length, map, sum_by, get_or, slice_index, nat_lt, option_map, refl, sym, ◌∙◌, ap, subst, arith, if◌then◌else◌, set, slice_set}
-use Rattle.std.specs.Prelude.{option_and_then}
-use Rattle.std.proofs.Math.Nat.{min-eq_left}
-use Rattle.std.proofs.lemmas.Bool.{eqb-false, eqb-true, ltb-false}
-use Rattle.std.proofs.lemmas.List.{get_or-set_other, get_or-set_same, map-append, map-set, length-map}
-use Rattle.std.proofs.lemmas.List.Sums.{sum_by-cons}
-use Rattle.lot_machine.specs.declared.record.Record.{Record}
-use Rattle.lot_machine.specs.declared.record.Status.{Status}
+use Rattle.lot_chart.proofs.Common.{Action, ActorTurn, Answered, BadProcessor, BadTicks, Bool, Comes, Command, Console, Drawn, Event, Idle, IsBetween, IsInOrder, IsLegal, IsMade, IsWithinBounds, Keeps, Kill, List, NewThread, None, NotRunning, Option, Program, PutRecord, Record, Refusal, Sizes, Some, State, Status, Step, Stretch, Thread, ThreadRow, Ticks, TimedTurn, TurnAnswer, TurnMade, World, actor-made, actor_event, actor_turns, after-even, after_trap, all-pass, ap, arith, as-much, at_number, beside, change-leaves, change_record, charged_thread, checked-even, checked-sizes, checked_effect, comes-same, comes-then, command-leads, command-silent, command_step, cond, console_turn, count_in, draw, ended_after, eqb-false, eqb-true, event_effect, expire, false, free_threads, get_or, get_or-set_other, get_or-set_same, had_at, if◌then◌else◌, is_bad_processor, is_none, kept, kill-even, last_end, last_moment, length, length-map, ltb-false, map, map-append, map-set, min-eq_left, nat_lt, newborn, next_name, number-some, opening, opening-order, opening_world, option_and_then, option_map, placed, processor_turn, ready_threads, refl, resolved, row_of_thread, saturated, set, set_number, slice_index, slice_set, started, step, step-limits, step-order, stretch_of, stretches_made, stretches_of, subst, suc, sum_by, sum_by-cons, sym, system_after, system_answers, system_run, system_turn, there-has, there-numbered, thread_name, thread_on, thread_row, thread_there, ticks-at_last, ticks_in, timed-made, timed-world, timed_schedule, timed_stretches, timed_turns, total_of, trap, trap_effect, trap_refusal, true, turns_made, turns_of, unless_refused, used_there, wake, weight_of, winner, with_ticks, zero, ℕ, [], ◌*◌, ◌++◌, ◌+◌, ◌-◌, ◌<◌, ◌==◌, ◌^◌, ◌∙◌, ◌∷◌, ◌≡◌, ◌≢◌, ◌≤◌}
 use Rattle.lot_machine.specs.declared.record.Status.TheVariants as status
-use Rattle.lot_machine.specs.declared.action.Action.{Action}
-use Rattle.lot_machine.specs.declared.command.Command.{Command}
-use Rattle.lot_machine.specs.declared.command.Command.TheVariants.{Kill}
-use Rattle.lot_machine.specs.declared.drawn.Drawn.{Drawn}
-use Rattle.lot_machine.specs.declared.event.Event.{Event}
 use Rattle.lot_machine.specs.declared.event.Event.TheVariants as event
-use Rattle.lot_machine.specs.declared.refusal.Refusal.{Refusal}
-use Rattle.lot_machine.specs.declared.refusal.Refusal.TheVariants.{BadProcessor, NotRunning, BadTicks}
-use Rattle.lot_machine.specs.declared.reply.Reply.TheVariants.{Idle}
-use Rattle.lot_machine.specs.Bounds.{IsBetween, IsWithinBounds}
-use Rattle.lot_machine.specs.Numbered.{at_number, set_number}
-use Rattle.lot_machine.specs.Lottery.{winner}
-use Rattle.lot_machine.specs.declared.sizes.Sizes.{Sizes}
-use Rattle.lot_machine.specs.Places.{placed}
-use Rattle.lot_machine.specs.State.{State, opening, free_threads, thread_on, change_record, ready_threads, weight_of, saturated}
-use Rattle.lot_machine.specs.Commands.{Step, newborn, command_step, unless_refused}
-use Rattle.lot_machine.specs.Traps.{after_trap, with_ticks}
-use Rattle.lot_machine.specs.Change.{NewThread, PutRecord}
-use Rattle.lot_machine.specs.Step.{is_bad_processor, started, draw, expire, trap, trap_refusal, trap_effect, checked_effect, thread_there, used_there, wake, event_effect, step}
-use Rattle.lot_machine.specs.Order.{IsInOrder}
-use Rattle.lot_machine.specs.Rows.{row_of_thread, thread_name, thread_row}
-use Rattle.lot_machine.specs.declared.row.ThreadRow.{ThreadRow}
-use Rattle.lot_machine.proofs.OrderKept.{opening-order, step-order}
-use Rattle.lot_machine.proofs.CommandsKept.{all-pass}
-use Rattle.lot_machine.proofs.StepChanges.{Console, Keeps, kept, command-leads}
-use Rattle.lot_machine.proofs.StepSizes.{checked-sizes, step-limits}
-use Rattle.lot_simulation.specs.World.{Program, World, TurnMade, TurnAnswer, IsLegal, console_turn, next_name, processor_turn, actor_event, opening_world, resolved, system_turn, system_after, system_answers, system_run}
-use Rattle.lot_simulation.specs.World.TurnAnswer.{Answered}
-use Rattle.lot_simulation.specs.Timed.{TimedTurn, last_moment, timed_schedule, timed_turns}
-use Rattle.lot_simulation.specs.TimedReport.{actor_turns}
-use Rattle.lot_simulation.specs.Report.{ActorTurn, beside, turns_made, turns_of, count_in, ticks_in, total_of}
-use Rattle.lot_simulation.proofs.TimedRuns.{timed-made, timed-world}
-use Rattle.lot_simulation.proofs.DrawnThreads.{number-some}
-use Rattle.lot_simulation.proofs.ProcessorCounts.{command-silent}
-use Rattle.lot_simulation.proofs.RecordCounts.{Comes, as-much, comes-same, comes-then, IsMade, kill-even, actor-made, there-has, change-leaves, checked-even, after-even, there-numbered}
-use Rattle.lot_curves.specs.declared.by.By.TheVariants.{Thread}
-use Rattle.lot_curves.specs.declared.stretch.Stretch.{Stretch}
-use Rattle.lot_curves.specs.Curves.{stretches_made, timed_stretches}
-use Rattle.lot_curves.specs.declared.stretch.Measure.TheVariants.{Ticks}
-use Rattle.lot_curves.specs.Stretches.{had_at, last_end, stretch_of, stretches_of, charged_thread}
-use Rattle.lot_curves.proofs.Ends.{ticks-at_last}
-use Rattle.lot_curves.specs.OwnTimes.{ended_after}
 use Rattle.lot_chart.proofs.NotedFacts.{timed_stretch}
 use Rattle.lot_chart.proofs.Notes.{timed-few}
 

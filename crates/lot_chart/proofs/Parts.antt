@@ -1,8 +1,5 @@
 -- Texts that are put part by part.
-use Rattle.std.proofs.Common.{◌≡◌, ℕ, zero, suc, ◌+◌, List, [], ◌∷◌, ◌++◌, ◌<◌, length, map, get_or, take, sym, ap, ◌∙◌, arith, add-zero, zero-add, append_assoc}
-use Rattle.std.specs.List.{flat_map, range_with_len}
-use Rattle.std.proofs.lemmas.List.{flat_map_more, take_more}
-use Rattle.std.proofs.lemmas.List.FromFn.{map-range_with_len_more}
+use Rattle.lot_chart.proofs.Common.{List, add-zero, ap, append_assoc, arith, flat_map, flat_map_more, get_or, length, map, map-range_with_len_more, range_with_len, suc, sym, take, take_more, zero, zero-add, ℕ, [], ◌++◌, ◌+◌, ◌<◌, ◌∙◌, ◌∷◌, ◌≡◌}
 
 -- the part of one number more
 pub parts-more : {X : Type 0} (part : X → List ℕ) (at : ℕ → X) (n : ℕ) (old now next : List ℕ) → now ≡ old ++ flat_map part (map at (range_with_len 0 n)) → next ≡ now ++ part (at n)

@@ -1,20 +1,5 @@
 -- Names that don't overlap.
-use Rattle.std.proofs.Common.{◌≡◌, ℕ, zero, suc, ◌+◌, ◌*◌, ◌<◌, ◌≤◌, Bool, true, false, cond, nat_lt, nat_le, List, [], ◌∷◌, length, map, get_or, take, refl, sym, subst, arith}
-use Rattle.std.specs.Prelude.{All, if◌then◌else◌}
-use Rattle.std.proofs.lemmas.Bool.{leb-true}
-use Rattle.std.proofs.lemmas.List.{get_or-take, length-take}
-use Rattle.std.proofs.lemmas.List.Elements.{All-cons, All-nil}
-use Rattle.lot_curves.specs.declared.stretch.Measure.TheVariants.{Ticks}
-use Rattle.lot_curves.specs.Curves.{Curves, row_at}
-use Rattle.lot_curves.specs.Stretches.{last_end}
-use Rattle.lot_curves.specs.Windows.{had_in}
-use Rattle.lot_chart.specs.declared.lines.PlotLine.{PlotLine}
-use Rattle.lot_chart.specs.declared.standings.Standing.{Standing}
-use Rattle.lot_chart.specs.Gauges.{AreColumns}
-use Rattle.lot_chart.specs.Lines.{height_of, lines_after, lines_of, place_of}
-use Rattle.lot_curves.specs.declared.by.By.{By}
-use Rattle.lot_curves.specs.declared.by.By.TheVariants.{Thread, Currency}
-use Rattle.lot_chart.specs.Standings.{first_selected, other_stretches, ranked, ranked_after, selected, selection, with_others, with_standing}
+use Rattle.lot_chart.proofs.Common.{All, All-cons, All-nil, AreColumns, Bool, By, Currency, Curves, List, PlotLine, Standing, Thread, Ticks, arith, cond, false, first_selected, get_or, get_or-take, had_in, height_of, if◌then◌else◌, last_end, leb-true, length, length-take, lines_after, lines_of, map, nat_le, nat_lt, other_stretches, place_of, ranked, ranked_after, refl, row_at, selected, selection, subst, suc, sym, take, true, with_others, with_standing, zero, ℕ, [], ◌*◌, ◌+◌, ◌<◌, ◌∷◌, ◌≡◌, ◌≤◌}
 
 -- ---- how many lines there are
 

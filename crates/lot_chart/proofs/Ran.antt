@@ -1,41 +1,9 @@
 -- The thread that ran in a turn, and the currencies that were found above it.
-use Rattle.std.proofs.Common.{◌≡◌, ◌≢◌, ℕ, suc, ◌+◌, ◌-◌, ◌<◌, ◌==◌, Bool, true, false, ◌≤◌, Option, Some, None, Result, Ok, Err, List, [], ◌∷◌, ◌++◌, append-nil, append_assoc, filter, length, map, ◌⊎◌, inl, inr, refl, sym, ◌∙◌, ap, subst, arith, ne_eqb, unwrap_or, nat_le}
-use Rattle.std.specs.Prelude.{◌↔◌, IsTrue, OnOk, drop, if◌then◌else◌}
-use Rattle.std.specs.List.{range_with_len}
-use Rattle.std.proofs.lemmas.List.{map-append}
-use Rattle.std.proofs.lemmas.List.Elements.{filter-append}
-use Rattle.std.proofs.lemmas.Bool.{cases_eq, eq-eqb}
-use Rattle.lot_machine.specs.declared.command.Command.{Command}
+use Rattle.lot_chart.proofs.Common.{Answered, Bool, By, Command, Drawn, Ended, EndedTurn, Err, Event, FoundNodes, HasFound, HasLooked, HasSearched, HasThoseAbove, IsBetween, IsTrue, List, None, Ok, OnOk, Option, Program, RanOn, Record, Refusal, Reply, Result, Running, ScriptTrap, Slice, Some, State, Step, Stretch, TurnAnswer, World, action_of, actor_event, ap, append-nil, append_assoc, arith, cases_eq, command_effect, command_refusal, console_turn, currencies_above, currency_numbers, draw, drop, eq-eqb, event-for, event_effect, event_for, event_of_slice, event_refusal, false, filter, filter-append, found-runs, has_run, if◌then◌else◌, in_column, inl, inr, length, map, map-append, nat_le, ne_eqb, next_name, number_of, numbered, numbers-push, processor_event, range_with_len, ready_threads, refl, resolved, slice_on, stands_below, step, stretch_of, subst, suc, sym, system_turn, thread_on, thread_there, true, turn_stretches, unless_refused, unwrap_or, weight_of, winner, ℕ, [], ◌++◌, ◌+◌, ◌-◌, ◌<◌, ◌==◌, ◌↔◌, ◌∙◌, ◌∷◌, ◌≡◌, ◌≢◌, ◌≤◌, ◌⊎◌}
 use Rattle.lot_machine.specs.declared.command.Command.TheVariants as command
-use Rattle.lot_machine.specs.declared.drawn.Drawn.{Drawn}
-use Rattle.lot_machine.specs.declared.event.Event.{Event}
 use Rattle.lot_machine.specs.declared.event.Event.TheVariants as event
-use Rattle.lot_machine.specs.declared.refusal.Refusal.{Refusal}
-use Rattle.lot_machine.specs.declared.reply.Reply.{Reply}
-use Rattle.lot_machine.specs.declared.record.Record.{Record}
-use Rattle.lot_machine.specs.declared.record.Status.TheVariants.{Running}
 use Rattle.lot_machine.specs.declared.reply.Reply.TheVariants as reply
-use Rattle.lot_machine.specs.Bounds.{IsBetween}
-use Rattle.lot_machine.proofs.RecordsKept.{found-runs, numbered}
-use Rattle.lot_machine.specs.Commands.{Step, command_effect, command_refusal, unless_refused}
-use Rattle.lot_machine.specs.Lottery.{winner}
-use Rattle.lot_machine.specs.State.{State, ready_threads, thread_on, weight_of}
-use Rattle.lot_machine.specs.Step.{draw, event_effect, event_refusal, step, thread_there}
-use Rattle.lot_graph.specs.Found.{FoundNodes, HasFound}
-use Rattle.lot_simulation.specs.declared.script.ScriptTrap.{ScriptTrap}
-use Rattle.lot_simulation.specs.Script.{Slice}
-use Rattle.lot_simulation.specs.Below.{currency_numbers, stands_below}
-use Rattle.lot_simulation.specs.World.{Program, World, TurnAnswer, action_of, actor_event, console_turn, event_of_slice, next_name, processor_event, resolved, slice_on, number_of, system_turn}
-use Rattle.lot_simulation.specs.World.TurnAnswer.{Answered, Ended}
-use Rattle.lot_simulation.proofs.OtherTurns.{event-for, event_for}
-use Rattle.lot_engine.specs.Searching.{HasThoseAbove}
-use Rattle.lot_system.proofs.ListingFacts.{numbers-push}
-use Rattle.lot_curves.specs.declared.stretch.Stretch.{Stretch}
-use Rattle.lot_curves.specs.OwnTimes.{EndedTurn}
-use Rattle.lot_curves.specs.declared.by.By.{By}
 use Rattle.lot_curves.specs.declared.by.By.TheVariants as by
-use Rattle.lot_curves.specs.Stretches.{currencies_above, in_column, stretch_of, turn_stretches}
-use Rattle.lot_chart.specs.Noted.{HasLooked, HasSearched, RanOn, has_run}
 
 -- ---- the thread of a turn
 

@@ -1,21 +1,6 @@
 -- Sums that are read while turns go by.
-use Rattle.std.proofs.Common.{◌≡◌, ℕ, ◌+◌, ◌-◌, ◌*◌, ◌/◌, ◌^◌, ◌<◌, ◌≤◌, ◌==◌, min, Bool, true, false, Option, Some, None, List, [], ◌∷◌, ◌++◌, length, ◌⊎◌, inl, inr, refl, sym, ◌∙◌, ap, subst, arith, append_assoc, append-nil}
-use Rattle.std.specs.Prelude.{slice_index, if◌then◌else◌}
-use Rattle.std.proofs.lemmas.Bool.{cases_lt, le-leb, lt-leb}
-use Rattle.std.proofs.Math.Nat.{mul-div-le, mul-le-mul_right}
-use Rattle.lot_machine.specs.Facts.{IsSound}
-use Rattle.lot_machine.specs.State.{State}
-use Rattle.lot_simulation.specs.Timed.{TimedTurn}
-use Rattle.lot_simulation.specs.TimedReport.{rate_in, tick_parts}
-use Rattle.lot_curves.specs.declared.by.By.{By}
-use Rattle.lot_curves.specs.declared.by.By.TheVariants.{Thread, Currency}
-use Rattle.lot_chart.specs.declared.gauges.Gauge.{Gauge}
-use Rattle.lot_chart.specs.declared.gauges.Growth.{Growth}
-use Rattle.lot_chart.specs.declared.gauges.Growth.TheVariants.{Live, Due}
-use Rattle.lot_chart.specs.declared.gauges.Marks.{Marks}
-use Rattle.lot_chart.specs.Dues.{due_to, own_value, shared_ticks, sum_until, whole_value}
+use Rattle.lot_chart.proofs.Common.{Bool, By, Currency, Due, Gauge, Growth, HasPassed, HaveRead, HaveReadAll, IsAscending, IsGauge, IsNow, IsRead, IsRenewed, IsSound, IsWithin, List, Live, Marks, None, Option, Some, State, Thread, TimedTurn, amount_for, ap, append-nil, append_assoc, arith, cases_lt, due_to, false, flow_at, flow_of, grown, if◌then◌else◌, inl, inr, le-leb, length, lt-leb, min, most_of, mul-div-le, mul-le-mul_right, own_value, rate_in, refl, shared_ticks, slice_index, step_of, subst, sum_until, sym, thread_of, tick_parts, true, whole_value, ℕ, [], ◌*◌, ◌++◌, ◌+◌, ◌-◌, ◌/◌, ◌<◌, ◌==◌, ◌^◌, ◌∙◌, ◌∷◌, ◌≡◌, ◌≤◌, ◌⊎◌}
 use Rattle.lot_chart.proofs.Worth.{own-within}
-use Rattle.lot_chart.specs.Gauges.{HasPassed, HaveRead, HaveReadAll, IsAscending, IsGauge, IsNow, IsRead, IsRenewed, IsWithin, amount_for, flow_at, flow_of, grown, most_of, step_of, thread_of}
 
 -- ---- growth
 

@@ -1,16 +1,6 @@
 -- What is written of curves.
-use Rattle.std.proofs.Common.{◌≡◌, ℕ, false, Option, Some, None, Result, Ok, Err, List, refl, sym, ◌∙◌, ap, subst}
-use Rattle.std.specs.Prelude.{IfOk}
+use Rattle.lot_chart.proofs.Common.{AllocError, Curves, Done, Err, IfOk, IoFault, List, Memory, None, Ok, Option, Played, Plays, Result, Shows, Some, Watch, ap, false, refl, subst, sym, ℕ, ◌∙◌, ◌≡◌}
 use Rattle.std.specs.Io.KnownBytes.{Keeps}
-use Rattle.std.specs.declared.alloc.AllocError.{AllocError}
-use Rattle.lot_curves.specs.Curves.{Curves}
-use Rattle.lot_io.specs.Watching.{Watch}
-use Rattle.lot_system.specs.Played.{Plays}
-use Rattle.lot_system.specs.declared.inputs.Played.{Played}
-use Rattle.lot_system.specs.declared.inputs.Played.TheVariants.{Done}
-use Rattle.lot_io.specs.declared.fault.IoFault.{IoFault}
-use Rattle.lot_io.specs.declared.fault.IoFault.TheVariants.{Memory}
-use Rattle.lot_chart.specs.Shown.{Shows}
 
 keeps-all : (known : Option (List ℕ)) → Keeps known known
 keeps-all None = tt

@@ -1,34 +1,7 @@
 -- How long a picture is at most.
-use Rattle.std.proofs.Common.{◌≡◌, ℕ, zero, suc, ◌+◌, ◌-◌, ◌*◌, ◌/◌, ◌%◌, ◌^◌, ◌<◌, ◌≤◌, ◌==◌, ◌&&◌, Bool, true, false, cond, nat_lt, nat_le, Option, Some, None, List, [], ◌∷◌, ◌++◌, codes, length, get_or, map, refl, sym, ◌∙◌, ap, subst, arith}
-use Rattle.std.specs.Prelude.{All, find, unwrap_or}
-use Rattle.std.specs.List.{flat_map, list_all, range_with_len}
-use Rattle.std.specs.Fmt.{decimal}
-use Rattle.std.proofs.Math.Nat.{mul-le-mul_left, mul-le-mul_right}
-use Rattle.std.proofs.lemmas.Bool.{leb-true, ltb-true}
-use Rattle.std.proofs.lemmas.Fmt.{length-decimal-le}
-use Rattle.std.proofs.lemmas.List.FromFn.{get_or-map-range_with_len, length-map-range_with_len, length-range_with_len}
-use Rattle.std.proofs.lemmas.Nat.{mod_below}
-use Rattle.lot_machine.specs.Numbered.{at_number}
-use Rattle.lot_curves.specs.declared.stretch.Measure.TheVariants.{Ticks}
-use Rattle.lot_curves.specs.declared.stretch.Stretch.{Stretch}
-use Rattle.lot_curves.specs.Curves.{Curves, sample_count, sample_tick}
-use Rattle.lot_curves.specs.Stretches.{last_end}
-use Rattle.lot_curves.specs.Windows.{had_in}
-use Rattle.lot_chart.specs.declared.lines.PlotLine.{PlotLine}
-use Rattle.lot_chart.specs.Axes.{axis_step, lead, mark_count, marks, steps, time_mark_count, time_marks}
-use Rattle.lot_chart.specs.Dues.{Dues, due_height}
-use Rattle.lot_curves.specs.declared.by.By.{By}
-use Rattle.lot_curves.specs.declared.by.By.TheVariants.{Thread, Currency}
-use Rattle.lot_chart.specs.Charts.{across, axes, chart, colour, column_mark, command_mark, command_marks, curve, drawn_of, due_curve, due_curves, due_point, due_points, frame, head, height_mark, heights_label, lines_label, measure_label, highest, label, leader, lines_in, longest_name, most_shown, name_of, name_text, picture, point, point_at, points, sample_point, stroke, strokes, time_mark, top_at, tops, total, width_for}
-use Rattle.lot_chart.specs.Escapes.{escaped, escaped_byte}
-use Rattle.lot_chart.specs.Lines.{height_of, lines_after, place_of}
-use Rattle.lot_chart.specs.Marks.{first_in, marked, stands_in}
-use Rattle.lot_chart.specs.Shares.{share_of, tenths}
-use Rattle.lot_chart.specs.Standings.{selection}
-use Rattle.lot_chart.specs.declared.standings.Standing.{Standing}
-use Rattle.lot_machine.proofs.Tickets.{at_number-suc}
-use Rattle.std.proofs.lemmas.List.Elements.{All-cons, All-nil}
-use Rattle.std.proofs.lemmas.Option.{slice_get_within, get_or_from_slice_get}
+use Rattle.lot_chart.proofs.Common.{All, All-cons, All-nil, Bool, By, Currency, Curves, Dues, List, None, Option, PlotLine, Some, Standing, Stretch, Thread, Ticks, across, ap, arith, at_number, at_number-suc, axes, axis_step, chart, codes, colour, column_mark, command_mark, command_marks, cond, curve, decimal, drawn_of, due_curve, due_curves, due_height, due_point, due_points, escaped, escaped_byte, false, find, first_in, flat_map, frame, get_or, get_or-map-range_with_len, get_or_from_slice_get, had_in, head, height_mark, height_of, heights_label, highest, label, last_end, lead, leader, leb-true, length, length-decimal-le, length-map-range_with_len, length-range_with_len, lines_after, lines_in, lines_label, list_all, longest_name, ltb-true, map, mark_count, marks, measure_label, mod_below, most_shown, mul-le-mul_left, mul-le-mul_right, name_of, name_text, nat_le, nat_lt, place_of, point, point_at, points, range_with_len, refl, sample_count, sample_point, sample_tick, selection, share_of, slice_get_within, stands_in, steps, stroke, strokes, subst, suc, sym, tenths, time_mark, time_mark_count, time_marks, top_at, tops, total, true, unwrap_or, width_for, zero, ℕ, [], ◌%◌, ◌&&◌, ◌*◌, ◌++◌, ◌+◌, ◌-◌, ◌/◌, ◌<◌, ◌==◌, ◌^◌, ◌∙◌, ◌∷◌, ◌≡◌, ◌≤◌}
+use Rattle.lot_chart.specs.Charts.{picture}
+use Rattle.lot_chart.specs.Marks.{marked}
 use Rattle.lot_chart.proofs.Lengths.{all-short, both}
 use Rattle.lot_chart.proofs.Places.{names-within, shown-few}
 

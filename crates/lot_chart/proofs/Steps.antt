@@ -1,8 +1,5 @@
 -- The first step that is wide enough.
-use Rattle.std.proofs.Common.{◌≡◌, ℕ, ◌+◌, ◌*◌, ◌<◌, ◌≤◌, cond, nat_lt, List, Some, length, get_or, drop, sym, ap, ◌∙◌}
-use Rattle.std.specs.Prelude.{find, unwrap_or}
-use Rattle.std.proofs.lemmas.Bool.{lt-ltb, le-ltb}
-use Rattle.std.proofs.lemmas.List.{drop_more}
+use Rattle.lot_chart.proofs.Common.{List, Some, ap, cond, drop, drop_more, find, get_or, le-ltb, length, lt-ltb, nat_lt, sym, unwrap_or, ℕ, ◌*◌, ◌+◌, ◌<◌, ◌∙◌, ◌≡◌, ◌≤◌}
 
 module _ (most other : ℕ) (xs : List ℕ) (i step : ℕ) (below : i < length xs) (is : step ≡ get_or xs i 0) where
   abbrev first : List ℕ → ℕ

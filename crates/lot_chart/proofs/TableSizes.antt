@@ -1,22 +1,5 @@
 -- How long a table is at most.
-use Rattle.std.proofs.Common.{◌≡◌, ℕ, ◌+◌, ◌-◌, ◌*◌, ◌^◌, ◌<◌, ◌≤◌, ◌==◌, Bool, true, false, cond, nat_le, max, Option, Some, None, List, ◌++◌, codes, length, get_or, sym, subst, arith}
-use Rattle.std.specs.Prelude.{All}
-use Rattle.std.specs.List.{flat_map}
-use Rattle.std.specs.Fmt.{decimal}
-use Rattle.std.proofs.Math.Nat.{div-le_of_le-mul, mul-le-mul_right}
-use Rattle.std.proofs.lemmas.Fmt.{length-decimal-le}
-use Rattle.std.proofs.lemmas.List.FromFn.{get_or-map-range_with_len, length-map-range_with_len}
-use Rattle.std.proofs.lemmas.List.Sums.{sum_by-le}
-use Rattle.lot_machine.proofs.Sums.{sum-filter}
-use Rattle.lot_curves.specs.declared.stretch.Measure.{Measure}
-use Rattle.lot_curves.specs.declared.stretch.Measure.TheVariants.{Draws, Ticks}
-use Rattle.lot_curves.specs.declared.stretch.Stretch.{Stretch}
-use Rattle.lot_curves.specs.Curves.{Curves, row_at, sample_count, sample_tick, sample_ticks, shown_at}
-use Rattle.lot_curves.specs.Stretches.{last_end, part_at}
-use Rattle.lot_curves.specs.Windows.{part_in}
-use Rattle.lot_curves.proofs.Ends.{samples-few}
-use Rattle.lot_chart.specs.Shares.{figure_text, share_of, whole_at}
-use Rattle.lot_chart.specs.Tables.{header_line, next_field, row_line, sampled_line, table}
+use Rattle.lot_chart.proofs.Common.{All, Bool, Curves, Draws, List, Measure, None, Option, Some, Stretch, Ticks, arith, codes, cond, decimal, div-le_of_le-mul, false, figure_text, flat_map, get_or, get_or-map-range_with_len, header_line, last_end, length, length-decimal-le, length-map-range_with_len, max, mul-le-mul_right, nat_le, next_field, part_at, part_in, row_at, row_line, sample_count, sample_tick, sample_ticks, sampled_line, samples-few, share_of, shown_at, subst, sum-filter, sum_by-le, sym, table, true, whole_at, ℕ, ◌*◌, ◌++◌, ◌+◌, ◌-◌, ◌<◌, ◌==◌, ◌^◌, ◌≡◌, ◌≤◌}
 use Rattle.lot_chart.proofs.Lengths.{all-short, both}
 use Rattle.lot_chart.proofs.Sizes.{tenths-short}
 

@@ -1,13 +1,6 @@
 -- The whole picture.
-use Rattle.std.proofs.Common.{◌≡◌, ℕ, Option, List, [], ◌++◌, codes, length, ap, ◌∙◌}
-use Rattle.std.specs.List.{flat_map}
-use Rattle.lot_curves.specs.declared.stretch.Stretch.{Stretch}
-use Rattle.lot_curves.specs.Curves.{Curves}
-use Rattle.lot_chart.specs.declared.lines.PlotLine.{PlotLine}
-use Rattle.lot_chart.specs.declared.standings.Standing.{Standing}
-use Rattle.lot_chart.specs.Charts.{axes, chart, curve, due_curves, head, label, lines_in, longest_name, most_shown, picture, tops, total, width_for}
-use Rattle.lot_chart.specs.Dues.{Dues}
-use Rattle.lot_chart.specs.Standings.{Selected, selection}
+use Rattle.lot_chart.proofs.Common.{Curves, Dues, List, Option, PlotLine, Selected, Standing, Stretch, ap, axes, chart, codes, curve, due_curves, flat_map, head, label, length, lines_in, longest_name, most_shown, selection, tops, total, width_for, ℕ, [], ◌++◌, ◌∙◌, ◌≡◌}
+use Rattle.lot_chart.specs.Charts.{picture}
 use Rattle.lot_chart.proofs.Parts.{parts-eight}
 
 -- the picture with the lines of those that are selected

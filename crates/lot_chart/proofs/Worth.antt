@@ -1,25 +1,6 @@
 -- Reached states are sound: so no thread and no currency is worth more than the whole, and a currency that doesn't exist
 -- is worth nothing.
-use Rattle.std.proofs.Common.{◌≡◌, ℕ, zero, suc, ◌<◌, ◌≤◌, Bool, true, false, Option, Some, None, get_or, slice_get, sum_by, filter, filter_map, is_some, List, [], ◌∷◌, length, ◌⊎◌, inl, inr, refl, sym, ◌∙◌, ap, arith}
-use Rattle.std.specs.Option.{option_flatten}
-use Rattle.std.proofs.lemmas.List.{length-map}
-use Rattle.std.proofs.lemmas.Option.{slice_get_cases}
-use Rattle.lot_machine.specs.Bounds.{IsWithinBounds}
-use Rattle.lot_machine.specs.declared.ticket.Ticket.{Ticket}
-use Rattle.lot_machine.specs.Facts.{IsSound}
-use Rattle.lot_machine.specs.Funding.{Funding, is_currency, ticket_in}
-use Rattle.lot_machine.specs.State.{State, funding_of, live_of}
-use Rattle.lot_machine.proofs.CurrencyFlow.{currency-bounded}
-use Rattle.lot_machine.proofs.OrderKept.{order-sound}
-use Rattle.lot_machine.proofs.Tickets.{is_currency-is, target-of, ticket_in-suc}
-use Rattle.lot_simulation.specs.Below.{worth_of}
-use Rattle.lot_simulation.specs.World.{Program, system_run}
-use Rattle.lot_curves.specs.declared.by.By.{By}
-use Rattle.lot_curves.specs.declared.by.By.TheVariants.{Thread, Currency}
-use Rattle.lot_engine.proofs.InOrder.{run-in-order}
-use Rattle.lot_playback.specs.declared.sharers.Sharers.TheVariants.{Threads}
-use Rattle.lot_playback.proofs.WorthFacts.{value-within}
-use Rattle.lot_chart.specs.Dues.{own_value, whole_value}
+use Rattle.lot_chart.proofs.Common.{Bool, By, Currency, Funding, IsSound, IsWithinBounds, List, None, Option, Program, Some, State, Thread, Threads, Ticket, ap, arith, currency-bounded, false, filter, filter_map, funding_of, get_or, inl, inr, is_currency, is_currency-is, is_some, length, length-map, live_of, option_flatten, order-sound, own_value, refl, run-in-order, slice_get, slice_get_cases, suc, sum_by, sym, system_run, target-of, ticket_in, ticket_in-suc, true, value-within, whole_value, worth_of, zero, ℕ, [], ◌<◌, ◌∙◌, ◌∷◌, ◌≡◌, ◌≤◌, ◌⊎◌}
 
 -- ---- reached states
 

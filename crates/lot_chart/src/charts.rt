@@ -550,7 +550,12 @@ fn push_labels(
 }
 
 /// Adds one name, and its leader.
-fn push_label(text: &mut Text, names: &[Name], total: u64, line: &PlotLine) -> Result<(), AllocError>
+fn push_label(
+    text: &mut Text,
+    names: &[Name],
+    total: u64,
+    line: &PlotLine,
+) -> Result<(), AllocError>
     ensures { OnOk result (text.new ≡ text.old ++ label names.now total line.now) }
 {
     push_leader(text, line)?;

@@ -25,9 +25,9 @@ use lot_curves::{By, Curves, Stretch};
 use lot_engine::System;
 use lot_graph::Above;
 use lot_machine::{Name, Reply};
-use lot_system::{Warnings, note_last, play_through};
 use lot_playback::{Observer, Playback, Turn};
 use lot_program::Program;
+use lot_system::{Warnings, note_last, play_through};
 use std::alloc::{AllocError, Global};
 
 /// Records the stretches of each turn, and its warning; and the times of the console's commands.

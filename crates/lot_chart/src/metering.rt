@@ -19,10 +19,10 @@ use crate::Standing;
 use crate::gauges::{Gauge, Growth, Marks, pass_all, renew_all, whole_value};
 use lot_curves::{By, Curves};
 use lot_engine::System;
-use lot_system::play_through;
 use lot_playback::{Observer, Playback, Turn, is_dispatch};
 use lot_program::Program;
 use lot_simulation::TICK_PARTS;
+use lot_system::play_through;
 use std::alloc::{AllocError, Global};
 
 /// The billionths of a whole.

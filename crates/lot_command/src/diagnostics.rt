@@ -3,13 +3,13 @@ ghost use Rattle.std.specs.Prelude.{◌≡◌, IfOk, false};
 
 use crate::run::InputRunFault;
 use crate::schedule::without_schedule;
+use lot_diagnostics::{
+    Asked, Location, line_to_skip, write_no_thread, write_notes, write_warnings, write_words,
+};
 use lot_io::{IoFault, Watched};
 use lot_simulation::InputFault;
 use lot_system::Warnings;
 use lot_text::{ParseFault, parse};
-use lot_diagnostics::{
-    Asked, Location, line_to_skip, write_no_thread, write_notes, write_warnings, write_words,
-};
 use std::alloc::{AllocError, Global};
 use std::io::{ErrorKind, Write};
 use std::{fmt, io};

@@ -5,16 +5,16 @@ ghost use Rattle.lot_command.specs.Statuses as statuses;
 ghost use Rattle.lot_command.specs.Statuses.{HasCome, IsStatusFor};
 ghost use Rattle.lot_command.specs.declared.request.Showing.{Showing};
 
+use crate::command_line::{CommandLine, Request, View, command_line_of};
 use crate::diagnostics::{Diagnostics, say_failure, say_no_memory};
 use crate::run::{InputRunFault, run};
 use crate::source::{Inputs, Recorded};
 use crate::view::shown;
 use clap::Error;
 use clap::error::ErrorKind;
-use crate::command_line::{CommandLine, Request, View, command_line_of};
+use lot_diagnostics::Asked;
 use lot_io::{IoFault, Watched};
 use lot_system::Played;
-use lot_diagnostics::Asked;
 use std::alloc::Global;
 use std::convert::AsStr;
 use std::io;

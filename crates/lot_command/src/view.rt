@@ -6,14 +6,14 @@ ghost use Rattle.lot_system.specs.declared.inputs.Played.TheVariants.{Done};
 ghost use Rattle.lot_command.specs.Statuses.{HasCome};
 ghost use Rattle.lot_command.specs.Views.{input_ends_refused, text_of, view_ends_refused, view_of};
 
+use crate::command_line::{Showing, View};
 use crate::diagnostics::Diagnostics;
 use crate::run::InputRunFault;
 use lot_chart::{chart_program, shares_program};
-use crate::command_line::{Showing, View};
 use lot_explain::explain_program;
 use lot_io::{IoFault, Watched, read_input};
-use lot_system::{Played, Warnings, play_program, refuse, report_program, report_seeds};
 use lot_program::Program;
+use lot_system::{Played, Warnings, play_program, refuse, report_program, report_seeds};
 use lot_text::{ParseFault, parse_seeded};
 use std::alloc::Global;
 use std::io::{Read, Write};

@@ -16,6 +16,6 @@ mod unmade;
 mod warnings;
 
 pub use lines::{Location, line_of_command};
-pub use refusals::{line_to_skip, write_words};
 pub use notes::{Asked, write_no_thread, write_notes};
+pub use refusals::{line_to_skip, write_words};
 pub use warnings::write_warnings;

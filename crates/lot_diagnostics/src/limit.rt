@@ -1,8 +1,8 @@
 //! The limit that a command has found used up.
 
 use crate::lines::{InputCommand, has_header_line, header_number, is_timed};
-use lot_system::RefusedCommand;
 use lot_simulation::{BodyWord, HeaderWord, Range, ranges};
+use lot_system::RefusedCommand;
 use std::fmt;
 
 /// A limit of the header: its name there, what it limits, and the largest number that an input may give it, which it

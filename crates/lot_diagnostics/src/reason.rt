@@ -3,8 +3,8 @@
 use crate::limit::UsedUp;
 use crate::lines::{InputCommand, Named, Nearest, nearest_name};
 use lot_machine::{Refusal, is_good_name};
-use lot_system::RefusedCommand;
 use lot_simulation::BodyWord;
+use lot_system::RefusedCommand;
 use std::alloc::Global;
 use std::fmt;
 

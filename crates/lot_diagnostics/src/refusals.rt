@@ -13,10 +13,10 @@ mod problem;
 mod skip;
 mod word;
 
+use crate::lines::Location;
 use crate::refusals::explain::problem_of;
 use crate::refusals::input::Refused;
 use crate::refusals::skip::can_be_skipped;
-use crate::lines::Location;
 use lot_simulation::InputFault;
 use std::alloc::Global;
 use std::io;

@@ -2,8 +2,8 @@
 
 use crate::lines::{Named, name_numbered};
 use lot_machine::{Name, Status};
-use lot_system::{Lack, Owner, StuckThread};
 use lot_simulation::BodyWord;
+use lot_system::{Lack, Owner, StuckThread};
 use std::{fmt, str};
 
 /// A thread, a port or a mutex: its kind and its name, or its number if it has no name.

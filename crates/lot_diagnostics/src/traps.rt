@@ -1,13 +1,13 @@
 //! Traps that the kernel refused.
 
-use crate::stuck::Called;
 use crate::lines::{
-    Named, OpenScript, Location, after_line, argument_given, ends_line, name_given, name_numbered,
+    Location, Named, OpenScript, after_line, argument_given, ends_line, name_given, name_numbered,
     row_of, spelling_of, words_of,
 };
+use crate::stuck::Called;
 use lot_machine::TrapRefusal;
-use lot_system::RefusedTrap;
 use lot_simulation::{BodyWord, ScriptTrap, ScriptWord};
+use lot_system::RefusedTrap;
 use std::{fmt, str};
 
 /// A word of a script that makes a trap, and the name of its port or mutex, if it has one.

@@ -1,10 +1,10 @@
 //! Commands that were never made.
 ghost use Rattle.std.specs.Prelude.{◌≡◌, ◌+◌, ◌-◌, ◌≤◌};
 
-use crate::warnings::is_ended_by_refusal;
 use crate::lines::{InputCommand, Location, header_number};
-use lot_system::Warnings;
+use crate::warnings::is_ended_by_refusal;
 use lot_simulation::HeaderWord;
+use lot_system::Warnings;
 use std::io::Write;
 use std::{fmt, io};
 

@@ -1,12 +1,12 @@
 //! The warnings of a run, in words.
 
+use crate::lines::{InputCommand, Location};
 use crate::reason::Reason;
 use crate::stuck::{Waiting, Weightless};
 use crate::traps::RefusedWords;
 use crate::unmade::write_unmade;
-use crate::lines::{InputCommand, Location};
-use lot_system::{FirstFew, RefusedTrap, Warnings};
 use lot_simulation::EarlyEnd;
+use lot_system::{FirstFew, RefusedTrap, Warnings};
 use std::io::Write;
 use std::{fmt, io};
 

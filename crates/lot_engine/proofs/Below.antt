@@ -1,39 +1,8 @@
 -- A thread stands below a currency if and only if a path of edges leads from the currency to it.
-use Rattle.std.proofs.Common.{◌≡◌, ◌↔◌, ℕ, zero, suc, ◌<◌, ◌&&◌, ◌⊎◌, inl, inr, Bool, true, Option, Some, None, List, [], ◌∷◌, Contains, length, ap, sym, ◌∙◌, refl, subst, arith, is_some, option_map, option_and_then, slice_get}
-use Rattle.std.specs.Option.{option_flatten}
-use Rattle.std.specs.List.{list_any}
-use Rattle.std.proofs.lemmas.Bool.{eq-eqb, eqb-true, or_cases, or_left, or_right, and_parts, and_from}
-use Rattle.std.proofs.lemmas.List.{length-map}
-use Rattle.lot_machine.specs.declared.funding.Lend.{Lend}
-use Rattle.lot_machine.specs.declared.funding.Lend.TheVariants.{Nobody, ToThread, ToMutex}
-use Rattle.lot_machine.specs.declared.funding.Node.{Node}
-use Rattle.lot_machine.specs.declared.funding.Node.TheVariants.{Currency, Thread, Mutex}
-use Rattle.lot_machine.specs.declared.funding.Edge.TheVariants.{OfTicket}
-use Rattle.lot_machine.specs.declared.record.Record.{Record}
-use Rattle.lot_machine.specs.declared.ticket.Target.{Target}
+use Rattle.lot_engine.proofs.Common.{Bool, Contains, Currency, FoundNodes, Funding, FundsThere, HasNoCycle, HasThoseAbove, IsAboveThread, IsBetween, IsInOrder, IsWay, Lend, LendsLead, LendsTo, List, Nobody, Node, None, OfTicket, Option, Reaches, Record, Some, State, Target, Ticket, ToMutex, ToThread, WouldCycle, all_tickets, and_from, and_parts, any_at, any_from, ap, arith, at_number, borrower, contains-later, currency-edge, cycle-reaches, edge-reaches, eq-eqb, eqb-true, funding_of, funds_thread, head-target, head_of, inl, inr, is_some, is_thread, issuer-of, issuer_of, lead-reaches, lend_node, lend_of, lender_within, lenders_to, lends_lead, lends_lead-exact, length, length-map, lent-head, list_any, list_any-filter, mutex-edge, numbers, option_and_then, option_flatten, option_map, or_cases, or_left, or_right, owned-head, owner_of, place-in, range-contains, reaches-then, reaches_within, refl, slice_get, some-injective, stands_below, subst, suc, sym, target_node, target_of, thread-edge, ticket-edge, ticket-of, ticket_at, ticket_in-suc, true, would_cycle-exact, zero, ℕ, [], ◌&&◌, ◌<◌, ◌↔◌, ◌∙◌, ◌∷◌, ◌≡◌, ◌⊎◌}
+use Rattle.lot_machine.specs.declared.funding.Node.TheVariants.{Thread, Mutex}
 use Rattle.lot_machine.specs.declared.ticket.Target.TheVariants as target
-use Rattle.lot_machine.specs.declared.ticket.Ticket.{Ticket}
-use Rattle.lot_machine.specs.Bounds.{IsBetween}
-use Rattle.lot_machine.specs.Equations.{IsWay, Reaches}
-use Rattle.lot_machine.specs.Facts.{FundsThere, HasNoCycle}
-use Rattle.lot_machine.specs.Funding.{Funding, WouldCycle, all_tickets, is_thread, issuer_of, lend_node, owner_of, reaches_within, target_node, target_of, ticket_at}
-use Rattle.lot_machine.specs.Lends.{LendsLead, LendsTo, borrower, lends_lead}
-use Rattle.lot_machine.specs.Numbered.{at_number, numbers}
-use Rattle.lot_machine.specs.Order.{IsInOrder}
-use Rattle.lot_machine.specs.State.{State, funding_of, lend_of}
-use Rattle.lot_machine.specs.Value.{lenders_to}
-use Rattle.lot_machine.proofs.EachOnce.{range-contains, contains-later, place-in}
-use Rattle.lot_machine.proofs.LendDepth.{lender_within, lends_lead-exact}
-use Rattle.lot_machine.proofs.TicketDepth.{would_cycle-exact}
-use Rattle.lot_machine.proofs.Tickets.{any_at, any_from, issuer-of, list_any-filter, place_of, some-injective, ticket-of, ticket_in-suc}
-use Rattle.lot_graph.proofs.CycleLemmas.{cycle-reaches, head-target, lent-head, owned-head}
-use Rattle.lot_graph.proofs.SpreadLemmas.{currency-edge, mutex-edge, thread-edge, ticket-edge}
-use Rattle.lot_graph.proofs.WayLemmas.{edge-reaches, lead-reaches, reaches-then}
-use Rattle.lot_graph.specs.Fields.{head_of}
-use Rattle.lot_simulation.specs.Below.{funds_thread, stands_below}
-use Rattle.lot_graph.specs.Found.{FoundNodes}
-use Rattle.lot_kernel.specs.Searching.{IsAboveThread}
-use Rattle.lot_engine.specs.Searching.{HasThoseAbove}
+use Rattle.lot_machine.proofs.Tickets.{place_of}
 
 abbrev number : Node → ℕ
 number (Currency k) = k

@@ -1,13 +1,5 @@
 -- What is counted with one turn more.
-use Rattle.std.proofs.Common.{◌≡◌, ◌≢◌, ℕ, ◌+◌, ◌≤◌, ◌==◌, Bool, true, false, cond, List, [], ◌∷◌, ◌++◌, length, refl, sym, ◌∙◌, ap, subst, arith, length-append, eq-eqb, ne_eqb}
-use Rattle.std.proofs.lemmas.List.Sums.{sum_by_push}
-use Rattle.lot_machine.specs.declared.event.Event.{Event}
-use Rattle.lot_machine.specs.declared.reply.Reply.{Reply}
-use Rattle.lot_simulation.specs.Report.{ActorTurn, beside, turns_made, turns_of, count_in, quanta_in, idles_in, ticks_in}
-use Rattle.lot_simulation.specs.World.{Program, World, TurnAnswer, opening_world, system_turn, system_after, system_answers, system_run}
-use Rattle.lot_simulation.specs.World.TurnAnswer.{Answered}
-use Rattle.lot_engine.specs.declared.counts.Counts.{Counts}
-use Rattle.lot_engine.specs.Counted.{counted, counted_with, IsSmall, IsCount, AreCounts}
+use Rattle.lot_engine.proofs.Common.{ActorTurn, Answered, AreCounts, Bool, Counts, Event, IsCount, IsSmall, List, Program, Reply, TurnAnswer, World, ap, arith, beside, cond, count_in, counted, counted_with, eq-eqb, false, idles_in, length, length-append, ne_eqb, opening_world, quanta_in, refl, subst, sum_by_push, sym, system_after, system_answers, system_run, system_turn, ticks_in, true, turns_made, turns_of, ℕ, [], ◌++◌, ◌+◌, ◌==◌, ◌∙◌, ◌∷◌, ◌≡◌, ◌≢◌, ◌≤◌}
 
 -- ---- turns made
 

@@ -1,6 +1,5 @@
 -- What an error leaves to prove, and what a refused test says.
-use Rattle.std.proofs.Common.{ℕ, zero, suc, ◌<◌, ◌≤◌, Result, Ok, Err, IfOk, arith}
-use Rattle.std.specs.Prelude.{IsErr}
+use Rattle.lot_engine.proofs.Common.{Err, IfOk, IsErr, Ok, Result, arith, suc, zero, ℕ, ◌<◌, ◌≤◌}
 
 -- nothing, of what is said of a success
 pub if-ok-none : {A E : Type 0} (r : Result A E) (P : A → Type 0) → IsErr r → IfOk r P

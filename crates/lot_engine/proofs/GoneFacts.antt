@@ -1,18 +1,5 @@
 -- A thread that has no row isn't live.
-use Rattle.std.proofs.Common.{◌≡◌, ℕ, ◌-◌, false, Option, Some, None, length, get_or, option_map, refl, sym, ◌∙◌, ap, arith}
-use Rattle.std.specs.Prelude.{option_and_then}
-use Rattle.std.specs.Option.{option_flatten}
-use Rattle.lot_machine.specs.declared.record.Record.{Record}
-use Rattle.lot_machine.specs.declared.record.Thread.{Thread}
-use Rattle.lot_machine.specs.declared.record.Status.TheVariants.{Dead}
-use Rattle.lot_machine.specs.Lends.{is_live}
-use Rattle.lot_machine.specs.Numbered.{at_number, option_any}
-use Rattle.lot_machine.specs.Order.{IsInOrder}
-use Rattle.lot_machine.specs.Rows.{row_of_thread, thread_row}
-use Rattle.lot_machine.specs.State.{State, is_live_status, live_of}
-use Rattle.lot_machine.proofs.LendSums.{number-within}
-use Rattle.lot_machine.proofs.TrapCycles.{at_number-map}
-use Rattle.lot_simulation.proofs.DrawnThreads.{number-some}
+use Rattle.lot_engine.proofs.Common.{Dead, IsInOrder, None, Option, Record, Some, State, Thread, ap, arith, at_number, at_number-map, false, get_or, is_live, is_live_status, length, live_of, number-some, number-within, option_and_then, option_any, option_flatten, option_map, refl, row_of_thread, sym, thread_row, ℕ, ◌-◌, ◌∙◌, ◌≡◌}
 
 -- one that was never made has no record, and one that was removed is dead
 pub gone-idle : (s : State) (t : ℕ) → IsInOrder s → length s.records ≡ length s.threads → thread_row s t ≡ None → is_live (live_of s) t ≡ false

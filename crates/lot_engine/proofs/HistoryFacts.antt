@@ -1,12 +1,5 @@
 -- What the kept bytes of a history stand for.
-use Rattle.std.proofs.Common.{◌≡◌, ℕ, suc, ◌+◌, ◌<◌, ◌≤◌, inl, inr, ltb, List, [], ◌∷◌, ◌++◌, length, get_or, drop, map, Some, None, ◌-◌, refl, sym, ap, ap₂, ◌∙◌, arith}
-use Rattle.std.specs.List.{cons_option}
-use Rattle.std.specs.Prelude.{All, cond, count_by, min}
-use Rattle.std.proofs.Math.Nat.{min-eq_left, min-eq_right}
-use Rattle.std.proofs.lemmas.Bool.{cases_lt, lt-ltb, le-ltb, cond-true, cond-false}
-use Rattle.std.proofs.lemmas.List.Elements.{All-tail}
-use Rattle.std.proofs.lemmas.List.Sums.{sum_by-cons}
-use Rattle.lot_engine.specs.Histories.{actors_from, woken_in}
+use Rattle.lot_engine.proofs.Common.{All, All-tail, List, None, Some, actors_from, ap, ap₂, arith, cases_lt, cond, cond-false, cond-true, cons_option, count_by, drop, get_or, inl, inr, le-ltb, length, lt-ltb, ltb, map, min, min-eq_left, min-eq_right, refl, suc, sum_by-cons, sym, woken_in, ℕ, [], ◌++◌, ◌+◌, ◌-◌, ◌<◌, ◌∙◌, ◌∷◌, ◌≡◌, ◌≤◌}
 
 -- The first actor is a processor's or the console's, or else it is the timer's.
 first-own : (p a : ℕ) (bytes woken : List ℕ) → a ≤ p → actors_from p (a ∷ bytes) woken ≡ a ∷ actors_from p bytes woken

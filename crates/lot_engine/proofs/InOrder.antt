@@ -1,11 +1,6 @@
 -- The state that a history leads to is in order.
-use Rattle.std.proofs.Common.{ℕ, ◌==◌, Bool, true, false, List, [], ◌∷◌, cond}
-use Rattle.lot_machine.specs.declared.command.Command.{Command}
+use Rattle.lot_engine.proofs.Common.{Bool, Command, IsInOrder, IsWithinBounds, List, Program, TurnMade, World, actor_event, cond, console_turn, false, next_name, opening-order, opening_world, processor_turn, resolved, step-order, system_after, system_run, system_turn, true, ℕ, [], ◌==◌, ◌∷◌}
 use Rattle.lot_machine.specs.declared.event.Event.TheVariants as event
-use Rattle.lot_machine.specs.Bounds.{IsWithinBounds}
-use Rattle.lot_machine.specs.Order.{IsInOrder}
-use Rattle.lot_machine.proofs.OrderKept.{opening-order, step-order}
-use Rattle.lot_simulation.specs.World.{Program, World, TurnMade, opening_world, actor_event, console_turn, next_name, processor_turn, resolved, system_turn, system_after, system_run}
 
 module _ (program : Program) where
   console-in-order : (w : World) (commands : List Command) → IsInOrder w.state → IsInOrder (console_turn program w commands).world.state

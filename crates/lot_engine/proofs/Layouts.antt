@@ -1,20 +1,6 @@
 -- No event changes the number of mutexes, so all states of a program's runs have graphs with one layout.
-use Rattle.std.proofs.Common.{◌≡◌, ◌∙◌, ℕ, ◌-◌, ◌==◌, Bool, true, false, None, List, [], ◌∷◌, length, cond, ap, ap₂, sym}
-use Rattle.std.proofs.Math.ListN.{length-set}
-use Rattle.std.proofs.lemmas.List.{length-replicate}
-use Rattle.lot_machine.specs.declared.command.Command.{Command}
-use Rattle.lot_machine.specs.declared.event.Event.{Event}
+use Rattle.lot_engine.proofs.Common.{Bool, By, Command, Event, FoundNodes, HasLayoutFor, HasLayoutOf, Keeps, Layout, List, None, Program, PutMutex, Sizes, State, TurnMade, World, actor_event, ap, ap₂, by_event, cond, console_turn, false, holders, kept, length, length-replicate, length-set, next_name, opening_world, processor_turn, resolved, step, step-leads, sym, system_after, system_run, system_turn, true, ℕ, [], ◌-◌, ◌==◌, ◌∙◌, ◌∷◌, ◌≡◌}
 use Rattle.lot_machine.specs.declared.event.Event.TheVariants as event
-use Rattle.lot_machine.specs.declared.sizes.Sizes.{Sizes}
-use Rattle.lot_machine.specs.Change.{PutMutex}
-use Rattle.lot_machine.specs.State.{State, holders}
-use Rattle.lot_machine.specs.Step.{step}
-use Rattle.lot_machine.proofs.StepChanges.{By, Keeps, by_event, kept, step-leads}
-use Rattle.lot_graph.specs.declared.layout.Layout.{Layout}
-use Rattle.lot_graph.specs.Found.{FoundNodes}
-use Rattle.lot_kernel.specs.Searching.{HasLayoutOf}
-use Rattle.lot_simulation.specs.World.{Program, World, TurnMade, opening_world, actor_event, console_turn, next_name, processor_turn, resolved, system_turn, system_after, system_run}
-use Rattle.lot_engine.specs.Searching.{HasLayoutFor}
 
 abbrev HasMutexes : ℕ → State → Type 0
 HasMutexes count s = length s.mutexes ≡ count

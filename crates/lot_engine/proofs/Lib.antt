@@ -1,3 +1,4 @@
+pub mod Common
 pub mod Errors
 pub mod HistoryFacts
 pub mod StepFacts

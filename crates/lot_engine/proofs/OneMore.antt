@@ -1,20 +1,6 @@
 -- What holds of a system's fields, with one turn more.
-use Rattle.std.proofs.Common.{◌≡◌, ℕ, ◌+◌, ◌<◌, ◌≤◌, ◌==◌, Bool, true, false, List, [], ◌∷◌, ◌++◌, length, refl, sym, ◌∙◌, ap, arith}
-use Rattle.std.specs.Prelude.{count_by, is_some}
-use Rattle.lot_machine.specs.declared.event.Event.{Event}
-use Rattle.lot_machine.specs.declared.reply.Reply.{Reply}
+use Rattle.lot_engine.proofs.Common.{Answered, AreCounts, Bool, Counts, Event, HistorySize, IsCount, IsHeld, IsLegal, IsLegalInTime, IsProgram, IsSmall, List, Place, Program, Reply, State, ap, arith, count_by, counted_with, false, is_some, length, refl, step, sym, system_run, system_turn, true, turns_made, ℕ, [], ◌++◌, ◌+◌, ◌<◌, ◌==◌, ◌∙◌, ◌∷◌, ◌≡◌, ◌≤◌}
 use Rattle.lot_machine.specs.declared.event.Event.TheVariants as event
-use Rattle.lot_machine.specs.State.{State}
-use Rattle.lot_machine.specs.Step.{step}
-use Rattle.lot_simulation.specs.Report.{turns_made}
-use Rattle.lot_simulation.specs.World.{IsLegal, IsLegalInTime, Program, system_turn, system_run}
-use Rattle.lot_simulation.specs.World.TurnAnswer.{Answered}
-use Rattle.lot_script.specs.Places.{Place}
-use Rattle.lot_program.specs.Programs.{IsProgram}
-use Rattle.lot_engine.specs.declared.counts.Counts.{Counts}
-use Rattle.lot_engine.specs.Counted.{AreCounts, IsCount, IsSmall, counted_with}
-use Rattle.lot_engine.specs.Held.{IsHeld}
-use Rattle.lot_engine.specs.Histories.{HistorySize}
 use Rattle.lot_engine.proofs.CountFacts.{each-after, each-other, total-after}
 use Rattle.lot_engine.proofs.WakeFacts.{wake-answer, wake-held}
 use Rattle.lot_engine.proofs.Runs.{system_run-one_more, past-more}

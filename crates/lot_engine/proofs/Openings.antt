@@ -1,11 +1,5 @@
 -- A system with no turn holds its program's opening world.
-use Rattle.std.proofs.Common.{◌≡◌, ℕ, List, [], arith, refl, subst, sym}
-use Rattle.std.specs.Prelude.{replicate}
-use Rattle.lot_machine.specs.State.{State, opening}
-use Rattle.lot_script.specs.Places.{Place}
-use Rattle.lot_simulation.specs.World.{Program, opening_world, system_run}
-use Rattle.lot_engine.specs.Counted.{IsCount}
-use Rattle.lot_engine.specs.Held.{IsHeld}
+use Rattle.lot_engine.proofs.Common.{IsCount, IsHeld, List, Place, Program, State, arith, opening, opening_world, refl, replicate, subst, sym, system_run, ℕ, [], ◌≡◌}
 
 opens : (program : Program) → IsHeld program (opening_world program) (opening program.limits) [] program.seeds (replicate program.ticket_names 0) 0
 opens program = record {

@@ -1,25 +1,5 @@
 -- Where the threads are in their scripts, one of them changed or one more.
-use Rattle.std.proofs.Common.{◌≡◌, ℕ, zero, suc, ◌⊎◌, inl, inr, Option, ◌+◌, ◌-◌, ◌<◌, ◌≤◌, Some, None, List, [], ◌∷◌, ◌++◌, length, get_or, option_map, refl, sym, ◌∙◌, ap, subst, arith}
-use Rattle.std.specs.Prelude.{IfSome}
-use Rattle.std.proofs.lemmas.Option.{slice_get-get_or}
-use Rattle.std.specs.List.{slice_get, slice_set}
-use Rattle.std.specs.Option.{unwrap_or, option_flatten}
-use Rattle.std.proofs.lemmas.List.{length-append, get_or-set_same, length-set, set-set, set-get_or}
-use Rattle.std.proofs.lemmas.Option.{unwrap_or-slice_get}
-use Rattle.lot_machine.specs.declared.record.Thread.{Thread}
-use Rattle.lot_simulation.specs.Script.{Context, start}
-use Rattle.lot_simulation.specs.World.{Program}
-use Rattle.lot_machine.specs.Places.{placed}
-use Rattle.lot_machine.specs.State.{State, free_threads, thread_at}
-use Rattle.lot_machine.specs.Bounds.{IsBetween}
-use Rattle.lot_machine.specs.Numbered.{at_number, set_number}
-use Rattle.lot_simulation.specs.World.{delivered_to, new_context}
-use Rattle.lot_machine.proofs.Changes.{place-set_same}
-use Rattle.lot_machine.proofs.Tickets.{at_number-suc, some-injective}
-use Rattle.lot_simulation.proofs.DrawnThreads.{number-some}
-use Rattle.lot_script.specs.Places.{Place, first_place}
-use Rattle.lot_engine.specs.Held.{script_lines, IsAt, AreAt}
-use Rattle.lot_engine.specs.Steps.{MakesNone, IsNext, OneMore, contexts_with, script_in, delivered_to_place, place_of}
+use Rattle.lot_engine.proofs.Common.{AreAt, Context, IfSome, IsAt, IsBetween, IsNext, List, MakesNone, None, OneMore, Option, Place, Program, Some, State, Thread, ap, arith, at_number, at_number-suc, contexts_with, delivered_to, delivered_to_place, first_place, free_threads, get_or, get_or-set_same, inl, inr, length, length-append, length-set, new_context, number-some, option_flatten, option_map, place-set_same, place_of, placed, refl, script_in, script_lines, set-get_or, set-set, set_number, slice_get, slice_get-get_or, slice_set, some-injective, start, subst, suc, sym, thread_at, unwrap_or, unwrap_or-slice_get, zero, ℕ, [], ◌++◌, ◌+◌, ◌-◌, ◌<◌, ◌∙◌, ◌∷◌, ◌≡◌, ◌≤◌, ◌⊎◌}
 
 -- the element with a number stands at the place before it
 pub number-or : {A : Type 0} (xs : List A) (n : ℕ) (d : A) → 1 ≤ n → unwrap_or (at_number xs n) d ≡ get_or xs (n - 1) d

@@ -1,12 +1,5 @@
 -- The turns of a schedule.
-use Rattle.std.proofs.Common.{◌≡◌, ℕ, List, [], ◌∷◌, ◌++◌, refl, sym, ◌∙◌, ap, arith, length-append}
-use Rattle.lot_machine.specs.declared.event.Event.{Event}
-use Rattle.lot_machine.specs.declared.reply.Reply.{Reply}
-use Rattle.lot_simulation.specs.Report.{report}
-use Rattle.lot_simulation.specs.World.{Program, World, TurnMade, system_turn, system_run}
-use Rattle.lot_simulation.specs.World.TurnAnswer.{Answered}
-use Rattle.lot_engine.specs.Playing.{HasPlayed, IsPlayed, turn_in}
-use Rattle.lot_engine.specs.Seen.{Seen, Setting, world_of, after_turn}
+use Rattle.lot_engine.proofs.Common.{Answered, Event, HasPlayed, IsPlayed, List, Program, Reply, Seen, Setting, TurnMade, World, after_turn, ap, arith, length-append, refl, report, sym, system_run, system_turn, turn_in, world_of, ℕ, [], ◌++◌, ◌∙◌, ◌∷◌, ◌≡◌}
 use Rattle.lot_engine.proofs.Runs.{system_run-one_more, past-more}
 
 -- ---- a turn that goes

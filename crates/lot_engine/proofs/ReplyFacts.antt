@@ -1,34 +1,6 @@
 -- Whom a reply names.
-use Rattle.std.proofs.Common.{◌≡◌, ℕ, zero, suc, ◌<◌, ◌==◌, Bool, true, false, not, ◌&&◌, ◌||◌, cond, Option, Some, None, inl, inr, is_none, unwrap_or, List, [], ◌∷◌, length, map, option_map, nat_lt, nat_le, refl, sym, ◌∙◌, ap, arith, length-append}
-use Rattle.std.specs.List.{slice_get}
-use Rattle.std.proofs.lemmas.Bool.{ltb-false, leb-false, or_parts, eqb-false}
-use Rattle.std.proofs.lemmas.Option.{slice_get_within}
-use Rattle.std.proofs.Math.ListN.{length-set}
-use Rattle.lot_machine.specs.declared.record.Record.{Record}
-use Rattle.lot_machine.specs.declared.record.Status.{Status}
-use Rattle.lot_machine.specs.declared.action.Action.{Action}
-use Rattle.lot_machine.specs.declared.command.Command.{Command}
-use Rattle.lot_machine.specs.declared.command.Command.TheVariants.{MakeThread, RemoveThread, Kill, MakeFunded}
+use Rattle.lot_engine.proofs.Common.{Action, BadAmount, BadName, Bool, Command, Drawn, Full, IsBetween, IsInOrder, Kill, List, MakeFunded, MakeThread, MakesNone, MakesThread, NameTaken, NoCurrency, NoScript, None, OfDraw, OfRun, OneMore, Option, Program, Record, Refusal, RemoveThread, Some, State, Status, Step, Thread, World, all-pass, ap, are_threads_full, are_tickets_full, arith, at_number-suc, command_effect, command_refusal, command_step, cond, contains-at, contexts_after_command, contexts_with, currency_meant, draw, drawn-numbered, eqb-false, event_effect, event_refusal, false, free_threads, inl, inr, is_bad_amount, is_no_script, is_none, is_none_free, is_taken, is_thread_name, killed-length, leb-false, length, length-append, length-set, ltb-false, map, nat_le, nat_lt, new_context, newborn, next_thread, not, option_map, or_parts, placed, ready_threads, refl, script_in, slice_get, slice_get_within, status_of, step, suc, sym, thread_at, thread_given, thread_meant, thread_there, true, unless_refused, unwrap_or, weight_of, winner, with_thread, zero, ℕ, [], ◌&&◌, ◌<◌, ◌==◌, ◌||◌, ◌∙◌, ◌∷◌, ◌≡◌}
 use Rattle.lot_machine.specs.declared.event.Event.TheVariants as event
-use Rattle.lot_machine.specs.declared.refusal.Refusal.{Refusal}
-use Rattle.lot_machine.specs.declared.refusal.Refusal.TheVariants.{BadName, NameTaken, NoCurrency, BadAmount, Full, NoScript}
-use Rattle.lot_machine.specs.declared.drawn.Drawn.{Drawn}
-use Rattle.lot_machine.specs.Bounds.{IsBetween}
-use Rattle.lot_machine.specs.Lottery.{winner}
-use Rattle.lot_machine.specs.Order.{IsInOrder}
-use Rattle.lot_machine.specs.Places.{is_none_free, placed}
-use Rattle.lot_machine.specs.declared.record.Thread.{Thread}
-use Rattle.lot_machine.specs.State.{State, free_threads, next_thread, status_of, thread_at, ready_threads, weight_of}
-use Rattle.lot_machine.specs.Commands.{Step, is_bad_amount, is_thread_name, is_taken, is_no_script, are_tickets_full, are_threads_full, currency_meant, thread_meant, newborn, with_thread, command_refusal, command_effect, command_step, unless_refused}
-use Rattle.lot_machine.specs.Step.{draw, thread_there, event_refusal, event_effect, step}
-use Rattle.lot_machine.proofs.CommandsKept.{all-pass}
-use Rattle.lot_machine.proofs.EachOnce.{contains-at}
-use Rattle.lot_machine.proofs.StepSizes.{killed-length}
-use Rattle.lot_machine.proofs.Tickets.{at_number-suc}
-use Rattle.lot_simulation.proofs.DrawnThreads.{drawn-numbered}
-use Rattle.lot_simulation.specs.World.{Program, World, contexts_after_command, new_context}
-use Rattle.lot_machine.specs.Named.{thread_given}
-use Rattle.lot_engine.specs.Steps.{MakesNone, OneMore, MakesThread, OfDraw, OfRun, contexts_with, script_in}
 use Rattle.lot_engine.proofs.PlaceFacts.{number-placed}
 
 -- ---- commands

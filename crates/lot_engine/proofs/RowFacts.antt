@@ -1,18 +1,5 @@
 -- A thread that isn't dead has a row, since only dead ones are removed.
-use Rattle.std.proofs.Common.{◌≡◌, ℕ, ◌-◌, Option, Some, None, [], length, get_or, unwrap_or, option_map, refl, sym, ◌∙◌, ap, arith}
-use Rattle.std.specs.Prelude.{All}
-use Rattle.std.proofs.lemmas.Option.{slice_get-get_or}
-use Rattle.lot_machine.specs.declared.record.Record.{Record}
-use Rattle.lot_machine.specs.declared.record.Status.{Status}
-use Rattle.lot_machine.specs.declared.record.Status.TheVariants.{Waiting, Dead}
-use Rattle.lot_machine.specs.declared.record.Thread.{Thread}
-use Rattle.lot_machine.specs.Mutexes.{mutex_at}
-use Rattle.lot_machine.specs.Numbered.{at_number}
-use Rattle.lot_machine.specs.Order.{IsInOrder}
-use Rattle.lot_machine.specs.State.{State, Mutex, status_of}
-use Rattle.lot_machine.proofs.RecordsKept.{numbered}
-use Rattle.lot_simulation.proofs.DrawnThreads.{number-some}
-use Rattle.lot_engine.specs.Seen.{HasRow}
+use Rattle.lot_engine.proofs.Common.{All, Dead, HasRow, IsInOrder, Mutex, None, Option, Record, Some, State, Status, Thread, Waiting, ap, arith, at_number, get_or, length, mutex_at, number-some, numbered, option_map, refl, slice_get-get_or, status_of, sym, unwrap_or, ℕ, [], ◌-◌, ◌∙◌, ◌≡◌}
 
 row-there : (s : State) → IsInOrder s → length s.records ≡ length s.threads → (t : ℕ) (now : Status) → status_of s.records t ≡ Some now → ¬ (Dead ≡ now) → HasRow s t
 row-there s order lengths t now is alive =

@@ -1,36 +1,7 @@
 -- The slice of the thread on a processor is never refused, and leaves its place where it moved on.
-use Rattle.std.proofs.Common.{◌≡◌, ℕ, ◌+◌, ◌-◌, ◌<◌, ◌==◌, min, Bool, true, false, Option, Some, None, List, [], length, get_or, option_map, unwrap_or, subst, refl, sym, ◌∙◌, ap, arith, ne_eqb, le-ltb}
-use Rattle.std.specs.Prelude.{nat_lt, is_some, option_and_then, if◌then◌else◌}
-use Rattle.std.specs.Option.{IfSome}
-use Rattle.std.specs.List.{prefix_len}
-use Rattle.std.proofs.lemmas.Bool.{ltb-true}
-use Rattle.std.proofs.lemmas.List.{length-set}
-use Rattle.lot_machine.specs.declared.action.Action.{Action}
-use Rattle.lot_machine.specs.declared.event.Event.{Event}
+use Rattle.lot_engine.proofs.Common.{Action, Answered, Bool, Context, Done, Event, IfSome, IsAt, IsBetween, IsHeld, IsSlice, IsSliceOf, IsWork, IsWorkIn, List, None, OfRun, Option, Parts, Place, Program, Refusal, Reply, Running, ScriptLine, ScriptTrap, Sizes, Slice, Some, State, Step, Thread, Work, World, action_of, ap, arith, at_number, context_at, context_of, did, event_done, event_effect, event_given, event_refusal, false, first_place, get_or, if◌then◌else◌, is_mark, is_some, le-ltb, length, length-set, ltb-true, min, nat_lt, ne_eqb, number_delivered, number_from, option_and_then, option_map, place_of, places_after, places_received, prefix_len, refl, script_lines, seed_from, set_number, sleeper_by, sleeper_on, slice, slice_between, slice_on, step, subst, sym, system_turn, takes_number, thread_at, thread_there, true, unless_refused, unwrap_or, used_there, work_at, ℕ, [], ◌+◌, ◌-◌, ◌<◌, ◌==◌, ◌∙◌, ◌≡◌}
 use Rattle.lot_machine.specs.declared.event.Event.TheVariants as event
-use Rattle.lot_machine.specs.declared.sizes.Sizes.{Sizes}
-use Rattle.lot_machine.specs.declared.refusal.Refusal.{Refusal}
-use Rattle.lot_machine.specs.declared.record.Thread.{Thread}
-use Rattle.lot_machine.specs.declared.reply.Reply.{Reply}
 use Rattle.lot_machine.specs.declared.reply.Reply.TheVariants as reply
-use Rattle.lot_machine.specs.Bounds.{IsBetween}
-use Rattle.lot_machine.specs.Commands.{Step, unless_refused}
-use Rattle.lot_machine.specs.Numbered.{at_number, set_number}
-use Rattle.lot_machine.specs.State.{State, thread_at}
-use Rattle.lot_machine.specs.Step.{event_effect, event_refusal, step, thread_there, used_there}
-use Rattle.lot_simulation.specs.declared.script.ScriptTrap.{ScriptTrap}
-use Rattle.lot_simulation.specs.Script.{Context, Slice, is_mark, slice}
-use Rattle.lot_simulation.specs.World.{Program, World, action_of, context_of, number_delivered, number_from, seed_from, slice_on, sleeper_by, sleeper_on, system_turn, takes_number}
-use Rattle.lot_simulation.specs.World.TurnAnswer.{Answered}
-use Rattle.lot_simulation.specs.declared.script.ScriptLine.{ScriptLine}
-use Rattle.lot_script.specs.Places.{Place, context_at, first_place}
-use Rattle.lot_script.specs.Slices.{Parts, IsSlice}
-use Rattle.lot_engine.specs.declared.turn.Done.{Done}
-use Rattle.lot_engine.specs.declared.turn.Running.{Running}
-use Rattle.lot_engine.specs.declared.turn.Work.{Work}
-use Rattle.lot_engine.specs.Held.{script_lines, IsAt, IsHeld}
-use Rattle.lot_engine.specs.Steps.{OfRun, did, event_done, event_given, place_of, places_after, places_received, slice_between}
-use Rattle.lot_engine.specs.Turns.{IsWork, IsWorkIn, IsSliceOf, work_at}
 use Rattle.lot_engine.proofs.PlaceFacts.{number-or, scripted, at-lengths, at-number, delivered-set}
 use Rattle.lot_engine.proofs.TurnFacts.{slice-done, there-between, turn-answer, turn-held}
 

@@ -1,10 +1,5 @@
 -- A run with one turn more.
-use Rattle.std.proofs.Common.{◌≡◌, ℕ, zero, suc, ◌==◌, false, List, [], ◌∷◌, ◌++◌, refl, ap, ◌∙◌, ne_eqb, arith}
-use Rattle.lot_machine.specs.declared.command.Command.{Command}
-use Rattle.lot_machine.specs.declared.event.Event.{Event}
-use Rattle.lot_machine.specs.declared.reply.Reply.{Reply}
-use Rattle.lot_simulation.specs.World.TurnAnswer.{Answered}
-use Rattle.lot_simulation.specs.World.{Program, World, TurnMade, console_turn, actor_event, processor_turn, opening_world, system_turn, system_after, system_run}
+use Rattle.lot_engine.proofs.Common.{Answered, Command, Event, List, Program, Reply, TurnMade, World, actor_event, ap, arith, console_turn, false, ne_eqb, opening_world, processor_turn, refl, suc, system_after, system_run, system_turn, zero, ℕ, [], ◌++◌, ◌==◌, ◌∙◌, ◌∷◌, ◌≡◌}
 
 pub system_after-one_more : (program : Program) (w : World) (actors : List ℕ) (actor : ℕ) → system_after program w (actors ++ actor ∷ []) ≡ (system_turn program (system_after program w actors) actor).world
 system_after-one_more program w [] actor = refl

@@ -1,13 +1,6 @@
 -- What an event of a processor leaves as it is: who the threads are, how many, and the sizes.
-use Rattle.std.proofs.Common.{◌≡◌, ℕ, Some, refl}
-use Rattle.lot_machine.specs.declared.action.Action.{Action}
-use Rattle.lot_machine.specs.declared.event.Event.{Event}
+use Rattle.lot_engine.proofs.Common.{Action, Event, KeepsThreads, Some, State, processor_of, refl, step, step-sizes, ℕ, ◌≡◌}
 use Rattle.lot_machine.specs.declared.event.Event.TheVariants as event
-use Rattle.lot_machine.specs.Named.{processor_of}
-use Rattle.lot_machine.specs.State.{State}
-use Rattle.lot_machine.specs.Step.{step}
-use Rattle.lot_machine.proofs.StepSizes.{step-sizes}
-use Rattle.lot_engine.specs.Steps.{KeepsThreads}
 
 processor-same : (s : State) (e : Event) (p : ℕ) → processor_of e ≡ Some p → KeepsThreads s (step s e).state
 processor-same s e p on = let sizes = step-sizes s e p on in record { threads = sizes.2; records = sizes.1; limits = sizes.0 }

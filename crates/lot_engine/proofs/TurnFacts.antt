@@ -1,51 +1,12 @@
 -- What a system holds after a turn is what the world comes to.
-use Rattle.std.proofs.Common.{◌≡◌, ◌↔◌, ℕ, suc, ◌+◌, ◌-◌, ◌<◌, ◌≤◌, ◌==◌, ◌⊎◌, inl, inr, Bool, true, false, Option, Some, None, List, [], ◌∷◌, ◌++◌, length, drop, get_or, unwrap_or, option_map, refl, sym, ◌∙◌, ap, subst, arith, length-append, ne_eqb}
-use Rattle.std.specs.Prelude.{if◌then◌else◌, nat_lt, count_by, is_some}
-use Rattle.std.proofs.Math.Seq.{drop-cons}
-use Rattle.std.proofs.lemmas.List.{drop-drop}
-use Rattle.std.proofs.Math.ListN.{drop_of_length-le, length-set}
-use Rattle.std.proofs.lemmas.Bool.{le-leb, ltb-true, ltb-false}
-use Rattle.std.proofs.lemmas.List.Sums.{sum_by_push}
-use Rattle.std.proofs.lemmas.List.Elements.{All-push}
-use Rattle.std.proofs.lemmas.Option.{get_or_from_slice_get}
-use Rattle.std.specs.List.{slice_get}
-use Rattle.std.specs.Option.{IfSome, option_flatten}
-use Rattle.lot_machine.specs.declared.record.Record.{Record}
-use Rattle.lot_machine.specs.declared.record.Thread.{Thread}
-use Rattle.lot_machine.specs.declared.record.Status.TheVariants.{Running, Dead}
-use Rattle.lot_simulation.specs.declared.script.ScriptTrap.{ScriptTrap}
-use Rattle.lot_machine.specs.declared.command.Command.{Command}
+use Rattle.lot_engine.proofs.Common.{All-push, Answered, AreAt, Bool, Command, Context, Dead, Event, IfSome, IsAt, IsBetween, IsHeld, IsInOrder, IsKept, IsLegal, IsLegalInTime, IsScript, IsSlice, IsSliceOf, IsWithinBounds, IsWork, IsWorkIn, KeepsThreads, List, MakesIn, MakesThread, Matches, None, OfDraw, OfGiven, OfRun, Option, Parts, Place, Program, Record, Reply, ScriptTrap, Sizes, Some, State, Thread, Threads, Work, World, action_of, ap, arith, at_number, command_step, command_turn, console_turn, context_at, context_of, contexts_after, contexts_after_command, contexts_with, count_by, delivered_to, delivered_to_place, done_of, drop, drop-cons, drop-drop, drop_of_length-le, event_given, event_of_slice, false, first_place, found-runs, free_threads, generator_of, get_or, get_or_from_slice_get, if◌then◌else◌, inl, inr, is_some, le-leb, length, length-append, length-placed, length-set, ltb-false, ltb-true, nat_lt, ne_eqb, newborn, next_name, number-some, number_delivered, number_from, number_of, option_flatten, option_map, place_of, placed, places_after, processor_event, processor_turn, refl, resolved, script_lines, seed_from, set_number, slice, slice_get, slice_on, status_of, step, subst, suc, sum_by_push, sym, system_run, system_turn, takes_number, thread_at, thread_given, thread_on, thread_there, tickets_after, true, unwrap_or, used_by, used_there, ℕ, [], ◌++◌, ◌+◌, ◌-◌, ◌<◌, ◌==◌, ◌↔◌, ◌∙◌, ◌∷◌, ◌≡◌, ◌≤◌, ◌⊎◌}
+use Rattle.lot_machine.specs.declared.record.Status.TheVariants.{Running}
 use Rattle.lot_machine.specs.declared.command.Command.TheVariants.{List as Listing}
-use Rattle.lot_machine.specs.declared.command.Kind.TheVariants.{Threads}
-use Rattle.lot_machine.specs.declared.event.Event.{Event}
 use Rattle.lot_machine.specs.declared.event.Event.TheVariants as event
-use Rattle.lot_machine.specs.declared.reply.Reply.{Reply}
 use Rattle.lot_machine.specs.declared.reply.Reply.TheVariants as reply
-use Rattle.lot_machine.specs.Bounds.{IsBetween, IsWithinBounds}
-use Rattle.lot_machine.specs.Numbered.{at_number, set_number}
-use Rattle.lot_simulation.specs.Script.{Context, slice}
-use Rattle.lot_machine.specs.declared.sizes.Sizes.{Sizes}
-use Rattle.lot_machine.specs.Places.{placed}
-use Rattle.lot_machine.specs.Commands.{command_step, newborn}
-use Rattle.lot_machine.specs.State.{State, free_threads, status_of, thread_at, thread_on, used_by}
-use Rattle.lot_machine.specs.Order.{IsInOrder}
-use Rattle.lot_machine.specs.Step.{step, thread_there, used_there}
-use Rattle.lot_simulation.specs.World.{Program, World, action_of, event_of_slice, generator_of, number_from, seed_from, number_of, context_of, slice_on, processor_event, takes_number, delivered_to, number_delivered, contexts_after, contexts_after_command, command_turn, console_turn, next_name, processor_turn, resolved, system_turn, system_run, tickets_after, IsLegal, IsLegalInTime}
-use Rattle.lot_simulation.specs.World.TurnAnswer.{Answered}
-use Rattle.lot_machine.proofs.RecordsKept.{found-runs}
-use Rattle.lot_script.specs.Drafts.{IsScript}
-use Rattle.lot_script.specs.Places.{Place, context_at, first_place}
-use Rattle.lot_script.specs.Slices.{Parts, IsSlice}
-use Rattle.lot_engine.specs.declared.turn.Work.{Work}
-use Rattle.lot_engine.specs.Held.{script_lines, IsAt, AreAt, IsKept, IsHeld}
-use Rattle.lot_machine.specs.Named.{thread_given}
-use Rattle.lot_engine.specs.Steps.{KeepsThreads, MakesIn, MakesThread, contexts_with, OfDraw, OfRun, OfGiven, done_of, event_given, delivered_to_place, place_of, places_after}
-use Rattle.lot_engine.specs.Turns.{IsWork, IsWorkIn, IsSliceOf, Matches}
 use Rattle.lot_engine.proofs.StepFacts.{draws-same, expires-same, traps-same}
 use Rattle.lot_engine.proofs.InOrder.{run-in-order}
 use Rattle.lot_engine.proofs.ReplyFacts.{command-contexts, command-makes, numbered, draw-names, expire-names, trap-names}
-use Rattle.lot_simulation.proofs.DrawnThreads.{number-some}
-use Rattle.lot_machine.proofs.Places.{length-placed}
 use Rattle.lot_engine.proofs.PlaceFacts.{placed-lengths, number-or, if-delivered_to, scripted, at-lengths, at-number, at-place, at-set}
 
 -- ---- what is kept

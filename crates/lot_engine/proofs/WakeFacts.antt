@@ -1,17 +1,6 @@
 -- A turn of the timer.
-use Rattle.std.proofs.Common.{◌≡◌, ℕ, ◌+◌, ◌-◌, ◌<◌, ◌==◌, false, inl, Option, Some, None, List, length, refl, ◌∙◌, ap, arith, ne_eqb, nat_le}
-use Rattle.std.proofs.lemmas.Bool.{lt-leb}
+use Rattle.lot_engine.proofs.Common.{Answered, AreAt, IsHeld, List, None, Option, Place, Program, Refusal, Reply, Some, State, World, ap, arith, contexts_after, event_refusal, false, inl, length, lt-leb, nat_le, ne_eqb, other-sizes, processor_turn, refl, step, system_turn, unless_refused, wake, ℕ, ◌+◌, ◌-◌, ◌<◌, ◌==◌, ◌∙◌, ◌≡◌}
 use Rattle.lot_machine.specs.declared.event.Event.TheVariants as event
-use Rattle.lot_machine.specs.declared.refusal.Refusal.{Refusal}
-use Rattle.lot_machine.specs.declared.reply.Reply.{Reply}
-use Rattle.lot_machine.specs.State.{State}
-use Rattle.lot_machine.specs.Commands.{unless_refused}
-use Rattle.lot_machine.specs.Step.{event_refusal, step, wake}
-use Rattle.lot_machine.proofs.StepSizes.{other-sizes}
-use Rattle.lot_simulation.specs.World.{Program, World, contexts_after, processor_turn, system_turn}
-use Rattle.lot_simulation.specs.World.TurnAnswer.{Answered}
-use Rattle.lot_script.specs.Places.{Place}
-use Rattle.lot_engine.specs.Held.{AreAt, IsHeld}
 use Rattle.lot_engine.proofs.TurnFacts.{kept-in}
 
 -- no context changes

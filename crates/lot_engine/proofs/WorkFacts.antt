@@ -1,16 +1,5 @@
 -- An actor has one work.
-use Rattle.std.proofs.Common.{◌≡◌, ℕ, Option, Some, None, refl, sym, ◌∙◌, ap, subst}
-use Rattle.std.specs.Option.{option_map}
-use Rattle.lot_machine.specs.declared.record.Thread.{Thread}
-use Rattle.lot_machine.specs.State.{thread_at}
-use Rattle.lot_simulation.specs.World.{Program, World, context_of}
-use Rattle.lot_script.specs.Places.{Fits, Place, context_at}
-use Rattle.lot_script.specs.Slices.{Parts}
-use Rattle.lot_script.proofs.OnePlace.{one-place}
-use Rattle.lot_engine.specs.declared.turn.Work.{Work}
-use Rattle.lot_engine.specs.Held.{script_lines}
-use Rattle.lot_engine.specs.Seen.{Seen, world_of}
-use Rattle.lot_engine.specs.Turns.{IsFresh, IsWork, IsWorkOf, Matches}
+use Rattle.lot_engine.proofs.Common.{Fits, IsFresh, IsWork, IsWorkOf, Matches, None, Option, Parts, Place, Program, Seen, Some, Thread, Work, World, ap, context_at, context_of, one-place, option_map, refl, script_lines, subst, sym, thread_at, world_of, ℕ, ◌∙◌, ◌≡◌}
 
 -- the work with these parts
 work-of : ℕ → ℕ → Place → ℕ → Work

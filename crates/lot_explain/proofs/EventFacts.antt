@@ -1,17 +1,5 @@
 -- Which event a turn was.
-use Rattle.std.proofs.Common.{◌≡◌, ℕ, ◌<◌, ◌≤◌, Option, refl, sym, ◌∙◌, ap}
-use Rattle.std.specs.Option.{IfSome}
-use Rattle.lot_machine.specs.declared.event.Event.{Event}
-use Rattle.lot_machine.specs.declared.reply.Reply.{Reply}
-use Rattle.lot_machine.specs.Step.{step}
-use Rattle.lot_script.specs.Slices.{Parts, IsSlice}
-use Rattle.lot_simulation.specs.World.{Program, World, TurnMade, number_of, processor_event, system_turn}
-use Rattle.lot_simulation.specs.World.TurnAnswer.{Answered}
-use Rattle.lot_engine.specs.Playing.{turn_in}
-use Rattle.lot_engine.specs.Seen.{Seen, world_of}
-use Rattle.lot_engine.specs.Steps.{event_given}
-use Rattle.lot_engine.specs.Turns.{IsFresh}
-use Rattle.lot_engine.proofs.TurnFacts.{event-is, system_turn-processor}
+use Rattle.lot_explain.proofs.Common.{Answered, Event, IfSome, IsFresh, IsSlice, Option, Parts, Program, Reply, Seen, TurnMade, World, ap, event-is, event_given, number_of, processor_event, refl, step, sym, system_turn, system_turn-processor, turn_in, world_of, ℕ, ◌<◌, ◌∙◌, ◌≡◌, ◌≤◌}
 
 -- a turn of a processor answers its event
 processor-answers : (program : Program) (w : World) (p : ℕ) (e : Event) (r : Reply) → 0 < p → p ≤ program.limits.processors → (system_turn program w p).answer ≡ Answered e r → e ≡ processor_event w p

@@ -1,46 +1,11 @@
 -- A draw leaves the funding as it is.
-use Rattle.std.proofs.Common.{◌≡◌, ℕ, zero, suc, ◌-◌, Bool, true, false, cond, Option, Some, None, List, [], ◌∷◌, ◌++◌, map, length, slice_get, slice_index, option_map, unwrap_or, refl, sym, ◌∙◌, ap, subst}
-use Rattle.std.specs.List.{flat_map, range_with_len}
-use Rattle.std.proofs.lemmas.List.{map-set}
+use Rattle.lot_explain.proofs.Common.{Bool, Command, Currency, CurrencyRow, Detail, Drawn, Event, Funding, LineStyle, List, Lottery, None, OfProcessor, Option, Passed, Ready, Record, Refusal, Reply, Some, State, Status, Step, Target, Ticket, TicketRow, Timed, Unfunded, Whole, active_amount, ap, at_number, at_number-map, backing_currency, change_record, cond, currency_funds, currency_name, currency_row, draw, event_effect, event_refusal, false, filter-passes, flat_map, funding_at, funding_if_won, funding_in, funding_lines, funding_of, funding_text, index-holds, is-ready, is_active, is_live_status, is_ready, issued_in, lend_of, length, live_of, map, map-set, node_value, number-kept, numbers, option_any, option_map, range_with_len, ready_threads, refl, row_funds, row_of_ticket, row_shared, set_number, slice_get, slice_index, some-injective, started, status_of, step, subst, suc, sym, target_name, ticket_funds, ticket_in, ticket_row, ticket_value, true, unless_refused, unwrap_or, weight_of, winner, won_in, zero, ℕ, [], ◌++◌, ◌-◌, ◌∙◌, ◌∷◌, ◌≡◌}
 use Rattle.lot_machine.specs.declared.action.Action.TheVariants as action
-use Rattle.lot_machine.specs.declared.command.Command.{Command}
-use Rattle.lot_machine.specs.declared.drawn.Drawn.{Drawn}
-use Rattle.lot_machine.specs.declared.event.Event.{Event}
 use Rattle.lot_machine.specs.declared.event.Event.TheVariants as event
 use Rattle.lot_machine.specs.declared.funding.Node.TheVariants as node
-use Rattle.lot_machine.specs.declared.record.Record.{Record}
-use Rattle.lot_machine.specs.declared.record.Status.{Status}
-use Rattle.lot_machine.specs.declared.record.Status.TheVariants.{Ready}
-use Rattle.lot_machine.specs.declared.refusal.Refusal.{Refusal}
-use Rattle.lot_machine.specs.declared.reply.Outcome.TheVariants.{Passed}
-use Rattle.lot_machine.specs.declared.reply.Reply.{Reply}
 use Rattle.lot_machine.specs.declared.reply.Reply.TheVariants as reply
-use Rattle.lot_machine.specs.declared.row.CurrencyRow.{CurrencyRow}
-use Rattle.lot_machine.specs.declared.row.TicketRow.{TicketRow}
-use Rattle.lot_machine.specs.declared.ticket.Target.{Target}
-use Rattle.lot_machine.specs.declared.ticket.Target.TheVariants.{Unfunded, Currency, Thread}
-use Rattle.lot_machine.specs.declared.ticket.Ticket.{Ticket}
-use Rattle.lot_machine.specs.Activity.{active_amount, is_active}
-use Rattle.lot_machine.specs.Commands.{Step, unless_refused}
-use Rattle.lot_machine.specs.Funding.{Funding, backing_currency, issued_in, ticket_in}
-use Rattle.lot_machine.specs.Lottery.{winner}
-use Rattle.lot_machine.specs.Numbered.{at_number, numbers, option_any, set_number}
-use Rattle.lot_machine.specs.Rows.{currency_name, currency_row, row_of_ticket, target_name, ticket_row}
-use Rattle.lot_machine.specs.State.{State, change_record, funding_of, is_live_status, is_ready, lend_of, live_of, ready_threads, status_of, weight_of}
-use Rattle.lot_machine.specs.Step.{draw, event_effect, event_refusal, started, step}
-use Rattle.lot_machine.specs.Value.{node_value, ticket_value}
-use Rattle.lot_machine.proofs.Changes.{number-kept}
-use Rattle.lot_machine.proofs.Idle.{filter-passes, index-holds, is-ready}
-use Rattle.lot_machine.proofs.Tickets.{some-injective}
-use Rattle.lot_machine.proofs.TrapCycles.{at_number-map}
-use Rattle.lot_simulation.specs.declared.style.LineStyle.{LineStyle}
-use Rattle.lot_simulation.specs.declared.style.LineStyle.TheVariants.{Whole, Timed}
-use Rattle.lot_print.specs.declared.lots.Lottery.{Lottery}
-use Rattle.lot_print.specs.declared.lots.Lottery.TheVariants.{OfProcessor}
-use Rattle.lot_explain.specs.declared.detail.Detail.{Detail}
+use Rattle.lot_machine.specs.declared.ticket.Target.TheVariants.{Thread}
 use Rattle.lot_explain.specs.declared.detail.Detail.TheVariants as detail
-use Rattle.lot_explain.specs.Funding.{currency_funds, funding_at, funding_if_won, funding_in, funding_lines, funding_text, row_funds, row_shared, ticket_funds}
-use Rattle.lot_explain.specs.Lots.{won_in}
 
 -- one record changes, and what is read of it doesn't
 changed-same : {A : Type 0} (read : Record → A) (change : Record → Record) (records : List Record) (t : ℕ) → ((r : Record) → at_number records t ≡ Some r → read (change r) ≡ read r) → map read (change_record change records t) ≡ map read records

@@ -1,11 +1,5 @@
 -- Lots and loans that are gathered one by one.
-use Rattle.std.proofs.Common.{◌≡◌, ℕ, suc, ◌+◌, Bool, true, false, List, [], ◌∷◌, ◌++◌, map, filter, refl, sym, ◌∙◌, ap, arith}
-use Rattle.std.specs.List.{flat_map, range_with_len}
-use Rattle.lot_machine.specs.Numbered.{option_any}
-use Rattle.lot_machine.specs.State.{State, is_ready, status_of}
-use Rattle.lot_playback.proofs.TimeFacts.{range-push}
-use Rattle.lot_explain.specs.Gathering.{lot_if_ready}
-use Rattle.lot_explain.specs.Lots.{ready_lot}
+use Rattle.lot_explain.proofs.Common.{Bool, List, State, ap, arith, false, filter, flat_map, is_ready, lot_if_ready, map, option_any, range-push, range_with_len, ready_lot, refl, status_of, suc, sym, true, ℕ, [], ◌++◌, ◌+◌, ◌∙◌, ◌∷◌, ◌≡◌}
 
 -- the lots of those of these threads that are Ready
 pub ready-lots : (s : State) (ts : List ℕ) → flat_map (lot_if_ready s) ts ≡ map (ready_lot s) (filter (λ t. option_any is_ready (status_of s.records t)) ts)

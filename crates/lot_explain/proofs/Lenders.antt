@@ -1,24 +1,5 @@
 -- A loan is what the machine's thread lends.
-use Rattle.std.proofs.Common.{◌≡◌, ℕ, ◌==◌, Bool, true, false, ◌||◌, cond, Option, Some, None, is_none, List, [], ◌∷◌, unwrap_or, option_and_then, option_map, map, refl, sym, ◌∙◌, ap, subst, arith}
-use Rattle.std.specs.Prelude.{All}
-use Rattle.std.specs.List.{flat_map}
-use Rattle.std.specs.Option.{option_flatten}
-use Rattle.std.proofs.lemmas.Bool.{eqb-false, or_parts}
-use Rattle.std.proofs.lemmas.List.Elements.{All-nil, All-cons, All-append}
-use Rattle.lot_machine.specs.declared.record.Record.{Record}
-use Rattle.lot_machine.specs.declared.record.Status.{Status}
-use Rattle.lot_machine.specs.declared.record.Status.TheVariants.{Ready, Running, Served, Waiting}
-use Rattle.lot_machine.specs.declared.row.ThreadRow.{ThreadRow}
-use Rattle.lot_machine.specs.Funding.{owner_of}
-use Rattle.lot_machine.specs.Lends.{borrower, borrower_of, is_live}
-use Rattle.lot_machine.specs.Mutexes.{mutex_at}
-use Rattle.lot_machine.specs.Numbered.{at_number, numbers, option_any}
-use Rattle.lot_machine.specs.Rows.{thread_row}
-use Rattle.lot_machine.specs.State.{State, Mutex, funding_of, is_live_status, lend_of, live_of, status_of, value_of}
-use Rattle.lot_machine.proofs.TrapCycles.{at_number-map, lend-at}
-use Rattle.lot_machine.proofs.Unlent.{lends-to-nobody, unlent-nothing}
-use Rattle.lot_print.specs.declared.loans.Loan.{Loan}
-use Rattle.lot_explain.specs.Loans.{IsLent, all_loans, lends_to, loan_in, loan_of, loan_to}
+use Rattle.lot_explain.proofs.Common.{All, All-append, All-cons, All-nil, Bool, IsLent, List, Loan, Mutex, None, Option, Ready, Record, Running, Served, Some, State, Status, ThreadRow, Waiting, all_loans, ap, arith, at_number, at_number-map, borrower, borrower_of, cond, eqb-false, false, flat_map, funding_of, is_live, is_live_status, is_none, lend-at, lend_of, lends-to-nobody, lends_to, live_of, loan_in, loan_of, loan_to, map, mutex_at, numbers, option_and_then, option_any, option_flatten, option_map, or_parts, owner_of, refl, status_of, subst, sym, thread_row, true, unlent-nothing, unwrap_or, value_of, ℕ, [], ◌==◌, ◌||◌, ◌∙◌, ◌∷◌, ◌≡◌}
 use Rattle.lot_explain.proofs.ShortLots.{rows-record}
 
 module _ (s : State) where

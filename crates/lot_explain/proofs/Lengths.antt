@@ -1,27 +1,5 @@
 -- How long the lines of lots and of loans are at most.
-use Rattle.std.proofs.Common.{◌≡◌, ℕ, ◌+◌, ◌*◌, ◌/◌, ◌%◌, ◌^◌, ◌<◌, ◌≤◌, ◌==◌, Bool, true, false, cond, Option, Some, None, List, [], ◌∷◌, ◌++◌, codes, length, refl, arith, length-append}
-use Rattle.std.specs.Prelude.{All, IfSome}
-use Rattle.std.specs.List.{flat_map}
-use Rattle.std.specs.Fmt.{decimal}
-use Rattle.std.proofs.Math.Nat.{div-le_self}
-use Rattle.std.proofs.lemmas.Bool.{eqb-true}
-use Rattle.std.proofs.lemmas.Fmt.{length-decimal-le_wide}
-use Rattle.std.proofs.lemmas.List.Elements.{All-head, All-tail}
-use Rattle.std.proofs.lemmas.List.Sums.{sum_by-cons}
-use Rattle.lot_machine.specs.Bounds.{IsUnit}
-use Rattle.lot_simulation.specs.declared.style.LineStyle.{LineStyle}
-use Rattle.lot_simulation.specs.declared.style.LineStyle.TheVariants.{Whole, Timed}
-use Rattle.lot_simulation.specs.Texts.{behind_point, drawn_value, front, newline, quotient_text, value_text}
-use Rattle.lot_print.specs.declared.loans.Loan.{Loan}
-use Rattle.lot_print.specs.declared.lots.Compensation.{Compensation}
-use Rattle.lot_print.specs.declared.lots.Lot.{Lot}
-use Rattle.lot_print.specs.declared.lots.Lottery.{Lottery}
-use Rattle.lot_print.specs.declared.lots.Lottery.TheVariants.{OfProcessor, OfMutex}
-use Rattle.lot_print.specs.Loans.{loan_line}
-use Rattle.lot_print.specs.Lots.{lot_line, mark, part_word, weight_word, why_text}
-use Rattle.lot_explain.specs.declared.won.Won.{Won}
-use Rattle.lot_explain.specs.Loans.{loan_lines}
-use Rattle.lot_explain.specs.Lots.{lot_diagnostics, total_of}
+use Rattle.lot_explain.proofs.Common.{All, All-head, All-tail, Bool, Compensation, IfSome, IsUnit, LineStyle, List, Loan, Lot, Lottery, None, OfMutex, OfProcessor, Option, Some, Timed, Whole, Won, arith, behind_point, codes, cond, decimal, div-le_self, drawn_value, eqb-true, false, flat_map, front, length, length-append, length-decimal-le_wide, loan_line, loan_lines, lot_diagnostics, lot_line, mark, newline, part_word, quotient_text, refl, sum_by-cons, total_of, true, value_text, weight_word, why_text, ℕ, [], ◌%◌, ◌*◌, ◌++◌, ◌+◌, ◌/◌, ◌<◌, ◌==◌, ◌^◌, ◌∷◌, ◌≡◌, ◌≤◌}
 
 -- a list that is joined of two is no longer than their bounds add up to
 both : (m n : ℕ) (xs ys : List ℕ) → length xs ≤ m → length ys ≤ n → length (xs ++ ys) ≤ m + n

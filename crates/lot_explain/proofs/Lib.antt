@@ -1,3 +1,4 @@
+pub mod Common
 pub mod EventFacts
 pub mod GatheringFacts
 pub mod RowFacts

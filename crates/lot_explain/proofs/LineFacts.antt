@@ -1,17 +1,5 @@
 -- Lines of lots and of loans that are written one by one.
-use Rattle.std.proofs.Common.{◌≡◌, ℕ, ◌+◌, ◌<◌, Option, List, [], ◌∷◌, ◌++◌, length, get_or, take, drop, sum_by, refl, sym, ◌∙◌, ap, subst, arith, append-nil, append_assoc}
-use Rattle.std.specs.List.{flat_map}
-use Rattle.std.specs.Io.KnownBytes.{Appends}
-use Rattle.std.proofs.lemmas.Grind.{flat_map-append}
-use Rattle.std.proofs.lemmas.List.{take-append-drop, take_more}
-use Rattle.std.proofs.lemmas.List.Sums.{sum_by-append, sum_by-cons}
-use Rattle.lot_simulation.specs.declared.style.LineStyle.{LineStyle}
-use Rattle.lot_print.specs.declared.lots.Lot.{Lot}
-use Rattle.lot_print.specs.Lots.{lot_line}
-use Rattle.lot_io.specs.Writing.{Begins}
-use Rattle.lot_io.proofs.WritingFacts.{appends-both, begins-after, begins-front}
-use Rattle.lot_explain.specs.declared.won.Won.{Won}
-use Rattle.lot_explain.specs.Lots.{lot_diagnostics, total_of}
+use Rattle.lot_explain.proofs.Common.{Appends, Begins, LineStyle, List, Lot, Option, Won, ap, append-nil, append_assoc, appends-both, arith, begins-after, begins-front, drop, flat_map, flat_map-append, get_or, length, lot_diagnostics, lot_line, refl, subst, sum_by, sum_by-append, sum_by-cons, sym, take, take-append-drop, take_more, total_of, ℕ, [], ◌++◌, ◌+◌, ◌<◌, ◌∙◌, ◌∷◌, ◌≡◌}
 
 module _ (style : LineStyle) (unit actor : ℕ) (won : Won) where
   pub lines-both : (first : ℕ) (xs ys : List Lot) → lot_diagnostics style unit actor won first (xs ++ ys) ≡ lot_diagnostics style unit actor won first xs ++ lot_diagnostics style unit actor won (first + total_of xs) ys

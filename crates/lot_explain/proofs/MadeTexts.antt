@@ -1,13 +1,5 @@
 -- The output of `explain` is what explains each of the program's turns, and then the report.
-use Rattle.std.proofs.Common.{◌≡◌, ℕ, Option, None, Some, List, [], ◌∷◌, ◌++◌, refl, ap}
-use Rattle.lot_simulation.specs.declared.style.LineStyle.TheVariants.{Whole, Timed}
-use Rattle.lot_simulation.specs.Timed.{TimedTurn, timed_turns}
-use Rattle.lot_simulation.specs.World.{Program, World, opening_world, system_turn}
-use Rattle.lot_system.specs.Texts.{last_report}
-use Rattle.lot_playback.specs.Turns.{scheduled_turns, turns_by, turns_in_time}
-use Rattle.lot_explain.specs.declared.detail.Detail.{Detail}
-use Rattle.lot_explain.specs.Explained.{explained_program, explained_text, explained_texts, explained_times}
-use Rattle.lot_explain.specs.MadeTurns.{explained_turns}
+use Rattle.lot_explain.proofs.Common.{Detail, List, None, Option, Program, Some, Timed, TimedTurn, Whole, World, ap, explained_program, explained_text, explained_texts, explained_times, explained_turns, last_report, opening_world, refl, scheduled_turns, system_turn, timed_turns, turns_by, turns_in_time, ℕ, [], ◌++◌, ◌∷◌, ◌≡◌}
 
 texts-scheduled : (detail : Detail) (program : Program) (w : World) (actors : List ℕ) → explained_texts detail program w actors ≡ explained_turns detail (scheduled_turns program w actors)
 texts-scheduled detail program w [] = refl

@@ -1,35 +1,8 @@
 -- A thread is compensated only for less than a whole quantum, unless an event charged it more than one.
-use Rattle.std.proofs.Common.{◌≡◌, ℕ, zero, suc, ◌+◌, ◌-◌, ◌<◌, nat_lt, Bool, true, false, cond, Option, Some, None, List, [], ◌∷◌, map, slice_index, unwrap_or, option_map, refl, sym, ◌∙◌, subst, arith}
-use Rattle.std.specs.Prelude.{All, IfSome}
-use Rattle.std.proofs.lemmas.Bool.{ltb-true}
-use Rattle.std.proofs.lemmas.List.Elements.{All-push, All-set}
-use Rattle.std.proofs.lemmas.Option.{slice_get_within, get_or_from_slice_get}
-use Rattle.lot_machine.specs.declared.action.Action.{Action}
-use Rattle.lot_machine.specs.declared.action.Action.TheVariants.{Yield, Call, Receive, Reply as ReplyTo, Serve, Lock, Unlock, Sleep, Exit}
-use Rattle.lot_machine.specs.declared.after.After.{After}
-use Rattle.lot_machine.specs.declared.after.After.TheVariants.{GoesOn, Leaves, Ends}
-use Rattle.lot_machine.specs.declared.command.Command.{Command}
-use Rattle.lot_machine.specs.declared.command.Command.TheVariants.{MakeThread, Kill, MakeFunded}
-use Rattle.lot_machine.specs.declared.drawn.Drawn.{Drawn}
-use Rattle.lot_machine.specs.declared.event.Event.{Event}
+use Rattle.lot_explain.proofs.Common.{Action, After, All, All-push, All-set, Bool, Call, Command, Drawn, Ends, Event, Exit, GoesOn, IfSome, Kill, Leaves, List, Lock, MakeFunded, MakeThread, Mutex, None, Option, Port, QueuedCall, Receive, Record, Refusal, Serve, Sizes, Sleep, Some, State, Step, TrapRefusal, Unlock, Yield, after_trap, arith, at_number, at_number-suc, before_lock, call, change_each, change_record, checked_effect, command_effect, command_refusal, command_step, compensation_for, cond, draw, ended, event_effect, event_refusal, false, first_client, free_threads, get_or_from_slice_get, killed, lock, ltb-true, map, mutex_at, nat_lt, newborn, option_map, placed, port_at, ready_threads, receive, refl, released, released_by, reply, slice_get_within, slice_index, step, subst, suc, sym, thread_meant, thread_there, trap_effect, trap_refusal, true, unless_refused, unlock, unwrap_or, used_there, value_of, weight_of, winner, with_ticks, zero, ℕ, [], ◌+◌, ◌-◌, ◌<◌, ◌∙◌, ◌∷◌, ◌≡◌}
+use Rattle.lot_machine.specs.declared.action.Action.TheVariants.{Reply as ReplyTo}
 use Rattle.lot_machine.specs.declared.event.Event.TheVariants as event
-use Rattle.lot_machine.specs.declared.record.Record.{Record}
 use Rattle.lot_machine.specs.declared.record.Status.TheVariants as status
-use Rattle.lot_machine.specs.declared.refusal.Refusal.{Refusal}
-use Rattle.lot_machine.specs.declared.refusal.TrapRefusal.{TrapRefusal}
-use Rattle.lot_machine.specs.Commands.{Step, command_effect, command_refusal, command_step, newborn, thread_meant, unless_refused}
-use Rattle.lot_machine.specs.Kill.{ended, killed, released, released_by}
-use Rattle.lot_machine.specs.Lottery.{winner}
-use Rattle.lot_machine.specs.Mutexes.{lock, mutex_at, unlock}
-use Rattle.lot_machine.specs.Numbered.{at_number}
-use Rattle.lot_machine.specs.Places.{placed}
-use Rattle.lot_machine.specs.Ports.{call, first_client, port_at, receive, reply}
-use Rattle.lot_machine.specs.Servers.{before_lock}
-use Rattle.lot_machine.specs.State.{State, Mutex, Port, QueuedCall, change_each, change_record, free_threads, ready_threads, value_of, weight_of}
-use Rattle.lot_machine.specs.Step.{checked_effect, draw, event_effect, event_refusal, step, thread_there, trap_effect, trap_refusal, used_there}
-use Rattle.lot_machine.specs.Traps.{after_trap, compensation_for, with_ticks}
-use Rattle.lot_machine.specs.declared.sizes.Sizes.{Sizes}
-use Rattle.lot_machine.proofs.Tickets.{at_number-suc}
 
 -- a thread that is compensated used a part of a quantum
 abbrev pub IsPart : ℕ → Record → Type 0

@@ -1,38 +1,16 @@
 -- What every program that is read has: sizes within their bounds, short names of threads, and times of 32 bits.
-use Rattle.std.proofs.Common.{◌≡◌, ℕ, ◌+◌, ◌-◌, ◌%◌, ◌^◌, ◌<◌, ◌≤◌, ◌==◌, nat_lt, nat_le, max, Bool, true, false, cond, not, ◌&&◌, ◌||◌, codes, Option, Some, None, Result, Ok, Err, List, [], ◌∷◌, ◌++◌, length, refl, subst, arith, unwrap_or, length-append}
-use Rattle.std.specs.Prelude.{All, IfOk, IfSome, if◌then◌else◌}
-use Rattle.std.specs.Str.{bytes_eq}
-use Rattle.std.proofs.lemmas.Bool.{leb-false, ltb-false, or_parts}
-use Rattle.std.proofs.lemmas.List.Elements.{All-nil, All-push}
-use Rattle.lot_machine.specs.declared.command.Command.{Command}
-use Rattle.lot_machine.specs.declared.command.Command.TheVariants.{MakeTicket, RemoveTicket, MakeCurrency, RemoveCurrency, Fund, Unfund, SetTicket, MakeThread, RemoveThread, Kill, MakeFunded, List as Listing}
-use Rattle.lot_machine.specs.declared.command.Kind.TheVariants.{Tickets, Currencies, Threads}
+use Rattle.lot_explain.proofs.Common.{ActorRun, All, All-nil, All-push, BadHeader, BadLine, BadNumber, BodyWord, Bool, Command, Currencies, Err, Fund, HasShortName, HeaderWord, IfOk, IfSome, InputRefusal, IsBetween, IsUnit, IsWithinBounds, Kill, List, MakeCurrency, MakeFunded, MakeThread, MakeTicket, None, Ok, OpenScript, Option, Phrase, Program, Reading, RemoveCurrency, RemoveThread, RemoveTicket, Result, ScriptLine, ScriptWord, Separators, SetTicket, Some, Threads, TicketRef, Tickets, TooDeep, TooLong, Unfund, actor_below, actors_of, add_command, add_for_ticket, add_line, add_named, add_naming, add_runs, all-pass, any_name, any_number, any_ticket, arith, body_after_header, body_line, body_words_of, bytes_eq, checked, closed_program, codes, cond, each, each_pair, end_of, false, first_failing, first_line, fitting_line, header_in_order, header_line, header_words_of, if◌then◌else◌, in_time, is_full, is_ignored, is_late, is_long_name, lacks_duration, later_line, leb-false, length, length-append, line_inside, line_outside, lines_of, ltb-false, max, names_ticket, nat_le, nat_lt, new_name, not, number_between, opening_reading, or_parts, phrase_inside, phrases_inside, phrases_of, program_in, program_of, read_line, read_lines, refl, refused_on, run_of, script_line, script_names, script_number, script_words, separators_of, subst, ticket_name, ticket_number, timed_script_words, token_line, tokens_of, true, unwrap_or, whole_program, with_header_word, with_line, without_end, word_in, ℕ, [], ◌%◌, ◌&&◌, ◌++◌, ◌+◌, ◌-◌, ◌<◌, ◌==◌, ◌>>=◌, ◌^◌, ◌||◌, ◌∷◌, ◌≡◌, ◌≤◌}
+use Rattle.lot_machine.specs.declared.command.Command.TheVariants.{List as Listing}
 use Rattle.lot_machine.specs.declared.reference.CurrencyRef.TheVariants as currency_ref
 use Rattle.lot_machine.specs.declared.reference.ThreadRef.TheVariants as thread_ref
 use Rattle.lot_machine.specs.declared.reference.TargetRef.TheVariants as target_ref
-use Rattle.lot_machine.specs.Bounds.{IsBetween, IsUnit, IsWithinBounds}
-use Rattle.lot_machine.specs.Commands.{first_failing}
-use Rattle.lot_machine.proofs.CommandsKept.{all-pass}
-use Rattle.lot_simulation.specs.declared.input.BodyWord.{BodyWord}
 use Rattle.lot_simulation.specs.declared.input.BodyWord.TheVariants as body
-use Rattle.lot_simulation.specs.declared.input.HeaderWord.{HeaderWord}
 use Rattle.lot_simulation.specs.declared.input.HeaderWord.TheVariants as header
-use Rattle.lot_simulation.specs.declared.input.InputRefusal.{InputRefusal}
-use Rattle.lot_simulation.specs.declared.input.InputRefusal.TheVariants.{BadHeader, BadLine, BadNumber, OpenScript as ScriptIsOpen, TooDeep, TooLong}
-use Rattle.lot_simulation.specs.declared.input.ScriptWord.{ScriptWord}
+use Rattle.lot_simulation.specs.declared.input.InputRefusal.TheVariants.{OpenScript as ScriptIsOpen}
 use Rattle.lot_simulation.specs.declared.input.ScriptWord.TheVariants as script
-use Rattle.lot_simulation.specs.declared.script.ScriptLine.{ScriptLine}
 use Rattle.lot_simulation.specs.declared.script.ScriptLine.TheVariants as line
 use Rattle.lot_simulation.specs.declared.script.ScriptTrap.TheVariants as trap
-use Rattle.lot_simulation.specs.declared.input.TicketRef.{TicketRef}
-use Rattle.lot_simulation.specs.declared.separators.Separators.{Separators}
-use Rattle.lot_simulation.specs.Grammar.{ActorRun, Phrase, actors_of, add_command, add_for_ticket, add_line, add_named, add_naming, add_runs, body_after_header, body_line, body_words_of, closed_program, first_line, fitting_line, header_in_order, header_line, header_words_of, in_time, is_full, is_late, lacks_duration, later_line, line_inside, line_outside, names_ticket, phrase_inside, phrases_inside, phrases_of, program_in, program_of, read_line, read_lines, refused_on, run_of, script_line, script_names, separators_of, ticket_name, ticket_number, token_line, whole_program, with_header_word, with_line}
-use Rattle.lot_simulation.specs.Lines.{is_ignored, lines_of, number_of, tokens_of, without_end}
-use Rattle.lot_simulation.specs.Reading.{OpenScript, Reading, ◌>>=◌, actor_below, any_name, any_number, any_ticket, checked, each, each_pair, is_long_name, new_name, number_between, opening_reading, script_number}
-use Rattle.lot_simulation.specs.Timed.{end_of}
-use Rattle.lot_simulation.specs.Words.{script_words, timed_script_words, word_in}
-use Rattle.lot_simulation.specs.World.{Program}
-use Rattle.lot_explain.specs.Short.{HasShortName}
+use Rattle.lot_simulation.specs.Lines.{number_of}
 
 -- ---- answers
 

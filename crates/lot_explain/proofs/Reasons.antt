@@ -1,21 +1,6 @@
 -- A compensated thread weighs what its reason says, in each world that a program reaches.
-use Rattle.std.proofs.Common.{◌≡◌, ℕ, ◌*◌, ◌/◌, ◌<◌, ◌≤◌, ◌==◌, Bool, true, false, cond, Option, Some, None, List, [], ◌∷◌, option_and_then, option_map, refl, sym, ◌∙◌, ap, subst, arith}
-use Rattle.std.specs.Prelude.{IfSome}
-use Rattle.std.proofs.lemmas.List.Elements.{All-nil}
-use Rattle.std.proofs.lemmas.Nat.{le-div}
-use Rattle.std.proofs.Math.Nat.{mul-le-mul_left}
-use Rattle.lot_machine.specs.declared.command.Command.{Command}
+use Rattle.lot_explain.proofs.Common.{All-nil, Bool, Command, Compensation, IfSome, List, None, Option, Program, Record, Sizes, Some, State, World, actor_event, ap, arith, at_number, compensation_of, cond, console_turn, false, le-div, mul-le-mul_left, next_name, opening_world, option_and_then, option_map, processor_turn, refl, resolved, some-injective, step-limits, subst, sym, system_after, system_run, system_turn, true, value_of, weight, weight_of, ℕ, [], ◌*◌, ◌/◌, ◌<◌, ◌==◌, ◌∙◌, ◌∷◌, ◌≡◌, ◌≤◌}
 use Rattle.lot_machine.specs.declared.event.Event.TheVariants as event
-use Rattle.lot_machine.specs.declared.record.Record.{Record}
-use Rattle.lot_machine.specs.declared.sizes.Sizes.{Sizes}
-use Rattle.lot_machine.specs.Lottery.{weight}
-use Rattle.lot_machine.specs.Numbered.{at_number}
-use Rattle.lot_machine.specs.State.{State, value_of, weight_of}
-use Rattle.lot_machine.proofs.StepSizes.{step-limits}
-use Rattle.lot_machine.proofs.Tickets.{some-injective}
-use Rattle.lot_print.specs.declared.lots.Compensation.{Compensation}
-use Rattle.lot_simulation.specs.World.{Program, World, actor_event, console_turn, next_name, opening_world, processor_turn, resolved, system_after, system_run, system_turn}
-use Rattle.lot_explain.specs.Lots.{compensation_of}
 use Rattle.lot_explain.proofs.PartQuanta.{AreParts, IsPart, command-parts, part-at, step-parts}
 use Rattle.lot_explain.proofs.ShortTurns.{actor-on_time}
 

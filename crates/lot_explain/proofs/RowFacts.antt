@@ -1,12 +1,5 @@
 -- A thread that isn't live isn't Ready.
-use Rattle.std.proofs.Common.{◌≡◌, ℕ, false, Option, Some, None, option_map, refl, sym, ◌∙◌, ap}
-use Rattle.lot_machine.specs.declared.record.Record.{Record}
-use Rattle.lot_machine.specs.declared.record.Status.{Status}
-use Rattle.lot_machine.specs.declared.record.Status.TheVariants.{Ready}
-use Rattle.lot_machine.specs.Lends.{is_live}
-use Rattle.lot_machine.specs.Numbered.{at_number, option_any}
-use Rattle.lot_machine.specs.State.{State, is_live_status, is_ready, live_of, status_of}
-use Rattle.lot_machine.proofs.TrapCycles.{at_number-map}
+use Rattle.lot_explain.proofs.Common.{None, Option, Ready, Record, Some, State, Status, ap, at_number, at_number-map, false, is_live, is_live_status, is_ready, live_of, option_any, option_map, refl, status_of, sym, ℕ, ◌∙◌, ◌≡◌}
 
 pub idle-other : (s : State) (t : ℕ) → is_live (live_of s) t ≡ false → option_any is_ready (status_of s.records t) ≡ false
 idle-other s t idle = by (at_number s.records t) (sym (ap (option_any (λ flag. flag)) (at_number-map (λ (r : Record). is_live_status r.status) s.records t)) ∙ idle)

@@ -1,39 +1,7 @@
 -- The lots of a lottery and the loans at it: they are no more than there may be threads, their names are short, and the lots weigh less than 2 ^ 66 together.
-use Rattle.std.proofs.Common.{◌≡◌, ℕ, zero, suc, ◌+◌, ◌^◌, ◌<◌, ◌≤◌, eqb, Bool, true, false, Option, Some, None, List, [], ◌∷◌, Contains, filter, length, length-append, map, sum_by, get_or, slice_get, refl, sym, ◌∙◌, ap, subst, arith, unwrap_or, option_and_then, option_map, is_none, cond, ◌||◌, ◌==◌}
-use Rattle.std.specs.Prelude.{All, IfSome}
-use Rattle.std.specs.List.{flat_map, list_any}
-use Rattle.std.specs.Option.{option_flatten}
-use Rattle.std.proofs.lemmas.Bool.{eqb-true, ne_eqb}
-use Rattle.std.proofs.lemmas.List.{length-map}
-use Rattle.std.proofs.lemmas.List.Elements.{All-nil, All-cons, All-append}
-use Rattle.std.proofs.lemmas.List.FromFn.{length-range_with_len}
-use Rattle.std.proofs.lemmas.List.Sums.{sum-map, sum_by-cons}
-use Rattle.std.proofs.lemmas.Map.Keys.{IsDistinct-from_apart}
-use Rattle.std.proofs.lemmas.Map.Steps.{length-le_from_distinct_below}
-use Rattle.std.proofs.lemmas.Map.Views.{Contains-from_any}
-use Rattle.std.proofs.lemmas.Option.{slice_get-get_or, slice_get_within, get_or_from_slice_get}
-use Rattle.lot_machine.specs.declared.record.Record.{Record}
-use Rattle.lot_machine.specs.declared.record.Status.{Status}
+use Rattle.lot_explain.proofs.Common.{All, All-append, All-cons, All-nil, Bool, Compensation, Contains, Contains-from_any, Entrants, IfSome, IsDistinct-from_apart, IsInOrder, List, Loan, Lot, Mutex, Nobody, None, Option, Record, Some, State, Status, Thread, ThreadRow, Waiters, all_loans, ap, arith, at_number, at_number-suc, compensation_of, cond, draw_lots, eqb, eqb-true, false, filter, filter-passes, flat_map, funding_of, get_or, get_or_from_slice_get, is-ready, is_none, is_ready, lends_to, length, length-append, length-le_from_distinct_below, length-map, length-range_with_len, list_any, live_of, loan_in, loan_of, loan_to, loans_among, lot_of, lots_among, map, mutex_lots, ne_eqb, numbered, numbers, option_and_then, option_any, option_flatten, option_map, order-sound, ready_lot, ready_threads, refl, row_of_thread, slice_get, slice_get-get_or, slice_get_within, some-injective, status_of, subst, suc, sum-map, sum_by, sum_by-cons, sym, thread-bounded, thread_name, thread_row, total_of, true, unwrap_or, value_of, waiter_lot, waiters-worth, weight_of, zero, ℕ, [], ◌+◌, ◌<◌, ◌==◌, ◌^◌, ◌||◌, ◌∙◌, ◌∷◌, ◌≡◌, ◌≤◌}
 use Rattle.lot_machine.specs.declared.record.Status.TheVariants as status
-use Rattle.lot_machine.specs.declared.record.Thread.{Thread}
-use Rattle.lot_machine.specs.declared.row.ThreadRow.{ThreadRow}
-use Rattle.lot_machine.specs.Numbered.{at_number, numbers, option_any}
-use Rattle.lot_machine.specs.Order.{IsInOrder}
-use Rattle.lot_machine.specs.Rows.{row_of_thread, thread_name, thread_row}
-use Rattle.lot_machine.specs.State.{State, Mutex, funding_of, is_ready, live_of, ready_threads, status_of, value_of, weight_of}
-use Rattle.lot_machine.proofs.Idle.{filter-passes, is-ready}
-use Rattle.lot_machine.proofs.NodeBounds.{thread-bounded}
-use Rattle.lot_machine.proofs.OrderKept.{order-sound}
-use Rattle.lot_machine.proofs.RecordsKept.{numbered}
-use Rattle.lot_machine.proofs.Tickets.{at_number-suc, some-injective}
-use Rattle.lot_machine.proofs.WaitersWorth.{waiters-worth}
-use Rattle.lot_print.specs.declared.loans.Loan.{Loan}
-use Rattle.lot_print.specs.declared.lots.Compensation.{Compensation}
-use Rattle.lot_print.specs.declared.lots.Lot.{Lot}
-use Rattle.lot_explain.specs.declared.entrants.Entrants.{Entrants}
-use Rattle.lot_explain.specs.declared.entrants.Entrants.TheVariants.{Nobody, Ready, Waiters}
-use Rattle.lot_explain.specs.Loans.{all_loans, lends_to, loan_in, loan_of, loan_to}
-use Rattle.lot_explain.specs.Lots.{compensation_of, draw_lots, loans_among, lot_of, lots_among, mutex_lots, ready_lot, total_of, waiter_lot}
+use Rattle.lot_explain.specs.declared.entrants.Entrants.TheVariants.{Ready}
 use Rattle.lot_explain.proofs.Lengths.{IsShortLoan, IsShortLot, IsShortReason}
 use Rattle.lot_explain.proofs.PartQuanta.{AreParts, part-at}
 

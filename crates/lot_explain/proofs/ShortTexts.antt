@@ -1,23 +1,5 @@
 -- What explains turns is longer than what is written of them by a line for each turn and each thread that there may be at most.
-use Rattle.std.proofs.Common.{◌≡◌, ℕ, zero, suc, ◌+◌, ◌*◌, ◌^◌, ◌<◌, ◌≤◌, nat_lt, Bool, true, false, cond, Option, Some, None, Ok, List, [], ◌∷◌, ◌++◌, length, refl, ap, arith, length-append}
-use Rattle.std.proofs.Math.Nat.{min-le_left}
-use Rattle.std.specs.Prelude.{All}
-use Rattle.std.specs.List.{flat_map}
-use Rattle.std.proofs.lemmas.Bool.{ltb-false}
-use Rattle.lot_machine.specs.Bounds.{IsWithinBounds}
-use Rattle.lot_machine.proofs.Tickets.{some-injective}
-use Rattle.lot_simulation.specs.declared.style.LineStyle.TheVariants.{Whole, Timed}
-use Rattle.lot_simulation.specs.declared.timed.Due.{Due}
-use Rattle.lot_simulation.specs.Grammar.{program_in}
-use Rattle.lot_simulation.specs.Output.{output, played_output, printed_actor, scheduled_output, timed_output, timed_text, turn_text, turn_texts}
-use Rattle.lot_simulation.specs.Report.{report}
-use Rattle.lot_simulation.proofs.TimesRise.{next-follows}
-use Rattle.lot_simulation.specs.Timed.{Moment, TimedTurn, all_due, due_first, earliest, end_of, moment_after, next_due, opening_moment, timed_room, timed_turns, turn_due, turns_from, within}
-use Rattle.lot_simulation.specs.TimedReport.{timed_report}
-use Rattle.lot_simulation.specs.World.{Program, World, opening_world, system_run, system_turn}
-use Rattle.lot_explain.specs.declared.detail.Detail.TheVariants.{Lots}
-use Rattle.lot_explain.specs.Explained.{explained_in_time, explained_output, explained_program, explained_schedule, explained_texts, explained_times, lots_text}
-use Rattle.lot_explain.specs.Short.{HasShortName, line_bytes, turn_count}
+use Rattle.lot_explain.proofs.Common.{All, Bool, Due, HasShortName, IsWithinBounds, List, Lots, Moment, None, Ok, Option, Program, Some, Timed, TimedTurn, Whole, World, all_due, ap, arith, cond, due_first, earliest, end_of, explained_in_time, explained_output, explained_program, explained_schedule, explained_texts, explained_times, false, flat_map, length, length-append, line_bytes, lots_text, ltb-false, min-le_left, moment_after, nat_lt, next-follows, next_due, opening_moment, opening_world, output, played_output, printed_actor, program_in, refl, report, scheduled_output, some-injective, suc, system_run, system_turn, timed_output, timed_report, timed_room, timed_text, timed_turns, true, turn_count, turn_due, turn_text, turn_texts, turns_from, within, zero, ℕ, [], ◌*◌, ◌++◌, ◌+◌, ◌<◌, ◌^◌, ◌∷◌, ◌≡◌, ◌≤◌}
 use Rattle.lot_explain.proofs.ReadPrograms.{IsReadProgram, program-read}
 use Rattle.lot_explain.proofs.ShortTurns.{IsShort, opening-short, turn-keeps, turn-short}
 

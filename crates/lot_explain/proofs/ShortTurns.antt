@@ -1,41 +1,8 @@
 -- A turn writes few lines of lots and loans, compensates only for less than a quantum, and leaves names short.
-use Rattle.std.proofs.Common.{◌≡◌, ℕ, ◌+◌, ◌-◌, ◌*◌, ◌^◌, ◌≤◌, ◌==◌, nat_lt, nat_le, Bool, true, false, not, ◌&&◌, ◌||◌, cond, Option, Some, None, is_some, is_none, unwrap_or, List, [], ◌∷◌, length, refl, sym, ◌∙◌, ap, subst, arith}
-use Rattle.std.specs.Prelude.{All}
-use Rattle.std.proofs.lemmas.Bool.{leb-false, ltb-false, or_parts}
-use Rattle.std.proofs.lemmas.List.{length-append, length-set}
-use Rattle.std.proofs.lemmas.List.Elements.{All-head, All-tail, All-nil, All-push, All-set}
-use Rattle.std.proofs.Math.Nat.{mul-le-mul_right}
+use Rattle.lot_explain.proofs.Common.{All, All-head, All-nil, All-push, All-set, All-tail, BadAmount, BadName, BadProcessor, BadTicks, Bool, Busy, Command, Event, Full, Fund, HasShortName, HasSizesOf, IsInOrder, IsWithinBounds, LineStyle, List, MakeFunded, MakeThread, NameTaken, NoCurrency, NoScript, None, NotRunning, Option, Program, Refusal, RemoveThread, RemoveTicket, ScriptTrap, SetTicket, Sizes, Slice, Some, State, Thread, Unfund, Won, World, actor_event, all-pass, ap, are_threads_full, are_tickets_full, arith, command-grown, command_effect, command_refusal, command_step, cond, console_turn, currency_meant, entrants_in, event_effect, event_of_slice, event_refusal, false, free_threads, is_bad_amount, is_bad_processor, is_no_script, is_none, is_none_free, is_some, is_taken, is_thread_name, leb-false, length, length-append, length-set, loan_lines, loans_of, lot_diagnostics, lots_of, lots_text, ltb-false, mul-le-mul_right, nat_le, nat_lt, next_name, not, number_of, opening-order, opening_world, or_parts, other-sizes, placed, processor_event, processor_of, processor_turn, refl, resolved, slice_on, some-injective, step, step-order, step-sizes, subst, sym, system_turn, thread_meant, thread_on, true, unless_refused, unrefused, unwrap_or, used_there, won_in, won_lines, ℕ, [], ◌&&◌, ◌*◌, ◌+◌, ◌-◌, ◌==◌, ◌^◌, ◌||◌, ◌∙◌, ◌∷◌, ◌≡◌, ◌≤◌}
 use Rattle.lot_machine.specs.declared.action.Action.TheVariants as action
-use Rattle.lot_machine.specs.declared.command.Command.{Command}
-use Rattle.lot_machine.specs.declared.command.Command.TheVariants.{RemoveTicket, Fund, Unfund, SetTicket, MakeThread, RemoveThread, MakeFunded}
-use Rattle.lot_machine.specs.declared.event.Event.{Event}
 use Rattle.lot_machine.specs.declared.event.Event.TheVariants as event
-use Rattle.lot_machine.specs.declared.record.Thread.{Thread}
-use Rattle.lot_machine.specs.declared.refusal.Refusal.{Refusal}
-use Rattle.lot_machine.specs.declared.refusal.Refusal.TheVariants.{BadName, NameTaken, NoCurrency, BadAmount, Full, NoScript, BadProcessor, Busy, NotRunning, BadTicks}
 use Rattle.lot_machine.specs.declared.reply.Reply.TheVariants as reply
-use Rattle.lot_machine.specs.declared.sizes.Sizes.{Sizes}
-use Rattle.lot_machine.specs.Bounds.{IsWithinBounds}
-use Rattle.lot_machine.specs.Commands.{are_threads_full, are_tickets_full, command_effect, command_refusal, command_step, currency_meant, is_bad_amount, is_thread_name, is_no_script, is_taken, thread_meant, unless_refused}
-use Rattle.lot_machine.specs.Named.{processor_of}
-use Rattle.lot_machine.specs.Order.{IsInOrder}
-use Rattle.lot_machine.specs.Places.{is_none_free, placed}
-use Rattle.lot_machine.specs.State.{State, free_threads, thread_on}
-use Rattle.lot_machine.specs.Step.{event_effect, event_refusal, is_bad_processor, step, used_there}
-use Rattle.lot_machine.proofs.CommandsKept.{all-pass, unrefused}
-use Rattle.lot_machine.proofs.OrderKept.{opening-order, step-order}
-use Rattle.lot_machine.proofs.Tickets.{some-injective}
-use Rattle.lot_machine.proofs.StepChanges.{HasSizesOf}
-use Rattle.lot_machine.proofs.StepSizes.{command-grown, other-sizes, step-sizes}
-use Rattle.lot_simulation.specs.declared.style.LineStyle.{LineStyle}
-use Rattle.lot_simulation.specs.declared.script.ScriptTrap.{ScriptTrap}
-use Rattle.lot_simulation.specs.Script.{Slice}
-use Rattle.lot_simulation.specs.World.{Program, World, number_of, slice_on, event_of_slice, actor_event, processor_event, console_turn, next_name, opening_world, processor_turn, resolved, system_turn}
-use Rattle.lot_explain.specs.declared.won.Won.{Won}
-use Rattle.lot_explain.specs.Explained.{lots_text}
-use Rattle.lot_explain.specs.Loans.{loan_lines}
-use Rattle.lot_explain.specs.Lots.{entrants_in, loans_of, lot_diagnostics, lots_of, won_in, won_lines}
-use Rattle.lot_explain.specs.Short.{HasShortName}
 use Rattle.lot_explain.proofs.Lengths.{HasShortTime, both-short, line_most, lines-short, loans-short}
 use Rattle.lot_explain.proofs.PartQuanta.{AreParts, IsOnTime, IsPart, command-parts, step-parts}
 use Rattle.lot_explain.proofs.ShortLots.{IsShortThread, IsShortPlace, HasShortNames, among-short}

@@ -1,39 +1,8 @@
 -- What is written of a turn, with what explains it.
-use Rattle.std.proofs.Common.{◌≡◌, ℕ, ◌==◌, Bool, true, false, cond, Option, Result, Ok, Err, List, [], ◌∷◌, ◌++◌, codes, refl, sym, ◌∙◌, ap, subst, append_assoc}
-use Rattle.std.specs.Fmt.{decimal}
-use Rattle.std.specs.Option.{IfSome}
-use Rattle.lot_machine.specs.declared.command.Command.{Command}
-use Rattle.lot_machine.specs.declared.event.Event.{Event}
+use Rattle.lot_explain.proofs.Common.{Answered, Begins, Bool, Command, Detail, Ended, Err, Event, Gathered, HasJustMade, HasLots, IfSome, IoFault, IsExplained, IsPut, LineStyle, List, Loan, Lot, MadeTurn, Ok, Option, Program, Put, Reply, Result, Seen, Sizes, State, TurnAnswer, TurnMade, World, actor_event, answer_in, answer_text, ap, append_assoc, begins-front, codes, cond, console_turn, decimal, detail_text, explained_made, false, front, funding_in, loans_of, lots_of, lots_text, newline, next_name, opening_world, printed_actor, processor_turn, puts-both, puts-stop, refl, refused, reply_text, resolved, step, step-limits, style_at, subst, sym, system_turn, total_of, true, won_in, won_lines, world-one_more, world_of, ℕ, [], ◌++◌, ◌==◌, ◌∙◌, ◌∷◌, ◌≡◌}
 use Rattle.lot_machine.specs.declared.event.Event.TheVariants as event
-use Rattle.lot_machine.specs.declared.reply.Reply.{Reply}
-use Rattle.lot_machine.specs.declared.sizes.Sizes.{Sizes}
-use Rattle.lot_machine.specs.State.{State}
-use Rattle.lot_machine.specs.Step.{step}
-use Rattle.lot_machine.proofs.StepSizes.{step-limits}
-use Rattle.lot_io.specs.declared.fault.IoFault.{IoFault}
-use Rattle.lot_io.specs.Writing.{Begins, IsPut, Put}
-use Rattle.lot_io.proofs.WritingFacts.{begins-front}
-use Rattle.lot_print.specs.declared.loans.Loan.{Loan}
-use Rattle.lot_print.specs.declared.lots.Lot.{Lot}
-use Rattle.lot_print.proofs.PageFacts.{puts-both, puts-stop}
-use Rattle.lot_simulation.specs.declared.style.LineStyle.{LineStyle}
-use Rattle.lot_simulation.specs.Output.{answer_text, printed_actor}
-use Rattle.lot_simulation.specs.Texts.{front, newline, refused, reply_text}
-use Rattle.lot_simulation.specs.World.{Program, World, TurnAnswer, TurnMade, console_turn, next_name, opening_world, actor_event, processor_turn, resolved, system_turn}
-use Rattle.lot_simulation.specs.World.TurnAnswer.{Answered, Ended}
-use Rattle.lot_engine.specs.Seen.{Seen, world_of}
 use Rattle.lot_playback.specs.declared.turn.Turn.{Turn as ATurn}
-use Rattle.lot_playback.specs.Stages.{HasJustMade, answer_in}
-use Rattle.lot_system.specs.Texts.{style_at}
-use Rattle.lot_playback.specs.Turns.{MadeTurn}
-use Rattle.lot_playback.proofs.MadeFacts.{world-one_more}
-use Rattle.lot_explain.specs.declared.detail.Detail.{Detail}
 use Rattle.lot_explain.specs.declared.detail.Detail.TheVariants as detail
-use Rattle.lot_explain.specs.Explained.{detail_text, lots_text}
-use Rattle.lot_explain.specs.Funding.{funding_in}
-use Rattle.lot_explain.specs.Gathering.{Gathered}
-use Rattle.lot_explain.specs.Lots.{loans_of, lots_of, total_of, won_in, won_lines}
-use Rattle.lot_explain.specs.MadeTurns.{HasLots, IsExplained, explained_made}
 use Rattle.lot_explain.proofs.FundingFacts.{funding-same}
 use Rattle.lot_explain.proofs.WonFacts.{turn-state, won-total}
 

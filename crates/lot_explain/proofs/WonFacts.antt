@@ -1,30 +1,8 @@
 -- What all lots of a lottery weigh together is what its number was drawn from, and the winner's lot has that number, and no other's.
-use Rattle.std.proofs.Common.{◌≡◌, ℕ, ◌+◌, ◌<◌, ◌≤◌, ◌%◌, ◌==◌, nat_lt, Bool, true, false, Option, Some, None, List, [], ◌∷◌, ◌++◌, map, sum, slice_index, refl, sym, ◌∙◌, ap, subst, arith, cond}
-use Rattle.std.specs.Option.{IfSome}
-use Rattle.std.proofs.lemmas.Bool.{le-ltb, lt-ltb, ltb-false, ltb-true}
-use Rattle.std.proofs.lemmas.List.Sums.{sum-map, sum_by-cons}
+use Rattle.lot_explain.proofs.Common.{Answered, Bool, Command, Compensation, Drawn, Event, HasNumber, IfSome, List, Lot, None, Option, Program, Refusal, Reply, Some, State, Step, TrapRefusal, Won, World, actor_event, ap, arith, checked_effect, compensation_of, cond, console_turn, draw, draw_lots, ends_quantum, event_effect, event_refusal, false, first_above, le-ltb, lot_of, lots_of, lt-ltb, ltb-false, ltb-true, map, mutex_at, mutex_lots, nat_lt, next_name, number_in, ready_threads, refl, resolved, running_sums, slice_index, step, subst, sum, sum-map, sum_by-cons, sym, system_turn, thread_there, total_of, trap_effect, trap_refusal, true, unless_refused, unlock, used_there, value_of, weight_of, winner, winner-is, won_in, ℕ, [], ◌%◌, ◌++◌, ◌+◌, ◌<◌, ◌==◌, ◌∙◌, ◌∷◌, ◌≡◌, ◌≤◌}
 use Rattle.lot_machine.specs.declared.action.Action.TheVariants as action
-use Rattle.lot_machine.specs.declared.command.Command.{Command}
-use Rattle.lot_machine.specs.declared.drawn.Drawn.{Drawn}
-use Rattle.lot_machine.specs.declared.event.Event.{Event}
 use Rattle.lot_machine.specs.declared.event.Event.TheVariants as event
-use Rattle.lot_machine.specs.declared.refusal.Refusal.{Refusal}
-use Rattle.lot_machine.specs.declared.refusal.TrapRefusal.{TrapRefusal}
-use Rattle.lot_machine.specs.declared.reply.Reply.{Reply}
 use Rattle.lot_machine.specs.declared.reply.Reply.TheVariants as reply
-use Rattle.lot_machine.specs.Commands.{Step, unless_refused}
-use Rattle.lot_machine.specs.Lottery.{first_above, running_sums, winner}
-use Rattle.lot_machine.specs.Mutexes.{mutex_at, unlock}
-use Rattle.lot_machine.specs.State.{State, ready_threads, value_of, weight_of}
-use Rattle.lot_machine.specs.Step.{checked_effect, draw, ends_quantum, event_effect, event_refusal, step, thread_there, trap_effect, trap_refusal, used_there}
-use Rattle.lot_machine.proofs.Draws.{winner-is}
-use Rattle.lot_print.specs.declared.lots.Compensation.{Compensation}
-use Rattle.lot_print.specs.declared.lots.Lot.{Lot}
-use Rattle.lot_simulation.specs.World.{Program, World, console_turn, actor_event, next_name, resolved, system_turn}
-use Rattle.lot_simulation.specs.World.TurnAnswer.{Answered}
-use Rattle.lot_explain.specs.declared.won.Won.{Won}
-use Rattle.lot_explain.specs.Numbers.{HasNumber, number_in}
-use Rattle.lot_explain.specs.Lots.{compensation_of, draw_lots, lot_of, lots_of, mutex_lots, total_of, won_in}
 
 -- a lot of the thread has the number, and no lot of another does
 abbrev pub IsOnly : List Lot → ℕ → ℕ → Type 0

@@ -18,10 +18,10 @@ use crate::lines::put_lots;
 use lot_engine::System;
 use lot_io::{IoFault, Watched};
 use lot_machine::{Event, Reply};
-use lot_system::{Warnings, heading, play_through, printed_actor, put_answer, style_of};
 use lot_playback::{Observer, Playback, Turn};
 use lot_print::{Heading, Page, write_ended};
 use lot_program::Program;
+use lot_system::{Warnings, heading, play_through, printed_actor, put_answer, style_of};
 use std::io::Write;
 
 /// Writes the lots of each won lottery, with the loans at it, and a line for each turn, page by page, and records the

@@ -1,20 +1,5 @@
 -- A search against the edges: the edges into a node, whose tails it adds, and that it finds what is above.
-use Rattle.std.proofs.Common.{◌≡◌, ◌↔◌, ℕ, zero, ◌+◌, ◌<◌, Option, Some, List, [], ◌∷◌, ◌++◌, Contains, map, ap, sym, ◌∙◌, refl, subst, arith, append_assoc, append-nil, option_map}
-use Rattle.std.proofs.lemmas.List.Elements.{Contains-append_right}
-use Rattle.std.specs.Option.{IsSome, IfSome, IfNone}
-use Rattle.lot_machine.specs.declared.funding.Node.{Node}
-use Rattle.lot_machine.specs.declared.funding.Node.TheVariants.{Currency, Thread, Mutex}
-use Rattle.lot_machine.specs.declared.funding.Edge.{Edge}
-use Rattle.lot_machine.specs.declared.funding.Edge.TheVariants.{OfTicket, OfLender, OfMutex}
-use Rattle.lot_machine.specs.Funding.{Funding, IsEdge, ends_of}
-use Rattle.lot_machine.proofs.EachOnce.{contains-mapped, mapped-contains}
-use Rattle.lot_machine.proofs.Tickets.{some-injective}
-use Rattle.lot_lists.specs.NodeLists.{NodeLists, nodes_of, IsConsistent, IsFree}
-use Rattle.lot_graph.specs.declared.layout.Layout.{Layout}
-use Rattle.lot_graph.specs.Found.{IsAbove}
-use Rattle.lot_graph.specs.Graphs.{HasEachOnce, IsNodeOf, IsWay, LeadsInto, LimitedFunding, Reaches}
-use Rattle.lot_graph.specs.Places.{FitsIn, IsEdgeWithin, IsNodeWithin, layout_of, node_count, node_of, node_place}
-use Rattle.lot_graph.specs.Spread.{Finds, IsBack, IsFoundList, IsNext, IsTrail, Spreads, found_nodes, tail_of}
+use Rattle.lot_graph.proofs.Common.{Contains, Contains-append_right, Currency, Edge, Finds, FitsIn, Funding, HasEachOnce, IfNone, IfSome, IsAbove, IsBack, IsConsistent, IsEdge, IsEdgeWithin, IsFoundList, IsFree, IsNext, IsNodeOf, IsNodeWithin, IsSome, IsTrail, IsWay, Layout, LeadsInto, LimitedFunding, List, Mutex, Node, NodeLists, OfLender, OfMutex, OfTicket, Option, Reaches, Some, Spreads, Thread, ap, append-nil, append_assoc, arith, contains-mapped, ends_of, found_nodes, layout_of, map, mapped-contains, node_count, node_of, node_place, nodes_of, option_map, refl, some-injective, subst, sym, tail_of, zero, ℕ, [], ◌++◌, ◌+◌, ◌<◌, ◌↔◌, ◌∙◌, ◌∷◌, ◌≡◌}
 use Rattle.lot_graph.proofs.CycleLemmas.{list-test}
 use Rattle.lot_graph.proofs.SpreadLemmas.{IsOfSome, found-low, lender-tail, list-back, mutex-tail, node-back, spread-by, ticket-tail}
 

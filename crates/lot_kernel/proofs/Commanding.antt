@@ -1,40 +1,8 @@
 -- What commands change: names, tickets and what they fund.
-use Rattle.std.proofs.Common.{◌≡◌, ◌∙◌, ◌↔◌, ◌⊎◌, inl, inr, ℕ, zero, suc, ◌+◌, ◌-◌, ◌<◌, Bool, true, false, Option, Some, None, is_none, List, [], ◌∷◌, ◌++◌, length, slice_get, slice_set, option_and_then, option_map, ap, sym, refl, subst, arith}
-use Rattle.std.specs.Prelude.{IsTrue}
-use Rattle.std.proofs.Math.Seq.{set-append_seam}
-use Rattle.std.specs.List.{Contains}
-use Rattle.std.specs.Option.{option_flatten}
-use Rattle.std.proofs.lemmas.List.{length-map}
-use Rattle.std.proofs.lemmas.Option.{slice_get_within}
-use Rattle.lot_machine.specs.declared.funding.Edge.{Edge}
-use Rattle.lot_machine.specs.declared.funding.Edge.TheVariants.{OfTicket, OfLender, OfMutex}
-use Rattle.lot_machine.specs.declared.funding.Lend.{Lend}
-use Rattle.lot_machine.specs.declared.funding.Lend.TheVariants.{Nobody}
-use Rattle.lot_machine.specs.declared.record.Status.TheVariants.{Dead}
-use Rattle.lot_machine.specs.declared.funding.Node.{Node}
+use Rattle.lot_kernel.proofs.Common.{Bool, Contains, Dead, Edge, Funding, IsCycle, IsInOrder, IsTarget, IsTargetThere, IsTrue, Lend, List, MakesStale, Nobody, Node, None, OfLender, OfMutex, OfTicket, Option, Record, Snapshot, Some, State, Target, Ticket, Unfunded, WouldCycle, ap, arith, at_number, at_number-suc, edges-between, false, free-dead, free_threads, free_tickets, funding_of, inl, inr, is_bad_amount, is_currency, is_cycle, is_none, issuer_of, lend-at, lend_of, length, length-map, live-between, live_in, makes-both-in, map-placed, newborn, newborn-edges, next_place, number-next, option_and_then, option_any, option_flatten, option_map, place-kept, place-set_same, placed, refl, retargeted, set-append_seam, set_number, slice_get, slice_get_within, slice_set, some-injective, subst, suc, sym, target_node, target_of, threads_of, ticket_at, ticket_in, true, weighed_of, with_target, with_thread, with_ticket, would_cycle, would_cycle-exact, zero, ℕ, [], ◌++◌, ◌+◌, ◌-◌, ◌<◌, ◌↔◌, ◌∙◌, ◌∷◌, ◌≡◌, ◌⊎◌}
 use Rattle.lot_machine.specs.declared.funding.Node.TheVariants as node
-use Rattle.lot_machine.specs.declared.record.Record.{Record}
-use Rattle.lot_machine.specs.declared.ticket.Target.{Target}
-use Rattle.lot_machine.specs.declared.ticket.Target.TheVariants.{Unfunded, Currency, Thread}
-use Rattle.lot_machine.specs.declared.ticket.Ticket.{Ticket}
-use Rattle.lot_machine.specs.Commands.{is_bad_amount, is_cycle, newborn, with_ticket, with_thread}
-use Rattle.lot_machine.specs.Places.{next_place, placed}
-use Rattle.lot_machine.specs.Funding.{Funding, WouldCycle, weighed_of, is_currency, issuer_of, retargeted, target_node, target_of, ticket_at, ticket_in, with_target, would_cycle}
-use Rattle.lot_machine.specs.Numbered.{at_number, option_any, set_number}
-use Rattle.lot_machine.specs.Order.{IsInOrder}
-use Rattle.lot_machine.specs.State.{State, free_tickets, free_threads, funding_of, lend_of, live_in}
-use Rattle.lot_machine.proofs.Changes.{place-set_same, place-kept}
-use Rattle.lot_machine.proofs.Places.{number-next, map-placed}
-use Rattle.lot_machine.proofs.StepChanges.{free-dead}
-use Rattle.lot_machine.proofs.TrapCycles.{lend-at}
+use Rattle.lot_machine.specs.declared.ticket.Target.TheVariants.{Currency, Thread}
 use Rattle.lot_kernel.proofs.Freeing.{ticket-gap}
-use Rattle.lot_machine.proofs.TicketDepth.{would_cycle-exact}
-use Rattle.lot_machine.proofs.Tickets.{at_number-suc, some-injective}
-use Rattle.lot_machine.proofs.TwoSteps.{edges-between, live-between}
-use Rattle.lot_graph.specs.Graphs.{IsCycle, IsTarget}
-use Rattle.lot_threads.proofs.Adding.{newborn-edges}
-use Rattle.lot_threads.proofs.TwoChanges.{makes-both-in}
-use Rattle.lot_kernel.specs.Snapshots.{IsTargetThere, MakesStale, Snapshot, threads_of}
 
 -- ---- funding
 

@@ -1,12 +1,5 @@
 -- Tickets counted one after another.
-use Rattle.std.proofs.Common.{◌≡◌, ◌∙◌, ℕ, suc, ◌+◌, ◌<◌, Bool, true, false, Option, Some, None, List, ◌∷◌, length, drop, filter, filter_map, get_or, ap, refl, arith, if◌then◌else◌}
-use Rattle.std.specs.Option.{option_flatten}
-use Rattle.std.proofs.Math.Seq.{drop-cons}
-use Rattle.std.proofs.lemmas.Option.{slice_get-get_or}
-use Rattle.lot_machine.specs.declared.ticket.Ticket.{Ticket}
-use Rattle.lot_machine.specs.Funding.{ticket_in}
-use Rattle.lot_machine.specs.Numbered.{option_any}
-use Rattle.lot_machine.proofs.Tickets.{at_number-suc}
+use Rattle.lot_kernel.proofs.Common.{Bool, List, None, Option, Some, Ticket, ap, arith, at_number-suc, drop, drop-cons, false, filter, filter_map, get_or, if◌then◌else◌, length, option_any, option_flatten, refl, slice_get-get_or, suc, ticket_in, true, ℕ, ◌+◌, ◌<◌, ◌∙◌, ◌∷◌, ◌≡◌}
 
 -- how many of the tickets after the first i pass
 abbrev pub count_after : (Ticket → Bool) → List (Option Ticket) → ℕ → ℕ

@@ -1,34 +1,7 @@
 -- Servers that are taken away before a lock: first in the queues, and then in the threads.
-use Rattle.std.proofs.Common.{◌≡◌, ◌≢◌, ◌∙◌, ℕ, suc, ◌+◌, ◌-◌, ◌<◌, ◌≤◌, ◌⊎◌, inl, inr, Bool, true, false, cond, Option, Some, None, List, [], ◌∷◌, length, option_map, ap, sym, refl, subst, arith}
-use Rattle.std.proofs.Math.ListN.{length-set}
-use Rattle.std.specs.List.{range_with_len}
-use Rattle.std.specs.Option.{option_flatten}
-use Rattle.std.proofs.lemmas.Bool.{cases_eq}
+use Rattle.lot_kernel.proofs.Common.{Bool, Freed, HasHolders, HasNoCycle, HasQueues, IsInOrder, IsOwnerBetween, IsRunning, IsStaleIn, IsThere, List, MakesStale, MakesStaleIn, Mutex, Node, None, Option, QueueLists, Sizes, Snapshot, Some, State, Threaded, ap, arith, at_number, at_number-map, before_lock, cases_eq, cond, false, funding_in, funding_of, held, held_by, inl, inr, lends_lead, lends_on_to, length, length-set, lock, lock-queues_then, makes-each, mutex_at, number-set, number-set_same, number-some, of_mutexes, option_any, option_flatten, option_map, owner_of, owners-same, owners_of, port_holders, range_with_len, refl, set_number, subst, suc, sym, threads_of, trap_refusal, true, unserved, unserved_at, with_owner, ℕ, [], ◌+◌, ◌-◌, ◌<◌, ◌∙◌, ◌∷◌, ◌≡◌, ◌≢◌, ◌≤◌, ◌⊎◌}
 use Rattle.lot_machine.specs.declared.action.Action.TheVariants as action
-use Rattle.lot_machine.specs.declared.funding.Node.{Node}
-use Rattle.lot_machine.specs.declared.sizes.Sizes.{Sizes}
-use Rattle.lot_machine.specs.Facts.{HasNoCycle}
-use Rattle.lot_machine.specs.Funding.{owner_of}
-use Rattle.lot_machine.specs.Lends.{lends_lead, lends_on_to}
-use Rattle.lot_machine.specs.Mutexes.{mutex_at, lock}
-use Rattle.lot_machine.specs.Numbered.{at_number, set_number, option_any}
-use Rattle.lot_machine.specs.Servers.{before_lock, held_by, port_holders, unserved_at, unserved}
-use Rattle.lot_machine.specs.State.{Freed, Mutex, State, funding_of}
-use Rattle.lot_machine.specs.Order.{HasQueues, IsInOrder}
-use Rattle.lot_machine.specs.Step.{of_mutexes, trap_refusal}
-use Rattle.lot_machine.proofs.Changes.{number-set}
-use Rattle.lot_machine.proofs.Queues.{number-set_same}
-use Rattle.lot_machine.proofs.Servers.{lock-queues_then}
-use Rattle.lot_machine.proofs.TrapCycles.{at_number-map}
-use Rattle.lot_value.proofs.Lending.{number-some}
-use Rattle.lot_mutex.specs.Listed.{owners_of}
-use Rattle.lot_mutex.proofs.Owners.{owners-same}
-use Rattle.lot_queues.specs.QueueLists.{QueueLists, IsThere, with_owner}
-use Rattle.lot_threads.specs.Threaded.{Threaded, IsStaleIn, MakesStaleIn, funding_in}
-use Rattle.lot_threads.proofs.TwoChanges.{IsOwnerBetween, makes-each}
-use Rattle.lot_kernel.specs.Snapshots.{HasHolders, MakesStale, Snapshot, held, threads_of}
 use Rattle.lot_kernel.proofs.Holding.{IsHeld}
-use Rattle.lot_kernel.specs.Trapped.{IsRunning}
 use Rattle.lot_kernel.proofs.PastPorts.{range-low}
 use Rattle.lot_kernel.proofs.Trapping.{lead-on, lock-there}
 use Rattle.lot_kernel.proofs.Serving.{before-count, holders-set, row-owner, unserved-either, waiters_in}

@@ -1,23 +1,7 @@
 -- A draw of the threads is one of the state.
-use Rattle.std.proofs.Common.{◌≡◌, ◌∙◌, ℕ, false, Option, Some, None, is_some, List, [], ap, sym, refl, slice_index, option_and_then, map}
-use Rattle.lot_machine.specs.declared.drawn.Drawn.{Drawn}
+use Rattle.lot_kernel.proofs.Common.{Drawn, Lend, List, MakesStaleIn, Meter, Node, None, Option, Ready, Record, Some, State, Step, Threaded, Winner, ap, at_number, change_record, draw, drawn_in, false, funding_in, is_bad_processor, is_live_status, is_some, lend_of, live_in, map, option_and_then, ready_threads, record-of, refl, slice_index, some-injective, started, status_of, step, sym, thread_on, threads_of, weight_of, winner, with_records, ℕ, [], ◌∙◌, ◌≡◌}
 use Rattle.lot_machine.specs.declared.event.Event.TheVariants as event
-use Rattle.lot_machine.specs.declared.funding.Lend.{Lend}
-use Rattle.lot_machine.specs.declared.funding.Node.{Node}
-use Rattle.lot_machine.specs.declared.record.Record.{Record}
-use Rattle.lot_machine.specs.declared.record.Status.TheVariants.{Ready}
 use Rattle.lot_machine.specs.declared.reply.Reply.TheVariants as answer
-use Rattle.lot_machine.specs.Commands.{Step}
-use Rattle.lot_machine.specs.Lottery.{winner}
-use Rattle.lot_machine.specs.Numbered.{at_number}
-use Rattle.lot_machine.specs.State.{State, change_record, is_live_status, lend_of, live_in, ready_threads, status_of, thread_on, weight_of}
-use Rattle.lot_machine.specs.Step.{draw, is_bad_processor, started, step}
-use Rattle.lot_machine.proofs.Queues.{record-of}
-use Rattle.lot_machine.proofs.Tickets.{some-injective}
-use Rattle.lot_draw.specs.declared.competing.Winner.{Winner}
-use Rattle.lot_value.specs.declared.meter.Meter.{Meter}
-use Rattle.lot_threads.specs.Threaded.{Threaded, MakesStaleIn, drawn_in, funding_in, with_records}
-use Rattle.lot_kernel.specs.Snapshots.{threads_of}
 use Rattle.lot_kernel.proofs.Untouched.{same-seen, stays-fresh}
 
 some-none : (w : Winner) → ¬ (Some w ≡ None)

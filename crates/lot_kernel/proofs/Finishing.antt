@@ -1,37 +1,5 @@
 -- How the thread that made a trap may go on or leave.
-use Rattle.std.proofs.Common.{◌≡◌, ◌∙◌, ℕ, ◌+◌, ◌-◌, ◌<◌, ◌≤◌, nat_lt, ltb-true, Bool, true, false, Some, None, List, map, if◌then◌else◌, ap, refl, subst, arith}
-use Rattle.std.specs.Option.{IfSome}
-use Rattle.std.proofs.lemmas.List.{map-set}
-use Rattle.lot_machine.specs.declared.action.Action.{Action}
-use Rattle.lot_machine.specs.declared.after.After.{After}
-use Rattle.lot_machine.specs.declared.after.After.TheVariants.{GoesOn, Leaves, Ends}
-use Rattle.lot_machine.specs.declared.funding.Node.{Node}
-use Rattle.lot_machine.specs.declared.funding.Lend.{Lend}
-use Rattle.lot_machine.specs.declared.record.Record.{Record}
-use Rattle.lot_machine.specs.declared.record.Status.{Status}
-use Rattle.lot_machine.specs.declared.record.Status.TheVariants.{Ready, Running, Receiving, Queued, Served, Waiting, Asleep, Dead}
-use Rattle.lot_machine.specs.Bounds.{IsBetween}
-use Rattle.lot_machine.specs.Funding.{lend_node}
-use Rattle.lot_machine.specs.Facts.{HasNoCycle, FundsThere}
-use Rattle.lot_machine.specs.Numbered.{at_number, set_number}
-use Rattle.lot_machine.specs.Order.{IsInOrder}
-use Rattle.lot_machine.specs.State.{State, change_record, funding_of, lend_of, status_of}
-use Rattle.lot_machine.specs.Step.{finish_trap, trap}
-use Rattle.lot_machine.specs.Traps.{after_trap, compensation_for, with_ticks}
-use Rattle.lot_machine.proofs.OrderKept.{trap-order}
-use Rattle.lot_machine.proofs.Queues.{record-of}
-use Rattle.lot_machine.proofs.RecordsKept.{RunsAlone, StopsIfLeaves, runs-alone}
-use Rattle.lot_machine.proofs.TrapCycles.{lend-at}
-use Rattle.lot_graph.specs.Graphs.{IsBorrower}
-use Rattle.lot_queues.specs.QueueLists.{IsThere}
-use Rattle.lot_threads.proofs.Ending.{may-lend}
-use Rattle.lot_value.specs.declared.meter.Meter.{Meter}
-use Rattle.lot_value.specs.Changing.{CanLend}
-use Rattle.lot_threads.specs.Threaded.{CanChange, CanRun}
-use Rattle.lot_threads.specs.Timely.{IsBelowQuantum, IsTimely}
-use Rattle.lot_kernel.specs.declared.ending.Trap.{Trap}
-use Rattle.lot_kernel.specs.Snapshots.{threads_of}
-use Rattle.lot_kernel.specs.Trapped.{effect_of}
+use Rattle.lot_kernel.proofs.Common.{Action, After, Asleep, Bool, CanChange, CanLend, CanRun, Dead, Ends, FundsThere, GoesOn, HasNoCycle, IfSome, IsBelowQuantum, IsBetween, IsBorrower, IsInOrder, IsThere, IsTimely, Leaves, Lend, List, Meter, Node, None, Queued, Ready, Receiving, Record, Running, RunsAlone, Served, Some, State, Status, StopsIfLeaves, Trap, Waiting, after_trap, ap, arith, at_number, change_record, compensation_for, effect_of, false, finish_trap, funding_of, if◌then◌else◌, lend-at, lend_node, lend_of, ltb-true, map, map-set, may-lend, nat_lt, record-of, refl, runs-alone, set_number, status_of, subst, threads_of, trap, trap-order, true, with_ticks, ℕ, ◌+◌, ◌-◌, ◌<◌, ◌∙◌, ◌≡◌, ◌≤◌}
 
 -- a thread that stops may have any such status
 stops-below : (quantum : ℕ) (status : Status) → ((p used : ℕ) → ¬ (status ≡ Running p used)) → IsBelowQuantum quantum status

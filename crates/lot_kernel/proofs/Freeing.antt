@@ -1,17 +1,5 @@
 -- The free places that the kernel keeps, against those of the state; and what is put into the first of them.
-use Rattle.std.proofs.Common.{◌≡◌, ◌∙◌, ℕ, zero, suc, ◌+◌, ◌-◌, ◌<◌, Bool, true, false, Option, Some, None, List, [], ◌∷◌, length, cond, ap, refl, sym, subst, arith, sum_by, slice_get, slice_set, unwrap_or}
-use Rattle.std.specs.List.{Contains, range_with_len}
-use Rattle.std.proofs.lemmas.List.Sums.{sum_by-cons}
-use Rattle.std.proofs.lemmas.Option.{slice_get_within}
-use Rattle.lot_machine.specs.Numbered.{at_number, set_number}
-use Rattle.lot_machine.specs.Places.{next_place, placed}
-use Rattle.lot_machine.specs.Equations.{HasEachOnce}
-use Rattle.lot_machine.specs.Order.{IsGap, IsInOrder}
-use Rattle.lot_machine.specs.State.{State, free_tickets, free_currencies, free_threads}
-use Rattle.lot_machine.specs.Ports.{clients_of}
-use Rattle.lot_machine.proofs.Tickets.{at_number-suc, some-injective}
-use Rattle.lot_machine.proofs.EachOnce.{contains-at, place-in, apart-from, sums-within, range-contains}
-use Rattle.lot_kernel.specs.FreePlaces.{HasIdlePlace}
+use Rattle.lot_kernel.proofs.Common.{Bool, Contains, HasEachOnce, HasIdlePlace, IsGap, IsInOrder, List, None, Option, Some, State, ap, apart-from, arith, at_number, at_number-suc, clients_of, cond, contains-at, false, free_currencies, free_threads, free_tickets, length, next_place, place-in, placed, range-contains, range_with_len, refl, set_number, slice_get, slice_get_within, slice_set, some-injective, subst, suc, sum_by, sum_by-cons, sums-within, sym, true, unwrap_or, zero, ℕ, [], ◌+◌, ◌-◌, ◌<◌, ◌∙◌, ◌∷◌, ◌≡◌}
 
 -- ---- the free places of a state
 

@@ -1,23 +1,5 @@
 -- The threads go on to be those of the state that the tables hold, through each change.
-use Rattle.std.proofs.Common.{◌≡◌, ◌∙◌, inl, ℕ, Option, None, is_some, false, List, [], slice_set, ap, sym, subst}
-use Rattle.std.specs.List.{Contains}
-use Rattle.std.proofs.lemmas.List.{map-set}
-use Rattle.lot_machine.specs.declared.funding.Node.{Node}
-use Rattle.lot_machine.specs.declared.record.Record.{Record}
-use Rattle.lot_machine.specs.declared.record.Thread.{Thread}
-use Rattle.lot_machine.specs.declared.sizes.Sizes.{Sizes}
-use Rattle.lot_machine.specs.State.{Freed}
-use Rattle.lot_machine.specs.declared.ticket.Ticket.{Ticket}
-use Rattle.lot_machine.specs.Mutexes.{MutexTrap}
-use Rattle.lot_queues.specs.QueueLists.{QueueLists}
-use Rattle.lot_machine.specs.Funding.{Funding}
-use Rattle.lot_value.specs.Caches.{edges_into_all}
-use Rattle.lot_value.specs.Counts.{counted_up}
-use Rattle.lot_value.specs.declared.meter.Meter.{Meter}
-use Rattle.lot_mutex.specs.Listed.{with_mutexes}
-use Rattle.lot_threads.specs.Threaded.{Threaded, MakesStaleIn, funding_in, settled_in, with_records}
-use Rattle.lot_kernel.specs.Counted.{settled}
-use Rattle.lot_kernel.specs.Snapshots.{Snapshot, MakesStale, held, threads_of}
+use Rattle.lot_kernel.proofs.Common.{Contains, Freed, Funding, List, MakesStale, MakesStaleIn, Meter, MutexTrap, Node, None, Option, QueueLists, Record, Sizes, Snapshot, Thread, Threaded, Ticket, ap, counted_up, edges_into_all, false, funding_in, held, inl, is_some, map-set, settled, settled_in, slice_set, subst, sym, threads_of, with_mutexes, with_records, ℕ, [], ◌∙◌, ◌≡◌}
 
 -- the threads are those of the state that they, the names and the queues hold
 abbrev pub IsHeld : Sizes → Freed → List (Option (List ℕ)) → Threaded → QueueLists → Type 0

@@ -1,26 +1,6 @@
 -- An index after a name is added or removed, and what it finds.
-use Rattle.std.proofs.Common.{◌≡◌, ◌∙◌, ◌&&◌, ◌⊎◌, inl, inr, ℕ, zero, suc, ◌+◌, ◌-◌, ◌%◌, ◌<◌, ◌≤◌, min, Bool, true, false, not, Option, Some, None, List, [], ◌∷◌, ◌++◌, Contains, IfNone, IfSome, length, filter, fold, get_or, is_some, position, cond, nat_lt, option_and_then, option_map, slice_get, slice_set, ap, sym, refl, subst, arith}
-use Rattle.std.specs.List.{reduce}
-use Rattle.std.specs.Option.{option_flatten}
-use Rattle.std.proofs.lemmas.Bool.{le-ltb, lt-ltb, cases_lt, cases_eq}
-use Rattle.std.specs.Str.{bytes_eq}
-use Rattle.std.proofs.lemmas.Slice.Eq.{bytes_eq-Decides}
-use Rattle.std.proofs.lemmas.List.Quantifiers.{position-Some}
-use Rattle.std.proofs.lemmas.List.Sums.{position_or_len_is}
-use Rattle.std.proofs.lemmas.Option.{slice_get_past, slice_get_within, slice_get-get_or, get_or_from_slice_get, slice_get-map}
-use Rattle.std.proofs.Math.Nat.{min-le_left, min-le_right}
-use Rattle.lot_machine.specs.declared.record.Thread.{Thread}
-use Rattle.lot_machine.specs.Numbered.{at_number, option_any}
-use Rattle.lot_machine.specs.Commands.{is_meant_by, is_no_name, thread_meant}
-use Rattle.lot_machine.specs.State.{State, thread_at}
-use Rattle.lot_machine.specs.declared.reference.ThreadRef.{ThreadRef}
+use Rattle.lot_kernel.proofs.Common.{Bool, Contains, HasSameSize, IfNone, IfSome, IsConsistent, IsFree, IsIndexOf, List, NodeLists, None, Option, Some, State, Thread, ThreadRef, ap, arith, at_number, at_number-suc, bucket_at, bucket_of, bytes_eq, bytes_eq-Decides, cases_eq, cases_lt, cond, contains-filter, contains-nothing, false, filter, filter-contains, flatten-some, fold, get_or, get_or_from_slice_get, hash_of, inl, inr, is_meant_by, is_no_name, is_some, le-ltb, length, lt-ltb, min, min-le_left, min-le_right, mirror-free, mirror-push, mirror-remove, mirror-same, names_of, nat_lt, node_at, nodes_of, not, option_and_then, option_any, option_flatten, option_map, place-set_other, place-set_same, position, position-Some, position_or_len_is, reduce, refl, slice_get, slice_get-get_or, slice_get-map, slice_get_past, slice_get_within, slice_set, some-injective, subst, suc, sym, thread_at, thread_meant, true, with_pushed, with_removed, zero, ℕ, [], ◌%◌, ◌&&◌, ◌++◌, ◌+◌, ◌-◌, ◌<◌, ◌∙◌, ◌∷◌, ◌≡◌, ◌≤◌, ◌⊎◌}
 use Rattle.lot_machine.specs.declared.reference.ThreadRef.TheVariants as thread_ref
-use Rattle.lot_machine.proofs.Changes.{place-set_other, place-set_same}
-use Rattle.lot_machine.proofs.Tickets.{at_number-suc, flatten-some, some-injective}
-use Rattle.lot_machine.proofs.EachOnce.{contains-filter, contains-nothing, filter-contains}
-use Rattle.lot_lists.specs.NodeLists.{NodeLists, node_at, nodes_of, IsFree, IsConsistent, HasSameSize, with_pushed, with_removed}
-use Rattle.lot_graph.proofs.MirrorLemmas.{mirror-free, mirror-push, mirror-remove, mirror-same}
-use Rattle.lot_kernel.specs.Names.{IsIndexOf, bucket_of, bucket_at, hash_of, names_of}
 
 -- ---- tables
 

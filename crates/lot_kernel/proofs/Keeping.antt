@@ -1,14 +1,5 @@
 -- The invariant of the tables, when the threads or the queues change and the rest stays.
-use Rattle.std.proofs.Common.{◌≡◌, ◌∙◌, Option, List, length, ap, sym, subst, arith}
-use Rattle.lot_machine.specs.declared.record.Thread.{Thread}
-use Rattle.lot_machine.specs.State.{sizes_of}
-use Rattle.lot_queues.specs.QueueLists.{QueueLists}
-use Rattle.lot_threads.specs.Threaded.{Threaded, settled_in}
-use Rattle.lot_kernel.specs.contracts.tables.Tables.{the_invariant}
-use Rattle.lot_kernel.specs.declared.tables.Tables.TheInside.{Inside}
-use Rattle.lot_kernel.specs.FreePlaces.{freed_in}
-use Rattle.lot_kernel.specs.Names.{IsIndexOf, names_of}
-use Rattle.lot_kernel.specs.Snapshots.{HasHolders}
+use Rattle.lot_kernel.proofs.Common.{HasHolders, Inside, IsIndexOf, List, Option, QueueLists, Thread, Threaded, ap, arith, freed_in, length, names_of, settled_in, sizes_of, subst, sym, the_invariant, ◌∙◌, ◌≡◌}
 use Rattle.lot_kernel.proofs.Holding.{IsHeld, held-stale}
 
 module _ (i : Inside) (inv : the_invariant i) (new : Threaded) where

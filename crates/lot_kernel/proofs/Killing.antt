@@ -1,26 +1,5 @@
 -- What a kill changes: the thread is taken out of its queue, its clients are released, its mutexes pass on, and it ends.
-use Rattle.std.proofs.Common.{◌≡◌, ◌∙◌, ℕ, suc, ◌-◌, ◌<◌, ◌≤◌, arith, Bool, true, false, ◌⊎◌, inl, inr, cond, length, map, filter_map, Option, Some, None, List, [], ◌∷◌, ap, sym, refl, subst, option_map, slice_get, unwrap_or, length-set}
-use Rattle.std.specs.List.{Contains, cons_option}
-use Rattle.std.proofs.lemmas.Bool.{cases_eq}
-use Rattle.std.proofs.lemmas.List.{length-map}
-use Rattle.lot_machine.specs.declared.record.Record.{Record}
-use Rattle.lot_machine.specs.declared.sizes.Sizes.{Sizes}
-use Rattle.lot_machine.specs.Kill.{without, port_without, is_owned_by, passed_on, mutex_without, heir, released, ended, killed}
-use Rattle.lot_machine.specs.Numbered.{at_number, set_number}
-use Rattle.lot_machine.specs.Order.{IsInOrder}
-use Rattle.lot_machine.specs.Ports.{clients_of}
-use Rattle.lot_machine.specs.State.{State, Freed, Mutex, change_record, change_each}
-use Rattle.lot_machine.proofs.Changes.{number-set}
-use Rattle.lot_machine.proofs.EachOnce.{contains-nothing}
-use Rattle.lot_machine.proofs.Killed.{mapped-from, without-other, without-absent, record-other, each-record_other, each-append, each-between, heir-of}
-use Rattle.lot_machine.proofs.Queues.{IsAbsent, own-absent}
-use Rattle.lot_machine.proofs.StepSizes.{change-length, each-length}
-use Rattle.lot_machine.proofs.TrapCycles.{at_number-map}
-use Rattle.lot_queues.specs.QueueLists.{QueueLists, IsThere, IsNowhere, waiters_without, queues_without}
-use Rattle.lot_threads.specs.Threaded.{Threaded, IsThreadOf, MakesStaleIn, with_records}
-use Rattle.lot_threads.proofs.TwoChanges.{makes-each}
-use Rattle.lot_mutex.specs.Listed.{next_from, owners_of, passed_from}
-use Rattle.lot_kernel.specs.Snapshots.{held}
+use Rattle.lot_kernel.proofs.Common.{Bool, Contains, Freed, IsAbsent, IsInOrder, IsNowhere, IsThere, IsThreadOf, List, MakesStaleIn, Mutex, None, Option, QueueLists, Record, Sizes, Some, State, Threaded, ap, arith, at_number, at_number-map, cases_eq, change-length, change_each, change_record, clients_of, cond, cons_option, contains-nothing, each-append, each-between, each-length, each-record_other, ended, false, filter_map, heir, heir-of, held, inl, inr, is_owned_by, killed, length, length-map, length-set, makes-each, map, mapped-from, mutex_without, next_from, number-set, option_map, own-absent, owners_of, passed_from, passed_on, port_without, queues_without, record-other, refl, released, set_number, slice_get, subst, suc, sym, true, unwrap_or, waiters_without, with_records, without, without-absent, without-other, ℕ, [], ◌-◌, ◌<◌, ◌∙◌, ◌∷◌, ◌≡◌, ◌≤◌, ◌⊎◌}
 use Rattle.lot_kernel.proofs.Holding.{IsHeld}
 
 -- ---- lists

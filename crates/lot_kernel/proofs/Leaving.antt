@@ -1,31 +1,7 @@
 -- A trap leaves the record of the thread that makes it.
-use Rattle.std.proofs.Common.{◌≡◌, ◌∙◌, ℕ, ◌⊎◌, inl, inr, Option, Some, None, is_none, List, [], ◌∷◌, map, length, option_map, slice_get, slice_index, get_or, unwrap_or, false, ◌<◌, ◌≤◌, ap, sym, refl, subst}
-use Rattle.std.proofs.lemmas.List.{get_or_past}
-use Rattle.std.proofs.lemmas.Option.{slice_get_cases, get_or_from_slice_get}
-use Rattle.lot_machine.specs.declared.action.Action.{Action}
-use Rattle.lot_machine.specs.declared.action.Action.TheVariants.{Yield, Call, Receive, Reply as ReplyTo, Serve, Lock, Unlock, Sleep, Exit}
-use Rattle.lot_machine.specs.declared.drawn.Drawn.{Drawn}
-use Rattle.lot_machine.specs.declared.record.Record.{Record}
-use Rattle.lot_machine.specs.declared.record.Status.{Status}
-use Rattle.lot_machine.specs.declared.record.Status.TheVariants.{Ready, Running, Queued, Receiving, Served, Waiting}
-use Rattle.lot_machine.specs.declared.refusal.TrapRefusal.{TrapRefusal}
-use Rattle.lot_machine.specs.declared.refusal.TrapRefusal.TheVariants.{NoPort, NothingToReply}
-use Rattle.lot_machine.specs.Lottery.{winner}
-use Rattle.lot_machine.specs.Mutexes.{mutex_at, lock, unlock}
-use Rattle.lot_machine.specs.Numbered.{at_number}
-use Rattle.lot_machine.specs.Order.{IsQueue, HasQueues}
-use Rattle.lot_machine.specs.Ports.{first_client, port_at, call, receive, reply, serve}
-use Rattle.lot_machine.specs.Servers.{before_lock}
-use Rattle.lot_machine.specs.State.{State, QueuedCall, Port, Mutex, status_of, value_of}
-use Rattle.lot_machine.specs.Step.{checked_effect, trap_effect, trap_refusal}
-use Rattle.lot_machine.proofs.CommandsKept.{all-pass}
-use Rattle.lot_machine.proofs.Queues.{queue-clients, queue-empty}
-use Rattle.lot_machine.proofs.Tickets.{some-injective}
-use Rattle.lot_machine.proofs.TrapQueues.{replied-queues}
-use Rattle.lot_machine.specs.Traps.{after_trap}
-use Rattle.lot_machine.specs.declared.sizes.Sizes.{Sizes}
+use Rattle.lot_kernel.proofs.Common.{Action, Call, Drawn, Exit, HasQueues, IsQueue, List, Lock, Mutex, NoPort, None, NothingToReply, Option, Port, Queued, QueuedCall, Ready, Receive, Receiving, Record, Running, Serve, Served, Sizes, Sleep, Some, State, Status, TrapRefusal, Unlock, Waiting, Yield, after_trap, all-pass, ap, at_number, before_lock, call, checked_effect, effect_of, false, first_client, get_or, get_or_from_slice_get, get_or_past, inl, inr, is_none, length, lock, map, mutex_at, option_map, port_at, queue-clients, queue-empty, receive, refl, replied-queues, reply, serve, slice_get, slice_get_cases, slice_index, some-injective, status_of, subst, sym, trap_effect, trap_refusal, unlock, unwrap_or, value_of, winner, ℕ, [], ◌<◌, ◌∙◌, ◌∷◌, ◌≡◌, ◌≤◌, ◌⊎◌}
+use Rattle.lot_machine.specs.declared.action.Action.TheVariants.{Reply as ReplyTo}
 use Rattle.lot_ports.proofs.Serving.{record-other}
-use Rattle.lot_kernel.specs.Trapped.{effect_of}
 
 -- a lock changes no record
 lock-leaves : (records : List Record) (mutexes : List Mutex) (t m : ℕ) → at_number (lock records mutexes t m).records t ≡ at_number records t

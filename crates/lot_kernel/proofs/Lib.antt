@@ -1,3 +1,4 @@
+pub mod Common
 pub mod Indexed
 pub mod Holding
 pub mod Untouched

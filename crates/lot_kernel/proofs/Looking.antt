@@ -1,8 +1,5 @@
 -- What is found by a number in a table with gaps.
-use Rattle.std.proofs.Common.{◌≡◌, ◌∙◌, ℕ, zero, suc, ◌-◌, ◌<◌, ◌≤◌, nat_lt, ltb-true, true, false, Option, Some, None, List, [], ◌∷◌, length, get_or, slice_get, ap, sym, refl, subst, arith}
-use Rattle.std.proofs.lemmas.Bool.Decides.{nat_tests}
-use Rattle.lot_machine.specs.Numbered.{at_number}
-use Rattle.lot_machine.proofs.Tickets.{at_number-suc}
+use Rattle.lot_kernel.proofs.Common.{List, None, Option, Some, ap, arith, at_number, at_number-suc, false, get_or, length, ltb-true, nat_lt, nat_tests, refl, slice_get, subst, suc, sym, true, zero, ℕ, [], ◌-◌, ◌<◌, ◌∙◌, ◌∷◌, ◌≡◌, ◌≤◌}
 
 looked-up : {A : Type 0} (xs : List A) (n : ℕ) (x : A) → n < length xs → x ≡ get_or xs n x → slice_get xs n ≡ Some x
 looked-up [] n x low is = absurd (omega (arith, low))

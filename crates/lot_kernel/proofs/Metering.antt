@@ -1,19 +1,7 @@
 -- What is counted, through the parts of an event.
-use Rattle.std.proofs.Common.{◌≡◌, ◌≢◌, ◌∙◌, ℕ, Option, Some, List, [], ◌∷◌, Contains, map, slice_index, option_map, unwrap_or, refl, subst, sym}
-use Rattle.lot_machine.specs.declared.action.Action.{Action}
-use Rattle.lot_machine.specs.declared.action.Action.TheVariants.{Yield, Call, Receive, Reply, Serve, Lock, Unlock, Sleep, Exit}
-use Rattle.lot_machine.specs.declared.drawn.Drawn.{Drawn}
+use Rattle.lot_kernel.proofs.Common.{Action, Call, Contains, CountsNothing, CountsTrap, Drawn, Exit, HasNoneTwice, KeepsStale, List, Lock, Mutex, Option, Outcome, Receive, Record, Reply, Serve, Sleep, Snapshot, Some, Unlock, Yield, map, mutex_at, option_map, refl, settled_meter, slice_index, some-injective, subst, sym, unlock, unwrap_or, winner, ℕ, [], ◌∙◌, ◌∷◌, ◌≡◌, ◌≢◌}
 use Rattle.lot_machine.specs.declared.funding.Node.TheVariants.{Thread}
-use Rattle.lot_machine.specs.declared.record.Record.{Record}
-use Rattle.lot_machine.specs.declared.reply.Outcome.{Outcome}
 use Rattle.lot_machine.specs.declared.reply.Outcome.TheVariants as outcome
-use Rattle.lot_machine.specs.Lottery.{winner}
-use Rattle.lot_machine.specs.Mutexes.{mutex_at, unlock}
-use Rattle.lot_machine.specs.State.{Mutex}
-use Rattle.lot_machine.proofs.Tickets.{some-injective}
-use Rattle.lot_value.specs.Caches.{HasNoneTwice}
-use Rattle.lot_kernel.specs.Counted.{CountsNothing, CountsTrap, KeepsStale, settled_meter}
-use Rattle.lot_kernel.specs.Snapshots.{Snapshot}
 
 -- two parts count nothing
 nothing-twice : (old mid new : Snapshot) → CountsNothing old mid → KeepsStale mid new → new.meter ≡ mid.meter → CountsNothing old new

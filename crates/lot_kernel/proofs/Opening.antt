@@ -1,14 +1,5 @@
 -- At the start the threads are those of the state.
-use Rattle.std.proofs.Common.{◌≡◌, ◌∙◌, ℕ, zero, suc, true, Option, Some, None, List, [], ◌∷◌, map, replicate, slice_get, codes, ap, sym, refl, subst}
-use Rattle.std.proofs.lemmas.List.{length-replicate}
-use Rattle.lot_machine.specs.declared.sizes.Sizes.{Sizes}
-use Rattle.lot_machine.specs.Mutexes.{mutex_at}
-use Rattle.lot_machine.specs.State.{Freed, Mutex, holders, opening}
-use Rattle.lot_machine.proofs.Tickets.{at_number-suc}
-use Rattle.lot_queues.specs.QueueLists.{QueueLists, empty_queues}
-use Rattle.lot_threads.specs.Threaded.{Threaded}
-use Rattle.lot_kernel.specs.FreePlaces.{none_free}
-use Rattle.lot_kernel.specs.Snapshots.{HasHolders, starting, threads_of}
+use Rattle.lot_kernel.proofs.Common.{Freed, HasHolders, List, Mutex, None, Option, QueueLists, Sizes, Some, Threaded, ap, at_number-suc, codes, empty_queues, holders, length-replicate, map, mutex_at, none_free, opening, refl, replicate, slice_get, starting, subst, suc, sym, threads_of, true, zero, ℕ, [], ◌∙◌, ◌∷◌, ◌≡◌}
 use Rattle.lot_kernel.proofs.Holding.{IsHeld, snapshot_of}
 use Rattle.lot_kernel.proofs.Serving.{waiters_in}
 

@@ -1,23 +1,5 @@
 -- Chains of lends that pass no port: whom a thread lends to if no port has a server.
-use Rattle.std.proofs.Common.{◌≡◌, ◌≢◌, ◌∙◌, ℕ, zero, suc, ◌+◌, ◌-◌, ◌<◌, ◌≤◌, ◌⊎◌, inl, inr, ne_eqb, Bool, true, false, ◌||◌, cond, Option, Some, None, is_none, List, [], ◌∷◌, length, option_and_then, option_map, unwrap_or, ap, sym, refl, arith}
-use Rattle.std.specs.List.{range_with_len}
-use Rattle.std.specs.Option.{option_flatten}
-use Rattle.std.proofs.lemmas.Bool.{cases_eq, cases_lt, eq-eqb}
-use Rattle.lot_machine.specs.declared.funding.Lend.{Lend}
-use Rattle.lot_machine.specs.declared.funding.Lend.TheVariants.{Nobody, ToThread, ToMutex}
-use Rattle.lot_machine.specs.Facts.{HasNoCycle}
-use Rattle.lot_machine.specs.Funding.{Funding, owner_of}
-use Rattle.lot_machine.specs.Lends.{IsLendChain, LendsTo, borrower, borrower_of, lends_lead, lends_lead_within, lends_on_to}
-use Rattle.lot_machine.specs.Mutexes.{mutex_at}
-use Rattle.lot_machine.specs.Numbered.{at_number, set_number, option_any}
-use Rattle.lot_machine.specs.Servers.{held_by, port_holders, unserved_at, unserved, without_servers}
-use Rattle.lot_machine.specs.State.{State, Mutex, funding_of, holders}
-use Rattle.lot_machine.proofs.Changes.{number-set}
-use Rattle.lot_machine.proofs.LendDepth.{lends_lead-exact}
-use Rattle.lot_machine.proofs.Queues.{number-set_same}
-use Rattle.lot_machine.proofs.TrapCycles.{at_number-map, cycle-unserved_each}
-use Rattle.lot_machine.proofs.Unserved.{refused-off}
-use Rattle.lot_mutex.specs.Listed.{owners_of}
+use Rattle.lot_kernel.proofs.Common.{Bool, Funding, HasNoCycle, IsLendChain, Lend, LendsTo, List, Mutex, Nobody, None, Option, Some, State, ToMutex, ToThread, ap, arith, at_number, at_number-map, borrower, borrower_of, cases_eq, cases_lt, cond, cycle-unserved_each, eq-eqb, false, funding_of, held_by, holders, inl, inr, is_none, lends_lead, lends_lead-exact, lends_lead_within, lends_on_to, length, mutex_at, ne_eqb, number-set, number-set_same, option_and_then, option_any, option_flatten, option_map, owner_of, owners_of, port_holders, range_with_len, refl, refused-off, set_number, suc, sym, true, unserved, unserved_at, unwrap_or, without_servers, zero, ℕ, [], ◌+◌, ◌-◌, ◌<◌, ◌||◌, ◌∙◌, ◌∷◌, ◌≡◌, ◌≢◌, ◌≤◌, ◌⊎◌}
 use Rattle.lot_kernel.proofs.Serving.{unserved-count, unserved-either}
 use Rattle.lot_kernel.proofs.Trapping.{lead-on, number-within}
 

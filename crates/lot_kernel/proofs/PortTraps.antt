@@ -1,30 +1,6 @@
 -- What a trap of a port leaves in the tables, and what it shows of them.
-use Rattle.std.proofs.Common.{◌≡◌, ◌∙◌, ℕ, Option, Some, List, [], ◌∷◌, Contains, length, option_map, ap, refl, sym, subst}
-use Rattle.std.specs.Option.{IfSome}
-use Rattle.lot_machine.specs.declared.action.Action.{Action}
-use Rattle.lot_machine.specs.declared.after.After.{After}
-use Rattle.lot_machine.specs.declared.funding.Node.{Node}
-use Rattle.lot_machine.specs.declared.record.Record.{Record}
-use Rattle.lot_machine.specs.declared.record.Status.TheVariants.{Ready, Running, Receiving}
-use Rattle.lot_machine.specs.declared.reply.Outcome.{Outcome}
+use Rattle.lot_kernel.proofs.Common.{Action, After, Contains, Effect, Freed, HasHolders, HasNoCycle, IfSome, IsInOrder, IsLive, IsNowhere, IsQueue, IsRunning, KeepsStale, List, MakesStale, MakesStaleIn, Mutex, Node, Option, Outcome, Port, PortTrap, QueueLists, QueuedCall, Ready, Receiving, Record, Running, Sizes, Snapshot, Some, State, Threaded, ap, at_number, at_port, call, change_record, effect_of, funding_of, held, length, live-status, live_in, of_ports, option_map, port_at, receive, refl, serve, served_at, status-now, subst, sym, taker, with_ports, with_records, ℕ, [], ◌∙◌, ◌∷◌, ◌≡◌}
 use Rattle.lot_machine.specs.declared.reply.Outcome.TheVariants as outcome
-use Rattle.lot_machine.specs.declared.sizes.Sizes.{Sizes}
-use Rattle.lot_machine.specs.Facts.{HasNoCycle}
-use Rattle.lot_machine.specs.Lends.{IsLive}
-use Rattle.lot_machine.specs.Numbered.{at_number}
-use Rattle.lot_machine.specs.State.{Freed, Mutex, Port, QueuedCall, State, change_record, funding_of, live_in}
-use Rattle.lot_machine.specs.Order.{IsInOrder, IsQueue}
-use Rattle.lot_machine.specs.Ports.{PortTrap, call, port_at, receive, serve}
-use Rattle.lot_machine.specs.Servers.{served_at}
-use Rattle.lot_machine.specs.Step.{Effect, at_port, of_ports}
-use Rattle.lot_machine.proofs.Queues.{status-now}
-use Rattle.lot_ports.specs.Traps.{with_ports}
-use Rattle.lot_queues.specs.QueueLists.{QueueLists, IsNowhere}
-use Rattle.lot_threads.specs.Threaded.{MakesStaleIn, Threaded, with_records}
-use Rattle.lot_threads.proofs.Ways.{live-status}
-use Rattle.lot_kernel.specs.Counted.{KeepsStale}
-use Rattle.lot_kernel.specs.Snapshots.{HasHolders, MakesStale, Snapshot, held}
-use Rattle.lot_kernel.specs.Trapped.{IsRunning, effect_of, taker}
 use Rattle.lot_kernel.proofs.Holding.{IsHeld, makes-held, snapshot_of}
 use Rattle.lot_kernel.proofs.Leaving.{effect-leaves, receivers-queue}
 use Rattle.lot_kernel.proofs.Serving.{holders-ports, makes-served, served-same}

@@ -1,34 +1,9 @@
 -- What is refused: nothing changes, and the reply names the first check that fails.
-use Rattle.std.specs.Prelude.{MatchOption, if◌then◌else◌, option_and_then, unwrap_or, ◌==◌, ◌^◌}
-use Rattle.std.proofs.lemmas.Bool.Decides.{nat_tests}
-use Rattle.std.specs.Option.{option_eq}
-use Rattle.std.proofs.Common.{◌≡◌, ◌∙◌, inl, nat_eq, option_map, ℕ, zero, suc, ◌+◌, ◌-◌, ◌<◌, ◌≤◌, nat_lt, nat_le, Bool, true, false, not, ◌||◌, Option, Some, None, is_none, is_some, List, [], ◌∷◌, length, ap, sym, refl, arith}
-use Rattle.lot_machine.specs.declared.action.Action.{Action}
-use Rattle.lot_machine.specs.declared.after.After.{After}
-use Rattle.lot_machine.specs.declared.after.After.TheVariants.{GoesOn}
-use Rattle.lot_machine.specs.declared.command.Command.{Command}
-use Rattle.lot_machine.specs.declared.event.Event.{Event}
+use Rattle.lot_kernel.proofs.Common.{Action, After, BadProcessor, BadTicks, Bool, Command, Event, GoesOn, IsThere, List, MatchOption, None, NotRunning, Option, Outcome, Record, Refusal, Snapshot, Some, State, Step, Target, Ticket, TrapRefusal, Unfunded, ap, arith, at_number, at_number-map, checked_effect, command_effect, command_refusal, command_step, compensation_for, effect_of, event_effect, event_refusal, expire, false, finish_trap, first_failing, if◌then◌else◌, inl, is_bad_processor, is_funding, is_live, is_live_status, is_no_mutex, is_none, is_some, is_taken, is_unfunded, length, live_of, nat_eq, nat_le, nat_lt, nat_tests, not, option_and_then, option_any, option_eq, option_map, overrun, refl, step, stopped, suc, sym, target_named, thread_on, thread_there, trap, trap_effect, trap_refusal, true, unless_refused, unwrap_or, used_by, used_there, zero, ℕ, [], ◌+◌, ◌-◌, ◌<◌, ◌==◌, ◌^◌, ◌||◌, ◌∙◌, ◌∷◌, ◌≡◌, ◌≤◌}
 use Rattle.lot_machine.specs.declared.event.Event.TheVariants as event
-use Rattle.lot_machine.specs.declared.record.Record.{Record}
-use Rattle.lot_machine.specs.declared.refusal.Refusal.{Refusal}
-use Rattle.lot_machine.specs.declared.refusal.Refusal.TheVariants.{BadProcessor, BadTicks, NotRunning}
-use Rattle.lot_machine.specs.declared.refusal.TrapRefusal.{TrapRefusal}
-use Rattle.lot_machine.specs.declared.reply.Outcome.{Outcome}
 use Rattle.lot_machine.specs.declared.reply.Outcome.TheVariants as outcome
 use Rattle.lot_machine.specs.declared.reply.Reply.TheVariants.{Refused}
-use Rattle.lot_machine.specs.declared.ticket.Target.{Target}
-use Rattle.lot_machine.specs.declared.ticket.Target.TheVariants.{Currency, Thread, Unfunded}
-use Rattle.lot_machine.specs.declared.ticket.Ticket.{Ticket}
-use Rattle.lot_machine.specs.Commands.{Step, command_effect, command_refusal, command_step, first_failing, is_funding, is_taken, is_unfunded, target_named, unless_refused}
-use Rattle.lot_machine.specs.Lends.{is_live}
-use Rattle.lot_machine.specs.Numbered.{at_number, option_any}
-use Rattle.lot_machine.specs.State.{State, is_live_status, live_of, thread_on, used_by}
-use Rattle.lot_machine.specs.Step.{checked_effect, event_effect, event_refusal, expire, finish_trap, is_bad_processor, is_no_mutex, overrun, step, stopped, thread_there, trap, trap_effect, trap_refusal, used_there}
-use Rattle.lot_machine.specs.Traps.{compensation_for}
-use Rattle.lot_machine.proofs.TrapCycles.{at_number-map}
-use Rattle.lot_queues.specs.QueueLists.{IsThere}
-use Rattle.lot_kernel.specs.Snapshots.{Snapshot}
-use Rattle.lot_kernel.specs.Trapped.{effect_of}
+use Rattle.lot_machine.specs.declared.ticket.Target.TheVariants.{Currency, Thread}
 use Rattle.lot_kernel.proofs.PortTraps.{Shows}
 use Rattle.lot_kernel.proofs.Trapping.{number-there, number-within}
 

@@ -1,24 +1,6 @@
 -- The state after the kernel makes something in a free place or at the end of a table, and after it leaves a place.
-use Rattle.std.proofs.Common.{◌≡◌, ◌∙◌, ℕ, zero, suc, ◌+◌, ◌-◌, ◌<◌, ◌≤◌, ◌&&◌, Bool, true, false, Option, Some, None, List, [], ◌∷◌, ◌++◌, drop, length, is_some, map, cond, nat_lt, nat_le, option_map, OnSome, SomeIff, ap, refl, sym, arith, slice_get, slice_set}
-use Rattle.std.proofs.lemmas.Bool.{ltb-false, leb-false, le-ltb, lt-leb}
-use Rattle.std.proofs.Math.ListN.{length-set}
-use Rattle.std.proofs.lemmas.List.{length-append}
-use Rattle.std.proofs.lemmas.Option.{slice_get-map, slice_get_within}
-use Rattle.lot_machine.specs.declared.record.Record.{Record}
-use Rattle.lot_machine.specs.declared.record.Thread.{Thread}
-use Rattle.lot_machine.specs.declared.sizes.Sizes.{Sizes}
-use Rattle.lot_machine.specs.declared.ticket.Ticket.{Ticket}
-use Rattle.lot_machine.specs.Numbered.{at_number, set_number}
-use Rattle.lot_machine.specs.Places.{is_none_free, next_place, placed}
-use Rattle.lot_machine.specs.Funding.{ticket_in, without_ticket}
-use Rattle.lot_machine.specs.Order.{IsInOrder}
-use Rattle.lot_machine.specs.State.{State, Freed, free_tickets, free_currencies, free_threads, next_ticket, next_currency, next_thread}
-use Rattle.lot_machine.specs.Commands.{are_tickets_full, are_currencies_full, are_threads_full, newborn, with_ticket, with_currency, with_thread, drop_ticket, drop_currency, drop_thread}
-use Rattle.lot_machine.proofs.Tickets.{at_number-suc, some-injective, flatten-some}
-use Rattle.lot_machine.proofs.Changes.{place-kept}
+use Rattle.lot_kernel.proofs.Common.{Bool, FreeStack, Freed, HasIdlePlace, HasRoomFor, IsInOrder, List, None, OnSome, Option, Record, Sizes, Some, SomeIff, State, Thread, Ticket, ap, are_currencies_full, are_threads_full, are_tickets_full, arith, at_number, at_number-suc, cond, drop, drop_currency, drop_thread, drop_ticket, false, flatten-some, free_currencies, free_threads, free_tickets, freed_in, is_none_free, is_some, le-ltb, leb-false, length, length-append, length-set, lt-leb, ltb-false, map, nat_le, nat_lt, newborn, next_currency, next_place, next_thread, next_ticket, none_free, option_map, place-kept, placed, refl, set_number, slice_get, slice_get-map, slice_get_within, slice_set, some-injective, suc, sym, ticket_in, true, with_currency, with_thread, with_ticket, without_ticket, zero, ℕ, [], ◌&&◌, ◌++◌, ◌+◌, ◌-◌, ◌<◌, ◌∙◌, ◌∷◌, ◌≡◌, ◌≤◌}
 use Rattle.lot_kernel.specs.declared.freed.Freed.{Freed as Stacks}
-use Rattle.lot_kernel.specs.FreeStacks.{FreeStack}
-use Rattle.lot_kernel.specs.FreePlaces.{none_free, freed_in, HasRoomFor, HasIdlePlace}
 use Rattle.lot_kernel.proofs.Freeing.{given-same, set-place, placed-first, free-few, ticket-gap, currency-gap, thread-gap}
 
 -- ---- which place comes first

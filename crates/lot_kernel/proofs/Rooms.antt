@@ -1,10 +1,5 @@
 -- The rooms of the tables, by the limits.
-use Rattle.std.proofs.Common.{◌≡◌, ◌∙◌, ◌+◌, ◌*◌, ◌≤◌, ℕ, Bool, true, false, cond, length, ap, arith}
-use Rattle.std.proofs.lemmas.List.{length-map}
-use Rattle.lot_machine.specs.State.{holders, sizes_of}
-use Rattle.lot_threads.specs.Threaded.{Threaded}
-use Rattle.lot_kernel.specs.contracts.tables.Tables.{the_invariant}
-use Rattle.lot_kernel.specs.declared.tables.Tables.TheInside.{Inside}
+use Rattle.lot_kernel.proofs.Common.{Bool, Inside, Threaded, ap, arith, cond, false, holders, length, length-map, sizes_of, the_invariant, true, ℕ, ◌*◌, ◌+◌, ◌∙◌, ◌≡◌, ◌≤◌}
 
 -- the room for free places: for each place if numbers are given again, and otherwise none
 rooms-free : (reuse : Bool) (t c u rt rc ru : ℕ) → rt ≡ cond {A = ℕ} reuse t 0 → rc ≡ cond {A = ℕ} reuse (c + 1) 0 → ru ≡ cond {A = ℕ} reuse u 0

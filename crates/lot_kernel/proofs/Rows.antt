@@ -1,16 +1,5 @@
 -- Rows, put together from what was read.
-use Rattle.std.proofs.Common.{◌≡◌, ℕ, Bool, true, false, Option, Some, None, List, [], option_and_then, option_map, unwrap_or, ap, refl, sym}
-use Rattle.lot_machine.specs.declared.record.Record.{Record}
-use Rattle.lot_machine.specs.declared.row.ThreadRow.{ThreadRow}
-use Rattle.lot_machine.specs.declared.row.TicketRow.{TicketRow}
-use Rattle.lot_machine.specs.declared.ticket.Ticket.{Ticket}
-use Rattle.lot_machine.specs.Activity.{is_active}
-use Rattle.lot_machine.specs.Funding.{ticket_in}
-use Rattle.lot_machine.specs.Lottery.{weight}
-use Rattle.lot_machine.specs.Numbered.{at_number}
-use Rattle.lot_machine.specs.Rows.{currency_name, row_of_thread, target_name, thread_name, thread_row, ticket_row}
-use Rattle.lot_machine.specs.State.{State, funding_of, live_of, value_of, weight_of}
-use Rattle.lot_machine.specs.Value.{ticket_value}
+use Rattle.lot_kernel.proofs.Common.{Bool, List, None, Option, Record, Some, State, ThreadRow, Ticket, TicketRow, ap, at_number, currency_name, false, funding_of, is_active, live_of, option_and_then, option_map, refl, row_of_thread, sym, target_name, thread_name, thread_row, ticket_in, ticket_row, ticket_value, true, unwrap_or, value_of, weight, weight_of, ℕ, [], ◌≡◌}
 
 module _ (s : State) where
   pub thread-row-of : (t : ℕ) (r : Record) (name : List ℕ) (value weighs : ℕ) → at_number s.records t ≡ Some r → thread_name s t ≡ Some name → value ≡ value_of s t → weighs ≡ weight value r.compensation s.limits.quantum

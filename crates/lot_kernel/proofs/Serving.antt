@@ -1,44 +1,6 @@
 -- Ports that get or lose their servers: what stays, and what gets stale.
-use Rattle.std.proofs.Common.{◌≡◌, ◌≢◌, ◌∙◌, ℕ, suc, ◌+◌, ◌-◌, ◌<◌, ◌≤◌, ◌⊎◌, inl, inr, ◌==◌, Bool, true, false, cond, Option, Some, None, List, [], ◌∷◌, ◌++◌, length, map, option_map, remove, slice_index, unwrap_or, ap, sym, refl, subst, arith}
-use Rattle.std.proofs.Math.ListN.{length-set}
-use Rattle.std.specs.List.{range_with_len}
-use Rattle.std.specs.Option.{option_eq, option_flatten}
-use Rattle.std.proofs.Math.Dec.{eqb}
-use Rattle.std.proofs.lemmas.Bool.{eqb-true, eqb-false}
-use Rattle.std.proofs.lemmas.List.{length-map, map-set}
-use Rattle.lot_machine.specs.declared.drawn.Drawn.{Drawn}
-use Rattle.lot_machine.specs.declared.record.Record.{Record}
-use Rattle.lot_machine.specs.declared.reply.Outcome.{Outcome}
+use Rattle.lot_kernel.proofs.Common.{Bool, CanOwn, Drawn, Freed, Funding, HasHolders, IsLiveIn, IsMutex, IsOwnerBetween, IsThere, KeepsStale, List, MakesStale, MakesStaleIn, Mutex, None, Option, Outcome, PortTrap, QueueLists, Record, Sizes, Snapshot, Some, State, Threaded, ap, arith, at_number, at_number-map, before_lock, cond, eqb, eqb-false, eqb-true, false, funding_in, funding_of, held, held_by, holder_of, holders, inl, inr, leads_back, left_by, lends_lead, lends_on_to, length, length-map, length-set, live-apart, live-there, lock, makes-each, map, map-set, mutex_at, number-again, number-kept, number-set, number-set_same, number-some, of_ports, option_any, option_eq, option_flatten, option_map, other-test, owned-test, owner_of, owners-after, owners_of, passed_from, passed_on, port_holders, port_without, range_with_len, refl, remove, served_at, set_number, slice_index, some-injective, subst, suc, sym, threads_of, true, unlock, unserved, unserved_at, unwrap_or, waiters_without, winner, with_owner, with_ports, with_server, without, ℕ, [], ◌++◌, ◌+◌, ◌-◌, ◌<◌, ◌==◌, ◌∙◌, ◌∷◌, ◌≡◌, ◌≢◌, ◌≤◌, ◌⊎◌}
 use Rattle.lot_machine.specs.declared.reply.Outcome.TheVariants as outcome
-use Rattle.lot_machine.specs.declared.sizes.Sizes.{Sizes}
-use Rattle.lot_machine.specs.Funding.{Funding, owner_of}
-use Rattle.lot_machine.specs.Kill.{without, port_without, passed_on}
-use Rattle.lot_machine.specs.Lends.{lends_lead, lends_on_to}
-use Rattle.lot_machine.specs.Lottery.{winner}
-use Rattle.lot_machine.specs.Mutexes.{mutex_at, lock, unlock}
-use Rattle.lot_machine.specs.Numbered.{at_number, set_number, option_any}
-use Rattle.lot_machine.specs.Ports.{PortTrap}
-use Rattle.lot_machine.specs.Servers.{held_by, with_server, leads_back, left_by, served_at, port_holders, unserved_at, unserved, before_lock}
-use Rattle.lot_machine.specs.State.{State, Freed, Mutex, funding_of, holder_of, holders}
-use Rattle.lot_machine.specs.Step.{of_ports}
-use Rattle.lot_machine.proofs.Changes.{number-kept, number-set}
-use Rattle.lot_machine.proofs.Queues.{number-set_same}
-use Rattle.lot_machine.proofs.Tickets.{some-injective}
-use Rattle.lot_machine.proofs.TrapCycles.{at_number-map}
-use Rattle.lot_graph.specs.Graphs.{IsMutex}
-use Rattle.lot_value.specs.Changing.{CanOwn}
-use Rattle.lot_value.proofs.Lending.{number-some}
-use Rattle.lot_mutex.specs.Listed.{owners_of, passed_from}
-use Rattle.lot_mutex.proofs.Owners.{owners-after}
-use Rattle.lot_mutex.proofs.PassedOn.{other-test, owned-test}
-use Rattle.lot_ports.specs.Traps.{with_ports}
-use Rattle.lot_queues.specs.QueueLists.{QueueLists, IsThere, waiters_without, with_owner}
-use Rattle.lot_queues.proofs.Callers.{number-again}
-use Rattle.lot_threads.specs.Threaded.{Threaded, IsLiveIn, MakesStaleIn, funding_in}
-use Rattle.lot_threads.proofs.TwoChanges.{IsOwnerBetween, makes-each}
-use Rattle.lot_threads.proofs.Ways.{live-apart, live-there}
-use Rattle.lot_kernel.specs.Counted.{KeepsStale}
-use Rattle.lot_kernel.specs.Snapshots.{HasHolders, MakesStale, Snapshot, held, threads_of}
 use Rattle.lot_kernel.proofs.Holding.{IsHeld}
 use Rattle.lot_kernel.proofs.Killing.{queues_killed}
 

@@ -1,20 +1,6 @@
 -- Rows of a settled kernel, put together from what was read.
-use Rattle.std.proofs.Common.{◌≡◌, ℕ, ◌↔◌, Bool, Option, Some, List, length, refl, subst}
-use Rattle.std.specs.Prelude.{IsTrue}
-use Rattle.lot_machine.specs.declared.funding.Node.{Node}
+use Rattle.lot_kernel.proofs.Common.{Bool, CurrencyRow, IsActive, IsInOrder, IsTrue, List, Meter, Node, Option, Some, State, Threaded, Ticket, active_amount, backing_currency, currency_name, currency_row, funding_in, funding_of, is_active, is_active-exact, issued_in, length, live_in, live_of, node_value, refl, subst, threads_of, ticket_in, ℕ, ◌↔◌, ◌≡◌}
 use Rattle.lot_machine.specs.declared.funding.Node.TheVariants as node
-use Rattle.lot_machine.specs.declared.row.CurrencyRow.{CurrencyRow}
-use Rattle.lot_machine.specs.declared.ticket.Ticket.{Ticket}
-use Rattle.lot_machine.specs.Activity.{IsActive, active_amount, is_active}
-use Rattle.lot_machine.specs.Funding.{backing_currency, issued_in, ticket_in}
-use Rattle.lot_machine.specs.Order.{IsInOrder}
-use Rattle.lot_machine.specs.Rows.{currency_name, currency_row}
-use Rattle.lot_machine.specs.State.{State, funding_of, live_in, live_of}
-use Rattle.lot_machine.specs.Value.{node_value}
-use Rattle.lot_machine.proofs.TicketDepth.{is_active-exact}
-use Rattle.lot_value.specs.declared.meter.Meter.{Meter}
-use Rattle.lot_threads.specs.Threaded.{Threaded, funding_in}
-use Rattle.lot_kernel.specs.Snapshots.{threads_of}
 use Rattle.lot_kernel.proofs.Rows.{same-truth}
 
 module _ (s : State) where

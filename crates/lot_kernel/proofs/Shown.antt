@@ -1,7 +1,5 @@
 -- What a kernel shows of its tables.
-use Rattle.std.proofs.Common.{◌≡◌, ◌∙◌, ap}
-use Rattle.lot_kernel.specs.Snapshots.{Snapshot, threads_of}
-use Rattle.lot_kernel.specs.contracts.tables.Tables.{the_invariant, the_view}
+use Rattle.lot_kernel.proofs.Common.{Snapshot, ap, the_invariant, the_view, threads_of, ◌∙◌, ◌≡◌}
 use Rattle.lot_kernel.specs.declared.kernel.Kernel.TheInside.{Inside}
 use Rattle.lot_kernel.specs.declared.tables.Tables.TheInside.{Inside as TablesInside}
 

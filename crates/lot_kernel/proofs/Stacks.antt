@@ -1,7 +1,5 @@
 -- A stack of places, the last of its items first.
-use Rattle.std.proofs.Common.{◌≡◌, ◌∙◌, ℕ, Option, Some, None, IfNone, List, [], ◌∷◌, ◌++◌, drop, length, reverse, ap, refl, sym, arith, slice_get}
-use Rattle.std.specs.Option.{option_to_list}
-use Rattle.std.proofs.lemmas.List.{length-append, reverse-append}
+use Rattle.lot_kernel.proofs.Common.{IfNone, List, None, Option, Some, ap, arith, drop, length, length-append, option_to_list, refl, reverse, reverse-append, slice_get, sym, ℕ, [], ◌++◌, ◌∙◌, ◌∷◌, ◌≡◌}
 
 -- what has no length is empty
 nothing : (xs : List ℕ) → length xs ≡ 0 → xs ≡ []

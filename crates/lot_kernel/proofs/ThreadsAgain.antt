@@ -1,22 +1,6 @@
 -- A thread that is made in a free place, or removed, as the tables hold it.
-use Rattle.std.proofs.Common.{◌≡◌, ◌∙◌, ℕ, ◌+◌, ◌-◌, true, false, not, cond, Option, Some, None, is_none, List, [], ◌∷◌, drop, length, length-set, option_map, unwrap_or, ap, sym, slice_get, slice_set}
-use Rattle.std.proofs.lemmas.List.{map-set}
-use Rattle.std.proofs.lemmas.Option.{slice_get-map}
-use Rattle.lot_machine.specs.declared.record.Thread.{Thread}
-use Rattle.lot_machine.specs.declared.sizes.Sizes.{Sizes}
-use Rattle.lot_machine.specs.declared.command.Command.TheVariants.{RemoveThread}
-use Rattle.lot_machine.specs.declared.reference.ThreadRef.{ThreadRef}
-use Rattle.lot_machine.specs.declared.refusal.Refusal.{Refusal}
-use Rattle.lot_machine.specs.declared.refusal.Refusal.TheVariants.{NoThread, Alive, InUse}
+use Rattle.lot_kernel.proofs.Common.{Alive, Freed, InUse, List, NoThread, None, Option, QueueLists, Refusal, RemoveThread, Sizes, Some, State, Thread, ThreadRef, Threaded, ap, command_step, cond, drop, drop_thread, false, first_failing, free_threads, held, is_dead_in, is_none, is_thread_in_use, length, length-set, map-set, names_of, newborn, none_free, not, option_any, option_map, set_number, slice_get, slice_get-map, slice_set, sym, thread_meant, true, unless_refused, unwrap_or, with_records, with_thread, ℕ, [], ◌+◌, ◌-◌, ◌∙◌, ◌∷◌, ◌≡◌}
 use Rattle.lot_machine.specs.declared.reply.Reply.TheVariants as reply
-use Rattle.lot_machine.specs.Commands.{command_step, first_failing, unless_refused, thread_meant, is_dead_in, is_thread_in_use, newborn, with_thread, drop_thread}
-use Rattle.lot_machine.specs.Numbered.{option_any, set_number}
-use Rattle.lot_machine.specs.State.{State, Freed, free_threads}
-use Rattle.lot_queues.specs.QueueLists.{QueueLists}
-use Rattle.lot_threads.specs.Threaded.{Threaded, with_records}
-use Rattle.lot_kernel.specs.FreePlaces.{none_free}
-use Rattle.lot_kernel.specs.Names.{names_of}
-use Rattle.lot_kernel.specs.Snapshots.{held}
 use Rattle.lot_kernel.proofs.Freeing.{set-place}
 use Rattle.lot_kernel.proofs.Reusing.{thread-again, thread-left}
 

@@ -1,15 +1,5 @@
 -- The tables after a ticket or a currency is made in the first free place.
-use Rattle.std.proofs.Common.{◌≡◌, ◌∙◌, ℕ, ◌+◌, true, false, Option, Some, is_some, List, drop, option_map, slice_get, slice_set, ap, sym, subst}
-use Rattle.std.proofs.lemmas.List.{map-set}
-use Rattle.lot_machine.specs.declared.sizes.Sizes.{Sizes}
-use Rattle.lot_machine.specs.declared.ticket.Ticket.{Ticket}
-use Rattle.lot_machine.specs.State.{State, Freed, free_tickets, free_currencies}
-use Rattle.lot_machine.specs.Commands.{with_ticket, with_currency}
-use Rattle.lot_queues.specs.QueueLists.{QueueLists}
-use Rattle.lot_value.specs.declared.change.GraphChange.TheVariants.{ReuseTicket, ReuseCurrency}
-use Rattle.lot_threads.specs.Threaded.{Threaded, applied_in}
-use Rattle.lot_kernel.specs.FreePlaces.{none_free}
-use Rattle.lot_kernel.specs.Snapshots.{held, threads_of}
+use Rattle.lot_kernel.proofs.Common.{Freed, List, Option, QueueLists, ReuseCurrency, ReuseTicket, Sizes, Some, State, Threaded, Ticket, ap, applied_in, drop, false, free_currencies, free_tickets, held, is_some, map-set, none_free, option_map, slice_get, slice_set, subst, sym, threads_of, true, with_currency, with_ticket, ℕ, ◌+◌, ◌∙◌, ◌≡◌}
 use Rattle.lot_kernel.proofs.Holding.{IsHeld, snapshot_of}
 use Rattle.lot_kernel.proofs.Reusing.{given-tickets, given-currencies, ticket-again, currency-again}
 

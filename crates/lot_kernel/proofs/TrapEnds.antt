@@ -1,41 +1,7 @@
 -- How a whole trap goes: what it does, and then how its thread goes on or leaves.
-use Rattle.std.proofs.Common.{◌≡◌, ◌∙◌, ℕ, ◌+◌, ◌-◌, ◌<◌, nat_le, Bool, true, false, ◌&&◌, cond, Option, Some, None, is_none, List, [], ◌∷◌, ◌++◌, length, map, ap, sym, refl, subst, arith}
-use Rattle.std.proofs.Math.ListN.{length-set}
-use Rattle.std.proofs.lemmas.List.{length-map}
-use Rattle.lot_machine.specs.declared.action.Action.{Action}
-use Rattle.lot_machine.specs.declared.action.Action.TheVariants.{Yield, Call, Receive, Reply as ReplyTo, Serve, Lock, Unlock, Sleep, Exit}
-use Rattle.lot_machine.specs.declared.after.After.{After}
-use Rattle.lot_machine.specs.declared.after.After.TheVariants.{GoesOn, Leaves, Ends}
-use Rattle.lot_machine.specs.declared.funding.Lend.{Lend}
-use Rattle.lot_machine.specs.declared.funding.Lend.TheVariants.{Nobody, ToThread, ToMutex}
-use Rattle.lot_machine.specs.declared.funding.Node.{Node}
-use Rattle.lot_machine.specs.declared.record.Record.{Record}
-use Rattle.lot_machine.specs.declared.record.Status.{Status}
-use Rattle.lot_machine.specs.declared.record.Status.TheVariants.{Ready, Running, Receiving, Queued, Served, Waiting, Asleep}
-use Rattle.lot_machine.specs.declared.refusal.TrapRefusal.{TrapRefusal}
-use Rattle.lot_machine.specs.declared.refusal.TrapRefusal.TheVariants.{NoPort}
-use Rattle.lot_machine.specs.declared.reply.Outcome.{Outcome}
+use Rattle.lot_kernel.proofs.Common.{Action, After, Asleep, Bool, Call, Effect, Ends, Exit, Funding, GoesOn, IsApart, IsBorrower, IsInOrder, IsQueue, IsThere, Leaves, Lend, List, Lock, MakesStale, Mutex, NoPort, Nobody, Node, None, Option, Outcome, Queued, QueuedCall, Ready, Receive, Receiving, Record, Running, RunsAlone, Serve, Served, Sizes, Sleep, Snapshot, Some, State, Status, ToMutex, ToThread, TrapRefusal, Trapped, Unlock, Waiting, Yield, after_trap, all-pass, ap, arith, at_number, before_lock, change_record, cond, effect-apart, effect_of, ends_quantum, false, finish_trap, funding_of, holder_of, holders, is_none, lend_node, lend_of, length, length-map, length-set, makes-last, map, mutex_at, nat_le, port_at, refl, runs-alone, served_at, set_number, status_of, subst, sym, threads_of, trap_effect, trap_refusal, true, with_records, with_ticks, ℕ, [], ◌&&◌, ◌++◌, ◌+◌, ◌-◌, ◌<◌, ◌∙◌, ◌∷◌, ◌≡◌}
+use Rattle.lot_machine.specs.declared.action.Action.TheVariants.{Reply as ReplyTo}
 use Rattle.lot_machine.specs.declared.reply.Outcome.TheVariants as outcome
-use Rattle.lot_machine.specs.declared.sizes.Sizes.{Sizes}
-use Rattle.lot_machine.specs.declared.reply.Reply.TheVariants.{Trapped}
-use Rattle.lot_machine.specs.Funding.{Funding, lend_node}
-use Rattle.lot_machine.specs.Mutexes.{mutex_at}
-use Rattle.lot_machine.specs.Numbered.{at_number, set_number}
-use Rattle.lot_machine.specs.Order.{IsInOrder, IsQueue}
-use Rattle.lot_machine.specs.Ports.{port_at}
-use Rattle.lot_machine.specs.Servers.{before_lock, served_at}
-use Rattle.lot_machine.specs.State.{State, Mutex, QueuedCall, change_record, funding_of, holder_of, holders, lend_of, status_of}
-use Rattle.lot_machine.specs.Step.{Effect, ends_quantum, finish_trap, trap_effect, trap_refusal}
-use Rattle.lot_machine.specs.Traps.{after_trap, with_ticks}
-use Rattle.lot_machine.proofs.CommandsKept.{all-pass}
-use Rattle.lot_machine.proofs.RecordsKept.{RunsAlone, runs-alone}
-use Rattle.lot_machine.proofs.StepsKept.{IsApart, effect-apart}
-use Rattle.lot_graph.specs.Graphs.{IsBorrower}
-use Rattle.lot_queues.specs.QueueLists.{IsThere}
-use Rattle.lot_threads.specs.Threaded.{with_records}
-use Rattle.lot_threads.proofs.Last.{makes-last}
-use Rattle.lot_kernel.specs.Snapshots.{Snapshot, MakesStale, threads_of}
-use Rattle.lot_kernel.specs.Trapped.{effect_of}
 use Rattle.lot_kernel.proofs.Leaving.{receivers-queue}
 use Rattle.lot_kernel.proofs.Refusing.{le-of}
 use Rattle.lot_kernel.proofs.Serving.{before-count, served-count}

@@ -1,42 +1,7 @@
 -- What a trap's checks say, and what it leaves in the tables.
-use Rattle.std.proofs.Common.{◌≡◌, ◌≢◌, ◌∙◌, ◌↔◌, ℕ, zero, suc, ◌-◌, ◌<◌, ◌≤◌, ne_eqb, nat_lt, Bool, true, false, ◌||◌, Option, Some, None, is_none, List, [], ◌∷◌, length, slice_get, option_and_then, unwrap_or, ap, sym, refl, subst, arith, if◌then◌else◌}
-use Rattle.std.proofs.Math.ListN.{length-set}
-use Rattle.std.specs.Prelude.{IsTrue}
-use Rattle.std.proofs.lemmas.Bool.{eq-eqb, le-ltb, ltb-false}
+use Rattle.lot_kernel.proofs.Common.{AlreadyOwner, Bool, Freed, Funding, GoesOn, HasNoCycle, IsInOrder, IsNowhere, IsRunning, IsThere, IsTrue, Lend, LendsLead, List, LockCycle, Meter, Mutex, MutexTrap, NoMutex, None, NothingToReply, Option, Port, PortTrap, QueueLists, QueuedCall, Reaches, Record, Refused, Running, Sizes, Some, State, Status, Threaded, ap, arith, at_number, at_number-suc, at_port, before_lock, borrower, borrower_of, call, change_record, effect_of, eq-eqb, false, first_client, first_failing, held, if◌then◌else◌, is_no_mutex, is_none, le-ltb, lends_lead, lends_lead-exact, lends_on_to, length, length-set, lock, ltb-false, mutex_at, nat_lt, ne_eqb, nowhere-running, of_mutexes, of_ports, option_and_then, option_any, owns, port_at, reaches-leads, receive, record-of, refl, reply, serve, slice_get, status_of, subst, suc, sym, trap_refusal, true, unlock, unwrap_or, value_of, with_mutexes, with_ports, with_records, without_servers, worth_in, zero, ℕ, [], ◌-◌, ◌<◌, ◌||◌, ◌↔◌, ◌∙◌, ◌∷◌, ◌≡◌, ◌≢◌, ◌≤◌}
 use Rattle.lot_machine.specs.declared.action.Action.TheVariants as action
-use Rattle.lot_machine.specs.declared.after.After.TheVariants.{GoesOn}
-use Rattle.lot_machine.specs.declared.record.Record.{Record}
-use Rattle.lot_machine.specs.declared.reply.Outcome.TheVariants.{Refused}
-use Rattle.lot_machine.specs.declared.record.Status.{Status}
-use Rattle.lot_machine.specs.declared.record.Status.TheVariants.{Running}
-use Rattle.lot_machine.specs.declared.refusal.TrapRefusal.TheVariants.{NothingToReply, NoMutex, AlreadyOwner, LockCycle}
-use Rattle.lot_machine.specs.declared.sizes.Sizes.{Sizes}
-use Rattle.lot_machine.specs.Commands.{first_failing}
 use Rattle.lot_machine.specs.declared.funding.Node.TheVariants as node
-use Rattle.lot_machine.specs.Facts.{HasNoCycle}
-use Rattle.lot_machine.specs.Funding.{Funding}
-use Rattle.lot_machine.specs.declared.funding.Lend.{Lend}
-use Rattle.lot_machine.specs.Lends.{LendsLead, borrower, borrower_of, lends_lead, lends_on_to}
-use Rattle.lot_machine.specs.Mutexes.{MutexTrap, mutex_at, lock, unlock}
-use Rattle.lot_machine.specs.Numbered.{at_number, option_any}
-use Rattle.lot_machine.specs.Order.{IsInOrder}
-use Rattle.lot_machine.specs.Ports.{PortTrap, call, receive, reply, serve, first_client, port_at}
-use Rattle.lot_machine.specs.State.{Freed, State, Mutex, Port, QueuedCall, change_record, status_of, value_of}
-use Rattle.lot_machine.specs.Servers.{before_lock, without_servers}
-use Rattle.lot_machine.specs.Step.{at_port, is_no_mutex, of_mutexes, of_ports, owns, trap_refusal}
-use Rattle.lot_machine.proofs.LendDepth.{lends_lead-exact}
-use Rattle.lot_machine.proofs.Queues.{record-of}
-use Rattle.lot_machine.proofs.Tickets.{at_number-suc}
-use Rattle.lot_graph.specs.Graphs.{Reaches}
-use Rattle.lot_queues.specs.QueueLists.{QueueLists, IsNowhere, IsThere}
-use Rattle.lot_queues.proofs.Callers.{nowhere-running}
-use Rattle.lot_threads.specs.Threaded.{Threaded, with_records, worth_in}
-use Rattle.lot_threads.proofs.Leads.{reaches-leads}
-use Rattle.lot_ports.specs.Traps.{with_ports}
-use Rattle.lot_value.specs.declared.meter.Meter.{Meter}
-use Rattle.lot_mutex.specs.Listed.{with_mutexes}
-use Rattle.lot_kernel.specs.Snapshots.{held}
-use Rattle.lot_kernel.specs.Trapped.{IsRunning, effect_of}
 use Rattle.lot_kernel.proofs.Holding.{IsHeld, held-records}
 
 -- ---- numbers

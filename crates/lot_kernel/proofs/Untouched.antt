@@ -1,16 +1,5 @@
 -- Changes that touch nothing: neither the graph changes, nor who is live.
-use Rattle.std.proofs.Common.{◌≡◌, ◌∙◌, ◌⊎◌, ℕ, ◌-◌, inl, inr, Bool, Some, List, [], ◌∷◌, Contains, map, option_map, ap, sym, refl, subst}
-use Rattle.std.proofs.lemmas.List.{map-set}
-use Rattle.lot_machine.specs.declared.funding.Node.{Node}
-use Rattle.lot_machine.specs.declared.record.Record.{Record}
-use Rattle.lot_machine.specs.Funding.{Funding}
-use Rattle.lot_machine.specs.Numbered.{at_number, set_number}
-use Rattle.lot_machine.specs.State.{change_record, live_in}
-use Rattle.lot_machine.specs.Touched.{IsChangedEdge, IsChangedLife, IsChangedNode, IsTouched, PathLeads}
-use Rattle.lot_machine.proofs.Changes.{number-kept}
-use Rattle.lot_machine.proofs.EachOnce.{contains-at, contains-nothing}
-use Rattle.lot_machine.proofs.TrapCycles.{at_number-map}
-use Rattle.lot_threads.specs.Threaded.{Threaded, MakesStaleIn, funding_in}
+use Rattle.lot_kernel.proofs.Common.{Bool, Contains, Funding, IsChangedEdge, IsChangedLife, IsChangedNode, IsTouched, List, MakesStaleIn, Node, PathLeads, Record, Some, Threaded, ap, at_number, at_number-map, change_record, contains-at, contains-nothing, funding_in, inl, inr, live_in, map, map-set, number-kept, option_map, refl, set_number, subst, sym, ℕ, [], ◌-◌, ◌∙◌, ◌∷◌, ◌≡◌, ◌⊎◌}
 
 same-edge : (f : Funding) (from to : Node) → ¬ IsChangedEdge f f from to
 same-edge f from to (inl (edge, weight, is, differs)) = differs is

@@ -2,10 +2,10 @@
 //! crate of their own, so that `lot_kernel` isn't proved a second time for them.
 #![tactic(auto)]
 
-mod replies;
 mod nodes;
+mod replies;
 #[cfg(test)]
 mod tests;
 
-pub use replies::{trapped, won};
 pub use nodes::{is_mutex, is_target, is_thread, may_fund};
+pub use replies::{trapped, won};

@@ -1,21 +1,5 @@
 -- In how many of all the ways in which lotteries may be drawn a place wins, and how often.
-use Rattle.std.proofs.Common.{◌≡◌, ℕ, zero, suc, ◌+◌, ◌-◌, ◌*◌, ◌^◌, ◌<◌, ◌≤◌, ◌==◌, ◌⊎◌, inl, inr, Bool, true, false, cond, Option, Some, None, option_map, List, [], ◌∷◌, length, map, All, Contains, count_by, sum, sum_by, slice_get, get_or, refl, sym, ◌∙◌, ap, subst, arith}
-use Rattle.std.specs.List.{range_with_len, flat_map}
-use Rattle.std.proofs.Math.Nat.{pow-suc, pow-succ', pow-zero, add-mul, mul_comm}
-use Rattle.std.proofs.lemmas.Bool.{eq-eqb, eqb-true, eqb-false, ne_eqb, cases_lt}
-use Rattle.std.proofs.lemmas.List.Elements.{All-contains, Contains-get_or, Contains-append_cases, Contains-append_left, Contains-append_right}
-use Rattle.std.proofs.lemmas.List.Sums.{sum_by-cons, sum_by-append, count_by-le-length}
-use Rattle.std.proofs.lemmas.List.FromFn.{length-range_with_len}
-use Rattle.lot_laws.specs.Fairness.{place_wins, thread_wins, lists_of, all_draws, wins_in_all, first_win, draws_first_won_after, squared_distance, choose}
-use Rattle.lot_machine.specs.declared.record.Status.TheVariants.{Ready}
-use Rattle.lot_machine.specs.Numbered.{option_any}
-use Rattle.lot_machine.specs.State.{State, status_of, weight_of}
-use Rattle.lot_machine.specs.Facts.{total_weight}
-use Rattle.lot_machine.specs.Equations.{HasEachOnce}
-use Rattle.lot_machine.proofs.EachOnce.{IsApart, contains-nothing, contains-later, contains-mapped, mapped-contains, apart-append, apart-map, apart-range, range-contains, once-from}
-use Rattle.lot_machine.proofs.Sums.{sum-same, sum-plus, sum-times, sum-nothing}
-use Rattle.lot_machine.proofs.EdgeSums.{sum-mapped}
-use Rattle.lot_machine.proofs.Shares.{place-share, thread-share}
+use Rattle.lot_laws.proofs.Common.{All, All-contains, Bool, Contains, Contains-append_cases, Contains-append_left, Contains-append_right, Contains-get_or, HasEachOnce, IsApart, List, None, Option, Ready, Some, State, add-mul, all_draws, ap, apart-append, apart-map, apart-range, arith, cases_lt, choose, cond, contains-later, contains-mapped, contains-nothing, count_by, count_by-le-length, draws_first_won_after, eq-eqb, eqb-false, eqb-true, false, first_win, flat_map, get_or, inl, inr, length, length-range_with_len, lists_of, map, mapped-contains, mul_comm, ne_eqb, once-from, option_any, option_map, place-share, place_wins, pow-suc, pow-succ', pow-zero, range-contains, range_with_len, refl, slice_get, squared_distance, status_of, subst, suc, sum, sum-mapped, sum-nothing, sum-plus, sum-same, sum-times, sum_by, sum_by-append, sum_by-cons, sym, thread-share, thread_wins, total_weight, true, weight_of, wins_in_all, zero, ℕ, [], ◌*◌, ◌+◌, ◌-◌, ◌<◌, ◌==◌, ◌^◌, ◌∙◌, ◌∷◌, ◌≡◌, ◌≤◌, ◌⊎◌}
 
 -- ---- sums over lists of n elements
 

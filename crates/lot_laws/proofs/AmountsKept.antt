@@ -1,43 +1,11 @@
 -- Only `settkt` of a ticket gives it another amount; and each run leaves what it doesn't affect.
-use Rattle.std.proofs.Common.{◌≡◌, ℕ, ◌-◌, ◌⊎◌, ◌≤◌, inl, inr, zero, suc, length, unwrap_or, subst, arith, Option, Some, None, List, [], ◌∷◌, ◌++◌, option_map, refl, sym, ◌∙◌, ap, ◌≢◌, All, is_none, Bool, false, true, not, cond, slice_get}
-use Rattle.std.proofs.lemmas.List.{length-map}
-use Rattle.std.proofs.lemmas.Bool.{cases_eq}
-use Rattle.std.specs.Option.{option_flatten}
-use Rattle.lot_machine.specs.declared.ticket.Ticket.{Ticket}
-use Rattle.lot_machine.specs.declared.ticket.Target.{Target}
+use Rattle.lot_laws.proofs.Common.{Affects, All, All-head, All-tail, BadAmount, BaseFixed, Bool, Command, Console, Currency, Cycle, DeadThread, Done, Event, Fund, HasEquation, IsInOrder, IsThere, KeepsAmount, Kill, List, MakeCurrency, MakeFunded, MakeThread, MakeTicket, NoTarget, NoTicket, Node, None, NotFunding, Option, Record, Refusal, RemoveCurrency, RemoveThread, RemoveTicket, RemovesTicket, SetTicket, SetsAmountOf, Sizes, Some, State, Step, Target, Thread, Ticket, Unfund, all-pass, ap, arith, at_number, by_event, cases_eq, command_effect, command_refusal, command_step, cond, contains-at, currency_or_base, false, flatten-some, free_tickets, funding_of, inl, inr, is_bad_amount, is_currency, is_cycle, is_dead_thread, is_funding, is_none, lend_of, length, length-map, live_of, next_thread, node_value, not, number-push, number-set, number-set_same, number-stays, number-there, option_any, option_flatten, option_map, order-sound, other-tickets, place_of, placed, refl, reissued, retargeted, run-order, set_number, slice_get, some-injective, some-of, state_after, step, step-grown, step-limits, step-order, subst, suc, sym, target_meant, ticket_at, ticket_in, true, unless_refused, unrefused, unwrap_or, with_amount, with_new_ticket, with_target, without_ticket, worth_in, zero, ℕ, [], ◌++◌, ◌-◌, ◌∙◌, ◌∷◌, ◌≡◌, ◌≢◌, ◌≤◌, ◌⊎◌}
 use Rattle.lot_machine.specs.declared.ticket.Target.TheVariants as target
-use Rattle.lot_machine.specs.declared.command.Command.{Command}
-use Rattle.lot_machine.specs.declared.command.Command.TheVariants.{MakeTicket, RemoveTicket, MakeCurrency, RemoveCurrency, Fund, Unfund, MakeThread, RemoveThread, Kill, MakeFunded, SetTicket, List as Listing}
-use Rattle.lot_machine.specs.declared.event.Event.{Event}
+use Rattle.lot_machine.specs.declared.command.Command.TheVariants.{List as Listing}
 use Rattle.lot_machine.specs.declared.event.Event.TheVariants as event
-use Rattle.lot_machine.specs.Numbered.{at_number, set_number, option_any}
-use Rattle.lot_machine.specs.Places.{placed}
-use Rattle.lot_machine.specs.Funding.{is_currency, ticket_in, with_new_ticket, without_ticket, with_target, retargeted, ticket_at, with_amount, reissued}
-use Rattle.lot_laws.specs.Insulation.{Affects, worth_in, KeepsAmount, SetsAmountOf, RemovesTicket}
-use Rattle.lot_machine.specs.Value.{node_value}
-use Rattle.lot_machine.specs.Equations.{HasEquation}
-use Rattle.lot_machine.specs.Order.{IsInOrder}
-use Rattle.lot_machine.specs.declared.record.Record.{Record}
-use Rattle.lot_machine.specs.declared.sizes.Sizes.{Sizes}
-use Rattle.lot_machine.specs.declared.funding.Node.{Node}
-use Rattle.lot_machine.specs.declared.funding.Node.TheVariants.{Currency, Thread, Mutex}
-use Rattle.lot_machine.specs.State.{State, free_tickets, next_thread, funding_of, live_of, lend_of}
-use Rattle.lot_machine.specs.Commands.{is_funding, is_dead_thread, is_cycle, command_refusal, command_effect, command_step, currency_or_base, target_meant, Step, unless_refused, is_bad_amount}
-use Rattle.lot_machine.specs.Step.{step, state_after}
-use Rattle.lot_machine.proofs.Changes.{number-push, number-set, number-there}
-use Rattle.lot_machine.proofs.CommandsKept.{IsThere, unrefused, all-pass, some-of}
-use Rattle.lot_machine.proofs.Places.{number-stays}
-use Rattle.lot_machine.proofs.EachOnce.{contains-at}
-use Rattle.lot_machine.proofs.StepChanges.{Console, by_event}
-use Rattle.lot_machine.proofs.StepSizes.{other-tickets, step-grown, step-limits}
-use Rattle.lot_machine.proofs.OrderKept.{run-order, step-order, order-sound}
+use Rattle.lot_machine.specs.declared.funding.Node.TheVariants.{Mutex}
 use Rattle.lot_laws.proofs.Insulated.{insulated}
-use Rattle.lot_machine.proofs.Tickets.{some-injective, flatten-some, place_of}
-use Rattle.lot_machine.specs.declared.refusal.Refusal.{Refusal}
-use Rattle.lot_machine.specs.declared.refusal.Refusal.TheVariants.{BadAmount, NoTicket, NoTarget, Funding as IsFunding, NotFunding, Cycle, BaseFixed, DeadThread}
-use Rattle.lot_machine.specs.declared.reply.Reply.TheVariants.{Done}
-use Rattle.lot_machine.proofs.Queues.{number-set_same}
-use Rattle.std.proofs.lemmas.List.Elements.{All-head, All-tail}
+use Rattle.lot_machine.specs.declared.refusal.Refusal.TheVariants.{Funding as IsFunding}
 
 -- ---- a ticket's place
 

@@ -1,22 +1,5 @@
 -- A live thread blocks and lends: what threads are worth then, by what the records say of each thread's status.
-use Rattle.std.proofs.Common.{◌≡◌, ◌≢◌, ℕ, ◌+◌, ◌⊎◌, Bool, true, false, cond, Some, None, List, [], length, map, filter, sum_by, option_map, option_and_then, refl, sym, ◌∙◌, ap, if◌then◌else◌}
-use Rattle.std.specs.List.{range_with_len}
-use Rattle.std.proofs.lemmas.List.{length-map}
-use Rattle.lot_machine.specs.declared.sizes.Sizes.{Sizes}
-use Rattle.lot_machine.specs.declared.record.Record.{Record}
-use Rattle.lot_machine.specs.declared.record.Status.{Status}
-use Rattle.lot_machine.specs.declared.record.Status.TheVariants.{Served}
-use Rattle.lot_machine.specs.declared.funding.Lend.{Lend}
-use Rattle.lot_machine.specs.declared.funding.Lend.TheVariants.{Nobody, ToThread}
-use Rattle.lot_machine.specs.Numbered.{at_number, numbers}
-use Rattle.lot_machine.specs.Funding.{Funding, backing_thread}
-use Rattle.lot_machine.specs.Lends.{borrower, borrower_of, IsLive, IsBacked, lends_lead, is_backed}
-use Rattle.lot_machine.specs.Value.{own_value, thread_value}
-use Rattle.lot_machine.specs.State.{State, funding_of, live_of, live_in, lend_of, is_live_status, status_of, value_of}
-use Rattle.lot_machine.specs.Facts.{HasNoCycle, FundsThere}
-use Rattle.lot_machine.proofs.Tickets.{some-injective}
-use Rattle.lot_machine.proofs.LendDepth.{lends_lead-exact}
-use Rattle.lot_laws.specs.Transfers.{OwnsNothing}
+use Rattle.lot_laws.proofs.Common.{Bool, Funding, FundsThere, HasNoCycle, IsBacked, IsLive, Lend, List, Nobody, None, OwnsNothing, Record, Served, Sizes, Some, State, Status, ToThread, ap, at_number, backing_thread, borrower, borrower_of, cond, false, filter, funding_of, if◌then◌else◌, is_backed, is_live_status, lend_of, lends_lead, lends_lead-exact, length, length-map, live_in, live_of, map, numbers, option_and_then, option_map, own_value, range_with_len, refl, some-injective, status_of, sum_by, sym, thread_value, true, value_of, ℕ, [], ◌+◌, ◌∙◌, ◌≡◌, ◌≢◌, ◌⊎◌}
 use Rattle.lot_laws.proofs.Lending.{lending, same-borrower, leads-itself, woken-on, woken-back, stays-on, stays-back, lent-worth, backed-same}
 use Rattle.lot_laws.proofs.Trapped.{lend-is, live-is}
 

@@ -1,35 +1,5 @@
 -- A call that is taken at once, in a kernel whose queued calls lend: nobody's call is queued at the port, so its new server gets this caller's value alone.
-use Rattle.std.proofs.Common.{◌≡◌, ◌≢◌, ℕ, suc, ◌+◌, ◌-◌, ◌≤◌, ◌⊎◌, inl, inr, Bool, cond, is_none, Option, Some, None, List, [], ◌∷◌, map, option_map, option_and_then, slice_get, refl, sym, ◌∙◌, ap, subst, arith, if◌then◌else◌}
-use Rattle.std.specs.Option.{option_flatten}
-use Rattle.std.proofs.lemmas.Bool.{cases_eq}
-use Rattle.lot_machine.specs.declared.record.Record.{Record}
-use Rattle.lot_machine.specs.declared.record.Status.TheVariants.{Ready, Running, Receiving, Served}
-use Rattle.lot_machine.specs.declared.funding.Lend.{Lend}
-use Rattle.lot_machine.specs.declared.funding.Lend.TheVariants.{Nobody, ToThread, ToMutex}
-use Rattle.lot_machine.specs.declared.action.Action.TheVariants.{Call}
-use Rattle.lot_machine.specs.declared.event.Event.{Event}
-use Rattle.lot_machine.specs.declared.event.Event.TheVariants.{Trap}
-use Rattle.lot_machine.specs.declared.reply.Outcome.TheVariants.{ServedBy}
-use Rattle.lot_machine.specs.declared.refusal.TrapRefusal.TheVariants.{NoPort}
-use Rattle.lot_machine.specs.declared.after.After.TheVariants.{Leaves}
-use Rattle.lot_machine.specs.Numbered.{at_number, set_number, numbers}
-use Rattle.lot_machine.specs.Funding.{owner_of}
-use Rattle.lot_machine.specs.Lends.{borrower, borrower_of, is_live}
-use Rattle.lot_machine.specs.State.{State, Mutex, funding_of, live_of, lend_of, holder_of, status_of, value_of}
-use Rattle.lot_machine.specs.Traps.{after_trap, with_ticks}
-use Rattle.lot_machine.specs.Ports.{port_at, call}
-use Rattle.lot_machine.specs.Servers.{held_by, with_server, served_at}
-use Rattle.lot_machine.specs.Step.{of_ports, finish_trap, step}
-use Rattle.lot_machine.specs.Facts.{HasNoCycle, live_value}
-use Rattle.lot_machine.specs.Order.{IsInOrder}
-use Rattle.lot_machine.proofs.Changes.{number-set, number-there}
-use Rattle.lot_machine.proofs.CommandsKept.{all-pass}
-use Rattle.lot_machine.proofs.OrderKept.{step-order}
-use Rattle.lot_machine.proofs.Queues.{status-now, status-other}
-use Rattle.lot_machine.proofs.Sums.{sum-filter, sum-same}
-use Rattle.lot_machine.proofs.TrapCycles.{owners-set}
-use Rattle.lot_laws.specs.Reachable.{IsReachable}
-use Rattle.lot_laws.specs.Transfers.{LendsQueued, TakesCall, OwnsNothing}
+use Rattle.lot_laws.proofs.Common.{Bool, Call, Event, HasNoCycle, IsInOrder, IsReachable, Leaves, Lend, LendsQueued, List, Mutex, NoPort, Nobody, None, Option, OwnsNothing, Ready, Receiving, Record, Running, Served, ServedBy, Some, State, TakesCall, ToMutex, ToThread, Trap, after_trap, all-pass, ap, arith, at_number, borrower, borrower_of, call, cases_eq, cond, finish_trap, funding_of, held_by, holder_of, if◌then◌else◌, inl, inr, is_live, is_none, lend_of, live_of, live_value, map, number-set, number-there, numbers, of_ports, option_and_then, option_flatten, option_map, owner_of, owners-set, port_at, refl, served_at, set_number, slice_get, status-now, status-other, status_of, step, step-order, subst, suc, sum-filter, sum-same, sym, value_of, with_server, with_ticks, ℕ, [], ◌+◌, ◌-◌, ◌∙◌, ◌∷◌, ◌≡◌, ◌≢◌, ◌≤◌, ◌⊎◌}
 use Rattle.lot_laws.proofs.Trapped.{IsDone, trap-done, lend-is}
 use Rattle.lot_laws.proofs.Lending.{same-worth, untangled-same}
 use Rattle.lot_laws.proofs.CallTaken.{port-there, woken, left, called, call-taken, call-server, call-others, call-together}

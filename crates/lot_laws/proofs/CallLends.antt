@@ -1,29 +1,6 @@
 -- A call that is queued while its port has a server, in a kernel whose queued calls lend: what threads are worth then.
-use Rattle.std.proofs.Common.{◌≡◌, ◌≢◌, ℕ, ◌+◌, nat_le, ◌&&◌, Bool, true, false, cond, Some, None, List, [], length, option_map, refl, sym, ◌∙◌, ap, subst, arith, if◌then◌else◌}
-use Rattle.lot_machine.specs.declared.record.Record.{Record}
-use Rattle.lot_machine.specs.declared.record.Status.TheVariants.{Running, Queued as QueuedAt}
-use Rattle.lot_machine.specs.declared.funding.Lend.TheVariants.{Nobody, ToMutex}
-use Rattle.lot_machine.specs.declared.action.Action.TheVariants.{Call}
-use Rattle.lot_machine.specs.declared.event.Event.{Event}
-use Rattle.lot_machine.specs.declared.event.Event.TheVariants.{Trap}
-use Rattle.lot_machine.specs.declared.reply.Outcome.TheVariants.{Queued}
-use Rattle.lot_machine.specs.declared.after.After.TheVariants.{Leaves}
-use Rattle.lot_machine.specs.Numbered.{option_any}
-use Rattle.lot_machine.specs.Funding.{owner_of}
-use Rattle.lot_machine.specs.Lends.{borrower, IsBacked, LendsLead, lends_lead}
-use Rattle.lot_machine.specs.State.{State, funding_of, live_of, lend_of, lends_at, holder_of, is_live_status, status_of, value_of}
-use Rattle.lot_machine.specs.Traps.{after_trap, with_ticks}
-use Rattle.lot_machine.specs.Ports.{call}
-use Rattle.lot_machine.specs.Servers.{with_server, leads_back, served_at}
-use Rattle.lot_machine.specs.Step.{of_ports, finish_trap, step}
-use Rattle.lot_machine.specs.Facts.{HasNoCycle, live_value}
-use Rattle.lot_machine.specs.Order.{IsInOrder}
-use Rattle.lot_machine.proofs.Queues.{status-now, status-other}
-use Rattle.lot_machine.proofs.CountsOnce.{counts-once}
-use Rattle.lot_machine.proofs.LendDepth.{lends_lead-exact}
-use Rattle.lot_machine.proofs.OrderKept.{step-order}
-use Rattle.lot_machine.proofs.StepSizes.{change-length}
-use Rattle.lot_laws.specs.Transfers.{LendsQueued, QueuesAt, Serves}
+use Rattle.lot_laws.proofs.Common.{Bool, Call, Event, HasNoCycle, IsBacked, IsInOrder, Leaves, LendsLead, LendsQueued, List, Nobody, None, Queued, QueuesAt, Record, Running, Serves, Some, State, ToMutex, Trap, after_trap, ap, arith, borrower, call, change-length, cond, counts-once, false, finish_trap, funding_of, holder_of, if◌then◌else◌, is_live_status, leads_back, lend_of, lends_at, lends_lead, lends_lead-exact, length, live_of, live_value, nat_le, of_ports, option_any, option_map, owner_of, refl, served_at, status-now, status-other, status_of, step, step-order, subst, sym, true, value_of, with_server, with_ticks, ℕ, [], ◌&&◌, ◌+◌, ◌∙◌, ◌≡◌, ◌≢◌}
+use Rattle.lot_machine.specs.declared.record.Status.TheVariants.{Queued as QueuedAt}
 use Rattle.lot_laws.proofs.Trapped.{IsDone, trap-done}
 use Rattle.lot_laws.proofs.Blocked.{blocked-worth, blocked-own}
 use Rattle.lot_laws.proofs.CallQueued.{queued, call-queued}

@@ -1,31 +1,6 @@
 -- A call that is queued, and its receipt as the next event: what threads are worth then.
-use Rattle.std.proofs.Common.{◌≡◌, ◌≢◌, ℕ, ◌+◌, ◌-◌, Some, List, [], ◌∷◌, length, map, filter, option_map, sum_by, refl, sym, ◌∙◌, ap, subst, false}
-use Rattle.std.specs.List.{range_with_len}
-use Rattle.std.proofs.lemmas.List.{map-set, set-set}
-use Rattle.lot_machine.specs.declared.sizes.Sizes.{Sizes}
-use Rattle.lot_machine.specs.declared.record.Record.{Record}
-use Rattle.lot_machine.specs.declared.record.Status.TheVariants.{Ready, Running, Queued as QueuedAt}
-use Rattle.lot_machine.specs.declared.action.Action.TheVariants.{Call}
-use Rattle.lot_machine.specs.declared.event.Event.{Event}
-use Rattle.lot_machine.specs.declared.event.Event.TheVariants.{Trap}
-use Rattle.lot_machine.specs.declared.reply.Outcome.TheVariants.{Queued}
-use Rattle.lot_machine.specs.declared.after.After.TheVariants.{Leaves}
-use Rattle.lot_machine.specs.Numbered.{at_number, set_number, numbers}
-use Rattle.lot_machine.specs.Lends.{is_live}
-use Rattle.lot_machine.specs.Value.{thread_value}
-use Rattle.lot_machine.specs.State.{State, funding_of, live_of, live_in, lend_of, is_live_status, status_of, value_of, change_record}
-use Rattle.lot_machine.specs.Traps.{after_trap, with_ticks}
-use Rattle.lot_machine.specs.Ports.{port_at, call}
-use Rattle.lot_machine.specs.Step.{of_ports, finish_trap, step}
-use Rattle.lot_machine.specs.Facts.{live_value}
-use Rattle.lot_machine.specs.Order.{IsInOrder}
-use Rattle.lot_machine.proofs.Sums.{sum-same}
-use Rattle.lot_machine.proofs.Changes.{number-kept}
-use Rattle.lot_machine.proofs.Queues.{number-set_same, record-of}
-use Rattle.lot_machine.proofs.TrapCycles.{at_number-map}
-use Rattle.lot_machine.proofs.OrderKept.{step-order}
-use Rattle.lot_laws.specs.Transfers.{LendsServed, QueuesCall, TakesQueuedCall, with_ready}
-use Rattle.lot_machine.proofs.StepSizes.{change-length, step-limits}
+use Rattle.lot_laws.proofs.Common.{Call, Event, IsInOrder, Leaves, LendsServed, List, Queued, QueuesCall, Ready, Record, Running, Sizes, Some, State, TakesQueuedCall, Trap, after_trap, ap, at_number, at_number-map, call, change-length, change_record, false, filter, finish_trap, funding_of, is_live, is_live_status, lend_of, length, live_in, live_of, live_value, map, map-set, number-kept, number-set_same, numbers, of_ports, option_map, port_at, range_with_len, record-of, refl, set-set, set_number, status_of, step, step-limits, step-order, subst, sum-same, sum_by, sym, thread_value, value_of, with_ready, with_ticks, ℕ, [], ◌+◌, ◌-◌, ◌∙◌, ◌∷◌, ◌≡◌, ◌≢◌}
+use Rattle.lot_machine.specs.declared.record.Status.TheVariants.{Queued as QueuedAt}
 use Rattle.lot_laws.proofs.Trapped.{port-off, IsDone, trap-done}
 use Rattle.lot_laws.proofs.Lending.{lending}
 use Rattle.lot_laws.proofs.Blocked.{lends_in}

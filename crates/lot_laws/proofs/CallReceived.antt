@@ -1,44 +1,8 @@
 -- The receipt of a queued call: what threads are worth then, against the same state with the caller Ready.
-use Rattle.std.proofs.Common.{◌≡◌, ◌≢◌, ℕ, ◌+◌, Bool, true, false, cond, is_none, ◌⊎◌, inl, inr, Option, Some, None, List, [], ◌∷◌, length, map, option_map, option_and_then, refl, sym, ◌∙◌, ap, subst, arith}
-use Rattle.std.proofs.lemmas.Bool.{cases_eq}
-use Rattle.lot_machine.specs.declared.sizes.Sizes.{Sizes}
-use Rattle.lot_machine.specs.declared.record.Record.{Record}
-use Rattle.lot_machine.specs.declared.record.Status.{Status}
-use Rattle.lot_machine.specs.declared.record.Status.TheVariants.{Ready, Running, Receiving, Queued as QueuedAt, Served, Waiting, Asleep, Dead}
-use Rattle.lot_machine.specs.declared.funding.Lend.TheVariants.{Nobody}
-use Rattle.lot_machine.specs.declared.ticket.Ticket.{Ticket}
+use Rattle.lot_laws.proofs.Common.{Asleep, Bool, Dead, Event, FundsThere, GoesOn, HasNoCycle, IsBacked, IsInOrder, IsLendChain, IsLive, IsQueue, LendsServed, LendsTo, List, NoPort, Nobody, None, Option, OwnsNothing, QueuedCall, Ready, Receive, Received, Receiving, Record, Running, Served, Sizes, Some, State, Status, TakesQueuedCall, Ticket, Trap, Waiting, activates_within, after_trap, all-pass, ap, arith, at_number, backing_thread, borrower, borrower_of, cases_eq, change-length, change_record, cond, counts-once, cycle-nobody, false, finish_trap, funding_of, inl, inr, is_active, is_backed, is_backed-exact, is_live_status, is_none, is_thread, is_thread-is, lend_of, lends-off, lends_lead, lends_lead-exact, length, live_of, live_value, map, numbers, of_ports, option_and_then, option_map, own_value, port_at, receive, refl, set_number, some-injective, status-now, status-other, status_of, step, step-order, subst, sum-filter, sum-nothing, sum-same, sym, ticket_value, ticket_value-unfolds, true, value_of, with_client, with_ready, with_ticks, ℕ, [], ◌+◌, ◌∙◌, ◌∷◌, ◌≡◌, ◌≢◌, ◌⊎◌}
+use Rattle.lot_machine.specs.declared.record.Status.TheVariants.{Queued as QueuedAt}
 use Rattle.lot_machine.specs.declared.ticket.Target.TheVariants as target
-use Rattle.lot_machine.specs.declared.action.Action.TheVariants.{Receive}
-use Rattle.lot_machine.specs.declared.event.Event.{Event}
-use Rattle.lot_machine.specs.declared.event.Event.TheVariants.{Trap}
-use Rattle.lot_machine.specs.declared.reply.Outcome.TheVariants.{Received}
-use Rattle.lot_machine.specs.declared.refusal.TrapRefusal.TheVariants.{NoPort}
-use Rattle.lot_machine.specs.declared.after.After.TheVariants.{GoesOn}
-use Rattle.lot_machine.specs.Numbered.{at_number, set_number, numbers}
-use Rattle.lot_machine.specs.Funding.{backing_thread, is_thread}
-use Rattle.lot_machine.specs.Lends.{borrower, borrower_of, LendsTo, IsLendChain, IsLive, IsBacked, lends_lead, is_backed}
-use Rattle.lot_machine.specs.Activity.{is_active, activates_within}
-use Rattle.lot_machine.specs.Value.{ticket_value, own_value}
-use Rattle.lot_machine.specs.State.{State, QueuedCall, funding_of, live_of, lend_of, is_live_status, status_of, value_of, change_record}
-use Rattle.lot_machine.specs.Traps.{after_trap, with_ticks}
-use Rattle.lot_machine.specs.Ports.{port_at, with_client, receive}
-use Rattle.lot_machine.specs.Step.{of_ports, finish_trap, step}
-use Rattle.lot_machine.specs.Facts.{HasNoCycle, FundsThere, live_value}
-use Rattle.lot_machine.specs.Order.{IsQueue, IsInOrder}
-use Rattle.lot_machine.proofs.Sums.{sum-filter, sum-same, sum-nothing}
-use Rattle.lot_machine.proofs.Unserved.{lends-off}
-use Rattle.lot_machine.proofs.Tickets.{some-injective}
 use Rattle.lot_machine.proofs.Tickets as tickets
-use Rattle.lot_machine.proofs.Unlent.{is_thread-is}
-use Rattle.lot_machine.proofs.CommandsKept.{all-pass}
-use Rattle.lot_machine.proofs.Queues.{status-now, status-other}
-use Rattle.lot_machine.proofs.TrapCycles.{cycle-nobody}
-use Rattle.lot_machine.proofs.LendDepth.{lends_lead-exact, is_backed-exact}
-use Rattle.lot_machine.proofs.ValueDepth.{ticket_value-unfolds}
-use Rattle.lot_machine.proofs.CountsOnce.{counts-once}
-use Rattle.lot_machine.proofs.OrderKept.{step-order}
-use Rattle.lot_laws.specs.Transfers.{LendsServed, TakesQueuedCall, OwnsNothing, with_ready}
-use Rattle.lot_machine.proofs.StepSizes.{change-length}
 use Rattle.lot_laws.proofs.Trapped.{port-off, IsDone, trap-done, lend-is, live-is}
 use Rattle.lot_laws.proofs.Lending.{same-borrower, leads-itself, worth-nothing, comes-alone}
 use Rattle.lot_laws.proofs.Blocked.{lends_in, lead-itself, lead-other, lends-nobody, is-live, not-live, blocked-worth, blocked-own, served-lends}

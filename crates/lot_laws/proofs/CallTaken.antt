@@ -1,29 +1,5 @@
 -- A call that a waiting server takes: what threads are worth then.
-use Rattle.std.proofs.Common.{◌≡◌, ◌≢◌, ℕ, ◌+◌, false, cond, is_none, ◌⊎◌, inl, inr, Option, Some, List, [], ◌∷◌, length, option_map, unwrap_or, refl, sym, ◌∙◌, ap, subst, arith}
-use Rattle.std.proofs.lemmas.Bool.{cases_eq}
-use Rattle.lot_machine.specs.declared.record.Record.{Record}
-use Rattle.lot_machine.specs.declared.record.Status.TheVariants.{Ready, Running, Receiving, Served}
-use Rattle.lot_machine.specs.declared.action.Action.TheVariants.{Call}
-use Rattle.lot_machine.specs.declared.event.Event.{Event}
-use Rattle.lot_machine.specs.declared.event.Event.TheVariants.{Trap}
-use Rattle.lot_machine.specs.declared.reply.Outcome.TheVariants.{ServedBy}
-use Rattle.lot_machine.specs.declared.refusal.TrapRefusal.TheVariants.{NoPort}
-use Rattle.lot_machine.specs.declared.after.After.TheVariants.{Leaves}
-use Rattle.lot_machine.specs.Numbered.{at_number, set_number}
-use Rattle.lot_machine.specs.Lends.{lends_lead}
-use Rattle.lot_machine.specs.State.{State, Port, funding_of, live_of, lend_of, is_live_status, status_of, value_of, change_record}
-use Rattle.lot_machine.specs.Traps.{after_trap, with_ticks}
-use Rattle.lot_machine.specs.Ports.{port_at, with_client, call}
-use Rattle.lot_machine.specs.Step.{of_ports, finish_trap, step}
-use Rattle.lot_machine.specs.Facts.{HasNoCycle, live_value}
-use Rattle.lot_machine.specs.Order.{IsQueue, IsInOrder}
-use Rattle.lot_machine.proofs.Tickets.{some-injective}
-use Rattle.lot_machine.proofs.CommandsKept.{all-pass, some-of}
-use Rattle.lot_machine.proofs.Queues.{status-now, status-other}
-use Rattle.lot_machine.proofs.CountsOnce.{counts-once}
-use Rattle.lot_machine.proofs.OrderKept.{step-order}
-use Rattle.lot_laws.specs.Transfers.{LendsServed, TakesCall, OwnsNothing}
-use Rattle.lot_machine.proofs.StepSizes.{change-length}
+use Rattle.lot_laws.proofs.Common.{Call, Event, HasNoCycle, IsInOrder, IsQueue, Leaves, LendsServed, List, NoPort, Option, OwnsNothing, Port, Ready, Receiving, Record, Running, Served, ServedBy, Some, State, TakesCall, Trap, after_trap, all-pass, ap, arith, at_number, call, cases_eq, change-length, change_record, cond, counts-once, false, finish_trap, funding_of, inl, inr, is_live_status, is_none, lend_of, lends_lead, length, live_of, live_value, of_ports, option_map, port_at, refl, set_number, some-injective, some-of, status-now, status-other, status_of, step, step-order, subst, sym, unwrap_or, value_of, with_client, with_ticks, ℕ, [], ◌+◌, ◌∙◌, ◌∷◌, ◌≡◌, ◌≢◌, ◌⊎◌}
 use Rattle.lot_laws.proofs.Trapped.{port-off, IsDone, trap-done}
 use Rattle.lot_laws.proofs.Lending.{worth-nothing}
 use Rattle.lot_laws.proofs.Blocked.{lead-itself, lead-other, lends-nobody, is-live, woken-worth, woken-own, served-lends}

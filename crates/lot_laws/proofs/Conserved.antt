@@ -1,39 +1,10 @@
 -- What base's active tickets are worth comes to the live threads, less what rounding loses.
-use Rattle.std.proofs.Common.{◌≡◌, ◌≢◌, ℕ, suc, ◌+◌, ◌-◌, ◌*◌, ◌/◌, ◌<◌, ◌≤◌, ◌==◌, ◌&&◌, ◌⊎◌, inl, inr, not, zero, Bool, true, false, Some, List, [], ◌∷◌, length, sum_by, cond, slice_get, refl, ap, subst, sym, ◌∙◌, arith}
-use Rattle.std.specs.List.{range_with_len, list_any}
-use Rattle.std.specs.Option.{option_flatten}
-use Rattle.std.proofs.Math.Nat.{lt-div-mul-add, mul-add, add-mul, mul-le-mul_right, div-le_self}
-use Rattle.std.proofs.lemmas.Bool.{eq-eqb, eqb-true, eqb-false, ne_eqb, cases_eq, cases_lt}
-use Rattle.std.proofs.lemmas.List.Sums.{sum_by-cons, length-filter}
-use Rattle.std.proofs.lemmas.List.{length-map}
-use Rattle.std.proofs.lemmas.Option.{slice_get_within}
-use Rattle.lot_machine.specs.declared.ticket.Ticket.{Ticket}
-use Rattle.lot_machine.specs.declared.ticket.Target.{Target}
-use Rattle.lot_machine.specs.declared.ticket.Target.TheVariants.{Unfunded, Currency, Thread}
+use Rattle.lot_laws.proofs.Common.{Bool, ChainLeads, Funding, FundsThere, HasAmounts, HasNoCycle, IsActive, IsBacked, IsEdge, List, Node, OfTicket, Record, Some, State, Target, Ticket, Unfunded, activates_within, active_amount, active_issued, add-mul, all-nodes, all_tickets, ap, arith, at_number-suc, backing_currency, base_value, base_worth, cases_eq, cases_lt, cond, counts-once, currency_value, div-le_self, eq-eqb, eqb-false, eqb-true, false, funding_of, handed_out, inl, inr, is_active, is_active-exact, is_backed, is_backed-exact, is_currency, is_currency-is, is_thread, issued-at, issued-found, issued_in, issuer-amount, issuer-of, lend_of, lender_within, length, length-filter, length-map, list_any, live-thread, live_of, live_value, lost_at, lost_value, lt-div-mul-add, mul-add, mul-le-mul_right, ne_eqb, not, numbers, option_flatten, own_value, range_with_len, refl, rounded_tickets, slice_get, slice_get_within, some-injective, subst, suc, sum-at_most, sum-filter, sum-le, sum-le_from, sum-le_there, sum-none, sum-nothing, sum-on, sum-one, sum-plus, sum-same, sum-swap, sum-under, sum_by, sum_by-cons, sym, target-of, target_of, ticket-of, ticket_at, ticket_in-suc, ticket_value, ticket_value-unfolds, true, zero, ℕ, [], ◌&&◌, ◌*◌, ◌+◌, ◌-◌, ◌/◌, ◌<◌, ◌==◌, ◌∙◌, ◌∷◌, ◌≡◌, ◌≢◌, ◌≤◌, ◌⊎◌}
+use Rattle.lot_machine.specs.declared.ticket.Target.TheVariants.{Currency, Thread}
 use Rattle.lot_machine.specs.declared.funding.Node.TheVariants as node
-use Rattle.lot_machine.specs.declared.funding.Node.{Node}
-use Rattle.lot_machine.specs.declared.funding.Edge.TheVariants.{OfTicket}
-use Rattle.lot_machine.specs.declared.record.Record.{Record}
-use Rattle.lot_machine.specs.Numbered.{numbers}
-use Rattle.lot_machine.specs.Funding.{Funding, all_tickets, ticket_at, target_of, issued_in, backing_currency, is_currency, is_thread, ChainLeads, IsEdge}
-use Rattle.lot_machine.specs.Lends.{is_backed, IsBacked}
-use Rattle.lot_machine.specs.Activity.{IsActive, is_active, active_amount, activates_within}
-use Rattle.lot_machine.specs.Value.{ticket_value, currency_value, own_value}
-use Rattle.lot_machine.specs.State.{State, funding_of, live_of, lend_of}
-use Rattle.lot_machine.specs.Facts.{HasNoCycle, FundsThere, live_value, base_value}
-use Rattle.lot_laws.specs.Conservation.{HasAmounts, active_issued, handed_out, lost_at, lost_value, rounded_tickets}
-use Rattle.lot_machine.proofs.Sums.{sum-filter, sum-le, sum-same, sum-plus, sum-under, sum-swap, sum-on, sum-nothing, sum-le_from, sum-none, sum-at_most, sum-one}
-use Rattle.lot_machine.proofs.Tickets.{target-of, issuer-of, ticket-of, at_number-suc, ticket_in-suc, issued-found, issued-at, is_currency-is, some-injective}
 use Rattle.lot_machine.proofs.Tickets as tickets
-use Rattle.lot_machine.proofs.Edges.{all-nodes}
 use Rattle.lot_laws.proofs.KeptPaths.{ticket-ends}
-use Rattle.lot_machine.proofs.TicketDepth.{is_active-exact}
-use Rattle.lot_machine.proofs.LendDepth.{lender_within, is_backed-exact}
-use Rattle.lot_machine.proofs.ValueDepth.{ticket_value-unfolds}
-use Rattle.lot_machine.proofs.NodeBounds.{issuer-amount}
-use Rattle.lot_machine.proofs.Flow.{base_worth, handed_out as hands_no_more}
-use Rattle.lot_machine.proofs.CountsOnce.{counts-once, live-thread}
-use Rattle.lot_machine.proofs.CurrencyFlow.{sum-le_there}
+use Rattle.lot_machine.proofs.Flow.{handed_out as hands_no_more}
 
 -- ---- shares, each rounded down
 

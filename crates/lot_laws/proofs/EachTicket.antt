@@ -1,34 +1,9 @@
 -- What holds of each ticket that a command makes or aims holds of each ticket in a reachable state: no amount is 0,
 -- and none funds base.
-use Rattle.std.proofs.Common.{◌≡◌, ◌≢◌, ℕ, ◌<◌, ◌==◌, ◌⊎◌, inl, inr, zero, suc, ◌||◌, not, ◌-◌, true, false, nat_lt, is_none, unwrap_or, Option, Some, None, List, [], ◌∷◌, ◌++◌, option_map, refl, sym, ◌∙◌, ap, subst, arith}
-use Rattle.std.specs.Option.{option_flatten}
-use Rattle.std.proofs.lemmas.Bool.{or_parts, eqb-false}
-use Rattle.lot_machine.specs.declared.ticket.Ticket.{Ticket}
-use Rattle.lot_machine.specs.declared.ticket.Target.{Target}
+use Rattle.lot_laws.proofs.Common.{BadAmount, BadName, BaseFixed, Command, Console, Cycle, DeadThread, Event, Full, Fund, FundsNoBase, HasAmounts, IsInOrder, IsReachable, List, MakeFunded, MakeTicket, NameTaken, NoCurrency, NoScript, NoTarget, NoTicket, None, Option, RemoveTicket, SetTicket, Sizes, Some, State, Target, Ticket, Unfund, all-pass, ap, are_threads_full, are_tickets_full, arith, at_number, by_event, command_effect, command_refusal, command_step, currency_meant, currency_or_base, eqb-false, false, free_tickets, funding_of, inl, inr, is_bad_amount, is_currency, is_cycle, is_dead_thread, is_funding, is_no_script, is_none, is_taken, is_thread_name, nat_lt, next_thread, not, number-placed, number-set, opening, option_any, option_flatten, option_map, or_parts, other-tickets, placed, reached-order, refl, reissued, retargeted, set_number, some-injective, state_after, step, subst, suc, sym, target_meant, ticket_in, ticket_in-suc, true, unrefused, unwrap_or, with_amount, with_target, without_ticket, zero, ℕ, [], ◌++◌, ◌-◌, ◌<◌, ◌==◌, ◌||◌, ◌∙◌, ◌∷◌, ◌≡◌, ◌≢◌, ◌⊎◌}
 use Rattle.lot_machine.specs.declared.ticket.Target.TheVariants as target
-use Rattle.lot_machine.specs.declared.command.Command.{Command}
-use Rattle.lot_machine.specs.declared.command.Command.TheVariants.{MakeTicket, RemoveTicket, Fund, Unfund, SetTicket, MakeFunded}
-use Rattle.lot_machine.specs.declared.event.Event.{Event}
 use Rattle.lot_machine.specs.declared.event.Event.TheVariants as event
-use Rattle.lot_machine.specs.declared.refusal.Refusal.TheVariants.{BadName, NameTaken, NoCurrency, NoTicket, NoTarget, BadAmount, Funding, Cycle, BaseFixed, DeadThread, Full, NoScript}
-use Rattle.lot_machine.specs.declared.sizes.Sizes.{Sizes}
-use Rattle.lot_machine.specs.Numbered.{at_number, set_number, option_any}
-use Rattle.lot_machine.specs.Places.{placed}
-use Rattle.lot_machine.specs.Funding.{ticket_in, without_ticket, with_target, retargeted, with_amount, reissued, is_currency}
-use Rattle.lot_machine.specs.State.{State, free_tickets, next_thread, opening, funding_of}
-use Rattle.lot_machine.specs.Commands.{currency_meant, is_thread_name, is_taken, is_bad_amount, is_no_script, are_tickets_full, are_threads_full, is_dead_thread, is_funding, is_cycle, command_refusal, command_effect, command_step, currency_or_base, target_meant}
-use Rattle.lot_machine.specs.Order.{IsInOrder}
-use Rattle.lot_machine.specs.Step.{step, state_after}
-use Rattle.lot_machine.proofs.Tickets.{some-injective, ticket_in-suc}
-use Rattle.lot_machine.proofs.Changes.{number-set}
-use Rattle.lot_machine.proofs.Places.{number-placed}
-use Rattle.lot_machine.proofs.CommandsKept.{unrefused, all-pass}
-use Rattle.lot_machine.proofs.OrderKept.{reached-order}
-use Rattle.lot_laws.specs.Conservation.{HasAmounts}
-use Rattle.lot_laws.specs.Insulation.{FundsNoBase}
-use Rattle.lot_laws.specs.Reachable.{IsReachable}
-use Rattle.lot_machine.proofs.StepChanges.{Console, by_event}
-use Rattle.lot_machine.proofs.StepSizes.{other-tickets}
+use Rattle.lot_machine.specs.declared.refusal.Refusal.TheVariants.{Funding}
 
 -- a target that isn't base
 not-base : (o : Option Target) → option_any (is_currency 0) o ≡ false → unwrap_or o target.Unfunded ≢ target.Currency 0

@@ -1,29 +1,7 @@
 -- What changes inside a currency, and leaves it active or inactive, changes no value outside it.
-use Rattle.std.proofs.Common.{◌≡◌, ◌≢◌, ℕ, ◌<◌, ◌≤◌, ◌==◌, ◌⊎◌, inl, inr, Bool, true, false, Some, List, [], ◌∷◌, filter, sum_by, refl, sym, ◌∙◌, ap, subst, arith}
-use Rattle.std.specs.List.{list_any}
-use Rattle.std.proofs.lemmas.Bool.{eqb-true, cases_eq}
-use Rattle.lot_machine.specs.declared.ticket.Ticket.{Ticket}
+use Rattle.lot_laws.proofs.Common.{Bool, Currency, Edge, Encloses, Funding, FundsNoBase, FundsThere, HasAmounts, HasEquation, HasNoCycle, IsActive, IsBacked, IsChain, IsChangeInside, IsEdge, IsEdgeOfEither, IsLive, Lend, List, Nobody, Node, OfLender, OfMutex, OfTicket, Some, Thread, Ticket, ToMutex, ToThread, active_amount, ap, arith, at_number, cases_eq, ends-are, ends_of, eqb-true, false, filter, inl, inr, is_active, is_active-exact, issued-found, issued_in, issuer-amount, issuer-of, issuer_of, lend_node, list_any, node_value, refl, some-injective, subst, sum_by, sym, target-of, target_node, target_of, ticket-of, ticket_at, true, weighed_of, ℕ, [], ◌<◌, ◌==◌, ◌∙◌, ◌∷◌, ◌≡◌, ◌≢◌, ◌≤◌, ◌⊎◌}
 use Rattle.lot_machine.specs.declared.ticket.Target.TheVariants as target
-use Rattle.lot_machine.specs.declared.funding.Node.{Node}
-use Rattle.lot_machine.specs.declared.funding.Node.TheVariants.{Currency, Thread, Mutex}
-use Rattle.lot_machine.specs.declared.funding.Lend.{Lend}
-use Rattle.lot_machine.specs.declared.funding.Lend.TheVariants.{Nobody, ToThread, ToMutex}
-use Rattle.lot_machine.specs.declared.funding.Edge.{Edge}
-use Rattle.lot_machine.specs.declared.funding.Edge.TheVariants.{OfTicket, OfLender, OfMutex}
-use Rattle.lot_machine.specs.Numbered.{at_number}
-use Rattle.lot_machine.specs.Funding.{Funding, ticket_at, target_of, issuer_of, target_node, lend_node, issued_in, ends_of, weighed_of, IsChain, IsEdge}
-use Rattle.lot_machine.specs.Lends.{IsLive, IsBacked}
-use Rattle.lot_machine.specs.Activity.{IsActive, is_active, active_amount}
-use Rattle.lot_machine.specs.Value.{node_value}
-use Rattle.lot_machine.specs.Facts.{HasNoCycle, FundsThere}
-use Rattle.lot_machine.specs.Equations.{HasEquation}
-use Rattle.lot_machine.specs.Touched.{IsEdgeOfEither}
-use Rattle.lot_machine.proofs.Tickets.{some-injective, target-of, issuer-of, ticket-of, issued-found}
-use Rattle.lot_machine.proofs.TicketDepth.{is_active-exact}
-use Rattle.lot_machine.proofs.NodeBounds.{issuer-amount}
-use Rattle.lot_machine.proofs.Edges.{ends-are}
-use Rattle.lot_laws.specs.Conservation.{HasAmounts}
-use Rattle.lot_laws.specs.Insulation.{FundsNoBase, Encloses, IsChangeInside}
+use Rattle.lot_machine.specs.declared.funding.Node.TheVariants.{Mutex}
 use Rattle.lot_laws.proofs.KeptPaths.{StaysActive, ends-ticket, ticket-ends, ends-kept, amount-one, chain-aims, target-one, currency-one, backed-kept}
 use Rattle.lot_laws.proofs.KeptValues.{ends, weighed, weighed-told, live-told, amount-stays, kept-value}
 

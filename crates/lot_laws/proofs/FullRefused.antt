@@ -1,11 +1,6 @@
 -- A command that is refused as full has failed its last check.
-use Rattle.std.proofs.Common.{◌≡◌, ◌≢◌, Bool, true, false, Option, Some, None, List, [], ◌∷◌, ◌++◌, refl, sym, ◌∙◌, ap}
-use Rattle.lot_machine.specs.declared.refusal.Refusal.{Refusal}
-use Rattle.lot_machine.specs.declared.refusal.Refusal.TheVariants.{Full}
+use Rattle.lot_laws.proofs.Common.{Bool, Full, List, None, Option, Refusal, Some, State, Step, ap, false, first_failing, refl, some-injective, sym, true, unless_refused, [], ◌++◌, ◌∙◌, ◌∷◌, ◌≡◌, ◌≢◌}
 use Rattle.lot_machine.specs.declared.reply.Reply.TheVariants.{Refused}
-use Rattle.lot_machine.specs.State.{State}
-use Rattle.lot_machine.specs.Commands.{Step, first_failing, unless_refused}
-use Rattle.lot_machine.proofs.Tickets.{some-injective}
 
 -- each of these checks refuses with another reason
 abbrev pub AreOther : List (Bool × Refusal) → Type 0

@@ -1,55 +1,14 @@
 -- A ticket more inside a currency, or one with another amount: all that changes is inside it, and it stays active.
-use Rattle.std.proofs.Common.{◌≡◌, cond, ◌≢◌, ℕ, zero, suc, ◌+◌, ◌-◌, ◌<◌, ◌≤◌, ◌⊎◌, inl, inr, not, Bool, true, false, is_none, Option, Some, None, List, [], ◌∷◌, length, map, option_map, option_and_then, unwrap_or, slice_get, refl, sym, ◌∙◌, ap, subst, arith}
-use Rattle.std.specs.Option.{option_flatten}
-use Rattle.lot_machine.specs.declared.ticket.Ticket.{Ticket}
-use Rattle.lot_machine.specs.declared.ticket.Target.{Target}
+use Rattle.lot_laws.proofs.Common.{BaseFixed, Bool, ChangesInside, Currency, CurrencyRef, Cycle, DeadThread, Edge, Encloses, Event, Fund, Funding, FundsThere, HasAmounts, HasEquation, HasNoCycle, IsActive, IsChangeInside, IsChangedEdge, IsChangedLife, IsEdge, IsInOrder, IsLive, IsMeantInside, IsReachable, IsWellFormed, Lend, List, MakeFunded, NoTarget, NoTicket, Node, None, OfLender, OfMutex, OfTicket, Option, Record, Refusal, SetTicket, Some, State, Status, Target, TargetRef, Thread, Ticket, active_amount, all-pass, amount_in, ap, arith, at_number, at_number-map, at_number-suc, command_effect, command_refusal, cond, contains-at, currency_meant, currency_or_base, ends_of, false, flatten-some, free-dead, free_threads, free_tickets, funding_of, inl, inr, is_active, is_active-exact, is_currency, is_cycle, is_dead_thread, is_funding, is_live_status, is_none, is_unfunded, issuer-amount, issuer-of, issuer_of, lend_node, lend_of, length, live_of, map, next_place, next_thread, not, number-next, number-set, number-there, opening, option_and_then, option_any, option_flatten, option_map, placed, refl, reissued, retargeted, slice_get, some-injective, state_after, status_of, step, step-grown, subst, suc, sym, target_meant, target_node, there-weighed, ticket-of, ticket_at, ticket_in, true, unless_refused, unwrap_or, weighed-there, weighed_of, with_amount, with_target, with_thread, with_ticket, worth_in, zero, ℕ, [], ◌+◌, ◌-◌, ◌<◌, ◌∙◌, ◌∷◌, ◌≡◌, ◌≢◌, ◌≤◌, ◌⊎◌}
 use Rattle.lot_machine.specs.declared.ticket.Target.TheVariants as target
-use Rattle.lot_machine.specs.declared.funding.Node.{Node}
-use Rattle.lot_machine.specs.declared.funding.Node.TheVariants.{Currency, Thread}
-use Rattle.lot_machine.specs.declared.funding.Edge.{Edge}
-use Rattle.lot_machine.specs.declared.funding.Edge.TheVariants.{OfTicket, OfLender, OfMutex}
-use Rattle.lot_machine.specs.declared.funding.Lend.{Lend}
-use Rattle.lot_machine.specs.declared.record.Record.{Record}
-use Rattle.lot_machine.specs.declared.record.Status.{Status}
 use Rattle.lot_machine.specs.declared.record.Status.TheVariants as status
-use Rattle.lot_machine.specs.declared.command.Command.TheVariants.{Fund, MakeFunded, SetTicket}
-use Rattle.lot_machine.specs.declared.reference.CurrencyRef.{CurrencyRef}
-use Rattle.lot_machine.specs.declared.reference.TargetRef.{TargetRef}
-use Rattle.lot_machine.specs.declared.event.Event.{Event}
 use Rattle.lot_machine.specs.declared.event.Event.TheVariants as event
-use Rattle.lot_machine.specs.declared.refusal.Refusal.{Refusal}
-use Rattle.lot_machine.specs.declared.refusal.Refusal.TheVariants.{NoTicket, NoTarget, Funding as IsFunding, Cycle, BaseFixed, DeadThread}
-use Rattle.lot_machine.specs.Numbered.{at_number, option_any}
-use Rattle.lot_machine.specs.Places.{next_place, placed}
-use Rattle.lot_machine.specs.Funding.{Funding, ticket_at, ticket_in, with_target, retargeted, target_node, lend_node, issuer_of, is_currency, ends_of, IsEdge, weighed_of, with_amount, reissued}
-use Rattle.lot_machine.specs.Lends.{IsLive}
-use Rattle.lot_machine.specs.Activity.{IsActive, is_active, active_amount}
-use Rattle.lot_machine.specs.Facts.{HasNoCycle, FundsThere}
-use Rattle.lot_machine.specs.Equations.{HasEquation}
-use Rattle.lot_machine.specs.Touched.{IsChangedEdge, IsChangedLife}
-use Rattle.lot_machine.specs.Order.{IsInOrder}
-use Rattle.lot_machine.specs.State.{State, free_tickets, free_threads, next_thread, status_of, opening, funding_of, live_of, lend_of, is_live_status}
-use Rattle.lot_machine.specs.Commands.{currency_meant, target_meant, currency_or_base, is_dead_thread, is_funding, is_unfunded, is_cycle, command_refusal, command_effect, unless_refused, with_ticket, with_thread}
-use Rattle.lot_machine.specs.Step.{step, state_after}
-use Rattle.lot_machine.proofs.Tickets.{at_number-suc, some-injective, issuer-of, ticket-of, flatten-some}
-use Rattle.lot_machine.proofs.TicketDepth.{is_active-exact}
-use Rattle.lot_machine.proofs.NodeBounds.{issuer-amount}
-use Rattle.lot_machine.proofs.Changes.{number-set, number-there}
-use Rattle.lot_machine.proofs.Places.{number-next}
-use Rattle.lot_machine.proofs.EachOnce.{contains-at}
-use Rattle.lot_machine.proofs.StepChanges.{free-dead}
-use Rattle.lot_machine.proofs.CommandsKept.{all-pass}
-use Rattle.lot_machine.proofs.TrapCycles.{at_number-map}
-use Rattle.lot_machine.proofs.StepSizes.{step-grown}
-use Rattle.lot_laws.specs.Conservation.{HasAmounts}
-use Rattle.lot_laws.specs.Insulation.{Encloses, IsChangeInside, ChangesInside, IsMeantInside, amount_in, worth_in}
-use Rattle.lot_laws.specs.Reachable.{IsReachable, IsWellFormed}
+use Rattle.lot_machine.specs.declared.refusal.Refusal.TheVariants.{Funding as IsFunding}
 use Rattle.lot_laws.proofs.KeptPaths.{ends-ticket, ticket-ends, chain-aims, active-same, ends-kept}
 use Rattle.lot_laws.proofs.KeptValues.{ends, weighed}
 use Rattle.lot_laws.proofs.Enclosed.{active-found}
 use Rattle.lot_laws.proofs.EachTicket.{reachable-order}
 use Rattle.lot_laws.proofs.StaysInside.{well-formed, reachable-run, run-inside}
-use Rattle.lot_machine.proofs.Weighed.{there-weighed, weighed-there}
 
 -- ---- edges that change inside
 

@@ -1,20 +1,5 @@
 -- What nothing leads to that a change touched keeps its value.
-use Rattle.std.proofs.Common.{◌≡◌, ◌≢◌, ℕ, ◌==◌, ◌⊎◌, inl, inr, Bool, true, Some, List, [], ◌∷◌, refl, sym, subst}
-use Rattle.std.proofs.lemmas.Bool.{eqb-true}
-use Rattle.lot_machine.specs.declared.ticket.Ticket.{Ticket}
-use Rattle.lot_machine.specs.declared.funding.Node.{Node}
-use Rattle.lot_machine.specs.declared.funding.Node.TheVariants.{Currency, Thread}
-use Rattle.lot_machine.specs.declared.funding.Edge.{Edge}
-use Rattle.lot_machine.specs.declared.funding.Edge.TheVariants.{OfTicket}
-use Rattle.lot_machine.specs.Numbered.{at_number}
-use Rattle.lot_machine.specs.Funding.{Funding, ticket_at, ends_of, weighed_of}
-use Rattle.lot_machine.specs.Lends.{IsLive}
-use Rattle.lot_machine.specs.Activity.{is_active, active_amount}
-use Rattle.lot_machine.specs.Value.{node_value}
-use Rattle.lot_machine.specs.Facts.{HasNoCycle, FundsThere}
-use Rattle.lot_machine.specs.Equations.{HasEquation}
-use Rattle.lot_machine.specs.Touched.{IsEdgeOfEither, IsPath, PathLeads, IsChangedNode}
-use Rattle.lot_laws.specs.Insulation.{IsAffected}
+use Rattle.lot_laws.proofs.Common.{Bool, Currency, Edge, Funding, FundsThere, HasEquation, HasNoCycle, IsAffected, IsChangedNode, IsEdgeOfEither, IsLive, IsPath, List, Node, OfTicket, PathLeads, Some, Thread, Ticket, active_amount, at_number, ends_of, eqb-true, inl, inr, is_active, node_value, refl, subst, sym, ticket_at, true, weighed_of, ℕ, [], ◌==◌, ◌∷◌, ◌≡◌, ◌≢◌, ◌⊎◌}
 use Rattle.lot_laws.proofs.KeptPaths.{StaysActive, ends-kept, active-same, active-there}
 use Rattle.lot_laws.proofs.KeptValues.{ends, weighed, weighed-told, live-told, amount-stays, kept-value}
 

@@ -1,31 +1,7 @@
 -- Each ticket's issuer exists; so a removed currency issues no ticket, and none funds it.
-use Rattle.std.proofs.Common.{◌≡◌, ◌≢◌, ℕ, zero, suc, ◌-◌, ◌==◌, ◌||◌, ◌⊎◌, inl, inr, not, true, false, is_none, is_some, nat_lt, Option, Some, None, List, [], ◌∷◌, length, map, refl, sym, ◌∙◌, ap, subst, eq-eqb, option_map, unwrap_or, slice_get, slice_set}
-use Rattle.std.specs.Option.{option_flatten}
-use Rattle.std.proofs.lemmas.Bool.{or_parts}
-use Rattle.std.proofs.lemmas.Option.{slice_get-map}
-use Rattle.lot_machine.specs.declared.ticket.Ticket.{Ticket}
+use Rattle.lot_laws.proofs.Common.{BadAmount, BadName, BaseFixed, By, Command, Console, DropCurrency, Event, Full, Fund, Funding, InUse, IsReachable, IsThere, Keeps, List, MakeCurrency, MakeFunded, MakeTicket, NameTaken, NewCurrency, NoCurrency, NoScript, None, Option, RemoveCurrency, RemoveTicket, SetTicket, Sizes, Some, State, Ticket, Unfund, all-pass, all_tickets, any_from, ap, are_threads_full, are_tickets_full, at_number, by_event, command_effect, command_refusal, command_step, currency-there, currency_meant, currency_or_base, eq-eqb, false, filtered-some, free_currencies, free_tickets, funding_of, inl, inr, is_bad_amount, is_in_use, is_no_script, is_none, is_some, is_taken, is_thread_name, issued_in, issuer_of, kept, length, map, nat_lt, next_thread, none-of, not, number-placed, number-set, opening, option_any, option_flatten, option_map, or_parts, other-tickets, place-placed, place-set_other, place_of, placed, refl, reissued, retargeted, set_number, slice_get, slice_get-map, slice_set, some-injective, state_after, step, step-leads, subst, suc, sym, target_meant, target_of, ticket_at, ticket_in, ticket_in-suc, true, unrefused, unwrap_or, zero, ℕ, [], ◌-◌, ◌==◌, ◌||◌, ◌∙◌, ◌∷◌, ◌≡◌, ◌≢◌, ◌⊎◌}
 use Rattle.lot_machine.specs.declared.ticket.Target.TheVariants as target
-use Rattle.lot_machine.specs.declared.command.Command.{Command}
-use Rattle.lot_machine.specs.declared.command.Command.TheVariants.{MakeTicket, RemoveTicket, MakeCurrency, RemoveCurrency, Fund, Unfund, SetTicket, MakeFunded}
-use Rattle.lot_machine.specs.declared.event.Event.{Event}
 use Rattle.lot_machine.specs.declared.event.Event.TheVariants as event
-use Rattle.lot_machine.specs.declared.refusal.Refusal.TheVariants.{BadName, NameTaken, NoCurrency, BadAmount, InUse, BaseFixed, Full, NoScript}
-use Rattle.lot_machine.specs.declared.sizes.Sizes.{Sizes}
-use Rattle.lot_machine.specs.Numbered.{at_number, set_number, option_any}
-use Rattle.lot_machine.specs.Places.{placed}
-use Rattle.lot_machine.specs.Funding.{Funding, ticket_in, ticket_at, issuer_of, target_of, issued_in, all_tickets, retargeted, reissued}
-use Rattle.lot_machine.specs.State.{State, opening, free_tickets, free_currencies, next_thread, funding_of}
-use Rattle.lot_machine.specs.Commands.{currency_meant, target_meant, currency_or_base, is_bad_amount, is_thread_name, is_taken, is_no_script, is_in_use, are_tickets_full, are_threads_full, command_refusal, command_effect, command_step}
-use Rattle.lot_machine.specs.Step.{step, state_after}
-use Rattle.lot_machine.specs.Change.{NewCurrency, DropCurrency}
-use Rattle.lot_machine.proofs.Tickets.{some-injective, ticket_in-suc, place_of, any_from}
-use Rattle.lot_machine.proofs.Changes.{number-set, place-set_other}
-use Rattle.lot_machine.proofs.Places.{place-placed, number-placed}
-use Rattle.lot_machine.proofs.FundingKept.{filtered-some}
-use Rattle.lot_machine.proofs.CommandsKept.{IsThere, unrefused, all-pass, none-of}
-use Rattle.lot_machine.proofs.StepChanges.{By, Console, Keeps, kept, by_event, step-leads, currency-there}
-use Rattle.lot_machine.proofs.StepSizes.{other-tickets}
-use Rattle.lot_laws.specs.Reachable.{IsReachable}
 use Rattle.lot_laws.proofs.EachTicket.{reachable-order}
 
 -- the currency exists

@@ -1,23 +1,7 @@
 -- Where edges and lives are kept, chains of lends and of tickets are, and so is which tickets are active.
-use Rattle.std.proofs.Common.{◌≡◌, ℕ, Bool, true, Option, Some, None, List, [], ◌∷◌, option_map, option_and_then, refl, sym, ◌∙◌, ap, subst}
-use Rattle.lot_machine.specs.declared.ticket.Ticket.{Ticket}
-use Rattle.lot_machine.specs.declared.ticket.Target.{Target}
+use Rattle.lot_laws.proofs.Common.{Bool, Currency, Edge, Funding, FundsThere, HasNoCycle, IsActive, IsBacked, IsChain, IsLendChain, IsLive, Lend, LendsTo, List, Nobody, Node, None, OfLender, OfMutex, OfTicket, Option, Some, Target, Thread, Ticket, ToMutex, ToThread, ap, at_number, borrower, ends-are, ends_of, is_active, is_active-exact, issuer-of, issuer_of, lend_node, option_and_then, option_map, pair, refl, some-injective, subst, sym, target-of, target_node, target_of, there-weighed, ticket-of, ticket_at, true, weighed-there, weighed_of, ℕ, [], ◌∙◌, ◌∷◌, ◌≡◌}
 use Rattle.lot_machine.specs.declared.ticket.Target.TheVariants as target
-use Rattle.lot_machine.specs.declared.funding.Node.{Node}
-use Rattle.lot_machine.specs.declared.funding.Node.TheVariants.{Currency, Thread, Mutex}
-use Rattle.lot_machine.specs.declared.funding.Edge.{Edge}
-use Rattle.lot_machine.specs.declared.funding.Edge.TheVariants.{OfTicket, OfLender, OfMutex}
-use Rattle.lot_machine.specs.declared.funding.Lend.{Lend}
-use Rattle.lot_machine.specs.declared.funding.Lend.TheVariants.{Nobody, ToThread, ToMutex}
-use Rattle.lot_machine.specs.Numbered.{at_number}
-use Rattle.lot_machine.specs.Funding.{Funding, ticket_at, target_of, issuer_of, target_node, lend_node, ends_of, weighed_of, IsChain}
-use Rattle.lot_machine.specs.Lends.{borrower, LendsTo, IsLendChain, IsLive, IsBacked}
-use Rattle.lot_machine.specs.Activity.{IsActive, is_active}
-use Rattle.lot_machine.specs.Facts.{HasNoCycle, FundsThere}
-use Rattle.lot_machine.proofs.Tickets.{some-injective, target-of, issuer-of, ticket-of}
-use Rattle.lot_machine.proofs.TicketDepth.{is_active-exact}
-use Rattle.lot_machine.proofs.Edges.{pair, ends-are}
-use Rattle.lot_machine.proofs.Weighed.{there-weighed, weighed-there}
+use Rattle.lot_machine.specs.declared.funding.Node.TheVariants.{Mutex}
 
 -- ---- the ends of edges
 

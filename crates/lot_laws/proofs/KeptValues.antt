@@ -1,25 +1,6 @@
 -- Nodes keep their values if the same edges lead into them, and these pass on as much.
-use Rattle.std.proofs.Common.{◌≡◌, ◌≢◌, ℕ, suc, ◌*◌, ◌/◌, ◌==◌, ◌⊎◌, inl, inr, Bool, true, false, cond, Option, Some, None, List, [], ◌∷◌, slice_get, sum_by, filter, option_map, unwrap_or, refl, sym, ◌∙◌, ap, arith, if◌then◌else◌}
-use Rattle.std.specs.Option.{option_flatten}
-use Rattle.std.proofs.lemmas.Bool.{eq-eqb, eqb-true, cases_eq}
-use Rattle.std.proofs.lemmas.List.Sums.{sum_by-cons}
-use Rattle.lot_machine.specs.declared.ticket.Ticket.{Ticket}
-use Rattle.lot_machine.specs.declared.funding.Node.{Node}
-use Rattle.lot_machine.specs.declared.funding.Node.TheVariants.{Currency, Thread, Mutex}
-use Rattle.lot_machine.specs.declared.funding.Edge.{Edge}
-use Rattle.lot_machine.specs.declared.funding.Edge.TheVariants.{OfTicket, OfLender, OfMutex}
-use Rattle.lot_machine.specs.Funding.{Funding, ticket_at, all_tickets, ends_of, weighed_of, IsEdge}
-use Rattle.lot_machine.specs.Activity.{IsActive, is_active, active_amount}
-use Rattle.lot_machine.specs.Value.{node_value}
-use Rattle.lot_machine.specs.Facts.{HasNoCycle, FundsThere}
-use Rattle.lot_machine.specs.Equations.{LeadsInto, ticket_share, share, shares_into, HasEquation}
-use Rattle.lot_machine.specs.Touched.{IsEdgeOfEither}
-use Rattle.lot_machine.proofs.Sums.{sum-filter}
-use Rattle.lot_machine.proofs.Tickets.{some-injective, ticket_in-suc}
-use Rattle.lot_machine.proofs.TicketDepth.{is_active-exact}
-use Rattle.lot_machine.proofs.EdgesOnce.{kept-shares}
-use Rattle.lot_machine.proofs.EdgeSums.{sum-there}
-use Rattle.lot_machine.proofs.NodeShares.{values-solve, begins-there, solution}
+use Rattle.lot_laws.proofs.Common.{Bool, Currency, Edge, Funding, FundsThere, HasEquation, HasNoCycle, IsActive, IsEdge, IsEdgeOfEither, LeadsInto, List, Node, None, OfLender, OfMutex, OfTicket, Option, Some, Thread, Ticket, active_amount, all_tickets, ap, arith, begins-there, cases_eq, cond, ends_of, eq-eqb, eqb-true, false, filter, if◌then◌else◌, inl, inr, is_active, is_active-exact, kept-shares, node_value, option_flatten, option_map, refl, share, shares_into, slice_get, solution, some-injective, suc, sum-filter, sum-there, sum_by, sum_by-cons, sym, ticket_at, ticket_in-suc, ticket_share, true, unwrap_or, values-solve, weighed_of, ℕ, [], ◌*◌, ◌/◌, ◌==◌, ◌∙◌, ◌∷◌, ◌≡◌, ◌≢◌, ◌⊎◌}
+use Rattle.lot_machine.specs.declared.funding.Node.TheVariants.{Mutex}
 use Rattle.lot_laws.proofs.KeptPaths.{StaysActive, ends-ticket, ends-kept, amount-one, currency-one}
 
 -- ---- what can be told

@@ -1,42 +1,9 @@
 -- What is left of a killed thread, and of those who waited for it.
-use Rattle.std.proofs.Common.{◌≡◌, ℕ, zero, suc, ◌-◌, ◌<◌, ◌≤◌, ◌==◌, Bool, true, false, ◌⊎◌, inl, inr, Option, Some, None, is_none, List, [], ◌∷◌, Contains, length, map, drop, filter_map, refl, sym, ◌∙◌, ap, subst, arith, cond, option_map, unwrap_or, get_or, slice_get, if◌then◌else◌}
-use Rattle.std.specs.Option.{option_flatten}
-use Rattle.std.proofs.lemmas.Bool.{eqb-true, eq-eqb}
-use Rattle.std.proofs.lemmas.Option.{slice_get_cases}
-use Rattle.lot_machine.specs.declared.record.Record.{Record}
-use Rattle.lot_machine.specs.declared.record.Status.{Status}
+use Rattle.lot_laws.proofs.Common.{Bool, Contains, DeadThread, Event, IsAbsent, IsAmong, IsHeir, IsInOrder, IsNextOwner, IsReachable, Kill, Kills, LendsTo, List, Mutex, NoThread, Nobody, None, Option, Owns, Port, Record, Refusal, Sizes, Some, StandsNowhere, State, Status, Step, ThreadRef, ToMutex, ToThread, WaitsForThread, after_kill, among-append_left, ap, arith, at_number, at_number-map, at_number-suc, borrower, calls-absent, change_each, clients_of, cond, contains-at, drop, each-record, each-record_either, each-record_other, ended, eq-eqb, eqb-true, false, filter_map, first_failing, funding_of, get_or, heir, heir-released, holder_of, if◌then◌else◌, inl, inr, is_dead_in, is_none, is_owned_by, killed, lend_of, lends-by, lends_at, length, lent-if, lent-to, map, meant-number, meant-within, mutex_without, number-mapped, number-set, number-set_same, opening, option_any, option_flatten, option_map, owner-either, owner_of, passed_on, place-in, port_without, record-now, record-other, refl, released, released-why, released_by, set_number, slice_get, slice_get_cases, some-injective, state_after, status_of, step, step-grown, step-order, subst, suc, sym, thread_meant, true, unless_refused, unwrap_or, without, without-absent, without-other, zero, ℕ, [], ◌-◌, ◌<◌, ◌==◌, ◌∙◌, ◌∷◌, ◌≡◌, ◌≤◌, ◌⊎◌}
 use Rattle.lot_machine.specs.declared.record.Status.TheVariants as status
-use Rattle.lot_machine.specs.declared.command.Command.TheVariants.{Kill}
-use Rattle.lot_machine.specs.declared.event.Event.{Event}
 use Rattle.lot_machine.specs.declared.event.Event.TheVariants as event
-use Rattle.lot_machine.specs.declared.reference.ThreadRef.{ThreadRef}
-use Rattle.lot_machine.specs.declared.refusal.Refusal.{Refusal}
-use Rattle.lot_machine.specs.declared.refusal.Refusal.TheVariants.{NoThread, DeadThread}
 use Rattle.lot_machine.specs.declared.reply.Reply.TheVariants as reply
-use Rattle.lot_machine.specs.declared.sizes.Sizes.{Sizes}
-use Rattle.lot_machine.specs.Numbered.{at_number, set_number, option_any}
-use Rattle.lot_machine.specs.Funding.{owner_of}
-use Rattle.lot_machine.specs.Lends.{borrower, LendsTo}
-use Rattle.lot_machine.specs.State.{State, holder_of, lends_at, Port, Mutex, opening, funding_of, lend_of, status_of, change_each}
-use Rattle.lot_machine.specs.Commands.{Step, first_failing, unless_refused, thread_meant, is_dead_in}
-use Rattle.lot_machine.specs.Ports.{clients_of}
-use Rattle.lot_machine.specs.Kill.{without, port_without, is_owned_by, passed_on, mutex_without, heir, released_by, released, ended, killed}
-use Rattle.lot_machine.specs.Step.{step, state_after}
-use Rattle.lot_machine.specs.Order.{IsInOrder}
-use Rattle.lot_machine.proofs.Tickets.{at_number-suc, some-injective}
-use Rattle.lot_machine.proofs.Changes.{number-set}
-use Rattle.lot_machine.proofs.Queues.{IsAbsent, number-set_same}
-use Rattle.lot_machine.specs.declared.funding.Lend.TheVariants.{Nobody, ToThread, ToMutex}
-use Rattle.lot_machine.proofs.TrapCycles.{at_number-map, lent-to, lent-if}
-use Rattle.lot_machine.proofs.EachOnce.{place-in, contains-at}
-use Rattle.lot_machine.proofs.Killed.{IsAmong, IsHeir, among-append_left, heir-released, released-why, without-absent, calls-absent, record-now, record-other, each-record, each-record_either, each-record_other, owner-either, without-other}
-use Rattle.lot_machine.proofs.KillKept.{lends-by, number-mapped}
 use Rattle.lot_machine.proofs.Queues as queues
-use Rattle.lot_machine.proofs.OrderKept.{meant-number, meant-within, step-order}
-use Rattle.lot_machine.proofs.StepSizes.{step-grown}
-use Rattle.lot_laws.specs.Kills.{Kills, Owns, IsNextOwner, WaitsForThread, after_kill}
-use Rattle.lot_laws.specs.Reachable.{IsReachable}
-use Rattle.lot_laws.specs.Removed.{StandsNowhere}
 use Rattle.lot_laws.proofs.EachTicket.{reachable-order}
 use Rattle.lot_laws.proofs.StayOut.{dead-nowhere}
 use Rattle.lot_laws.proofs.StaysInside.{reachable-run}

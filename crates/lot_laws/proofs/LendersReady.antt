@@ -1,23 +1,5 @@
 -- Threads that lend to one thread, against the same state with all of them Ready: what threads are worth.
-use Rattle.std.proofs.Common.{◌≡◌, ◌≢◌, ℕ, zero, ◌+◌, ◌⊎◌, inl, inr, Bool, true, false, cond, Some, None, List, [], ◌∷◌, Contains, length, sum_by, option_map, option_and_then, refl, sym, ◌∙◌, ap, subst, arith}
-use Rattle.std.proofs.lemmas.Bool.{cases_eq}
-use Rattle.std.proofs.lemmas.List.Sums.{sum_by-cons}
-use Rattle.lot_machine.specs.declared.record.Record.{Record}
-use Rattle.lot_machine.specs.declared.record.Status.{Status}
-use Rattle.lot_machine.specs.declared.record.Status.TheVariants.{Ready}
-use Rattle.lot_machine.specs.Numbered.{at_number}
-use Rattle.lot_machine.specs.Lends.{borrower, borrower_of, LendsTo, IsLendChain, LendsLead, IsLive, IsBacked, lends_lead}
-use Rattle.lot_machine.specs.State.{State, funding_of, live_of, lend_of, is_live_status, status_of, value_of, change_record, change_each}
-use Rattle.lot_machine.specs.Facts.{HasNoCycle, FundsThere, live_value}
-use Rattle.lot_machine.proofs.KillKept.{lends-by}
-use Rattle.lot_machine.proofs.Queues.{status-now, status-other}
-use Rattle.lot_machine.proofs.Tickets.{some-injective}
-use Rattle.lot_machine.proofs.TrapCycles.{cycle-nobody}
-use Rattle.lot_machine.proofs.LendDepth.{lends_lead-exact}
-use Rattle.lot_machine.proofs.CountsOnce.{counts-once}
-use Rattle.lot_machine.proofs.EachOnce.{IsApart, contains-later}
-use Rattle.lot_machine.proofs.StepSizes.{change-length}
-use Rattle.lot_laws.specs.Transfers.{with_ready}
+use Rattle.lot_laws.proofs.Common.{Bool, Contains, FundsThere, HasNoCycle, IsApart, IsBacked, IsLendChain, IsLive, LendsLead, LendsTo, List, None, Ready, Record, Some, State, Status, ap, arith, at_number, borrower, borrower_of, cases_eq, change-length, change_each, change_record, cond, contains-later, counts-once, cycle-nobody, false, funding_of, inl, inr, is_live_status, lend_of, lends-by, lends_lead, lends_lead-exact, length, live_of, live_value, option_and_then, option_map, refl, some-injective, status-now, status-other, status_of, subst, sum_by, sum_by-cons, sym, true, value_of, with_ready, zero, ℕ, [], ◌+◌, ◌∙◌, ◌∷◌, ◌≡◌, ◌≢◌, ◌⊎◌}
 use Rattle.lot_laws.proofs.Trapped.{lend-is, live-is}
 use Rattle.lot_laws.proofs.KeptValues.{same-bool}
 use Rattle.lot_laws.proofs.Lending.{same-borrower, leads-itself}

@@ -1,26 +1,7 @@
 -- One thread more lends: what threads are worth then, if the same tickets stay active.
-use Rattle.std.proofs.Common.{◌≡◌, ◌≢◌, ℕ, zero, suc, ◌+◌, ◌*◌, ◌/◌, ◌==◌, ◌⊎◌, inl, inr, ◌↔◌, Bool, true, false, cond, Option, Some, None, List, [], ◌∷◌, length, filter, sum_by, slice_get, option_map, option_and_then, refl, sym, ◌∙◌, ap, subst, arith, if◌then◌else◌}
-use Rattle.std.specs.Option.{option_flatten}
-use Rattle.std.specs.List.{range_with_len}
-use Rattle.std.proofs.lemmas.Bool.{cases_eq, eq-eqb}
-use Rattle.std.proofs.lemmas.List.Sums.{length-filter}
-use Rattle.lot_machine.specs.declared.ticket.Ticket.{Ticket}
-use Rattle.lot_machine.specs.declared.ticket.Target.{Target}
+use Rattle.lot_laws.proofs.Common.{Bool, Funding, FundsThere, HasNoCycle, IsActive, IsBacked, IsChain, IsLendChain, IsLive, Lend, LendsLead, LendsTo, List, Nobody, None, Option, Some, Target, Ticket, ToMutex, ToThread, active_amount, all_tickets, ap, arith, at_number, backing_currency, backing_thread, borrower, borrower_of, cases_eq, cond, eq-eqb, false, filter, if◌then◌else◌, inl, inr, is_active, is_active-exact, is_backed, is_backed-exact, is_currency, is_thread, issued_in, lends_lead, lends_lead-exact, length, length-filter, numbers, option_and_then, option_flatten, option_map, own_value, place_of, range_with_len, refl, slice_get, some-injective, subst, suc, sum-filter, sum-nothing, sum-plus, sum-same, sum-under, sum_by, sym, target-of, target_of, term-there, thread_value, ticket_at, ticket_in-suc, ticket_value, ticket_value_within, true, zero, ℕ, [], ◌*◌, ◌+◌, ◌/◌, ◌==◌, ◌↔◌, ◌∙◌, ◌∷◌, ◌≡◌, ◌≢◌, ◌⊎◌}
 use Rattle.lot_machine.specs.declared.ticket.Target.TheVariants as target
-use Rattle.lot_machine.specs.declared.funding.Lend.{Lend}
-use Rattle.lot_machine.specs.declared.funding.Lend.TheVariants.{Nobody, ToThread, ToMutex}
-use Rattle.lot_machine.specs.Numbered.{at_number, numbers}
-use Rattle.lot_machine.specs.Funding.{Funding, ticket_at, target_of, issued_in, backing_currency, backing_thread, all_tickets, is_currency, is_thread, IsChain}
-use Rattle.lot_machine.specs.Lends.{borrower, borrower_of, LendsTo, IsLendChain, LendsLead, IsLive, IsBacked, lends_lead, is_backed}
-use Rattle.lot_machine.specs.Activity.{IsActive, is_active, active_amount}
-use Rattle.lot_machine.specs.Value.{ticket_value_within, ticket_value, own_value, thread_value}
-use Rattle.lot_machine.specs.Facts.{HasNoCycle, FundsThere}
-use Rattle.lot_machine.proofs.Sums.{sum-filter, sum-same, sum-nothing, sum-plus, sum-under}
-use Rattle.lot_machine.proofs.Tickets.{some-injective, ticket_in-suc, place_of, target-of}
 use Rattle.lot_machine.proofs.Tickets as tickets
-use Rattle.lot_machine.proofs.LendDepth.{lends_lead-exact, is_backed-exact}
-use Rattle.lot_machine.proofs.TicketDepth.{is_active-exact}
-use Rattle.lot_machine.proofs.CurrencyFlow.{term-there}
 use Rattle.lot_laws.proofs.KeptValues.{same-bool}
 
 -- the same tickets and owners, with other lends

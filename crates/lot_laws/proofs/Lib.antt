@@ -1,3 +1,4 @@
+pub mod Common
 pub mod AllDraws
 pub mod EachTicket
 pub mod KeptPaths

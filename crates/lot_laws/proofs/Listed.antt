@@ -1,49 +1,8 @@
 -- In a reachable state each thread that is served is among the clients of its server.
-use Rattle.std.proofs.Common.{◌≡◌, ℕ, zero, suc, ◌+◌, ◌-◌, ◌<◌, ◌≤◌, cond, Bool, true, false, ◌⊎◌, inl, inr, Option, Some, None, is_none, List, [], ◌∷◌, ◌++◌, length, map, drop, refl, sym, ◌∙◌, ap, subst, arith, nat_lt, option_map, unwrap_or, get_or, slice_get, slice_index}
-use Rattle.std.proofs.lemmas.List.{length-append}
-use Rattle.std.proofs.lemmas.Option.{slice_get_cases}
-use Rattle.std.proofs.Math.ListN.{length-set}
-use Rattle.lot_machine.specs.declared.record.Record.{Record}
-use Rattle.lot_machine.specs.declared.record.Status.{Status}
+use Rattle.lot_laws.proofs.Common.{Action, After, BadProcessor, BadTicks, Bool, By, Call, Command, DeadThread, Drawn, Effect, Ends, Event, Exit, GoesOn, IsAmong, IsInOrder, IsReachable, Keeps, Kill, Leaves, List, Lock, MakeFunded, MakeThread, Mutex, NewThread, NoPort, NoThread, None, NotRunning, NothingToReply, Option, Port, PutClients, PutRecord, QueuedCall, Receive, Record, Serve, Sleep, Some, State, Status, TrapRefusal, Unlock, Yield, after_trap, all-pass, among-append_left, among-append_right, ap, arith, at_number, at_number-map, at_number-suc, before_lock, by_event, call, change_each, change_record, checked_effect, client-waits, clients_of, command_effect, command_refusal, command_step, compensation_for, cond, contains-at, draw, drop, each-now, ended, event_effect, false, first_client, free_threads, get_or, inl, inr, is_bad_processor, is_dead_in, is_none, kept, killed, killed-dead, killed-either, length, length-append, length-set, lock, map, meant-number, mutex_at, nat_lt, newborn, next_place, number-next, number-placed, number-set, number-set_same, number-there, numbered, of_mutexes, of_ports, opening, opening-order, option_any, option_map, placed, port_at, ready_threads, receive, refl, released, released_by, reply, set_number, slice_get, slice_get_cases, slice_index, some-injective, started, state_after, status-changed, status-now, status-other, status_of, step, step-leads, step-order, stopped, subst, suc, sym, there-runs, thread_meant, thread_on, thread_there, trap, trap_effect, trap_refusal, true, unlock, unrefused, unwrap_or, used_there, value_of, weight_of, winner, with_ticks, without, zero, ℕ, [], ◌++◌, ◌+◌, ◌-◌, ◌<◌, ◌∙◌, ◌∷◌, ◌≡◌, ◌≤◌, ◌⊎◌}
 use Rattle.lot_machine.specs.declared.record.Status.TheVariants as status
-use Rattle.lot_machine.specs.declared.action.Action.{Action}
-use Rattle.lot_machine.specs.declared.action.Action.TheVariants.{Yield, Call, Receive, Reply as ReplyTo, Serve, Lock, Unlock, Sleep, Exit}
-use Rattle.lot_machine.specs.declared.command.Command.{Command}
-use Rattle.lot_machine.specs.declared.command.Command.TheVariants.{MakeThread, Kill, MakeFunded}
-use Rattle.lot_machine.specs.declared.event.Event.{Event}
+use Rattle.lot_machine.specs.declared.action.Action.TheVariants.{Reply as ReplyTo}
 use Rattle.lot_machine.specs.declared.event.Event.TheVariants as event
-use Rattle.lot_machine.specs.declared.refusal.Refusal.TheVariants.{NoThread, DeadThread, BadProcessor, NotRunning, BadTicks}
-use Rattle.lot_machine.specs.declared.refusal.TrapRefusal.{TrapRefusal}
-use Rattle.lot_machine.specs.declared.refusal.TrapRefusal.TheVariants.{NoPort, NothingToReply}
-use Rattle.lot_machine.specs.declared.drawn.Drawn.{Drawn}
-use Rattle.lot_machine.specs.declared.after.After.{After}
-use Rattle.lot_machine.specs.declared.after.After.TheVariants.{GoesOn, Leaves, Ends}
-use Rattle.lot_machine.specs.Change.{NewThread, PutRecord, PutClients}
-use Rattle.lot_machine.specs.Numbered.{at_number, set_number, option_any}
-use Rattle.lot_machine.specs.Lottery.{winner}
-use Rattle.lot_machine.specs.Places.{next_place, placed}
-use Rattle.lot_machine.specs.State.{State, Mutex, Port, QueuedCall, opening, free_threads, status_of, thread_on, ready_threads, change_record, change_each, value_of, weight_of}
-use Rattle.lot_machine.specs.Commands.{thread_meant, is_dead_in, command_refusal, command_effect, command_step, newborn}
-use Rattle.lot_machine.specs.Traps.{after_trap, compensation_for, with_ticks}
-use Rattle.lot_machine.specs.Ports.{clients_of, port_at, first_client, call, receive, reply}
-use Rattle.lot_machine.specs.Servers.{before_lock}
-use Rattle.lot_machine.specs.Mutexes.{mutex_at, lock, unlock}
-use Rattle.lot_machine.specs.Kill.{without, released_by, released, ended, killed}
-use Rattle.lot_machine.specs.Step.{Effect, of_ports, of_mutexes, is_bad_processor, started, draw, stopped, trap, trap_refusal, trap_effect, checked_effect, thread_there, used_there, event_effect, step, state_after}
-use Rattle.lot_machine.specs.Order.{IsInOrder}
-use Rattle.lot_machine.proofs.Tickets.{at_number-suc, some-injective}
-use Rattle.lot_machine.proofs.Changes.{number-set, number-there}
-use Rattle.lot_machine.proofs.Places.{number-placed, number-next}
-use Rattle.lot_machine.proofs.EachOnce.{contains-at}
-use Rattle.lot_machine.proofs.CommandsKept.{unrefused, all-pass}
-use Rattle.lot_machine.proofs.RecordsKept.{status-changed, numbered}
-use Rattle.lot_machine.proofs.Queues.{number-set_same, status-now, status-other}
-use Rattle.lot_machine.proofs.TrapCycles.{at_number-map}
-use Rattle.lot_machine.proofs.Idle.{there-runs}
-use Rattle.lot_machine.proofs.OrderKept.{step-order, opening-order, meant-number}
-use Rattle.lot_machine.proofs.Killed.{IsAmong, among-append_left, among-append_right, killed-either, killed-dead, each-now, client-waits}
-use Rattle.lot_machine.proofs.StepChanges.{By, Keeps, kept, by_event, step-leads}
-use Rattle.lot_laws.specs.Reachable.{IsReachable}
 use Rattle.lot_laws.proofs.WaitsListed.{left-threads}
 
 -- as many lists of clients as records

@@ -1,37 +1,5 @@
 -- A thread that waits for a mutex: what threads are worth then.
-use Rattle.std.proofs.Common.{◌≡◌, ◌≢◌, ℕ, ◌+◌, Bool, true, false, cond, nat_lt, is_none, Option, Some, None, List, [], ◌∷◌, ◌++◌, length, map, filter, option_map, unwrap_or, sum_by, refl, sym, ◌∙◌, ap, subst, arith, if◌then◌else◌}
-use Rattle.std.specs.Option.{option_flatten}
-use Rattle.std.proofs.lemmas.Bool.{or_parts}
-use Rattle.lot_machine.specs.declared.record.Record.{Record}
-use Rattle.lot_machine.specs.declared.record.Status.TheVariants.{Running, Waiting}
-use Rattle.lot_machine.specs.declared.action.Action.TheVariants.{Lock}
-use Rattle.lot_machine.specs.declared.event.Event.{Event}
-use Rattle.lot_machine.specs.declared.funding.Lend.TheVariants.{Nobody, ToMutex}
-use Rattle.lot_machine.specs.declared.event.Event.TheVariants.{Trap}
-use Rattle.lot_machine.specs.declared.reply.Outcome.TheVariants.{Waits}
-use Rattle.lot_machine.specs.declared.refusal.TrapRefusal.TheVariants.{NoMutex, AlreadyOwner, LockCycle}
-use Rattle.lot_machine.specs.declared.after.After.TheVariants.{Leaves}
-use Rattle.lot_machine.specs.Numbered.{at_number, set_number, numbers, option_any}
-use Rattle.lot_machine.specs.Funding.{Funding, owner_of}
-use Rattle.lot_machine.specs.Lends.{borrower, borrower_of, IsBacked, LendsLead, lends_lead, lends_on_to, is_backed}
-use Rattle.lot_machine.specs.Value.{own_value, thread_value}
-use Rattle.lot_machine.specs.State.{State, Mutex, funding_of, live_of, live_in, lend_of, is_live_status, status_of, value_of, change_record}
-use Rattle.lot_machine.specs.Traps.{after_trap, with_ticks}
-use Rattle.lot_machine.specs.Mutexes.{mutex_at, lock}
-use Rattle.lot_machine.specs.Servers.{without_servers, before_lock, unserved, port_holders}
-use Rattle.lot_machine.specs.Step.{is_no_mutex, of_mutexes, owns, finish_trap, step}
-use Rattle.lot_machine.specs.Facts.{HasNoCycle, live_value}
-use Rattle.lot_machine.specs.Order.{IsInOrder}
-use Rattle.lot_machine.proofs.CommandsKept.{all-pass, some-of}
-use Rattle.lot_machine.proofs.Queues.{status-now, status-other}
-use Rattle.lot_machine.proofs.Tickets.{some-injective}
-use Rattle.lot_machine.proofs.TrapCycles.{at_number-map}
-use Rattle.lot_machine.proofs.CountsOnce.{counts-once}
-use Rattle.lot_machine.proofs.Unserved.{locks-off}
-use Rattle.lot_machine.proofs.LendDepth.{lends_lead-exact}
-use Rattle.lot_machine.proofs.OrderKept.{step-order}
-use Rattle.lot_laws.specs.Transfers.{MayWait, WaitsFor}
-use Rattle.lot_machine.proofs.StepSizes.{change-length}
+use Rattle.lot_laws.proofs.Common.{AlreadyOwner, Bool, Event, Funding, HasNoCycle, IsBacked, IsInOrder, Leaves, LendsLead, List, Lock, LockCycle, MayWait, Mutex, NoMutex, Nobody, None, Option, Record, Running, Some, State, ToMutex, Trap, Waiting, Waits, WaitsFor, after_trap, all-pass, ap, arith, at_number, at_number-map, before_lock, borrower, borrower_of, change-length, change_record, cond, counts-once, false, filter, finish_trap, funding_of, if◌then◌else◌, is_backed, is_live_status, is_no_mutex, is_none, lend_of, lends_lead, lends_lead-exact, lends_on_to, length, live_in, live_of, live_value, lock, locks-off, map, mutex_at, nat_lt, numbers, of_mutexes, option_any, option_flatten, option_map, or_parts, own_value, owner_of, owns, port_holders, refl, set_number, some-injective, some-of, status-now, status-other, status_of, step, step-order, subst, sum_by, sym, thread_value, true, unserved, unwrap_or, value_of, with_ticks, without_servers, ℕ, [], ◌++◌, ◌+◌, ◌∙◌, ◌∷◌, ◌≡◌, ◌≢◌}
 use Rattle.lot_laws.proofs.Trapped.{IsDone, trap-done}
 use Rattle.lot_laws.proofs.Lending.{lending}
 use Rattle.lot_laws.proofs.Blocked.{lends_in, blocked-worth, blocked-own}

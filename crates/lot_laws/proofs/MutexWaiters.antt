@@ -1,15 +1,5 @@
 -- The threads that lend to a mutex, or to the holder of a port's server: a list with each of them once.
-use Rattle.std.proofs.Common.{◌≡◌, ℕ, suc, ◌-◌, ◌<◌, Bool, true, Option, Some, None, Contains, length, refl, sym, ◌∙◌, ap, arith}
-use Rattle.std.proofs.lemmas.Bool.{eq-eqb, eqb-true}
-use Rattle.std.proofs.lemmas.Option.{slice_get_within}
-use Rattle.lot_machine.specs.declared.funding.Lend.{Lend}
-use Rattle.lot_machine.specs.declared.funding.Lend.TheVariants.{Nobody, ToThread, ToMutex}
-use Rattle.lot_machine.specs.Numbered.{at_number, numbers, option_any}
-use Rattle.lot_machine.specs.Funding.{Funding, is_to_mutex}
-use Rattle.lot_machine.specs.Value.{waiters_for}
-use Rattle.lot_machine.proofs.Changes.{number-there}
-use Rattle.lot_machine.proofs.EachOnce.{IsApart, contains-filter, filter-contains, range-contains, apart-range, apart-filter}
-use Rattle.lot_machine.proofs.Tickets.{at_number-suc}
+use Rattle.lot_laws.proofs.Common.{Bool, Contains, Funding, IsApart, Lend, Nobody, None, Option, Some, ToMutex, ToThread, ap, apart-filter, apart-range, arith, at_number, at_number-suc, contains-filter, eq-eqb, eqb-true, filter-contains, is_to_mutex, length, number-there, numbers, option_any, range-contains, refl, slice_get_within, suc, sym, true, waiters_for, ℕ, ◌-◌, ◌<◌, ◌∙◌, ◌≡◌}
 
 -- whether a thread lends to the mutex
 abbrev waits : Funding → ℕ → ℕ → Bool

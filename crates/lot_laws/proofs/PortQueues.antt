@@ -1,21 +1,6 @@
 -- Who waits at a port in a reachable state, and what the port passes on.
-use Rattle.std.proofs.Common.{◌≡◌, ◌≢◌, ℕ, ◌+◌, ◌≤◌, nat_le, ◌&&◌, inl, inr, Bool, true, false, cond, Option, Some, None, List, [], Contains, map, sum_by, option_map, unwrap_or, slice_get, refl, sym, ◌∙◌, ap, subst, arith, if◌then◌else◌}
-use Rattle.std.proofs.lemmas.Bool.{le-leb, ltb-false}
-use Rattle.lot_machine.specs.declared.record.Status.{Status}
+use Rattle.lot_laws.proofs.Common.{Bool, Contains, HasOneSidedPorts, IsApart, IsInOrder, IsOneSided, IsReachable, Lend, LendsQueued, List, Nobody, None, Option, Port, QueuedCall, Some, State, Status, ToMutex, ToThread, ap, apart-from, arith, at-port, at_number, callers_of, cond, contains-at, contains-nothing, false, funding_of, holder_of, if◌then◌else◌, inl, inr, le-leb, lend_of, lends_at, ltb-false, map, nat_le, option_map, place-in, port_at, port_value, reached-one, reached-order, refl, same-sums, slice_get, some-injective, status_of, subst, sum_by, sym, true, unwrap_or, value_of, waiters_for, ℕ, [], ◌&&◌, ◌+◌, ◌∙◌, ◌≡◌, ◌≢◌, ◌≤◌}
 use Rattle.lot_machine.specs.declared.record.Status.TheVariants as status
-use Rattle.lot_machine.specs.declared.funding.Lend.{Lend}
-use Rattle.lot_machine.specs.declared.funding.Lend.TheVariants.{Nobody, ToThread, ToMutex}
-use Rattle.lot_machine.specs.Numbered.{at_number}
-use Rattle.lot_machine.specs.Value.{waiters_for}
-use Rattle.lot_machine.specs.State.{State, Port, QueuedCall, funding_of, lend_of, lends_at, holder_of, status_of, value_of}
-use Rattle.lot_machine.specs.Ports.{port_at}
-use Rattle.lot_machine.specs.Order.{IsOneSided, HasOneSidedPorts, IsInOrder}
-use Rattle.lot_machine.proofs.EachOnce.{IsApart, contains-nothing, contains-at, place-in, apart-from, same-sums}
-use Rattle.lot_machine.proofs.OneSided.{at-port, reached-one}
-use Rattle.lot_machine.proofs.OrderKept.{reached-order}
-use Rattle.lot_machine.proofs.Tickets.{some-injective}
-use Rattle.lot_laws.specs.Reachable.{IsReachable}
-use Rattle.lot_laws.specs.Transfers.{LendsQueued, callers_of, port_value}
 use Rattle.lot_laws.proofs.Trapped.{lend-is}
 use Rattle.lot_laws.proofs.MutexWaiters.{waiters-of, waiters-in, waiters-apart}
 use Rattle.lot_laws.proofs.WaitsListed.{reachable-waits}

@@ -1,24 +1,6 @@
 -- A receipt that takes a queued call, whoever was the port's server, in a reachable state of a kernel whose queued calls lend: what threads are worth then.
-use Rattle.std.proofs.Common.{◌≡◌, ◌≢◌, ℕ, suc, ◌+◌, ◌-◌, ◌==◌, ◌≤◌, ◌<◌, cond, Option, Some, None, List, [], ◌∷◌, Contains, length, map, sum_by, unwrap_or, slice_get, get_or, ◌⊎◌, inl, inr, refl, sym, ◌∙◌, ap, subst, arith}
-use Rattle.std.proofs.Math.ListN.{length-set}
-use Rattle.std.proofs.lemmas.Bool.{eq-eqb, ne_eqb, le-leb}
-use Rattle.std.proofs.lemmas.List.{length-map, length-replicate}
-use Rattle.std.proofs.lemmas.Option.{slice_get_within, slice_get_cases}
-use Rattle.lot_machine.specs.declared.event.Event.{Event}
+use Rattle.lot_laws.proofs.Common.{By, Contains, Event, IsReachable, Keeps, LendsQueued, List, Mutex, None, Option, Port, PutPort, QueuedCall, Some, State, TakesCallAt, ap, arith, at_number, at_number-suc, by_event, callers_of, cond, contains-nothing, counted, eq-eqb, get_or, holder_of, holders, inl, inr, kept, le-leb, length, length-map, length-replicate, length-set, live_value, map, ne_eqb, number-there, opening, place-in, port_at, refl, run-holders, slice_get, slice_get_cases, slice_get_within, state_after, status_of, step, step-leads, subst, suc, sum_by, sym, unwrap_or, value_of, with_callers_ready, ℕ, [], ◌+◌, ◌-◌, ◌<◌, ◌==◌, ◌∙◌, ◌∷◌, ◌≡◌, ◌≢◌, ◌≤◌, ◌⊎◌}
 use Rattle.lot_machine.specs.declared.record.Status.TheVariants.{Queued as QueuedAt}
-use Rattle.lot_machine.specs.Numbered.{at_number}
-use Rattle.lot_machine.specs.State.{State, Mutex, Port, QueuedCall, opening, holder_of, holders, status_of, value_of}
-use Rattle.lot_machine.specs.Ports.{port_at}
-use Rattle.lot_machine.specs.Step.{step, state_after}
-use Rattle.lot_machine.specs.Change.{PutPort}
-use Rattle.lot_machine.specs.Facts.{live_value}
-use Rattle.lot_machine.proofs.Changes.{number-there}
-use Rattle.lot_machine.proofs.EachOnce.{contains-nothing, place-in}
-use Rattle.lot_machine.proofs.StepChanges.{By, Keeps, kept, step-leads, by_event}
-use Rattle.lot_machine.proofs.Tickets.{at_number-suc}
-use Rattle.lot_machine.proofs.Unserved.{run-holders, counted}
-use Rattle.lot_laws.specs.Reachable.{IsReachable}
-use Rattle.lot_laws.specs.Transfers.{LendsQueued, TakesCallAt, callers_of, with_callers_ready}
 use Rattle.lot_laws.proofs.PortQueues.{reachable-order, queued-listed, lender-queued, queued-lender, callers, callers-apart}
 use Rattle.lot_laws.proofs.QueueMoves.{gathers, gathered-together, after-receipt}
 

@@ -1,44 +1,6 @@
 -- A receipt that takes a queued call, in a kernel whose queued calls lend: what threads are worth then.
-use Rattle.std.proofs.Common.{◌≡◌, ◌≢◌, ℕ, suc, ◌+◌, ◌-◌, ◌==◌, nat_le, ◌&&◌, ◌⊎◌, inl, inr, Bool, true, false, cond, is_none, Option, Some, None, List, [], ◌∷◌, Contains, length, map, sum_by, option_map, option_and_then, refl, sym, ◌∙◌, ap, subst, arith, if◌then◌else◌}
-use Rattle.std.specs.Option.{option_flatten}
-use Rattle.std.specs.List.{range_with_len}
-use Rattle.std.proofs.lemmas.Bool.{cases_eq, eq-eqb, ne_eqb}
-use Rattle.std.proofs.lemmas.List.{length-map}
-use Rattle.lot_machine.specs.declared.record.Record.{Record}
-use Rattle.lot_machine.specs.declared.record.Status.{Status}
-use Rattle.lot_machine.specs.declared.record.Status.TheVariants.{Ready, Running, Queued as QueuedAt, Served}
-use Rattle.lot_machine.specs.declared.funding.Lend.{Lend}
-use Rattle.lot_machine.specs.declared.funding.Lend.TheVariants.{Nobody, ToThread, ToMutex}
-use Rattle.lot_machine.specs.declared.action.Action.TheVariants.{Receive}
-use Rattle.lot_machine.specs.declared.event.Event.{Event}
-use Rattle.lot_machine.specs.declared.event.Event.TheVariants.{Trap}
-use Rattle.lot_machine.specs.declared.reply.Outcome.TheVariants.{Received}
-use Rattle.lot_machine.specs.declared.refusal.TrapRefusal.TheVariants.{NoPort}
-use Rattle.lot_machine.specs.declared.after.After.TheVariants.{GoesOn}
-use Rattle.lot_machine.specs.Numbered.{at_number, set_number, numbers, option_any}
-use Rattle.lot_machine.specs.Funding.{Funding, owner_of}
-use Rattle.lot_machine.specs.Lends.{borrower, borrower_of, LendsTo, LendsLead, IsBacked, lends_lead, is_live}
-use Rattle.lot_machine.specs.Value.{waiters_for}
-use Rattle.lot_machine.specs.State.{State, QueuedCall, Mutex, funding_of, live_of, lend_of, lends_at, holder_of, is_live_status, status_of, value_of, change_each}
-use Rattle.lot_machine.specs.Traps.{after_trap, with_ticks}
-use Rattle.lot_machine.specs.Ports.{port_at, receive}
-use Rattle.lot_machine.specs.Servers.{held_by, with_server, served_at}
-use Rattle.lot_machine.specs.Step.{of_ports, finish_trap, step}
-use Rattle.lot_machine.specs.Facts.{HasNoCycle, FundsThere, live_value}
-use Rattle.lot_machine.specs.Order.{IsQueue, HasQueues, IsInOrder}
-use Rattle.lot_machine.proofs.Changes.{number-set, number-there}
-use Rattle.lot_machine.proofs.CommandsKept.{all-pass}
-use Rattle.lot_machine.proofs.EachOnce.{IsApart, place-in, contains-at}
-use Rattle.lot_machine.proofs.Killed.{each-now, each-other}
-use Rattle.lot_machine.proofs.KillKept.{lends-by}
-use Rattle.lot_machine.proofs.Sums.{sum-filter, sum-same}
-use Rattle.lot_machine.proofs.Queues.{IsAbsent, status-now, status-other, number-set_same}
-use Rattle.lot_machine.proofs.LendDepth.{lends_lead-exact}
-use Rattle.lot_machine.proofs.OrderKept.{step-order}
-use Rattle.lot_machine.proofs.StepSizes.{change-length, each-length}
-use Rattle.lot_machine.proofs.Tickets.{some-injective, flatten-some}
-use Rattle.lot_machine.proofs.TrapCycles.{owners-set}
-use Rattle.lot_laws.specs.Transfers.{LendsQueued, TakesCallAt, Serves, port_value}
+use Rattle.lot_laws.proofs.Common.{Bool, Contains, Event, Funding, FundsThere, GoesOn, HasNoCycle, HasQueues, IsAbsent, IsApart, IsBacked, IsInOrder, IsQueue, Lend, LendsLead, LendsQueued, LendsTo, List, Mutex, NoPort, Nobody, None, Option, QueuedCall, Ready, Receive, Received, Record, Running, Served, Serves, Some, State, Status, TakesCallAt, ToMutex, ToThread, Trap, after_trap, all-pass, ap, arith, at_number, borrower, borrower_of, cases_eq, change-length, change_each, cond, contains-at, each-length, each-now, each-other, eq-eqb, false, finish_trap, flatten-some, funding_of, held_by, holder_of, if◌then◌else◌, inl, inr, is_live, is_live_status, is_none, lend_of, lends-by, lends_at, lends_lead, lends_lead-exact, length, length-map, live_of, live_value, map, nat_le, ne_eqb, number-set, number-set_same, number-there, numbers, of_ports, option_and_then, option_any, option_flatten, option_map, owner_of, owners-set, place-in, port_at, port_value, range_with_len, receive, refl, served_at, set_number, some-injective, status-now, status-other, status_of, step, step-order, subst, suc, sum-filter, sum-same, sum_by, sym, true, value_of, waiters_for, with_server, with_ticks, ℕ, [], ◌&&◌, ◌+◌, ◌-◌, ◌==◌, ◌∙◌, ◌∷◌, ◌≡◌, ◌≢◌, ◌⊎◌}
+use Rattle.lot_machine.specs.declared.record.Status.TheVariants.{Queued as QueuedAt}
 use Rattle.lot_laws.proofs.Trapped.{IsDone, trap-done, lend-is, live-is}
 use Rattle.lot_laws.proofs.Lending.{same-worth}
 use Rattle.lot_laws.proofs.Blocked.{lead-itself, lead-other, lends-nobody}

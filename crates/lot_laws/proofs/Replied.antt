@@ -1,31 +1,6 @@
 -- A reply: what threads are worth then.
-use Rattle.std.proofs.Common.{◌≡◌, ◌≢◌, ℕ, ◌+◌, true, false, cond, is_none, ◌⊎◌, inl, inr, Option, Some, None, List, [], ◌∷◌, length, drop, option_map, option_and_then, unwrap_or, refl, sym, ◌∙◌, ap, subst, arith}
-use Rattle.std.proofs.lemmas.Bool.{cases_eq}
-use Rattle.lot_machine.specs.declared.sizes.Sizes.{Sizes}
-use Rattle.lot_machine.specs.declared.record.Record.{Record}
-use Rattle.lot_machine.specs.declared.record.Status.TheVariants.{Ready, Running, Served}
-use Rattle.lot_machine.specs.declared.funding.Lend.TheVariants.{Nobody}
+use Rattle.lot_laws.proofs.Common.{Event, GoesOn, HasNoCycle, IsBacked, IsInOrder, List, Nobody, None, NothingToReply, Option, Ready, Record, Replied, RepliesTo, Running, Served, Sizes, Some, State, Trap, after_trap, all-pass, ap, arith, borrower, borrower_of, cases_eq, change-length, change_record, clients_of, cond, counts-once, drop, false, finish_trap, first_client, funding_of, inl, inr, is_live_status, is_none, lend_of, lends_lead, length, live_of, live_value, of_ports, option_and_then, option_map, queue-clients, record-of, refl, reply, set_number, some-injective, some-of, status-now, status-other, status-set, status_of, step, step-order, subst, sym, true, unwrap_or, value_of, with_ticks, ℕ, [], ◌+◌, ◌∙◌, ◌∷◌, ◌≡◌, ◌≢◌, ◌⊎◌}
 use Rattle.lot_machine.specs.declared.action.Action.TheVariants.{Reply as ReplyTo}
-use Rattle.lot_machine.specs.declared.event.Event.{Event}
-use Rattle.lot_machine.specs.declared.event.Event.TheVariants.{Trap}
-use Rattle.lot_machine.specs.declared.reply.Outcome.TheVariants.{Replied}
-use Rattle.lot_machine.specs.declared.refusal.TrapRefusal.TheVariants.{NothingToReply}
-use Rattle.lot_machine.specs.declared.after.After.TheVariants.{GoesOn}
-use Rattle.lot_machine.specs.Numbered.{set_number}
-use Rattle.lot_machine.specs.Lends.{borrower, borrower_of, IsBacked, lends_lead}
-use Rattle.lot_machine.specs.State.{State, funding_of, live_of, lend_of, is_live_status, status_of, value_of, change_record}
-use Rattle.lot_machine.specs.Traps.{after_trap, with_ticks}
-use Rattle.lot_machine.specs.Ports.{clients_of, first_client, reply}
-use Rattle.lot_machine.specs.Step.{of_ports, finish_trap, step}
-use Rattle.lot_machine.specs.Facts.{HasNoCycle, live_value}
-use Rattle.lot_machine.specs.Order.{IsInOrder}
-use Rattle.lot_machine.proofs.Tickets.{some-injective}
-use Rattle.lot_machine.proofs.CommandsKept.{all-pass, some-of}
-use Rattle.lot_machine.proofs.Queues.{record-of, status-set, status-now, status-other, queue-clients}
-use Rattle.lot_machine.proofs.CountsOnce.{counts-once}
-use Rattle.lot_machine.proofs.OrderKept.{step-order}
-use Rattle.lot_laws.specs.Transfers.{RepliesTo}
-use Rattle.lot_machine.proofs.StepSizes.{change-length}
 use Rattle.lot_laws.proofs.Trapped.{IsDone, trap-done, lend-is, live-is, goes-on}
 use Rattle.lot_laws.proofs.Blocked.{lead-itself, lead-other, blocked-worth, blocked-own, served-lends}
 

@@ -1,32 +1,6 @@
 -- A reply and a receipt in one trap: what threads are worth then.
-use Rattle.std.proofs.Common.{◌≡◌, ◌≢◌, ℕ, ◌+◌, true, false, cond, is_none, ◌⊎◌, inl, inr, Some, List, [], ◌∷◌, ◌++◌, length, drop, map, option_map, unwrap_or, refl, sym, ◌∙◌, ap, subst, arith}
-use Rattle.std.proofs.lemmas.Bool.{cases_eq}
-use Rattle.lot_machine.specs.declared.record.Record.{Record}
-use Rattle.lot_machine.specs.declared.record.Status.TheVariants.{Ready, Running, Receiving, Queued as QueuedAt, Served}
-use Rattle.lot_machine.specs.declared.funding.Lend.TheVariants.{Nobody}
-use Rattle.lot_machine.specs.declared.action.Action.TheVariants.{Serve}
-use Rattle.lot_machine.specs.declared.event.Event.{Event}
-use Rattle.lot_machine.specs.declared.event.Event.TheVariants.{Trap}
-use Rattle.lot_machine.specs.declared.reply.Outcome.TheVariants.{RepliedThenReceived, RepliedThenWaits}
-use Rattle.lot_machine.specs.declared.refusal.TrapRefusal.TheVariants.{NoPort, NothingToReply}
-use Rattle.lot_machine.specs.declared.after.After.TheVariants.{GoesOn, Leaves}
-use Rattle.lot_machine.specs.Numbered.{at_number, set_number}
-use Rattle.lot_machine.specs.Lends.{IsBacked, lends_lead}
-use Rattle.lot_machine.specs.State.{State, QueuedCall, funding_of, live_of, lend_of, is_live_status, status_of, value_of, change_record}
-use Rattle.lot_machine.specs.Traps.{after_trap, with_ticks}
-use Rattle.lot_machine.specs.Ports.{port_at, clients_of, first_client, with_client, serve}
-use Rattle.lot_machine.specs.Servers.{served_at}
-use Rattle.lot_machine.specs.Step.{of_ports, finish_trap, step}
-use Rattle.lot_machine.specs.Facts.{HasNoCycle, live_value}
-use Rattle.lot_machine.specs.Order.{IsQueue, IsInOrder}
-use Rattle.lot_machine.proofs.Tickets.{some-injective}
-use Rattle.lot_machine.proofs.CommandsKept.{all-pass}
-use Rattle.lot_machine.proofs.Queues.{status-now, status-other, queue-clients}
-use Rattle.lot_machine.proofs.TrapCycles.{cycle-nobody}
-use Rattle.lot_machine.proofs.CountsOnce.{counts-once}
-use Rattle.lot_machine.proofs.OrderKept.{step-order}
-use Rattle.lot_laws.specs.Transfers.{LendsServed, RepliesThenWaits, RepliesThenReceives, OwnsNothing, with_ready}
-use Rattle.lot_machine.proofs.StepSizes.{change-length}
+use Rattle.lot_laws.proofs.Common.{Event, GoesOn, HasNoCycle, IsBacked, IsInOrder, IsQueue, Leaves, LendsServed, List, NoPort, Nobody, NothingToReply, OwnsNothing, QueuedCall, Ready, Receiving, Record, RepliedThenReceived, RepliedThenWaits, RepliesThenReceives, RepliesThenWaits, Running, Serve, Served, Some, State, Trap, after_trap, all-pass, ap, arith, at_number, cases_eq, change-length, change_record, clients_of, cond, counts-once, cycle-nobody, drop, false, finish_trap, first_client, funding_of, inl, inr, is_live_status, is_none, lend_of, lends_lead, length, live_of, live_value, map, of_ports, option_map, port_at, queue-clients, refl, serve, served_at, set_number, some-injective, status-now, status-other, status_of, step, step-order, subst, sym, true, unwrap_or, value_of, with_client, with_ready, with_ticks, ℕ, [], ◌++◌, ◌+◌, ◌∙◌, ◌∷◌, ◌≡◌, ◌≢◌, ◌⊎◌}
+use Rattle.lot_machine.specs.declared.record.Status.TheVariants.{Queued as QueuedAt}
 use Rattle.lot_laws.proofs.Trapped.{port-stays, port-off, IsDone, trap-done}
 use Rattle.lot_laws.proofs.Lending.{worth-nothing, comes-alone}
 use Rattle.lot_laws.proofs.Blocked.{lead-itself, lead-other, lends-nobody, is-live, woken-worth, woken-own, blocked-worth, blocked-own, served-lends}

@@ -1,29 +1,6 @@
 -- A serving that takes the next queued call, whoever was the port's server, in a reachable state of a kernel whose queued calls lend: what threads are worth then.
-use Rattle.std.proofs.Common.{◌≡◌, ◌≢◌, ℕ, ◌+◌, ◌==◌, ◌≤◌, ◌⊎◌, inl, inr, Bool, cond, Option, Some, None, List, [], ◌∷◌, Contains, length, sum_by, option_map, option_and_then, refl, sym, ◌∙◌, ap, arith}
-use Rattle.std.specs.List.{range_with_len}
-use Rattle.std.proofs.lemmas.Bool.{cases_eq, eq-eqb, ne_eqb, le-leb}
-use Rattle.std.proofs.lemmas.List.{length-map}
-use Rattle.lot_machine.specs.declared.event.Event.{Event}
-use Rattle.lot_machine.specs.declared.record.Record.{Record}
-use Rattle.lot_machine.specs.declared.record.Status.{Status}
-use Rattle.lot_machine.specs.declared.record.Status.TheVariants.{Ready, Running, Queued as QueuedAt, Served}
-use Rattle.lot_machine.specs.declared.funding.Lend.TheVariants.{Nobody, ToMutex}
-use Rattle.lot_machine.specs.Numbered.{at_number, numbers, option_any}
-use Rattle.lot_machine.specs.Lends.{borrower, is_live}
-use Rattle.lot_machine.specs.State.{State, QueuedCall, funding_of, live_of, lend_of, is_live_status, holder_of, status_of, value_of, change_record, change_each}
-use Rattle.lot_machine.specs.Ports.{first_client}
-use Rattle.lot_machine.specs.Step.{step}
-use Rattle.lot_machine.specs.Facts.{HasNoCycle, live_value}
-use Rattle.lot_machine.specs.Order.{IsInOrder}
-use Rattle.lot_machine.proofs.EachOnce.{place-in}
-use Rattle.lot_machine.proofs.KillKept.{lends-of}
-use Rattle.lot_machine.proofs.Queues.{status-now, status-other, queue-clients}
-use Rattle.lot_machine.proofs.RecordsKept.{status-changed}
-use Rattle.lot_machine.proofs.StepSizes.{change-length, each-length}
-use Rattle.lot_machine.proofs.Sums.{sum-filter, sum-same}
-use Rattle.lot_machine.proofs.TrapCycles.{cycle-nobody}
-use Rattle.lot_laws.specs.Reachable.{IsReachable}
-use Rattle.lot_laws.specs.Transfers.{LendsQueued, ServesNextAt, callers_of, with_callers_ready, with_ready}
+use Rattle.lot_laws.proofs.Common.{Bool, Contains, Event, HasNoCycle, IsInOrder, IsReachable, LendsQueued, List, Nobody, None, Option, QueuedCall, Ready, Record, Running, Served, ServesNextAt, Some, State, Status, ToMutex, ap, arith, at_number, borrower, callers_of, cases_eq, change-length, change_each, change_record, cond, cycle-nobody, each-length, eq-eqb, first_client, funding_of, holder_of, inl, inr, is_live, is_live_status, le-leb, lend_of, lends-of, length, length-map, live_of, live_value, ne_eqb, numbers, option_and_then, option_any, option_map, place-in, queue-clients, range_with_len, refl, status-changed, status-now, status-other, status_of, step, sum-filter, sum-same, sum_by, sym, value_of, with_callers_ready, with_ready, ℕ, [], ◌+◌, ◌==◌, ◌∙◌, ◌∷◌, ◌≡◌, ◌≢◌, ◌≤◌, ◌⊎◌}
+use Rattle.lot_machine.specs.declared.record.Status.TheVariants.{Queued as QueuedAt}
 use Rattle.lot_laws.proofs.Trapped.{lend-is, live-is}
 use Rattle.lot_laws.proofs.Lending.{same-worth}
 use Rattle.lot_laws.proofs.Blocked.{served-lends}

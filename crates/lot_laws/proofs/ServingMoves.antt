@@ -1,35 +1,6 @@
 -- A reply and the receipt of a queued call in one trap, in a kernel whose queued calls lend: what threads are worth then.
-use Rattle.std.proofs.Common.{◌≡◌, ◌≢◌, ℕ, ◌+◌, ◌==◌, ◌⊎◌, inl, inr, Bool, true, false, cond, is_none, Some, None, List, [], ◌∷◌, length, drop, sum_by, option_map, refl, sym, ◌∙◌, ap, subst, arith}
-use Rattle.std.specs.List.{range_with_len}
-use Rattle.std.proofs.lemmas.Bool.{cases_eq, eq-eqb, ne_eqb}
-use Rattle.std.proofs.lemmas.List.{length-map}
-use Rattle.lot_machine.specs.declared.record.Record.{Record}
-use Rattle.lot_machine.specs.declared.record.Status.TheVariants.{Ready, Running, Queued as QueuedAt, Served}
-use Rattle.lot_machine.specs.declared.funding.Lend.TheVariants.{Nobody, ToThread}
-use Rattle.lot_machine.specs.declared.action.Action.TheVariants.{Serve}
-use Rattle.lot_machine.specs.declared.event.Event.{Event}
-use Rattle.lot_machine.specs.declared.event.Event.TheVariants.{Trap}
-use Rattle.lot_machine.specs.declared.reply.Outcome.TheVariants.{RepliedThenReceived}
-use Rattle.lot_machine.specs.declared.refusal.TrapRefusal.TheVariants.{NoPort, NothingToReply}
-use Rattle.lot_machine.specs.Numbered.{at_number, set_number, numbers, option_any}
-use Rattle.lot_machine.specs.Funding.{Funding, is_to_mutex}
-use Rattle.lot_machine.specs.Lends.{borrower_of, LendsTo, IsLendChain, LendsLead, IsBacked, lends_lead}
-use Rattle.lot_machine.specs.Value.{waiters_for}
-use Rattle.lot_machine.specs.State.{State, QueuedCall, funding_of, live_of, lend_of, holder_of, status_of, value_of}
-use Rattle.lot_machine.specs.Ports.{clients_of, first_client, serve}
-use Rattle.lot_machine.specs.Servers.{with_server, served_at}
-use Rattle.lot_machine.specs.Step.{of_ports, finish_trap, step}
-use Rattle.lot_machine.specs.Facts.{HasNoCycle, live_value}
-use Rattle.lot_machine.specs.Order.{IsInOrder}
-use Rattle.lot_machine.proofs.CommandsKept.{all-pass}
-use Rattle.lot_machine.proofs.KillKept.{lends-of}
-use Rattle.lot_machine.proofs.LendDepth.{lends_lead-exact}
-use Rattle.lot_machine.proofs.OrderKept.{step-order}
-use Rattle.lot_machine.proofs.Queues.{status-now, status-other, queue-clients}
-use Rattle.lot_machine.proofs.StepSizes.{change-length}
-use Rattle.lot_machine.proofs.Sums.{sum-filter, sum-same}
-use Rattle.lot_machine.proofs.Tickets.{some-injective}
-use Rattle.lot_laws.specs.Transfers.{LendsQueued, ServesNextAt, Serves, port_value}
+use Rattle.lot_laws.proofs.Common.{Bool, Event, Funding, HasNoCycle, IsBacked, IsInOrder, IsLendChain, LendsLead, LendsQueued, LendsTo, List, NoPort, Nobody, None, NothingToReply, QueuedCall, Ready, Record, RepliedThenReceived, Running, Serve, Served, Serves, ServesNextAt, Some, State, ToThread, Trap, all-pass, ap, arith, at_number, borrower_of, cases_eq, change-length, clients_of, cond, drop, eq-eqb, false, finish_trap, first_client, funding_of, holder_of, inl, inr, is_none, is_to_mutex, lend_of, lends-of, lends_lead, lends_lead-exact, length, length-map, live_of, live_value, ne_eqb, numbers, of_ports, option_any, option_map, port_value, queue-clients, range_with_len, refl, serve, served_at, set_number, some-injective, status-now, status-other, status_of, step, step-order, subst, sum-filter, sum-same, sum_by, sym, true, value_of, waiters_for, with_server, ℕ, [], ◌+◌, ◌==◌, ◌∙◌, ◌∷◌, ◌≡◌, ◌≢◌, ◌⊎◌}
+use Rattle.lot_machine.specs.declared.record.Status.TheVariants.{Queued as QueuedAt}
 use Rattle.lot_laws.proofs.Trapped.{IsDone, trap-done, lend-is}
 use Rattle.lot_laws.proofs.Lending.{leads-itself}
 use Rattle.lot_laws.proofs.Blocked.{lead-itself, lead-other, lends-nobody, is-live, served-lends}

@@ -1,22 +1,6 @@
 -- Two threads share a currency, and one exits: that doesn't touch the other thread, but affects it.
-use Rattle.std.proofs.Common.{◌≡◌, ℕ, inl, inr, true, false, Some, None, List, [], ◌∷◌, ◌++◌, refl, sym, ◌∙◌, ap, subst}
-use Rattle.lot_machine.specs.declared.action.Action.TheVariants.{Exit}
-use Rattle.lot_machine.specs.declared.event.Event.TheVariants.{Draw, Trap}
+use Rattle.lot_laws.proofs.Common.{Affects, Currency, Draw, Edge, Exit, Funding, IsChangedEdge, IsChangedNode, IsLive, IsPath, List, Nobody, Node, None, OfLender, OfMutex, OfTicket, Some, Thread, Touches, Trap, after, ap, at_number, ends-are, ends_of, false, inl, inr, lend_node, refl, some-injective, subst, sym, true, two_to_one, ℕ, [], ◌++◌, ◌∙◌, ◌∷◌, ◌≡◌}
 use Rattle.lot_machine.specs.declared.ticket.Target.TheVariants as target
-use Rattle.lot_machine.specs.declared.funding.Node.{Node}
-use Rattle.lot_machine.specs.declared.funding.Node.TheVariants.{Currency, Thread}
-use Rattle.lot_machine.specs.declared.funding.Lend.TheVariants.{Nobody}
-use Rattle.lot_machine.specs.declared.funding.Edge.{Edge}
-use Rattle.lot_machine.specs.declared.funding.Edge.TheVariants.{OfTicket, OfLender, OfMutex}
-use Rattle.lot_machine.specs.Numbered.{at_number}
-use Rattle.lot_machine.specs.Funding.{Funding, ends_of, lend_node}
-use Rattle.lot_machine.specs.Lends.{IsLive}
-use Rattle.lot_machine.specs.Touched.{IsPath, IsChangedEdge, IsChangedNode, Touches}
-use Rattle.lot_laws.specs.Insulation.{Affects}
-use Rattle.lot_machine.specs.Worked.{after}
-use Rattle.lot_machine.specs.WorkedRuns.{two_to_one}
-use Rattle.lot_machine.proofs.Tickets.{some-injective}
-use Rattle.lot_machine.proofs.Edges.{ends-are}
 
 -- the graph, before and after
 abbrev shared : Funding

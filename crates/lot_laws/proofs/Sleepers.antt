@@ -1,26 +1,7 @@
 -- Who sleeps has nothing, and a sleep that ends at once is a yield.
-use Rattle.std.proofs.Common.{◌≡◌, ℕ, ◌+◌, ◌-◌, false, Option, Some, None, List, length, refl, sym, ◌∙◌, ap}
-use Rattle.std.proofs.lemmas.List.{set-set}
-use Rattle.lot_machine.specs.declared.ticket.Ticket.{Ticket}
+use Rattle.lot_laws.proofs.Common.{Asleep, IsInOrder, Leaves, List, None, Option, Ready, Record, Refusal, Running, Sleep, Some, State, Status, Ticket, Trap, Wake, Yield, activates_within, after_trap, ap, at_number, borrower_of, change_record, event_effect, event_refusal, false, found-runs, funding_of, is_active, is_asleep, length, live_of, number-set_same, record-of, refl, set-set, set_number, status-now, status_of, step, sym, thread_at, thread_on, thread_there, unless_refused, used_there, value_of, wake, with_ticks, ℕ, ◌+◌, ◌-◌, ◌∙◌, ◌≡◌}
 use Rattle.lot_machine.specs.declared.ticket.Target.TheVariants as target
-use Rattle.lot_machine.specs.declared.record.Record.{Record}
 use Rattle.lot_machine.specs.declared.record.Thread.{Thread}
-use Rattle.lot_machine.specs.declared.record.Status.{Status}
-use Rattle.lot_machine.specs.declared.record.Status.TheVariants.{Ready, Running, Asleep}
-use Rattle.lot_machine.specs.declared.action.Action.TheVariants.{Yield, Sleep}
-use Rattle.lot_machine.specs.declared.event.Event.TheVariants.{Trap, Wake}
-use Rattle.lot_machine.specs.declared.refusal.Refusal.{Refusal}
-use Rattle.lot_machine.specs.declared.after.After.TheVariants.{Leaves}
-use Rattle.lot_machine.specs.Activity.{is_active, activates_within}
-use Rattle.lot_machine.specs.Commands.{unless_refused}
-use Rattle.lot_machine.specs.Lends.{borrower_of}
-use Rattle.lot_machine.specs.Numbered.{at_number, set_number}
-use Rattle.lot_machine.specs.Order.{IsInOrder}
-use Rattle.lot_machine.specs.State.{State, change_record, funding_of, is_asleep, live_of, status_of, thread_at, thread_on, value_of}
-use Rattle.lot_machine.specs.Step.{event_effect, event_refusal, step, thread_there, used_there, wake}
-use Rattle.lot_machine.specs.Traps.{after_trap, with_ticks}
-use Rattle.lot_machine.proofs.Queues.{number-set_same, record-of, status-now}
-use Rattle.lot_machine.proofs.RecordsKept.{found-runs}
 use Rattle.lot_laws.proofs.Blocked.{lead-itself, lends-nobody, not-live}
 use Rattle.lot_laws.proofs.CallReceived.{blocked-nothing, unbacked}
 

@@ -1,78 +1,15 @@
 -- Nothing refers to a thread that was removed: tickets, lends and owners that an event makes name a thread that is there.
-use Rattle.std.proofs.Common.{◌≡◌, ◌≢◌, cond, slice_set, ℕ, zero, suc, ◌+◌, ◌-◌, ◌⊎◌, inl, inr, Bool, true, false, not, Option, Some, None, is_none, List, [], ◌∷◌, ◌++◌, Contains, length, map, position, refl, sym, ◌∙◌, ap, subst, arith, nat_lt, option_map, option_and_then, unwrap_or, get_or, slice_get, slice_index, ◌||◌, is_some, ◌==◌, if◌then◌else◌}
-use Rattle.std.specs.Prelude.{remove}
-use Rattle.std.specs.Option.{option_flatten, option_or}
-use Rattle.std.proofs.lemmas.Bool.{ltb-false}
-use Rattle.std.proofs.lemmas.List.Quantifiers.{position-Some}
-use Rattle.std.proofs.lemmas.Option.{slice_get-get_or}
-use Rattle.std.proofs.lemmas.List.Elements.{All-head, All-tail}
-use Rattle.lot_machine.specs.declared.ticket.Ticket.{Ticket}
-use Rattle.lot_machine.specs.declared.ticket.Target.{Target}
+use Rattle.lot_laws.proofs.Common.{Action, After, Alive, All-head, All-tail, BadProcessor, BadTicks, Bool, By, Call, Command, Console, Contains, Currency, Drawn, Edge, Effect, Ends, EndsAre, Event, Exit, Fund, Funding, GoesOn, InUse, IsAlive, IsInOrder, IsNotGiven, IsQueue, IsReachable, IsRemoved, Keeps, Kill, Leaves, Lend, List, Lock, MakeCurrency, MakeFunded, MakeThread, MakeTicket, Mutex, NewThread, NoThread, Nobody, Node, None, NotRunning, NothingLeadsToRemoved, OfLender, OfMutex, OfTicket, Option, Outcome, PutRecord, QueuedCall, Receive, Record, Refusal, RemoveCurrency, RemoveThread, RemoveTicket, Serve, SetTicket, Sizes, Sleep, Some, StandsNowhere, State, Status, Target, TargetRef, Thread, Ticket, ToMutex, ToThread, TrapRefusal, Unfund, Unlock, Yield, after_trap, alive-of, all-pass, ap, arith, at_number, at_number-map, at_number-suc, before_lock, by_event, call, change_record, checked_effect, command_effect, command_refusal, command_step, compensation_for, cond, currency_meant, currency_named, currency_or_base, draw, drop_thread, edge_count_into, edges-many, edges_into, ends-are, ends_of, event_effect, false, first_client, free_threads, free_tickets, funding_of, get_or, heir-waits, held_by, holder_of, if◌then◌else◌, inl, inr, into-once, is-dead, is_bad_processor, is_dead_in, is_meant_by, is_none, is_owned_by, is_some, is_thread_in_use, kept, killed, killed-either, leads_back, lend-at, lend_node, lend_of, lends_at, lends_lead, lends_on_to, length, lock, ltb-false, map, mutex_at, mutex_without, nat_lt, newborn, next_place, next_thread, not, number-mapped, number-placed, number-set, number-stays, number-there, of_mutexes, of_ports, opening, opening-order, option_and_then, option_any, option_flatten, option_map, option_or, other-sizes, other-tickets, owner-either, pair, place-in, place-set, place-set_same, placed, port_at, port_holders, position, position-Some, ready_threads, receive, receiver-alive, record-of, refl, reissued, remove, replies, reply, retargeted, serve, served_at, set_number, slice_get, slice_get-get_or, slice_index, slice_set, some-injective, started, state_after, status-changed, status-number, status_of, step, step-leads, step-limits, step-order, stopped, subst, suc, sym, target_meant, target_named, target_node, there-alive, thread_at, thread_given, thread_meant, thread_named, thread_on, thread_there, ticket_at, ticket_in, trap, trap_effect, trap_refusal, true, unless_refused, unlock, unrefused, unserved, unserved_at, unwrap_or, used_there, value_of, waiter-alive, wake, weight_of, winner, with_amount, with_server, with_target, with_thread, with_ticks, without, zero, ℕ, [], ◌++◌, ◌+◌, ◌-◌, ◌==◌, ◌||◌, ◌∙◌, ◌∷◌, ◌≡◌, ◌≢◌, ◌⊎◌}
 use Rattle.lot_machine.specs.declared.ticket.Target.TheVariants as target
-use Rattle.lot_machine.specs.declared.record.Record.{Record}
 use Rattle.lot_machine.specs.declared.record.Thread.{Thread as ThreadRecord}
-use Rattle.lot_machine.specs.declared.record.Status.{Status}
 use Rattle.lot_machine.specs.declared.record.Status.TheVariants as status
-use Rattle.lot_machine.specs.declared.funding.Node.{Node}
-use Rattle.lot_machine.specs.declared.funding.Node.TheVariants.{Currency, Thread, Mutex as MutexNode}
-use Rattle.lot_machine.specs.declared.funding.Lend.{Lend}
-use Rattle.lot_machine.specs.declared.funding.Lend.TheVariants.{Nobody, ToThread, ToMutex}
-use Rattle.lot_machine.specs.declared.funding.Edge.{Edge}
-use Rattle.lot_machine.specs.declared.funding.Edge.TheVariants.{OfTicket, OfLender, OfMutex}
-use Rattle.lot_machine.specs.declared.action.Action.{Action}
-use Rattle.lot_machine.specs.declared.action.Action.TheVariants.{Yield, Call, Receive, Reply as ReplyTo, Serve, Lock, Unlock, Sleep, Exit}
-use Rattle.lot_machine.specs.declared.command.Command.{Command}
-use Rattle.lot_machine.specs.declared.command.Command.TheVariants.{MakeTicket, RemoveTicket, MakeCurrency, RemoveCurrency, Fund, Unfund, SetTicket, MakeThread, RemoveThread, Kill, MakeFunded, List as Listing}
+use Rattle.lot_machine.specs.declared.funding.Node.TheVariants.{Mutex as MutexNode}
+use Rattle.lot_machine.specs.declared.action.Action.TheVariants.{Reply as ReplyTo}
+use Rattle.lot_machine.specs.declared.command.Command.TheVariants.{List as Listing}
 use Rattle.lot_machine.specs.declared.reference.CurrencyRef.TheVariants as currency_ref
-use Rattle.lot_machine.specs.declared.reference.TargetRef.{TargetRef}
 use Rattle.lot_machine.specs.declared.reference.TargetRef.TheVariants as target_ref
-use Rattle.lot_machine.specs.declared.event.Event.{Event}
 use Rattle.lot_machine.specs.declared.event.Event.TheVariants as event
-use Rattle.lot_machine.specs.declared.refusal.Refusal.TheVariants.{InUse, NoThread, Alive, BadProcessor, NotRunning, BadTicks}
-use Rattle.lot_machine.specs.declared.refusal.Refusal.{Refusal}
-use Rattle.lot_machine.specs.declared.refusal.TrapRefusal.{TrapRefusal}
-use Rattle.lot_machine.specs.declared.drawn.Drawn.{Drawn}
-use Rattle.lot_machine.specs.declared.sizes.Sizes.{Sizes}
-use Rattle.lot_machine.specs.declared.after.After.{After}
-use Rattle.lot_machine.specs.declared.after.After.TheVariants.{GoesOn, Leaves, Ends}
-use Rattle.lot_machine.specs.Numbered.{at_number, set_number, option_any}
-use Rattle.lot_machine.specs.Places.{next_place, placed}
-use Rattle.lot_machine.specs.Funding.{Funding, ticket_in, ticket_at, target_node, lend_node, ends_of, edge_count_into, with_target, retargeted, with_amount, reissued}
-use Rattle.lot_machine.specs.Equations.{edges_into}
-use Rattle.lot_machine.specs.Lottery.{winner}
-use Rattle.lot_machine.specs.State.{State, free_tickets, free_threads, next_thread, Mutex, QueuedCall, holder_of, lends_at, opening, funding_of, lend_of, status_of, thread_at, thread_on, ready_threads, change_record, value_of, weight_of}
-use Rattle.lot_machine.specs.Commands.{is_meant_by, currency_meant, currency_named, thread_meant, thread_named, target_meant, target_named, currency_or_base, is_dead_in, is_thread_in_use, newborn, with_thread, drop_thread, command_refusal, command_effect, unless_refused, command_step}
-use Rattle.lot_machine.specs.Traps.{after_trap, compensation_for, with_ticks}
-use Rattle.lot_machine.specs.Ports.{port_at, first_client, call, receive, reply, serve}
-use Rattle.lot_machine.specs.Mutexes.{mutex_at, lock, unlock}
-use Rattle.lot_machine.specs.Kill.{without, is_owned_by, mutex_without, killed}
-use Rattle.lot_machine.specs.Lends.{lends_lead, lends_on_to}
-use Rattle.lot_machine.specs.declared.reply.Outcome.{Outcome}
 use Rattle.lot_machine.specs.declared.reply.Outcome.TheVariants as outcome
-use Rattle.lot_machine.specs.Servers.{held_by, with_server, leads_back, served_at, port_holders, unserved_at, unserved, before_lock}
-use Rattle.lot_machine.specs.Step.{Effect, of_ports, of_mutexes, is_bad_processor, started, draw, stopped, trap, wake, trap_refusal, trap_effect, checked_effect, thread_there, used_there, event_effect, step, state_after, replies}
-use Rattle.lot_machine.specs.Order.{IsQueue, IsInOrder}
-use Rattle.lot_machine.proofs.Tickets.{at_number-suc, some-injective}
-use Rattle.lot_machine.proofs.Changes.{number-set, number-there, place-set, place-set_same}
-use Rattle.lot_machine.proofs.Places.{number-placed, number-stays}
-use Rattle.lot_machine.proofs.CommandsKept.{unrefused, all-pass}
-use Rattle.lot_machine.proofs.RecordsKept.{status-changed}
-use Rattle.lot_machine.proofs.Queues.{record-of}
-use Rattle.lot_machine.proofs.TrapCycles.{at_number-map, lend-at}
-use Rattle.lot_machine.proofs.Edges.{ends-are, pair, EndsAre}
-use Rattle.lot_machine.proofs.EdgesOnce.{into-once}
-use Rattle.lot_machine.proofs.EdgeSums.{edges-many}
-use Rattle.lot_machine.proofs.EachOnce.{place-in}
-use Rattle.lot_machine.proofs.Idle.{IsAlive, alive-of, is-dead, status-number, receiver-alive, waiter-alive, there-alive}
-use Rattle.lot_machine.proofs.Killed.{owner-either, heir-waits, killed-either}
-use Rattle.lot_machine.proofs.KillKept.{number-mapped}
-use Rattle.lot_machine.proofs.StepChanges.{By, Console, Keeps, kept, by_event, step-leads}
-use Rattle.lot_machine.proofs.StepSizes.{other-sizes, other-tickets, step-limits}
-use Rattle.lot_machine.proofs.OrderKept.{step-order, opening-order}
-use Rattle.lot_machine.specs.Change.{NewThread, PutRecord}
-use Rattle.lot_laws.specs.Reachable.{IsReachable}
-use Rattle.lot_machine.specs.Named.{thread_given}
-use Rattle.lot_laws.specs.Removed.{IsRemoved, IsNotGiven, NothingLeadsToRemoved, StandsNowhere}
 
 -- ---- whom a state refers to
 

@@ -1,19 +1,5 @@
 -- What changes inside a currency over a run of events.
-use Rattle.std.proofs.Common.{◌≡◌, ◌≢◌, ℕ, ◌*◌, ◌/◌, ◌<◌, ◌==◌, Bool, true, false, Some, List, [], ◌∷◌, refl, sym, ◌∙◌, ap, subst, if◌then◌else◌}
-use Rattle.std.proofs.lemmas.Bool.{ne_eqb}
-use Rattle.lot_machine.specs.declared.event.Event.{Event}
-use Rattle.lot_machine.specs.declared.ticket.Ticket.{Ticket}
-use Rattle.lot_machine.specs.declared.funding.Node.{Node}
-use Rattle.lot_machine.specs.declared.funding.Node.TheVariants.{Currency}
-use Rattle.lot_machine.specs.Funding.{ticket_at, reissued}
-use Rattle.lot_machine.specs.Activity.{active_amount}
-use Rattle.lot_machine.specs.Value.{currency_value}
-use Rattle.lot_machine.proofs.ValueDepth.{ticket_value-unfolds}
-use Rattle.lot_machine.specs.Equations.{HasEquation}
-use Rattle.lot_machine.specs.State.{State, funding_of, live_of}
-use Rattle.lot_machine.specs.Step.{step, state_after}
-use Rattle.lot_laws.specs.Insulation.{ChangesInside, amount_in, worth_in, is_active_in, ticket_worth_in}
-use Rattle.lot_laws.specs.Reachable.{IsReachable, IsWellFormed}
+use Rattle.lot_laws.proofs.Common.{Bool, ChangesInside, Currency, Event, HasEquation, IsReachable, IsWellFormed, List, Node, Some, State, Ticket, active_amount, amount_in, ap, currency_value, false, funding_of, if◌then◌else◌, is_active_in, live_of, ne_eqb, refl, reissued, state_after, step, subst, sym, ticket_at, ticket_value-unfolds, ticket_worth_in, true, worth_in, ℕ, [], ◌*◌, ◌/◌, ◌<◌, ◌==◌, ◌∙◌, ◌∷◌, ◌≡◌, ◌≢◌}
 use Rattle.lot_laws.proofs.EachTicket.{reachable-amounts, reachable-no-base, reachable-order, reachable-next}
 use Rattle.lot_laws.proofs.AmountsKept.{still-there, worth-after}
 use Rattle.lot_laws.proofs.Enclosed.{outside-kept}

@@ -1,29 +1,5 @@
 -- What a trap that isn't refused makes of the state, by its reply.
-use Rattle.std.proofs.Common.{◌≡◌, ℕ, ◌+◌, Bool, true, false, is_none, nat_lt, Option, Some, None, List, [], ◌∷◌, map, option_map, refl, sym, ◌∙◌, ap}
-use Rattle.lot_machine.specs.declared.sizes.Sizes.{Sizes}
-use Rattle.lot_machine.specs.declared.record.Record.{Record}
-use Rattle.lot_machine.specs.declared.record.Status.TheVariants.{Running}
-use Rattle.lot_machine.specs.declared.funding.Lend.TheVariants.{Nobody}
-use Rattle.lot_machine.specs.declared.action.Action.{Action}
-use Rattle.lot_machine.specs.declared.event.Event.TheVariants.{Trap}
-use Rattle.lot_machine.specs.declared.reply.Reply.TheVariants.{Trapped}
-use Rattle.lot_machine.specs.declared.reply.Outcome.{Outcome}
-use Rattle.lot_machine.specs.declared.reply.Outcome.TheVariants.{Refused}
-use Rattle.lot_machine.specs.declared.refusal.Refusal.{Refusal}
-use Rattle.lot_machine.specs.declared.refusal.Refusal.TheVariants.{BadProcessor, NotRunning, BadTicks}
-use Rattle.lot_machine.specs.declared.refusal.TrapRefusal.{TrapRefusal}
-use Rattle.lot_machine.specs.declared.after.After.TheVariants.{GoesOn}
-use Rattle.lot_machine.specs.Numbered.{at_number}
-use Rattle.lot_machine.specs.State.{State, live_in, lend_of, is_live_status, status_of, thread_on}
-use Rattle.lot_machine.specs.Commands.{Step, unless_refused}
-use Rattle.lot_machine.specs.Traps.{after_trap, with_ticks}
-use Rattle.lot_machine.specs.Ports.{PortTrap}
-use Rattle.lot_machine.specs.Servers.{served_at}
-use Rattle.lot_machine.specs.Step.{at_port, of_ports, is_bad_processor, trap_refusal, trap_effect, checked_effect, finish_trap, thread_there, used_there, event_refusal, event_effect, step}
-use Rattle.lot_machine.proofs.CommandsKept.{all-pass}
-use Rattle.lot_machine.proofs.TrapCycles.{at_number-map}
-use Rattle.lot_machine.proofs.Idle.{there-runs}
-use Rattle.lot_machine.proofs.Unserved.{served-off}
+use Rattle.lot_laws.proofs.Common.{Action, BadProcessor, BadTicks, Bool, GoesOn, List, Nobody, None, NotRunning, Option, Outcome, PortTrap, Record, Refusal, Refused, Running, Sizes, Some, State, Step, Trap, TrapRefusal, Trapped, after_trap, all-pass, ap, at_number, at_number-map, at_port, checked_effect, event_effect, event_refusal, false, finish_trap, is_bad_processor, is_live_status, is_none, lend_of, live_in, map, nat_lt, of_ports, option_map, refl, served-off, served_at, status_of, step, sym, there-runs, thread_on, thread_there, trap_effect, trap_refusal, true, unless_refused, used_there, with_ticks, ℕ, [], ◌+◌, ◌∙◌, ◌∷◌, ◌≡◌}
 
 -- the thread ran on the processor, its trap wasn't refused and had this outcome, and this is the state then
 pub record IsDone (s : State) (p ran : ℕ) (action : Action) (t : ℕ) (outcome : Outcome) (after : State) : Type 0 where

@@ -1,22 +1,7 @@
 -- A new thread in one of two currencies is inside it, and doesn't affect the thread in the other; nor does a ticket
 -- there that gets another amount.
-use Rattle.std.proofs.Common.{Bool, ◌≡◌, ◌≢◌, ℕ, zero, suc, inl, inr, ◌⊎◌, true, false, Option, Some, None, List, [], ◌∷◌, ◌++◌, codes, refl, sym, ◌∙◌, ap, subst, arith}
-use Rattle.lot_machine.specs.declared.ticket.Ticket.{Ticket}
+use Rattle.lot_laws.proofs.Common.{Affects, Bool, ChangesInside, Currency, Edge, Encloses, Funding, IsAffected, IsChangeInside, IsChangedEdge, IsChangedLife, IsChangedNode, IsEdge, IsEdgeOfEither, IsPath, IsTouched, Lend, List, Nobody, Node, None, OfLender, OfMutex, OfTicket, Option, Some, Thread, Ticket, Touches, after, ap, arith, at_number, at_number-suc, codes, ends_of, false, first_threads, fundx, inl, inr, refl, settkt, some-injective, subst, suc, sym, there-weighed, three_threads, true, two_currencies, weighed_of, zero, ℕ, [], ◌++◌, ◌∙◌, ◌∷◌, ◌≡◌, ◌≢◌, ◌⊎◌}
 use Rattle.lot_machine.specs.declared.ticket.Target.TheVariants as target
-use Rattle.lot_machine.specs.declared.funding.Node.{Node}
-use Rattle.lot_machine.specs.declared.funding.Node.TheVariants.{Currency, Thread}
-use Rattle.lot_machine.specs.declared.funding.Lend.{Lend}
-use Rattle.lot_machine.specs.declared.funding.Lend.TheVariants.{Nobody}
-use Rattle.lot_machine.specs.declared.funding.Edge.{Edge}
-use Rattle.lot_machine.specs.declared.funding.Edge.TheVariants.{OfTicket, OfLender, OfMutex}
-use Rattle.lot_machine.specs.Numbered.{at_number}
-use Rattle.lot_machine.specs.Funding.{Funding, ends_of, weighed_of, IsEdge}
-use Rattle.lot_machine.specs.Touched.{IsEdgeOfEither, IsPath, IsChangedEdge, IsChangedLife, IsChangedNode, IsTouched, Touches}
-use Rattle.lot_laws.specs.Insulation.{IsAffected, Affects, ChangesInside, Encloses, IsChangeInside}
-use Rattle.lot_machine.specs.Worked.{after, fundx, settkt}
-use Rattle.lot_laws.specs.Runs.{two_currencies, first_threads, three_threads}
-use Rattle.lot_machine.proofs.Tickets.{at_number-suc, some-injective}
-use Rattle.lot_machine.proofs.Weighed.{there-weighed}
 
 -- the graph, whose first thread has a ticket of this amount, with these tickets and lends besides
 graph : ℕ → List (Option Ticket) → List Lend → Funding

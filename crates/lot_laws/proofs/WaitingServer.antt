@@ -1,14 +1,5 @@
 -- A server that waits with nothing of its own.
-use Rattle.std.proofs.Common.{◌≡◌, ℕ, zero, suc, Option, Some, None, [], ◌∷◌, option_and_then, refl, sym, ◌∙◌, ap}
-use Rattle.lot_machine.specs.Numbered.{at_number}
-use Rattle.lot_machine.specs.declared.funding.Lend.TheVariants.{Nobody}
-use Rattle.lot_machine.specs.Funding.{Funding}
-use Rattle.lot_machine.specs.Lends.{borrower, LendsTo}
-use Rattle.lot_machine.specs.State.{funding_of}
-use Rattle.lot_laws.specs.Transfers.{OwnsNothing}
-use Rattle.lot_machine.specs.Worked.{after}
-use Rattle.lot_laws.specs.Runs.{waiting_server}
-use Rattle.lot_machine.proofs.Tickets.{at_number-suc}
+use Rattle.lot_laws.proofs.Common.{Funding, LendsTo, Nobody, None, Option, OwnsNothing, Some, after, ap, at_number, at_number-suc, borrower, funding_of, option_and_then, refl, suc, sym, waiting_server, zero, ℕ, [], ◌∙◌, ◌∷◌, ◌≡◌}
 
 -- two threads that lend to nobody
 no-lender : (f : Funding) → f.lends ≡ Nobody ∷ Nobody ∷ [] → (u : ℕ) → ¬ LendsTo f u 1

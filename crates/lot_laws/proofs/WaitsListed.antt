@@ -1,46 +1,8 @@
 -- In a reachable state each thread whose call is queued is among the callers of its port, and each that waits to receive among its receivers.
-use Rattle.std.proofs.Common.{◌≡◌, ℕ, zero, suc, ◌+◌, ◌-◌, ◌==◌, cond, Bool, true, false, not, ◌⊎◌, inl, inr, Option, Some, None, is_none, List, [], ◌∷◌, ◌++◌, filter, map, refl, sym, ◌∙◌, ap, subst, nat_lt, option_map, unwrap_or, slice_get, slice_index}
-use Rattle.std.proofs.lemmas.Bool.{eqb-true, or_parts}
-use Rattle.lot_machine.specs.declared.sizes.Sizes.{Sizes}
-use Rattle.lot_machine.specs.declared.record.Record.{Record}
-use Rattle.lot_machine.specs.declared.record.Status.{Status}
+use Rattle.lot_laws.proofs.Common.{Action, After, AlreadyOwner, Bool, Call, Command, Drawn, Effect, Ends, Event, Exit, GoesOn, IsAmong, IsInOrder, IsReachable, Kill, Leaves, List, Lock, LockCycle, MakeFunded, MakeThread, Mutex, NoMutex, NoPort, None, NothingToReply, Option, Port, QueuedCall, Receive, Record, Serve, Sizes, Sleep, Some, State, Status, TrapRefusal, Unlock, Yield, after_trap, all-pass, among-append_left, among-append_right, ap, at_number, at_number-map, at_number-suc, before_lock, call, callers_of, change_record, checked-sizes, checked_effect, command_effect, command_refusal, command_step, compensation_for, cond, draw, eqb-true, event_effect, false, filter, first_client, free_threads, inl, inr, is_no_mutex, is_none, killed, killed-dead, killed-either, lends_on_to, lock, map, mutex_at, nat_lt, newborn, not, number-placed, number-set, number-set_same, number-there, of_mutexes, of_ports, opening, opening-order, option_any, option_map, or_parts, owns, placed, port_at, port_without, ready_threads, receive, refl, reply, set_number, slice_get, slice_index, some-injective, started, state_after, status-changed, status-now, status_of, step, step-order, stopped, subst, suc, sym, thread_meant, thread_there, trap, trap_effect, trap_refusal, true, unlock, unrefused, unwrap_or, used_there, value_of, weight_of, winner, with_ticks, without, without_servers, zero, ℕ, [], ◌++◌, ◌+◌, ◌-◌, ◌==◌, ◌∙◌, ◌∷◌, ◌≡◌, ◌⊎◌}
 use Rattle.lot_machine.specs.declared.record.Status.TheVariants as status
-use Rattle.lot_machine.specs.declared.action.Action.{Action}
-use Rattle.lot_machine.specs.declared.action.Action.TheVariants.{Yield, Call, Receive, Reply as ReplyTo, Serve, Lock, Unlock, Sleep, Exit}
-use Rattle.lot_machine.specs.declared.command.Command.{Command}
-use Rattle.lot_machine.specs.declared.command.Command.TheVariants.{MakeThread, Kill, MakeFunded}
-use Rattle.lot_machine.specs.declared.event.Event.{Event}
+use Rattle.lot_machine.specs.declared.action.Action.TheVariants.{Reply as ReplyTo}
 use Rattle.lot_machine.specs.declared.event.Event.TheVariants as event
-use Rattle.lot_machine.specs.declared.refusal.TrapRefusal.{TrapRefusal}
-use Rattle.lot_machine.specs.declared.refusal.TrapRefusal.TheVariants.{NoPort, NothingToReply, NoMutex, AlreadyOwner, LockCycle}
-use Rattle.lot_machine.specs.declared.drawn.Drawn.{Drawn}
-use Rattle.lot_machine.specs.declared.after.After.{After}
-use Rattle.lot_machine.specs.declared.after.After.TheVariants.{GoesOn, Leaves, Ends}
-use Rattle.lot_machine.specs.Numbered.{at_number, set_number, option_any}
-use Rattle.lot_machine.specs.Lends.{lends_on_to}
-use Rattle.lot_machine.specs.Lottery.{winner}
-use Rattle.lot_machine.specs.Places.{placed}
-use Rattle.lot_machine.specs.State.{State, Mutex, Port, QueuedCall, opening, free_threads, status_of, ready_threads, change_record, value_of, weight_of}
-use Rattle.lot_machine.specs.Commands.{thread_meant, command_refusal, command_effect, command_step, newborn}
-use Rattle.lot_machine.specs.Traps.{after_trap, compensation_for, with_ticks}
-use Rattle.lot_machine.specs.Ports.{port_at, first_client, call, receive, reply}
-use Rattle.lot_machine.specs.Servers.{without_servers, before_lock}
-use Rattle.lot_machine.specs.Mutexes.{mutex_at, lock, unlock}
-use Rattle.lot_machine.specs.Kill.{without, port_without, killed}
-use Rattle.lot_machine.specs.Step.{Effect, of_ports, of_mutexes, is_no_mutex, owns, started, draw, stopped, trap, trap_refusal, trap_effect, checked_effect, thread_there, used_there, event_effect, step, state_after}
-use Rattle.lot_machine.specs.Order.{IsInOrder}
-use Rattle.lot_machine.proofs.Tickets.{at_number-suc, some-injective}
-use Rattle.lot_machine.proofs.Changes.{number-set, number-there}
-use Rattle.lot_machine.proofs.Places.{number-placed}
-use Rattle.lot_machine.proofs.CommandsKept.{unrefused, all-pass}
-use Rattle.lot_machine.proofs.RecordsKept.{status-changed}
-use Rattle.lot_machine.proofs.Queues.{number-set_same, status-now}
-use Rattle.lot_machine.proofs.TrapCycles.{at_number-map}
-use Rattle.lot_machine.proofs.StepSizes.{checked-sizes}
-use Rattle.lot_machine.proofs.OrderKept.{step-order, opening-order}
-use Rattle.lot_machine.proofs.Killed.{IsAmong, among-append_left, among-append_right, killed-either, killed-dead}
-use Rattle.lot_laws.specs.Reachable.{IsReachable}
-use Rattle.lot_laws.specs.Transfers.{callers_of}
 use Rattle.lot_laws.proofs.CallTaken.{port-there}
 
 -- A thread with this status stands in the port's queue that the status says. One that waits for a mutex waits for no port's holder.

@@ -1,10 +1,5 @@
 -- A ticket's amount changes in place.
-use Rattle.std.proofs.Common.{◌≡◌, ℕ, suc, ◌-◌, ◌⊎◌, inl, inr, Option, Some, None, is_none, false, List, refl, sym, ◌∙◌, ap, option_map}
-use Rattle.std.specs.Option.{option_flatten}
-use Rattle.lot_machine.specs.declared.ticket.Ticket.{Ticket}
-use Rattle.lot_machine.specs.Numbered.{at_number}
-use Rattle.lot_machine.specs.Funding.{Funding, ticket_in, issuer_of, target_of, reissued, with_amount}
-use Rattle.lot_machine.specs.Facts.{HasNoCycle, FundsThere}
+use Rattle.lot_machine.proofs.Common.{Funding, FundsThere, HasNoCycle, List, None, Option, Some, Ticket, ap, at_number, false, inl, inr, is_none, issuer_of, option_flatten, option_map, refl, reissued, suc, sym, target_of, ticket_in, with_amount, ℕ, ◌-◌, ◌∙◌, ◌≡◌, ◌⊎◌}
 use Rattle.lot_machine.proofs.Changes.{number-set, number-there}
 use Rattle.lot_machine.proofs.Paths.{fewer-steps}
 use Rattle.lot_machine.proofs.FundingKept.{FundsFrom, no-return, no-chain-back}

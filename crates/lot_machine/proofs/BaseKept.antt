@@ -1,14 +1,5 @@
 -- Base's active tickets are worth less than 2 ^ 56.
-use Rattle.std.proofs.Common.{◌≡◌, ℕ, ◌*◌, ◌^◌, ◌<◌, ◌≤◌, ◌==◌, Bool, true, false, ◌⊎◌, inl, inr, Option, Some, None, List, [], ◌∷◌, length, filter, filter_map, sum_by, IfSome, All, cond, arith}
-use Rattle.std.proofs.lemmas.Bool.{eqb-true, or_cases}
-use Rattle.std.proofs.lemmas.List.Elements.{All-head, All-tail}
-use Rattle.std.proofs.lemmas.List.Sums.{sum_by-cons}
-use Rattle.lot_machine.specs.declared.ticket.Ticket.{Ticket}
-use Rattle.lot_machine.specs.Bounds.{IsWithinBounds, IsUnit}
-use Rattle.lot_machine.specs.Funding.{Funding, all_tickets, issued_in}
-use Rattle.lot_machine.specs.Activity.{is_active, active_amount}
-use Rattle.lot_machine.specs.State.{State, funding_of, live_of}
-use Rattle.lot_machine.specs.Facts.{base_value}
+use Rattle.lot_machine.proofs.Common.{All, All-head, All-tail, Bool, Funding, IfSome, IsUnit, IsWithinBounds, List, None, Option, Some, State, Ticket, active_amount, all_tickets, arith, base_value, cond, eqb-true, false, filter, filter_map, funding_of, inl, inr, is_active, issued_in, length, live_of, or_cases, sum_by, sum_by-cons, true, ℕ, [], ◌*◌, ◌<◌, ◌==◌, ◌^◌, ◌∷◌, ◌≡◌, ◌≤◌, ◌⊎◌}
 
 -- a filter leaves no greater sum
 filter-less : (g : Ticket → ℕ) (test : Ticket → Bool) (xs : List Ticket) → sum_by g (filter test xs) ≤ sum_by g xs

@@ -1,18 +1,5 @@
 -- Live values stay within what base's active tickets are worth, and a draw's total within a quantum's times as much.
-use Rattle.std.proofs.Common.{◌≡◌, ℕ, zero, suc, ◌*◌, ◌^◌, ◌<◌, ◌≤◌, Bool, true, false, Option, Some, None, length, sum_by, option_map, option_and_then, refl, sym, ◌∙◌, ap, arith, cond}
-use Rattle.std.proofs.Math.Nat.{mul-le-mul_left, mul-le-mul_right, div-le_self}
-use Rattle.std.proofs.lemmas.List.Sums.{sum-map}
-use Rattle.std.proofs.lemmas.Option.{slice_get-map}
-use Rattle.lot_machine.specs.declared.record.Record.{Record}
-use Rattle.lot_machine.specs.declared.record.Status.{Status}
-use Rattle.lot_machine.specs.declared.record.Status.TheVariants.{Ready, Running, Receiving, Queued, Served, Waiting, Asleep, Dead}
-use Rattle.lot_machine.specs.Bounds.{IsWithinBounds}
-use Rattle.lot_machine.specs.Numbered.{at_number, numbers, option_any}
-use Rattle.lot_machine.specs.Lends.{is_live, is_backed}
-use Rattle.lot_machine.specs.Value.{own_value}
-use Rattle.lot_machine.specs.Lottery.{weight}
-use Rattle.lot_machine.specs.State.{State, is_live_status, is_ready, status_of, funding_of, live_of, ready_threads, value_of, weight_of}
-use Rattle.lot_machine.specs.Facts.{HasNoCycle, FundsThere, RunsApart, IsSound, live_value, base_value, total_weight}
+use Rattle.lot_machine.proofs.Common.{Asleep, Bool, Dead, FundsThere, HasNoCycle, IsSound, IsWithinBounds, None, Option, Queued, Ready, Receiving, Record, Running, RunsApart, Served, Some, State, Status, Waiting, ap, arith, at_number, base_value, cond, div-le_self, false, funding_of, is_backed, is_live, is_live_status, is_ready, length, live_of, live_value, mul-le-mul_left, mul-le-mul_right, numbers, option_and_then, option_any, option_map, own_value, ready_threads, refl, slice_get-map, status_of, suc, sum-map, sum_by, sym, total_weight, true, value_of, weight, weight_of, zero, ℕ, ◌*◌, ◌<◌, ◌^◌, ◌∙◌, ◌≡◌, ◌≤◌}
 use Rattle.lot_machine.proofs.Sums.{sum-filter, sum-le, sum-times}
 use Rattle.lot_machine.proofs.Tickets.{at_number-suc}
 use Rattle.lot_machine.proofs.CountsOnce.{counts-once}

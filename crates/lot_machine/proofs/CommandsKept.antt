@@ -1,25 +1,10 @@
 -- No command makes a cycle, or leaves a ticket that funds a currency which isn't there.
-use Rattle.std.proofs.Common.{◌≡◌, ℕ, suc, ◌+◌, Bool, true, false, Option, Some, None, is_some, is_none, List, [], ◌∷◌, length, map, position, refl, sym, subst, ◌∙◌, ap, arith, nat_lt, option_map, get_or, slice_get}
-use Rattle.std.specs.Option.{option_flatten, option_or}
-use Rattle.std.proofs.lemmas.Bool.{ltb-false}
-use Rattle.std.proofs.lemmas.List.Quantifiers.{position-Some}
-use Rattle.std.proofs.lemmas.Option.{slice_get-get_or, slice_get-map}
-use Rattle.lot_machine.specs.declared.ticket.Ticket.{Ticket}
-use Rattle.lot_machine.specs.declared.ticket.Target.{Target}
-use Rattle.lot_machine.specs.declared.ticket.Target.TheVariants.{Unfunded, Currency, Thread}
-use Rattle.lot_machine.specs.declared.reference.CurrencyRef.{CurrencyRef}
+use Rattle.lot_machine.proofs.Common.{Bool, Currency, CurrencyRef, FundsThere, HasNoCycle, List, None, Option, Refusal, Some, State, Step, Target, TargetRef, ThreadRef, Ticket, Unfunded, ap, arith, currency_funded, currency_meant, currency_named, false, first_failing, funding_of, get_or, is_cycle, is_meant_by, is_none, is_some, issuer_of, length, ltb-false, map, nat_lt, option_any, option_flatten, option_map, option_or, position, position-Some, refl, slice_get, slice_get-get_or, slice_get-map, subst, suc, sym, target_meant, target_named, thread_at, thread_meant, thread_named, ticket_in, true, unless_refused, with_target, without_ticket, would_cycle, ℕ, [], ◌+◌, ◌∙◌, ◌∷◌, ◌≡◌}
+use Rattle.lot_machine.specs.declared.ticket.Target.TheVariants.{Thread}
 use Rattle.lot_machine.specs.declared.reference.CurrencyRef.TheVariants as currency_ref
 use Rattle.lot_machine.specs.declared.record.Thread.{Thread as ThreadRecord}
-use Rattle.lot_machine.specs.declared.reference.ThreadRef.{ThreadRef}
 use Rattle.lot_machine.specs.declared.reference.ThreadRef.TheVariants as thread_ref
-use Rattle.lot_machine.specs.declared.reference.TargetRef.{TargetRef}
 use Rattle.lot_machine.specs.declared.reference.TargetRef.TheVariants as target_ref
-use Rattle.lot_machine.specs.declared.refusal.Refusal.{Refusal}
-use Rattle.lot_machine.specs.Numbered.{option_any}
-use Rattle.lot_machine.specs.Funding.{ticket_in, without_ticket, with_target, issuer_of, currency_funded, would_cycle}
-use Rattle.lot_machine.specs.Facts.{HasNoCycle, FundsThere}
-use Rattle.lot_machine.specs.State.{State, funding_of, thread_at}
-use Rattle.lot_machine.specs.Commands.{Step, first_failing, currency_meant, currency_named, is_meant_by, thread_meant, thread_named, target_meant, target_named, is_cycle, unless_refused}
 use Rattle.lot_machine.proofs.Tickets.{at_number-suc, some-injective}
 use Rattle.lot_machine.proofs.FundingKept.{HasNoCycle-without_ticket, FundsThere-without_ticket, HasNoCycle-target, FundsThere-target, HasNoCycle-funds_tested, FundsThere-funds}
 

@@ -1,10 +1,5 @@
 -- The winner's place is the first whose running sum is greater than the number.
-use Rattle.std.proofs.Common.{◌≡◌, ℕ, zero, suc, ◌+◌, ◌%◌, ◌<◌, ◌≤◌, ◌==◌, nat_lt, Bool, true, false, Some, None, List, [], ◌∷◌, take, sum, refl, arith, if◌then◌else◌, MatchOption, ◌⊎◌, inl, inr}
-use Rattle.std.proofs.lemmas.Bool.{ltb-true, ltb-false, eqb-true, eqb-false, cases_lt}
-use Rattle.std.proofs.Math.Nat.{mod-lt}
-use Rattle.std.proofs.lemmas.List.Sums.{sum_by-cons}
-use Rattle.lot_machine.specs.declared.drawn.Drawn.{Drawn}
-use Rattle.lot_machine.specs.Lottery.{running_sums, first_above, winner, IsFirstAbove}
+use Rattle.lot_machine.proofs.Common.{Bool, Drawn, IsFirstAbove, List, MatchOption, None, Some, arith, cases_lt, eqb-false, eqb-true, false, first_above, if◌then◌else◌, inl, inr, ltb-false, ltb-true, mod-lt, nat_lt, refl, running_sums, suc, sum, sum_by-cons, take, true, winner, zero, ℕ, [], ◌%◌, ◌+◌, ◌<◌, ◌==◌, ◌∷◌, ◌≡◌, ◌≤◌, ◌⊎◌}
 
 -- the place is the first at which what stands before and the sum up to there are greater than n
 abbrev pub IsFirst : List ℕ → ℕ → ℕ → ℕ → Type 0

@@ -1,11 +1,5 @@
 -- If numbers are given again, a table is full only if as many exist as its limit allows.
-use Rattle.std.proofs.Common.{◌≡◌, ℕ, ◌<◌, ◌≤◌, nat_lt, nat_le, Bool, true, ◌&&◌, Option, List, [], is_some, length, count_by, sym, ◌∙◌, ap, cond, arith}
-use Rattle.std.proofs.lemmas.Bool.{ltb-true, leb-true}
-use Rattle.lot_machine.specs.Equations.{HasEachOnce}
-use Rattle.lot_machine.specs.Order.{IsGap, IsInOrder}
-use Rattle.lot_machine.specs.Places.{is_none_free}
-use Rattle.lot_machine.specs.State.{State, given_again}
-use Rattle.lot_machine.specs.Commands.{are_tickets_full, are_currencies_full, are_threads_full}
+use Rattle.lot_machine.proofs.Common.{Bool, HasEachOnce, IsGap, IsInOrder, List, Option, State, ap, are_currencies_full, are_threads_full, are_tickets_full, arith, cond, count_by, given_again, is_none_free, is_some, leb-true, length, ltb-true, nat_le, nat_lt, sym, true, ℕ, [], ◌&&◌, ◌<◌, ◌∙◌, ◌≡◌, ◌≤◌}
 use Rattle.lot_machine.proofs.Places.{full-count}
 
 -- by the free places themselves

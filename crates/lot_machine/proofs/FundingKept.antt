@@ -1,16 +1,5 @@
 -- Changes of tickets and currencies after which nothing makes a cycle, and tickets fund only what is there.
-use Rattle.std.proofs.Common.{◌≡◌, ℕ, suc, ◌-◌, Bool, true, false, ◌⊎◌, inl, inr, Option, Some, None, List, [], ◌∷◌, ◌++◌, length, refl, sym, ◌∙◌, ap, subst, arith, option_map, filter, slice_get, slice_set}
-use Rattle.std.specs.List.{list_any}
-use Rattle.std.specs.Option.{option_flatten}
-use Rattle.std.proofs.lemmas.Bool.{eq-eqb}
-use Rattle.std.proofs.lemmas.Option.{slice_get_within}
-use Rattle.lot_machine.specs.declared.ticket.Ticket.{Ticket}
-use Rattle.lot_machine.specs.declared.ticket.Target.{Target}
-use Rattle.lot_machine.specs.declared.ticket.Target.TheVariants.{Currency}
-use Rattle.lot_machine.specs.Numbered.{at_number, set_number}
-use Rattle.lot_machine.specs.Places.{placed}
-use Rattle.lot_machine.specs.Funding.{Funding, ticket_at, ticket_in, with_new_ticket, without_ticket, with_target, retargeted, issuer_of, target_of, backing_currency, all_tickets, is_currency, IsChain, ChainLeads, WouldCycle, currency_funded, would_cycle}
-use Rattle.lot_machine.specs.Facts.{HasNoCycle, FundsThere}
+use Rattle.lot_machine.proofs.Common.{Bool, ChainLeads, Currency, Funding, FundsThere, HasNoCycle, IsChain, List, None, Option, Some, Target, Ticket, WouldCycle, all_tickets, ap, arith, at_number, backing_currency, currency_funded, eq-eqb, false, filter, inl, inr, is_currency, issuer_of, length, list_any, option_flatten, option_map, placed, refl, retargeted, set_number, slice_get, slice_get_within, slice_set, subst, suc, sym, target_of, ticket_at, ticket_in, true, with_new_ticket, with_target, without_ticket, would_cycle, ℕ, [], ◌++◌, ◌-◌, ◌∙◌, ◌∷◌, ◌≡◌, ◌⊎◌}
 use Rattle.lot_machine.proofs.Paths.{IsPath, Leads, LeadsOn, HasNoReturn, fewer-steps, one-step-more}
 use Rattle.lot_machine.proofs.Changes.{place-set_other, number-set}
 use Rattle.lot_machine.proofs.Places.{place-placed, number-placed}

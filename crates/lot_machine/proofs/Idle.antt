@@ -1,19 +1,6 @@
 -- Who runs, who is Ready, and who has used nothing on a processor.
-use Rattle.std.proofs.Common.{◌≡◌, ℕ, zero, suc, ◌<◌, ◌≤◌, ◌-◌, ◌==◌, Bool, true, false, ◌⊎◌, inl, inr, Option, Some, None, is_some, is_none, List, [], ◌∷◌, ◌++◌, length, map, filter, refl, sym, ◌∙◌, ap, subst, ne_eqb, arith, option_map, option_and_then, unwrap_or, get_or, slice_get, slice_set, slice_index}
-use Rattle.std.specs.Bool.{then_some}
-use Rattle.std.proofs.lemmas.List.{get_or_past}
-use Rattle.std.proofs.lemmas.Option.{slice_get_cases, get_or_from_slice_get}
-use Rattle.lot_machine.specs.declared.record.Record.{Record}
-use Rattle.lot_machine.specs.declared.record.Status.{Status}
+use Rattle.lot_machine.proofs.Common.{Bool, HasQueues, IsQueue, List, Mutex, None, Option, Port, QueuedCall, Record, RunsApart, Some, State, Status, ap, arith, at_number, change_record, false, filter, first_client, get_or, get_or_from_slice_get, get_or_past, inl, inr, is_asleep, is_dead, is_none, is_ready, is_some, length, map, mutex_at, ne_eqb, numbers, option_and_then, option_any, option_map, placed, port_at, ready_threads, refl, slice_get, slice_get_cases, slice_index, slice_set, status_of, subst, suc, sym, then_some, thread_on, thread_there, true, unwrap_or, used_by, used_on, zero, ℕ, [], ◌++◌, ◌-◌, ◌<◌, ◌==◌, ◌∙◌, ◌∷◌, ◌≡◌, ◌≤◌, ◌⊎◌}
 use Rattle.lot_machine.specs.declared.record.Status.TheVariants as status
-use Rattle.lot_machine.specs.Numbered.{at_number, numbers, option_any}
-use Rattle.lot_machine.specs.Places.{placed}
-use Rattle.lot_machine.specs.State.{State, QueuedCall, Port, Mutex, status_of, used_on, used_by, thread_on, is_dead, is_asleep, is_ready, ready_threads, change_record}
-use Rattle.lot_machine.specs.Ports.{first_client, port_at}
-use Rattle.lot_machine.specs.Mutexes.{mutex_at}
-use Rattle.lot_machine.specs.Step.{thread_there}
-use Rattle.lot_machine.specs.Facts.{RunsApart}
-use Rattle.lot_machine.specs.Order.{IsQueue, HasQueues}
 use Rattle.lot_machine.proofs.Changes.{place-set, number-push}
 use Rattle.lot_machine.proofs.Places.{number-stays}
 use Rattle.lot_machine.proofs.Queues.{record-of, queue-clients, FirstIsDead}

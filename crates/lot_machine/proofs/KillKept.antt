@@ -1,20 +1,6 @@
 -- After a kill nothing makes a cycle, and those who wait stand where their statuses say.
-use Rattle.std.proofs.Common.{◌≡◌, ℕ, zero, suc, arith, cond, ◌-◌, ◌==◌, Bool, true, false, not, ◌⊎◌, inl, inr, Option, Some, None, List, [], ◌∷◌, map, refl, sym, ◌∙◌, ap, subst, option_map, option_and_then, unwrap_or, slice_get}
-use Rattle.std.specs.Option.{option_flatten}
-use Rattle.std.proofs.lemmas.Bool.{cases_eq}
-use Rattle.lot_machine.specs.declared.record.Record.{Record}
-use Rattle.lot_machine.specs.declared.record.Status.{Status}
+use Rattle.lot_machine.proofs.Common.{Bool, HasNoCycle, HasQueues, IsQueue, Lend, LendsTo, List, Mutex, Nobody, None, Option, Port, QueuedCall, Record, Some, State, Status, ToMutex, ToThread, ap, arith, at_number, borrower, cases_eq, change_each, clients_of, cond, ended, false, funding_of, inl, inr, is_owned_by, killed, lend_of, map, mutex_without, not, option_and_then, option_flatten, option_map, owner_of, passed_on, port_without, refl, released, released_by, set_number, slice_get, status_of, subst, suc, sym, true, unwrap_or, without, zero, ℕ, [], ◌-◌, ◌==◌, ◌∙◌, ◌∷◌, ◌≡◌, ◌⊎◌}
 use Rattle.lot_machine.specs.declared.record.Status.TheVariants as status
-use Rattle.lot_machine.specs.declared.funding.Lend.{Lend}
-use Rattle.lot_machine.specs.declared.funding.Lend.TheVariants.{Nobody, ToThread, ToMutex}
-use Rattle.lot_machine.specs.Numbered.{at_number, set_number}
-use Rattle.lot_machine.specs.Funding.{owner_of}
-use Rattle.lot_machine.specs.Lends.{borrower, LendsTo}
-use Rattle.lot_machine.specs.State.{State, Port, Mutex, QueuedCall, funding_of, lend_of, status_of, change_each}
-use Rattle.lot_machine.specs.Kill.{without, port_without, mutex_without, is_owned_by, passed_on, released_by, released, ended, killed}
-use Rattle.lot_machine.specs.Ports.{clients_of}
-use Rattle.lot_machine.specs.Facts.{HasNoCycle}
-use Rattle.lot_machine.specs.Order.{IsQueue, HasQueues}
 use Rattle.lot_machine.proofs.Paths.{IsEnd, steps-to-ends}
 use Rattle.lot_machine.proofs.Changes.{number-set}
 use Rattle.lot_machine.proofs.Tickets.{some-injective}

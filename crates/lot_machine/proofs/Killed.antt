@@ -1,15 +1,6 @@
 -- Whom a kill releases, who is left in a list, and what statuses are afterwards.
-use Rattle.std.proofs.Common.{◌≡◌, ℕ, zero, suc, ◌-◌, ◌==◌, Bool, true, false, not, ◌⊎◌, inl, inr, Option, Some, None, List, [], ◌∷◌, ◌++◌, map, filter, filter_map, refl, sym, ◌∙◌, ap, subst, cond, slice_get}
-use Rattle.std.specs.List.{cons_option}
-use Rattle.std.proofs.lemmas.Bool.{eqb-true, eqb-false}
-use Rattle.lot_machine.specs.declared.record.Record.{Record}
-use Rattle.lot_machine.specs.declared.record.Status.{Status}
+use Rattle.lot_machine.proofs.Common.{Bool, HasQueues, IsQueue, List, Mutex, None, Option, QueuedCall, Record, Some, State, Status, ap, at_number, change_each, change_record, clients_of, cond, cons_option, ended, eqb-false, eqb-true, false, filter, filter_map, heir, inl, inr, is_owned_by, killed, map, mutex_without, not, passed_on, refl, released, released_by, set_number, slice_get, status_of, subst, suc, sym, true, without, zero, ℕ, [], ◌++◌, ◌-◌, ◌==◌, ◌∙◌, ◌∷◌, ◌≡◌, ◌⊎◌}
 use Rattle.lot_machine.specs.declared.record.Status.TheVariants as status
-use Rattle.lot_machine.specs.Numbered.{at_number, set_number}
-use Rattle.lot_machine.specs.State.{State, Mutex, QueuedCall, status_of, change_record, change_each}
-use Rattle.lot_machine.specs.Ports.{clients_of}
-use Rattle.lot_machine.specs.Kill.{without, is_owned_by, passed_on, mutex_without, heir, released_by, released, ended, killed}
-use Rattle.lot_machine.specs.Order.{IsQueue, HasQueues}
 use Rattle.lot_machine.proofs.Changes.{number-set, number-there}
 use Rattle.lot_machine.proofs.Tickets.{at_number-suc, some-injective}
 use Rattle.lot_machine.proofs.RecordsKept.{status-changed}

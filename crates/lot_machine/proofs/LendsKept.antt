@@ -1,13 +1,5 @@
 -- Changes of what threads lend and of who owns a mutex after which nothing makes a cycle.
-use Rattle.std.proofs.Common.{◌≡◌, ℕ, suc, ◌-◌, true, false, ◌⊎◌, inl, inr, Option, Some, None, List, [], ◌∷◌, ◌++◌, refl, sym, ◌∙◌, ap, option_and_then}
-use Rattle.std.specs.Option.{option_flatten}
-use Rattle.lot_machine.specs.declared.funding.Lend.{Lend}
-use Rattle.lot_machine.specs.declared.funding.Lend.TheVariants.{Nobody, ToThread, ToMutex}
-use Rattle.lot_machine.specs.Numbered.{at_number, set_number, option_any}
-use Rattle.lot_machine.specs.Places.{placed}
-use Rattle.lot_machine.specs.Funding.{Funding, owner_of}
-use Rattle.lot_machine.specs.Lends.{borrower, LendsTo, IsLendChain, LendsLead, LendsOnTo, lends_lead}
-use Rattle.lot_machine.specs.Facts.{HasNoCycle}
+use Rattle.lot_machine.proofs.Common.{Funding, HasNoCycle, IsLendChain, Lend, LendsLead, LendsOnTo, LendsTo, List, Nobody, None, Option, Some, ToMutex, ToThread, ap, at_number, borrower, false, inl, inr, lends_lead, option_and_then, option_any, option_flatten, owner_of, placed, refl, set_number, suc, sym, true, ℕ, [], ◌++◌, ◌-◌, ◌∙◌, ◌∷◌, ◌≡◌, ◌⊎◌}
 use Rattle.lot_machine.proofs.Paths.{IsPath, HasNoReturn, fewer-steps, one-step-more, steps-to-end}
 use Rattle.lot_machine.proofs.Changes.{number-set, number-there}
 use Rattle.lot_machine.proofs.Places.{number-placed}

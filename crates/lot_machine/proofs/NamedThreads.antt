@@ -1,23 +1,7 @@
 -- The thread that the reply to an event of one processor names doesn't run on another.
-use Rattle.std.proofs.Common.{◌≡◌, ℕ, suc, ◌+◌, ◌-◌, ◌%◌, ◌^◌, ◌<◌, ◌≤◌, ◌==◌, Bool, true, false, ◌⊎◌, inl, inr, Option, Some, None, is_none, List, [], ◌∷◌, length, map, sum, refl, sym, ◌∙◌, ap, arith, nat_lt, nat_le, get_or, slice_get, slice_index, if◌then◌else◌}
-use Rattle.std.proofs.lemmas.Bool.{ltb-false, eqb-false, cases_lt}
-use Rattle.std.proofs.Math.Nat.{mod-lt}
-use Rattle.std.proofs.lemmas.List.{length-map}
-use Rattle.std.proofs.lemmas.List.Sums.{sum_by-cons}
-use Rattle.std.proofs.lemmas.Option.{slice_get_cases, get_or_from_slice_get}
-use Rattle.lot_machine.specs.declared.record.Status.{Status}
+use Rattle.lot_machine.proofs.Common.{BadProcessor, BadTicks, Bool, Drawn, Event, List, None, NotRunning, Option, Refusal, Some, State, Status, Step, ap, arith, cases_lt, draw, eqb-false, event_effect, event_refusal, false, first_above, get_or, get_or_from_slice_get, if◌then◌else◌, inl, inr, is_bad_processor, is_none, is_ready, length, length-map, ltb-false, map, mod-lt, nat_le, nat_lt, numbers, option_any, processor_of, ready_threads, refl, running_sums, slice_get, slice_get_cases, slice_index, status_of, step, suc, sum, sum_by-cons, sym, thread_in, thread_on, thread_there, true, unless_refused, used_by, used_on, used_there, weight_of, winner, ℕ, [], ◌%◌, ◌+◌, ◌-◌, ◌<◌, ◌==◌, ◌^◌, ◌∙◌, ◌∷◌, ◌≡◌, ◌≤◌, ◌⊎◌}
 use Rattle.lot_machine.specs.declared.record.Status.TheVariants as status
-use Rattle.lot_machine.specs.declared.event.Event.{Event}
 use Rattle.lot_machine.specs.declared.event.Event.TheVariants as event
-use Rattle.lot_machine.specs.declared.refusal.Refusal.{Refusal}
-use Rattle.lot_machine.specs.declared.refusal.Refusal.TheVariants.{BadProcessor, NotRunning, BadTicks}
-use Rattle.lot_machine.specs.declared.drawn.Drawn.{Drawn}
-use Rattle.lot_machine.specs.Numbered.{numbers, option_any}
-use Rattle.lot_machine.specs.Lottery.{running_sums, first_above, winner}
-use Rattle.lot_machine.specs.State.{State, status_of, used_on, used_by, thread_on, is_ready, ready_threads, weight_of}
-use Rattle.lot_machine.specs.Commands.{Step, unless_refused}
-use Rattle.lot_machine.specs.Step.{is_bad_processor, draw, thread_there, used_there, event_refusal, event_effect, step}
-use Rattle.lot_machine.specs.Named.{processor_of, thread_in}
 use Rattle.lot_machine.proofs.Changes.{number-there}
 use Rattle.lot_machine.proofs.Queues.{record-of}
 use Rattle.lot_machine.proofs.Tickets.{some-injective}

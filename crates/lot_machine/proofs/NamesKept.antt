@@ -1,28 +1,8 @@
 -- No two currencies or threads have the same name, each name is one that the kernel takes, and it means who has it.
-use Rattle.std.proofs.Common.{◌≡◌, ℕ, zero, suc, ◌+◌, ◌-◌, ◌<◌, Bool, true, false, ◌⊎◌, inl, inr, Option, Some, None, is_none, List, [], ◌∷◌, length, position, get_or, unwrap_or, option_map, slice_get, slice_set, refl, sym, ◌∙◌, ap, subst, arith}
-use Rattle.std.specs.Prelude.{not, ◌&&◌, ◌||◌, nat_lt}
-use Rattle.std.specs.List.{position_or_len}
-use Rattle.std.specs.Option.{option_flatten, option_or}
-use Rattle.std.specs.Str.{bytes_eq}
-use Rattle.std.proofs.lemmas.Bool.{ltb-false}
-use Rattle.std.proofs.lemmas.List.Quantifiers.{position-Some}
-use Rattle.std.proofs.lemmas.Option.{slice_get-get_or}
-use Rattle.std.proofs.lemmas.Slice.Eq.{bytes_eq-Decides}
-use Rattle.lot_machine.specs.declared.command.Command.{Command}
-use Rattle.lot_machine.specs.declared.command.Command.TheVariants.{MakeCurrency, RemoveCurrency, MakeThread, RemoveThread, MakeFunded}
-use Rattle.lot_machine.specs.declared.event.Event.{Event}
+use Rattle.lot_machine.proofs.Common.{BadAmount, BadName, Bool, Command, Currency, DropCurrency, DropThread, Event, Full, List, MakeCurrency, MakeFunded, MakeThread, NameTaken, NewCurrency, NewThread, NoCurrency, NoScript, None, Option, RemoveCurrency, RemoveThread, Sizes, Some, State, Target, Unfunded, ap, are_currencies_full, are_threads_full, are_tickets_full, arith, at_number, bytes_eq, bytes_eq-Decides, command_effect, command_refusal, currency_meant, currency_named, currency_or_base, false, free_currencies, free_threads, get_or, inl, inr, is_bad_amount, is_meant_by, is_name, is_no_name, is_no_script, is_none, is_taken, is_thread_name, length, ltb-false, nat_lt, next_place, not, opening, option_any, option_flatten, option_map, option_or, placed, position, position-Some, position_or_len, refl, set_number, slice_get, slice_get-get_or, slice_set, state_after, step, subst, suc, sym, target_named, thread_at, thread_meant, thread_named, true, unwrap_or, zero, ℕ, [], ◌&&◌, ◌+◌, ◌-◌, ◌<◌, ◌||◌, ◌∙◌, ◌∷◌, ◌≡◌, ◌⊎◌}
 use Rattle.lot_machine.specs.declared.event.Event.TheVariants as event
 use Rattle.lot_machine.specs.declared.record.Thread.{Thread as ThreadRecord}
-use Rattle.lot_machine.specs.declared.refusal.Refusal.TheVariants.{BadName, NameTaken, NoCurrency, BadAmount, Full, NoScript}
-use Rattle.lot_machine.specs.declared.sizes.Sizes.{Sizes}
-use Rattle.lot_machine.specs.declared.ticket.Target.{Target}
-use Rattle.lot_machine.specs.declared.ticket.Target.TheVariants.{Unfunded, Currency, Thread}
-use Rattle.lot_machine.specs.Change.{NewCurrency, DropCurrency, NewThread, DropThread}
-use Rattle.lot_machine.specs.Commands.{are_currencies_full, are_threads_full, are_tickets_full, command_effect, command_refusal, currency_meant, currency_named, currency_or_base, is_bad_amount, is_meant_by, is_name, is_no_name, is_no_script, is_taken, is_thread_name, target_named, thread_meant, thread_named}
-use Rattle.lot_machine.specs.Numbered.{at_number, set_number, option_any}
-use Rattle.lot_machine.specs.Places.{next_place, placed}
-use Rattle.lot_machine.specs.State.{State, opening, free_currencies, free_threads, thread_at}
-use Rattle.lot_machine.specs.Step.{state_after, step}
+use Rattle.lot_machine.specs.declared.ticket.Target.TheVariants.{Thread}
 use Rattle.lot_machine.proofs.Changes.{number-set, place-set}
 use Rattle.lot_machine.proofs.CommandsKept.{all-pass, unrefused}
 use Rattle.lot_machine.proofs.Places.{number-next, place-next}

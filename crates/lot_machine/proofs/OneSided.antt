@@ -1,23 +1,7 @@
 -- No call is queued at a port while a thread waits to receive there.
-use Rattle.std.proofs.Common.{◌≡◌, ℕ, suc, ◌-◌, ◌==◌, not, ◌⊎◌, inl, inr, Option, Some, None, List, [], ◌∷◌, filter, map, option_map, unwrap_or, refl, sym, ◌∙◌, ap, subst}
-use Rattle.lot_machine.specs.declared.action.Action.{Action}
-use Rattle.lot_machine.specs.declared.action.Action.TheVariants.{Yield, Call, Receive, Reply as ReplyTo, Serve, Lock, Unlock, Sleep, Exit}
-use Rattle.lot_machine.specs.declared.command.Command.{Command}
-use Rattle.lot_machine.specs.declared.command.Command.TheVariants.{Kill}
-use Rattle.lot_machine.specs.declared.event.Event.{Event}
+use Rattle.lot_machine.proofs.Common.{Action, Call, Command, Drawn, Event, Exit, HasOneSidedPorts, IsOneSided, Kill, List, Lock, None, Option, Port, PutPort, QueuedCall, Receive, Serve, Sizes, Sleep, Some, State, TrapRefusal, Unlock, Yield, ap, at_number, call, checked_effect, command_effect, command_step, draw, event_effect, filter, inl, inr, map, not, opening, option_map, port_at, port_without, ready_threads, receive, refl, reply, set_number, state_after, step, subst, suc, sym, thread_meant, thread_there, trap_effect, trap_refusal, unwrap_or, weight_of, winner, without, ℕ, [], ◌-◌, ◌==◌, ◌∙◌, ◌∷◌, ◌≡◌, ◌⊎◌}
+use Rattle.lot_machine.specs.declared.action.Action.TheVariants.{Reply as ReplyTo}
 use Rattle.lot_machine.specs.declared.event.Event.TheVariants as event
-use Rattle.lot_machine.specs.declared.refusal.TrapRefusal.{TrapRefusal}
-use Rattle.lot_machine.specs.declared.sizes.Sizes.{Sizes}
-use Rattle.lot_machine.specs.declared.drawn.Drawn.{Drawn}
-use Rattle.lot_machine.specs.Numbered.{at_number, set_number}
-use Rattle.lot_machine.specs.Lottery.{winner}
-use Rattle.lot_machine.specs.State.{State, Port, QueuedCall, opening, ready_threads, weight_of}
-use Rattle.lot_machine.specs.Commands.{command_effect, command_step, thread_meant}
-use Rattle.lot_machine.specs.Ports.{port_at, call, receive, reply}
-use Rattle.lot_machine.specs.Kill.{without, port_without}
-use Rattle.lot_machine.specs.Order.{IsOneSided, HasOneSidedPorts}
-use Rattle.lot_machine.specs.Step.{draw, trap_refusal, trap_effect, checked_effect, thread_there, event_effect, step, state_after}
-use Rattle.lot_machine.specs.Change.{PutPort}
 use Rattle.lot_machine.proofs.Changes.{number-set}
 use Rattle.lot_machine.proofs.CommandsKept.{unrefused}
 use Rattle.lot_machine.proofs.OrderKept.{number-replicate}

@@ -1,51 +1,11 @@
 -- A state that is in order stays so through each event, and is sound.
-use Rattle.std.proofs.Common.{◌≡◌, ℕ, zero, suc, ◌+◌, ◌-◌, ◌^◌, ◌<◌, ◌≤◌, ◌==◌, Bool, true, false, not, ◌⊎◌, inl, inr, Option, Some, None, is_some, is_none, List, [], ◌∷◌, length, map, position, replicate, refl, sym, ◌∙◌, ap, subst, arith, nat_lt, nat_le, option_map, option_and_then, unwrap_or, get_or, slice_get, slice_index}
-use Rattle.std.specs.Option.{option_flatten}
-use Rattle.std.proofs.lemmas.Bool.{or_parts}
-use Rattle.std.proofs.lemmas.List.{get_or_past}
-use Rattle.std.proofs.lemmas.List.Elements.{All-nil}
-use Rattle.std.proofs.lemmas.List.Quantifiers.{position-Some}
-use Rattle.std.proofs.lemmas.Option.{slice_get_cases, slice_get_within, get_or_from_slice_get}
-use Rattle.lot_machine.specs.declared.ticket.Ticket.{Ticket}
-use Rattle.lot_machine.specs.declared.ticket.Target.{Target}
+use Rattle.lot_machine.proofs.Common.{Action, After, All-nil, AlreadyOwner, BadProcessor, BadTicks, Bool, Busy, Call, Command, DeadThread, Drawn, Effect, Ends, Event, Exit, FundsThere, GoesOn, HasEachOnce, HasNoCycle, HasQueues, IsGap, IsInOrder, IsQueue, IsSound, IsWithinBounds, Kill, Leaves, Lend, LendsTo, List, Lock, LockCycle, Mutex, NoMutex, NoPort, NoThread, Nobody, None, NotAsleep, NotOwner, NotRunning, NothingToReply, Option, Port, QueuedCall, Receive, Record, Serve, Sizes, Sleep, Some, State, Status, Target, ThreadRef, Ticket, TrapRefusal, Unlock, Yield, after_trap, ap, arith, at_number, before_lock, borrower, call, change_record, checked_effect, clients_of, command_effect, command_step, compensation_for, draw, event_effect, false, first_client, funding_of, get_or, get_or_from_slice_get, get_or_past, holders, inl, inr, is_asleep, is_bad_processor, is_dead_in, is_meant_by, is_no_mutex, is_none, is_ready, is_some, issuer_of, killed, left_by, lend_of, lends_on_to, length, map, mutex_at, nat_le, nat_lt, not, numbers, opening, option_and_then, option_any, option_flatten, option_map, or_parts, owns, port_holders, position, position-Some, ready_threads, receive, refl, replicate, reply, serve, slice_get, slice_get_cases, slice_get_within, slice_index, started, state_after, status_of, step, stopped, subst, suc, sym, target_of, thread_at, thread_meant, thread_on, thread_there, trap, trap_effect, trap_refusal, true, unwrap_or, used_there, value_of, wake, weight_of, winner, with_ticks, without_servers, zero, ℕ, [], ◌+◌, ◌-◌, ◌<◌, ◌==◌, ◌^◌, ◌∙◌, ◌∷◌, ◌≡◌, ◌≤◌, ◌⊎◌}
 use Rattle.lot_machine.specs.declared.ticket.Target.TheVariants as target
-use Rattle.lot_machine.specs.declared.record.Record.{Record}
-use Rattle.lot_machine.specs.declared.record.Status.{Status}
 use Rattle.lot_machine.specs.declared.record.Thread.{Thread}
 use Rattle.lot_machine.specs.declared.record.Status.TheVariants as status
-use Rattle.lot_machine.specs.declared.funding.Lend.{Lend}
-use Rattle.lot_machine.specs.declared.funding.Lend.TheVariants.{Nobody}
-use Rattle.lot_machine.specs.declared.action.Action.{Action}
-use Rattle.lot_machine.specs.declared.action.Action.TheVariants.{Yield, Call, Receive, Reply as ReplyTo, Serve, Lock, Unlock, Sleep, Exit}
-use Rattle.lot_machine.specs.declared.command.Command.{Command}
-use Rattle.lot_machine.specs.declared.command.Command.TheVariants.{Kill}
-use Rattle.lot_machine.specs.declared.reference.ThreadRef.{ThreadRef}
+use Rattle.lot_machine.specs.declared.action.Action.TheVariants.{Reply as ReplyTo}
 use Rattle.lot_machine.specs.declared.reference.ThreadRef.TheVariants as thread_ref
-use Rattle.lot_machine.specs.declared.event.Event.{Event}
 use Rattle.lot_machine.specs.declared.event.Event.TheVariants as event
-use Rattle.lot_machine.specs.declared.refusal.Refusal.TheVariants.{NoThread, DeadThread, BadProcessor, Busy, NotRunning, BadTicks, NotAsleep}
-use Rattle.lot_machine.specs.declared.refusal.TrapRefusal.{TrapRefusal}
-use Rattle.lot_machine.specs.declared.refusal.TrapRefusal.TheVariants.{NoPort, NothingToReply, NoMutex, NotOwner, AlreadyOwner, LockCycle}
-use Rattle.lot_machine.specs.declared.drawn.Drawn.{Drawn}
-use Rattle.lot_machine.specs.Bounds.{IsWithinBounds}
-use Rattle.lot_machine.specs.declared.sizes.Sizes.{Sizes}
-use Rattle.lot_machine.specs.Numbered.{at_number, numbers, option_any}
-use Rattle.lot_machine.specs.Funding.{target_of, issuer_of}
-use Rattle.lot_machine.specs.Lends.{lends_on_to, LendsTo, borrower}
-use Rattle.lot_machine.specs.Lottery.{winner}
-use Rattle.lot_machine.specs.State.{State, Port, Mutex, QueuedCall, holders, opening, funding_of, is_asleep, lend_of, status_of, is_ready, ready_threads, thread_at, thread_on, change_record, value_of, weight_of}
-use Rattle.lot_machine.specs.Commands.{is_meant_by, thread_meant, is_dead_in, command_effect, command_step}
-use Rattle.lot_machine.specs.Kill.{killed}
-use Rattle.lot_machine.specs.declared.after.After.{After}
-use Rattle.lot_machine.specs.Traps.{after_trap, compensation_for, with_ticks}
-use Rattle.lot_machine.specs.declared.after.After.TheVariants.{GoesOn, Leaves, Ends}
-use Rattle.lot_machine.specs.Ports.{clients_of, first_client, call, receive, reply, serve}
-use Rattle.lot_machine.specs.Mutexes.{mutex_at}
-use Rattle.lot_machine.specs.Servers.{port_holders, without_servers, before_lock, left_by}
-use Rattle.lot_machine.specs.Step.{Effect, is_bad_processor, started, draw, stopped, wake, owns, trap_refusal, trap_effect, checked_effect, trap, is_no_mutex, thread_there, used_there, event_effect, step, state_after}
-use Rattle.lot_machine.specs.Facts.{HasNoCycle, FundsThere, IsSound}
-use Rattle.lot_machine.specs.Equations.{HasEachOnce}
-use Rattle.lot_machine.specs.Order.{IsQueue, HasQueues, IsGap, IsInOrder}
 use Rattle.lot_machine.proofs.Tickets.{at_number-suc, some-injective}
 use Rattle.lot_machine.proofs.CommandsKept.{unrefused, all-pass}
 use Rattle.lot_machine.proofs.EachOnce.{contains-nothing}

@@ -1,12 +1,5 @@
 -- What stands at a place after one more element is put into a free place, or added at the end; and which places are gaps then.
-use Rattle.std.proofs.Common.{◌≡◌, ℕ, zero, suc, ◌+◌, ◌-◌, ◌≤◌, Bool, true, ◌&&◌, cond, is_some, count_by, ◌⊎◌, inl, inr, Option, Some, None, List, [], ◌∷◌, ◌++◌, Contains, length, drop, map, refl, sym, ◌∙◌, ap, arith, slice_get, slice_set}
-use Rattle.std.proofs.lemmas.List.{length-append, map-append, map-set}
-use Rattle.std.proofs.lemmas.List.Sums.{sum_by-cons}
-use Rattle.std.proofs.Math.ListN.{length-set}
-use Rattle.lot_machine.specs.Numbered.{at_number}
-use Rattle.lot_machine.specs.Places.{is_none_free, next_place, placed}
-use Rattle.lot_machine.specs.Equations.{HasEachOnce}
-use Rattle.lot_machine.specs.Order.{IsGap}
+use Rattle.lot_machine.proofs.Common.{Bool, Contains, HasEachOnce, IsGap, List, None, Option, Some, ap, arith, at_number, cond, count_by, drop, inl, inr, is_none_free, is_some, length, length-append, length-set, map, map-append, map-set, next_place, placed, refl, slice_get, slice_set, suc, sum_by-cons, sym, true, zero, ℕ, [], ◌&&◌, ◌++◌, ◌+◌, ◌-◌, ◌∙◌, ◌∷◌, ◌≡◌, ◌≤◌, ◌⊎◌}
 use Rattle.lot_machine.proofs.Tickets.{at_number-suc, some-injective}
 use Rattle.lot_machine.proofs.Changes.{place-set, place-set_other, place-set_same, place-push}
 use Rattle.lot_machine.proofs.EachOnce.{contains-nothing, contains-at, place-in}

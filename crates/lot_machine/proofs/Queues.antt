@@ -1,13 +1,5 @@
 -- Queues of threads that all have one status: what changes of records, ports, mutexes and clients leave of them.
-use Rattle.std.proofs.Common.{◌≡◌, ℕ, zero, suc, pred, ◌-◌, true, false, ◌⊎◌, inl, inr, Option, Some, None, List, [], ◌∷◌, ◌++◌, length, map, remove, refl, sym, ◌∙◌, ap, subst, arith, option_map, slice_get, slice_set, unwrap_or}
-use Rattle.lot_machine.specs.declared.record.Record.{Record}
-use Rattle.lot_machine.specs.declared.record.Status.{Status}
-use Rattle.lot_machine.specs.declared.record.Status.TheVariants.{Queued, Receiving, Served, Waiting, Dead}
-use Rattle.lot_machine.specs.Numbered.{at_number, set_number}
-use Rattle.lot_machine.specs.Places.{placed}
-use Rattle.lot_machine.specs.State.{Port, Mutex, QueuedCall, status_of, change_record, is_live_status}
-use Rattle.lot_machine.specs.Ports.{clients_of}
-use Rattle.lot_machine.specs.Order.{IsQueue, HasQueues}
+use Rattle.lot_machine.proofs.Common.{Dead, HasQueues, IsQueue, List, Mutex, None, Option, Port, Queued, QueuedCall, Receiving, Record, Served, Some, Status, Waiting, ap, arith, at_number, change_record, clients_of, false, inl, inr, is_live_status, length, map, option_map, placed, pred, refl, remove, set_number, slice_get, slice_set, status_of, subst, suc, sym, true, unwrap_or, zero, ℕ, [], ◌++◌, ◌-◌, ◌∙◌, ◌∷◌, ◌≡◌, ◌⊎◌}
 use Rattle.lot_machine.proofs.Changes.{number-set, number-there, place-set_same}
 use Rattle.lot_machine.proofs.Places.{number-placed, number-stays}
 use Rattle.lot_machine.proofs.Tickets.{at_number-suc, some-injective}

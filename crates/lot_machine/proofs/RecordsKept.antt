@@ -1,18 +1,5 @@
 -- Changes of threads' records after which each processor still has its own thread.
-use Rattle.std.proofs.Common.{◌≡◌, ℕ, zero, suc, ◌+◌, ◌-◌, ◌<◌, ◌≤◌, ◌==◌, Bool, true, false, ◌⊎◌, inl, inr, Option, Some, None, is_some, List, [], ◌∷◌, length, find, refl, sym, ◌∙◌, ap, subst, arith, option_map, option_and_then, slice_get}
-use Rattle.std.specs.Bool.{then_some}
-use Rattle.std.specs.List.{range_with_len}
-use Rattle.std.proofs.lemmas.Bool.{eqb-true, eq-eqb, cases_eq}
-use Rattle.std.proofs.lemmas.Option.{slice_get_within}
-use Rattle.lot_machine.specs.declared.record.Record.{Record}
-use Rattle.lot_machine.specs.declared.record.Status.{Status}
-use Rattle.lot_machine.specs.declared.record.Status.TheVariants.{Ready, Running, Queued, Receiving, Served, Waiting, Asleep, Dead}
-use Rattle.lot_machine.specs.Numbered.{at_number, set_number, numbers}
-use Rattle.lot_machine.specs.Places.{placed}
-use Rattle.lot_machine.specs.State.{status_of, used_on, used_by, thread_on, change_record}
-use Rattle.lot_machine.specs.declared.after.After.{After}
-use Rattle.lot_machine.specs.declared.after.After.TheVariants.{Leaves}
-use Rattle.lot_machine.specs.Facts.{RunsApart}
+use Rattle.lot_machine.proofs.Common.{After, Asleep, Bool, Dead, Leaves, List, None, Option, Queued, Ready, Receiving, Record, Running, RunsApart, Served, Some, Status, Waiting, ap, arith, at_number, cases_eq, change_record, eq-eqb, eqb-true, false, find, inl, inr, is_some, length, numbers, option_and_then, option_map, placed, range_with_len, refl, set_number, slice_get, slice_get_within, status_of, subst, suc, sym, then_some, thread_on, true, used_by, used_on, zero, ℕ, [], ◌+◌, ◌-◌, ◌<◌, ◌==◌, ◌∙◌, ◌∷◌, ◌≡◌, ◌≤◌, ◌⊎◌}
 use Rattle.lot_machine.proofs.Changes.{number-set, number-there}
 use Rattle.lot_machine.proofs.Places.{number-placed}
 use Rattle.lot_machine.proofs.Tickets.{at_number-suc, some-injective}

@@ -1,19 +1,8 @@
 -- An event of one processor leaves who runs on another, unless it kills that thread, and how many ticks it has used there.
-use Rattle.std.proofs.Common.{◌≡◌, ℕ, false, Option, Some, None, List, refl, sym, ◌∙◌, ap, option_and_then, unwrap_or}
-use Rattle.lot_machine.specs.declared.record.Record.{Record}
+use Rattle.lot_machine.proofs.Common.{Event, Fund, IsInOrder, Kill, List, MakeCurrency, MakeFunded, MakeThread, MakeTicket, None, Option, Record, RemoveCurrency, RemoveThread, RemoveTicket, RunsApart, SetTicket, Some, State, ThreadRef, Unfund, ap, command_step, false, is_dead, is_dead_in, killed, killed_by, option_and_then, option_any, processor_of, refl, status_of, step, sym, thread_meant, thread_on, unwrap_or, used_by, used_there, ℕ, ◌∙◌, ◌≡◌}
 use Rattle.lot_machine.specs.declared.record.Status.TheVariants as status
-use Rattle.lot_machine.specs.declared.command.Command.TheVariants.{MakeTicket, RemoveTicket, MakeCurrency, RemoveCurrency, Fund, Unfund, SetTicket, MakeThread, RemoveThread, Kill, MakeFunded, List as Listing}
-use Rattle.lot_machine.specs.declared.event.Event.{Event}
+use Rattle.lot_machine.specs.declared.command.Command.TheVariants.{List as Listing}
 use Rattle.lot_machine.specs.declared.event.Event.TheVariants as event
-use Rattle.lot_machine.specs.declared.reference.ThreadRef.{ThreadRef}
-use Rattle.lot_machine.specs.Numbered.{option_any}
-use Rattle.lot_machine.specs.State.{State, is_dead, status_of, used_by, thread_on}
-use Rattle.lot_machine.specs.Kill.{killed}
-use Rattle.lot_machine.specs.Commands.{thread_meant, is_dead_in, command_step}
-use Rattle.lot_machine.specs.Step.{used_there, step}
-use Rattle.lot_machine.specs.Facts.{RunsApart}
-use Rattle.lot_machine.specs.Order.{IsInOrder}
-use Rattle.lot_machine.specs.Named.{processor_of, killed_by}
 use Rattle.lot_machine.proofs.RecordsKept.{used_by-runs, runs-used_by, nobody-runs, found-runs}
 use Rattle.lot_machine.proofs.Killed.{killed-dead}
 use Rattle.lot_machine.proofs.StepChanges.{On, Kills, kept, change-used, change-ran, by_event, step-leads}

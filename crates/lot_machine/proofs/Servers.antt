@@ -1,21 +1,6 @@
 -- What holds as ports get or lose their servers: who waits stands where its status says, and a lock makes no cycle through a port.
-use Rattle.std.proofs.Common.{◌≡◌, ℕ, suc, ◌-◌, Bool, true, false, cond, ◌⊎◌, inl, inr, Option, Some, None, is_none, List, [], ◌∷◌, map, refl, sym, ◌∙◌, ap, subst, option_map, option_and_then, slice_get, unwrap_or}
-use Rattle.std.specs.Option.{option_flatten}
-use Rattle.std.proofs.lemmas.Bool.{cases_eq}
-use Rattle.lot_machine.specs.declared.record.Record.{Record}
-use Rattle.lot_machine.specs.declared.record.Status.TheVariants.{Waiting}
-use Rattle.lot_machine.specs.declared.reply.Outcome.{Outcome}
+use Rattle.lot_machine.proofs.Common.{Bool, HasNoCycle, HasQueues, IsLendChain, IsQueue, Lend, LendsLead, LendsTo, List, Mutex, Nobody, None, Option, Outcome, Port, Record, Some, State, ToMutex, ToThread, Waiting, ap, at_number, before_lock, borrower, borrower_of, cases_eq, cond, false, funding_of, held_by, holder_of, inl, inr, is_none, leads_back, lends_lead, lends_on_to, map, mutex_at, option_and_then, option_any, option_flatten, option_map, owner_of, port_holders, refl, served_at, set_number, slice_get, subst, suc, sym, true, unserved, unserved_at, unwrap_or, with_server, without_servers, ℕ, [], ◌-◌, ◌∙◌, ◌∷◌, ◌≡◌, ◌⊎◌}
 use Rattle.lot_machine.specs.declared.reply.Outcome.TheVariants as outcome
-use Rattle.lot_machine.specs.declared.funding.Lend.{Lend}
-use Rattle.lot_machine.specs.declared.funding.Lend.TheVariants.{Nobody, ToThread, ToMutex}
-use Rattle.lot_machine.specs.Numbered.{at_number, set_number, option_any}
-use Rattle.lot_machine.specs.Funding.{owner_of}
-use Rattle.lot_machine.specs.Lends.{borrower, borrower_of, LendsTo, IsLendChain, LendsLead, lends_lead, lends_on_to}
-use Rattle.lot_machine.specs.State.{State, Port, Mutex, funding_of, holder_of}
-use Rattle.lot_machine.specs.Mutexes.{mutex_at}
-use Rattle.lot_machine.specs.Servers.{held_by, with_server, leads_back, served_at, port_holders, unserved_at, unserved, without_servers, before_lock}
-use Rattle.lot_machine.specs.Facts.{HasNoCycle}
-use Rattle.lot_machine.specs.Order.{IsQueue, HasQueues}
 use Rattle.lot_machine.proofs.Changes.{number-set, number-there}
 use Rattle.lot_machine.proofs.Tickets.{some-injective, flatten-some}
 use Rattle.lot_machine.proofs.Queues.{IsAbsent, queue-empty}

@@ -1,19 +1,7 @@
 -- Who serves nobody: a thread that is not in use; and a dead thread's clients stay as they are.
-use Rattle.std.proofs.Common.{◌≡◌, ℕ, suc, ◌-◌, nat_lt, Bool, true, false, ◌||◌, ◌⊎◌, inl, inr, Option, Some, None, is_some, List, [], ◌∷◌, ◌++◌, drop, refl, sym, ◌∙◌, ap, subst, unwrap_or, slice_get}
-use Rattle.lot_machine.specs.declared.record.Record.{Record}
-use Rattle.lot_machine.specs.declared.record.Status.{Status}
+use Rattle.lot_machine.proofs.Common.{Action, Bool, Call, Exit, HasQueues, List, Lock, None, Option, QueuedCall, Receive, Record, Serve, Sleep, Some, State, Status, Thread, TrapRefusal, Unlock, Yield, ap, at_number, call, checked_effect, clients_of, drop, edge_count_into, false, first_client, funding_of, inl, inr, is_some, is_thread_in_use, nat_lt, of_ports, port_at, receive, refl, reply, set_number, slice_get, status_of, subst, suc, sym, trap_effect, true, unwrap_or, ℕ, [], ◌++◌, ◌-◌, ◌||◌, ◌∙◌, ◌∷◌, ◌≡◌, ◌⊎◌}
 use Rattle.lot_machine.specs.declared.record.Status.TheVariants as status
-use Rattle.lot_machine.specs.declared.action.Action.{Action}
-use Rattle.lot_machine.specs.declared.action.Action.TheVariants.{Yield, Call, Receive, Reply as ReplyTo, Serve, Lock, Unlock, Sleep, Exit}
-use Rattle.lot_machine.specs.declared.refusal.TrapRefusal.{TrapRefusal}
-use Rattle.lot_machine.specs.declared.funding.Node.TheVariants.{Thread}
-use Rattle.lot_machine.specs.Numbered.{at_number, set_number}
-use Rattle.lot_machine.specs.Funding.{edge_count_into}
-use Rattle.lot_machine.specs.State.{State, QueuedCall, funding_of, status_of}
-use Rattle.lot_machine.specs.Commands.{is_thread_in_use}
-use Rattle.lot_machine.specs.Ports.{clients_of, first_client, port_at, call, receive, reply}
-use Rattle.lot_machine.specs.Step.{of_ports, trap_effect, checked_effect}
-use Rattle.lot_machine.specs.Order.{HasQueues}
+use Rattle.lot_machine.specs.declared.action.Action.TheVariants.{Reply as ReplyTo}
 use Rattle.lot_machine.proofs.Tickets.{some-injective}
 use Rattle.lot_machine.proofs.Changes.{number-set}
 use Rattle.lot_machine.proofs.Idle.{status-number, receiver-stands}

@@ -1,50 +1,12 @@
 -- Each event is a list of changes, each of which is allowed where it is made. So what each allowed change keeps, each event keeps.
-use Rattle.std.proofs.Common.{◌≡◌, ℕ, zero, suc, ◌+◌, ◌-◌, ◌^◌, ◌<◌, ◌≤◌, ◌==◌, Bool, true, false, not, ◌||◌, ◌⊎◌, inl, inr, Option, Some, None, is_some, is_none, List, [], ◌∷◌, ◌++◌, length, drop, map, remove, refl, sym, ◌∙◌, ap, subst, arith, cond, nat_lt, nat_le, option_map, option_and_then, unwrap_or, slice_get, slice_set, slice_index, All, IfSome, ◌&&◌}
-use Rattle.std.specs.Option.{option_flatten}
-use Rattle.std.proofs.lemmas.Bool.{cases_eq, ltb-false, leb-false, or_parts}
-use Rattle.std.proofs.lemmas.List.{length-append, map-set}
-use Rattle.std.proofs.lemmas.Option.{slice_get-map}
-use Rattle.std.proofs.Math.ListN.{length-set}
-use Rattle.std.proofs.lemmas.List.Elements.{All-head, All-tail, All-push, All-set}
-use Rattle.lot_machine.specs.declared.ticket.Ticket.{Ticket}
-use Rattle.lot_machine.specs.declared.ticket.Target.{Target}
+use Rattle.lot_machine.proofs.Common.{Action, After, Alive, All, All-head, All-push, All-set, All-tail, BadAmount, BadName, BadProcessor, BadTicks, BaseFixed, Bool, Busy, Call, Change, Command, CurrencyRef, Cycle, DeadThread, Drawn, DropCurrency, DropThread, DropTicket, Effect, Ends, Event, Exit, Full, Fund, FundsThere, GoesOn, HasEachOnce, HasFreeGaps, HasNoCycle, HasQueues, IfSome, InUse, IsGap, IsWithinBounds, Kill, Leaves, List, Lock, MakeCurrency, MakeFunded, MakeThread, MakeTicket, Mutex, NameTaken, NewCurrency, NewThread, NewTicket, NoCurrency, NoScript, NoTarget, NoThread, NoTicket, None, NotAsleep, NotFunding, NotRunning, Option, Outcome, Port, PortTrap, PutClients, PutMutex, PutPort, PutRecord, PutTicket, QueuedCall, Receive, Record, RemoveCurrency, RemoveThread, RemoveTicket, RunsApart, Serve, SetTicket, Sleep, Some, State, Status, Target, ThreadRef, Ticket, TrapRefusal, Unfund, Unlock, Yield, after_trap, ap, applied, applied_all, are_threads_full, are_tickets_full, arith, at_number, at_port, backing_currency, before_lock, call, cases_eq, change_each, change_record, checked_effect, clients_of, command_effect, command_step, compensation_for, cond, currency_funded, currency_meant, currency_or_base, draw, drop, ended, event_effect, false, first_client, free_currencies, free_threads, free_tickets, funding_of, given_again, held_by, holder_of, inl, inr, is_asleep, is_bad_amount, is_bad_processor, is_currency, is_cycle, is_dead, is_dead_in, is_dead_thread, is_funding, is_in_use, is_no_script, is_none, is_none_free, is_some, is_taken, is_thread_in_use, is_thread_name, issued_in, killed, leads_back, leb-false, lend_of, lends_lead, lends_on_to, length, length-append, length-set, lock, ltb-false, map, map-set, mutex_at, mutex_without, nat_le, nat_lt, newborn, next_thread, not, of_mutexes, of_ports, option_and_then, option_any, option_flatten, option_map, or_parts, placed, port_at, port_holders, port_without, ready_threads, receive, refl, reissued, released, released_by, remove, reply, retargeted, serve, served_at, set_number, slice_get, slice_get-map, slice_index, slice_set, started, status_of, step, stopped, subst, suc, sym, target_meant, thread_at, thread_meant, thread_on, thread_there, ticket_in, trap_effect, trap_refusal, true, unlock, unserved, unserved_at, unwrap_or, used_by, used_on, used_there, value_of, wake, weight_of, winner, with_server, with_target, with_ticks, without, zero, ℕ, [], ◌&&◌, ◌++◌, ◌+◌, ◌-◌, ◌<◌, ◌==◌, ◌^◌, ◌||◌, ◌∙◌, ◌∷◌, ◌≡◌, ◌≤◌, ◌⊎◌}
 use Rattle.lot_machine.specs.declared.ticket.Target.TheVariants as target
-use Rattle.lot_machine.specs.declared.record.Record.{Record}
-use Rattle.lot_machine.specs.declared.record.Status.{Status}
 use Rattle.lot_machine.specs.declared.record.Status.TheVariants as status
-use Rattle.lot_machine.specs.declared.action.Action.{Action}
-use Rattle.lot_machine.specs.declared.action.Action.TheVariants.{Yield, Call, Receive, Reply as ReplyTo, Serve, Lock, Unlock, Sleep, Exit}
-use Rattle.lot_machine.specs.declared.command.Command.{Command}
-use Rattle.lot_machine.specs.declared.command.Command.TheVariants.{MakeTicket, RemoveTicket, MakeCurrency, RemoveCurrency, Fund, Unfund, SetTicket, MakeThread, RemoveThread, Kill, MakeFunded, List as Listing}
-use Rattle.lot_machine.specs.declared.reference.CurrencyRef.{CurrencyRef}
-use Rattle.lot_machine.specs.declared.reference.ThreadRef.{ThreadRef}
-use Rattle.lot_machine.specs.declared.event.Event.{Event}
+use Rattle.lot_machine.specs.declared.action.Action.TheVariants.{Reply as ReplyTo}
+use Rattle.lot_machine.specs.declared.command.Command.TheVariants.{List as Listing}
 use Rattle.lot_machine.specs.declared.event.Event.TheVariants as event
-use Rattle.lot_machine.specs.declared.refusal.Refusal.TheVariants.{BadName, NameTaken, NoCurrency, NoTicket, NoTarget, BadAmount, InUse, Funding as IsFunding, NotFunding, Cycle, BaseFixed, DeadThread, Full, NoScript, NoThread, Alive, BadProcessor, Busy, NotRunning, BadTicks, NotAsleep}
-use Rattle.lot_machine.specs.declared.refusal.TrapRefusal.{TrapRefusal}
-use Rattle.lot_machine.specs.declared.drawn.Drawn.{Drawn}
-use Rattle.lot_machine.specs.declared.after.After.{After}
-use Rattle.lot_machine.specs.declared.after.After.TheVariants.{GoesOn, Leaves, Ends}
-use Rattle.lot_machine.specs.Numbered.{at_number, set_number, option_any}
-use Rattle.lot_machine.specs.Funding.{ticket_in, with_target, retargeted, reissued, issued_in, backing_currency, is_currency, currency_funded}
-use Rattle.lot_machine.specs.Bounds.{IsWithinBounds}
-use Rattle.lot_machine.specs.Lottery.{winner}
-use Rattle.lot_machine.specs.State.{State, Port, Mutex, holder_of, funding_of, is_dead, is_asleep, lend_of, QueuedCall, status_of, thread_at, used_on, used_by, thread_on, ready_threads, change_record, change_each, value_of, weight_of, given_again, free_tickets, free_currencies, free_threads, next_thread}
-use Rattle.lot_machine.specs.Commands.{currency_meant, thread_meant, target_meant, currency_or_base, is_thread_name, is_taken, is_no_script, is_bad_amount, are_tickets_full, are_threads_full, is_in_use, is_dead_in, is_thread_in_use, is_dead_thread, is_funding, is_cycle, command_effect, command_step, newborn}
-use Rattle.lot_machine.specs.Places.{is_none_free, placed}
-use Rattle.lot_machine.specs.Traps.{after_trap, compensation_for, with_ticks}
-use Rattle.lot_machine.specs.Ports.{PortTrap, clients_of, port_at, first_client, call, receive, reply, serve}
-use Rattle.lot_machine.specs.Mutexes.{mutex_at, lock, unlock}
-use Rattle.lot_machine.specs.Lends.{lends_lead, lends_on_to}
-use Rattle.lot_machine.specs.declared.reply.Outcome.{Outcome}
+use Rattle.lot_machine.specs.declared.refusal.Refusal.TheVariants.{Funding as IsFunding}
 use Rattle.lot_machine.specs.declared.reply.Outcome.TheVariants as outcome
-use Rattle.lot_machine.specs.Servers.{held_by, with_server, leads_back, served_at, port_holders, unserved_at, unserved, before_lock}
-use Rattle.lot_machine.specs.Kill.{without, port_without, mutex_without, released_by, released, ended, killed}
-use Rattle.lot_machine.specs.Step.{Effect, of_ports, at_port, of_mutexes, is_bad_processor, started, draw, stopped, wake, trap_refusal, trap_effect, checked_effect, thread_there, used_there, event_effect, step}
-use Rattle.lot_machine.specs.Equations.{HasEachOnce}
-use Rattle.lot_machine.specs.Facts.{HasNoCycle, FundsThere, RunsApart}
-use Rattle.lot_machine.specs.Order.{HasQueues, IsGap, HasFreeGaps}
-use Rattle.lot_machine.specs.Change.{Change, NewTicket, PutTicket, NewCurrency, DropCurrency, NewThread, DropThread, PutRecord, PutClients, PutPort, PutMutex, applied, applied_all, DropTicket}
 use Rattle.lot_machine.proofs.Idle.{there-alone, free-of, used-changed, used-of, used-stopped_on, index-holds, IsAlive, nobody-alive, ready-used, receiver-used, caller-used, client-used, waiter-used, there-used, is-dead, is-asleep, alive-of, status-number, ready-alive, receiver-alive, caller-alive, client-alive, waiter-alive, there-alive, used-placed, status-stays}
 use Rattle.lot_machine.proofs.Amounts.{HasNoCycle-amount, FundsThere-amount, place-of}
 use Rattle.lot_machine.proofs.CommandsKept.{IsFunded, unrefused, all-pass, none-of, target-there, keeps-remove_ticket, keeps-unfund, keeps-target, IsThere, some-of, meant-there, meant-thread}

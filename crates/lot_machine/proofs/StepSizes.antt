@@ -1,18 +1,6 @@
 -- How many threads a state has after an event, who they are, and its limits.
-use Rattle.std.proofs.Common.{◌≡◌, ℕ, ◌-◌, Option, Some, None, List, [], ◌∷◌, length, refl, ◌∙◌, arith}
-use Rattle.std.proofs.Math.ListN.{length-set}
-use Rattle.lot_machine.specs.declared.record.Record.{Record}
-use Rattle.lot_machine.specs.declared.action.Action.{Action}
-use Rattle.lot_machine.specs.declared.refusal.TrapRefusal.{TrapRefusal}
-use Rattle.lot_machine.specs.declared.command.Command.{Command}
-use Rattle.lot_machine.specs.declared.event.Event.{Event}
+use Rattle.lot_machine.proofs.Common.{Action, Command, Event, List, None, Option, Record, Some, State, TrapRefusal, arith, at_number, change_each, change_record, checked_effect, command_step, ended, killed, length, length-set, processor_of, refl, released, released_by, step, trap_effect, ℕ, [], ◌-◌, ◌∙◌, ◌∷◌, ◌≡◌}
 use Rattle.lot_machine.specs.declared.event.Event.TheVariants as event
-use Rattle.lot_machine.specs.Numbered.{at_number}
-use Rattle.lot_machine.specs.State.{State, change_record, change_each}
-use Rattle.lot_machine.specs.Kill.{released_by, released, ended, killed}
-use Rattle.lot_machine.specs.Commands.{command_step}
-use Rattle.lot_machine.specs.Step.{trap_effect, checked_effect, step}
-use Rattle.lot_machine.specs.Named.{processor_of}
 use Rattle.lot_machine.proofs.StepChanges.{HasSizesOf, HasGrownFrom, Console, Work, kept, change-grown, change-sizes, change-tickets, checked-leads, by_event, step-leads}
 
 -- a change of a thread's record

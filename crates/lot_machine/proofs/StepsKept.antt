@@ -1,12 +1,5 @@
 -- Each processor still has its own thread after an event.
-use Rattle.std.proofs.Common.{ℕ, List}
-use Rattle.lot_machine.specs.declared.record.Record.{Record}
-use Rattle.lot_machine.specs.declared.action.Action.{Action}
-use Rattle.lot_machine.specs.declared.event.Event.{Event}
-use Rattle.lot_machine.specs.declared.after.After.{After}
-use Rattle.lot_machine.specs.State.{State}
-use Rattle.lot_machine.specs.Step.{trap_effect, step}
-use Rattle.lot_machine.specs.Facts.{RunsApart}
+use Rattle.lot_machine.proofs.Common.{Action, After, Event, List, Record, RunsApart, State, step, trap_effect, ℕ}
 use Rattle.lot_machine.proofs.RecordsKept.{RunsAlone, StopsIfLeaves}
 use Rattle.lot_machine.proofs.StepChanges.{Work, kept, Apart, change-apart, change-alone, effect-leads, by_event, step-leads}
 

@@ -1,18 +1,7 @@
 -- What a ticket of base that loses its target, or gets another amount, touches two currencies upstream of a thread.
-use Rattle.std.proofs.Common.{inl, inr, ◌⊎◌, ◌≡◌, ◌≢◌, ◌↔◌, ℕ, zero, suc, Bool, true, Option, Some, None, List, [], ◌∷◌, ◌++◌, option_map, refl, sym, ◌∙◌, ap, subst, arith}
-use Rattle.std.specs.Prelude.{⊤}
-use Rattle.lot_machine.specs.declared.ticket.Target.{Target}
+use Rattle.lot_machine.proofs.Common.{Bool, Edge, Funding, IsChangedEdge, IsChangedNode, IsEdgeOfEither, IsPath, IsTouched, List, Nobody, Node, None, OfLender, OfMutex, OfTicket, Option, Some, Target, Thread, Touches, after, ap, arith, at_number, ends_of, inl, inr, option_map, refl, settkt, subst, suc, sym, target_node, true, unfund, upstream, weighed_of, zero, ℕ, [], ⊤, ◌++◌, ◌↔◌, ◌∙◌, ◌∷◌, ◌≡◌, ◌≢◌, ◌⊎◌}
 use Rattle.lot_machine.specs.declared.ticket.Target.TheVariants as target
-use Rattle.lot_machine.specs.declared.funding.Node.{Node}
-use Rattle.lot_machine.specs.declared.funding.Node.TheVariants.{Currency, Thread}
-use Rattle.lot_machine.specs.declared.funding.Lend.TheVariants.{Nobody}
-use Rattle.lot_machine.specs.declared.funding.Edge.{Edge}
-use Rattle.lot_machine.specs.declared.funding.Edge.TheVariants.{OfTicket, OfLender, OfMutex}
-use Rattle.lot_machine.specs.Numbered.{at_number}
-use Rattle.lot_machine.specs.Funding.{Funding, ends_of, weighed_of, target_node}
-use Rattle.lot_machine.specs.Touched.{IsEdgeOfEither, IsPath, IsChangedEdge, IsChangedNode, IsTouched, Touches}
-use Rattle.lot_machine.specs.Worked.{after, unfund, settkt}
-use Rattle.lot_machine.specs.WorkedRuns.{upstream}
+use Rattle.lot_machine.specs.declared.funding.Node.TheVariants.{Currency}
 use Rattle.lot_machine.proofs.Weighed.{there-weighed}
 use Rattle.lot_machine.proofs.Tickets.{at_number-suc, some-injective}
 

@@ -1,28 +1,5 @@
 -- No trap makes a cycle.
-use Rattle.std.proofs.Common.{◌≡◌, ℕ, zero, suc, ◌-◌, ◌==◌, nat_le, ◌&&◌, Bool, true, false, cond, ◌⊎◌, inl, inr, Option, Some, None, List, [], ◌∷◌, ◌++◌, map, remove, refl, sym, ◌∙◌, ap, subst, option_map, option_and_then, slice_index, unwrap_or, if◌then◌else◌}
-use Rattle.std.specs.Option.{option_flatten}
-use Rattle.std.proofs.lemmas.Bool.{eq-eqb}
-use Rattle.std.proofs.lemmas.List.{map-set}
-use Rattle.std.proofs.lemmas.Option.{slice_get-map}
-use Rattle.lot_machine.specs.declared.sizes.Sizes.{Sizes}
-use Rattle.lot_machine.specs.declared.record.Record.{Record}
-use Rattle.lot_machine.specs.declared.record.Status.{Status}
-use Rattle.lot_machine.specs.declared.record.Status.TheVariants.{Ready, Running, Queued, Receiving, Served, Waiting}
-use Rattle.lot_machine.specs.declared.funding.Lend.{Lend}
-use Rattle.lot_machine.specs.declared.funding.Lend.TheVariants.{Nobody, ToThread, ToMutex}
-use Rattle.lot_machine.specs.declared.drawn.Drawn.{Drawn}
-use Rattle.lot_machine.specs.Lottery.{winner}
-use Rattle.lot_machine.specs.Numbered.{at_number, set_number, option_any}
-use Rattle.lot_machine.specs.Funding.{Funding, owner_of}
-use Rattle.lot_machine.specs.Lends.{borrower, LendsLead, lends_lead, lends_on_to}
-use Rattle.lot_machine.specs.State.{State, Mutex, QueuedCall, holder_of, lends_at, funding_of, lend_of, status_of, change_record}
-use Rattle.lot_machine.specs.declared.after.After.{After}
-use Rattle.lot_machine.specs.declared.after.After.TheVariants.{GoesOn, Leaves}
-use Rattle.lot_machine.specs.Ports.{PortTrap, first_client, port_at, call, receive, reply, serve}
-use Rattle.lot_machine.specs.Mutexes.{mutex_at, lock, unlock}
-use Rattle.lot_machine.specs.Servers.{held_by, with_server, leads_back, served_at, unserved_at, unserved}
-use Rattle.lot_machine.specs.Facts.{HasNoCycle}
-use Rattle.lot_machine.specs.Order.{IsQueue, HasQueues}
+use Rattle.lot_machine.proofs.Common.{After, Bool, Drawn, Funding, GoesOn, HasNoCycle, HasQueues, IsQueue, Leaves, Lend, LendsLead, List, Mutex, Nobody, None, Option, PortTrap, Queued, QueuedCall, Ready, Receiving, Record, Running, Served, Sizes, Some, State, Status, ToMutex, ToThread, Waiting, ap, at_number, borrower, call, change_record, cond, eq-eqb, false, first_client, funding_of, held_by, holder_of, if◌then◌else◌, inl, inr, leads_back, lend_of, lends_at, lends_lead, lends_on_to, lock, map, map-set, mutex_at, nat_le, option_and_then, option_any, option_flatten, option_map, owner_of, port_at, receive, refl, remove, reply, serve, served_at, set_number, slice_get-map, slice_index, status_of, subst, suc, sym, true, unlock, unserved, unserved_at, unwrap_or, winner, with_server, zero, ℕ, [], ◌&&◌, ◌++◌, ◌-◌, ◌==◌, ◌∙◌, ◌∷◌, ◌≡◌, ◌⊎◌}
 use Rattle.lot_machine.proofs.Tickets.{at_number-suc, some-injective}
 use Rattle.lot_machine.proofs.LendDepth.{lends_lead-exact}
 use Rattle.lot_machine.proofs.LendsKept.{HasNoCycle-lends, HasNoCycle-freed, HasNoCycle-owned_any}

@@ -1,20 +1,5 @@
 -- Those who wait still stand where their statuses say after a trap.
-use Rattle.std.proofs.Common.{◌≡◌, ℕ, suc, ◌-◌, ◌==◌, ◌<◌, ◌≤◌, true, false, ◌⊎◌, inl, inr, Option, Some, None, is_none, List, [], ◌∷◌, ◌++◌, length, map, remove, refl, sym, ◌∙◌, ap, subst, option_map, slice_get, slice_index, get_or, unwrap_or}
-use Rattle.std.proofs.lemmas.Bool.{eq-eqb}
-use Rattle.std.proofs.lemmas.List.{map-append, get_or_past}
-use Rattle.std.proofs.lemmas.Option.{slice_get_cases, get_or_from_slice_get}
-use Rattle.lot_machine.specs.declared.record.Record.{Record}
-use Rattle.lot_machine.specs.declared.record.Status.{Status}
-use Rattle.lot_machine.specs.declared.record.Status.TheVariants.{Ready, Running, Queued, Receiving, Served, Waiting}
-use Rattle.lot_machine.specs.declared.drawn.Drawn.{Drawn}
-use Rattle.lot_machine.specs.Lottery.{winner}
-use Rattle.lot_machine.specs.Numbered.{at_number, set_number, option_any}
-use Rattle.lot_machine.specs.State.{Port, Mutex, QueuedCall, status_of, change_record}
-use Rattle.lot_machine.specs.declared.after.After.{After}
-use Rattle.lot_machine.specs.declared.after.After.TheVariants.{GoesOn, Leaves}
-use Rattle.lot_machine.specs.Ports.{clients_of, first_client, port_at, call, receive, reply}
-use Rattle.lot_machine.specs.Mutexes.{mutex_at, lock, unlock}
-use Rattle.lot_machine.specs.Order.{IsQueue, HasQueues}
+use Rattle.lot_machine.proofs.Common.{After, Drawn, GoesOn, HasQueues, IsQueue, Leaves, List, Mutex, None, Option, Port, Queued, QueuedCall, Ready, Receiving, Record, Running, Served, Some, Status, Waiting, ap, at_number, call, change_record, clients_of, eq-eqb, false, first_client, get_or, get_or_from_slice_get, get_or_past, inl, inr, is_none, length, lock, map, map-append, mutex_at, option_any, option_map, port_at, receive, refl, remove, reply, set_number, slice_get, slice_get_cases, slice_index, status_of, subst, suc, sym, true, unlock, unwrap_or, winner, ℕ, [], ◌++◌, ◌-◌, ◌<◌, ◌==◌, ◌∙◌, ◌∷◌, ◌≡◌, ◌≤◌, ◌⊎◌}
 use Rattle.lot_machine.proofs.Changes.{number-there}
 use Rattle.lot_machine.proofs.Tickets.{some-injective}
 use Rattle.lot_machine.proofs.Queues.{IsAbsent, StandsNowhere, number-set_same, record-of, status-now, status-other, queue-empty, absent-other, absent-push, queue-push, queue-rest, absent-rest, queue-without, absent-without, queues-changed, queues-live, nowhere-live, queues-port, queues-mutex, queues-clients, queue-clients, own-absent}

@@ -1,13 +1,7 @@
 -- What a change in two steps touches, if the graph between them has no edge with its weight and no live thread that neither end
 -- has, and lacks none that both have.
-use Rattle.std.proofs.Common.{◌≡◌, ◌∙◌, ℕ, ◌⊎◌, inl, inr, sym, Bool, Some, List, [], ◌∷◌}
-use Rattle.lot_machine.specs.declared.funding.Node.{Node}
-use Rattle.lot_machine.specs.declared.funding.Edge.{Edge}
-use Rattle.lot_machine.specs.Funding.{Funding, ends_of, weighed_of}
-use Rattle.lot_machine.specs.Numbered.{at_number}
-use Rattle.lot_machine.specs.Lends.{IsLive}
+use Rattle.lot_machine.proofs.Common.{Bool, Edge, Funding, IsChangedEdge, IsChangedLife, IsChangedNode, IsEdgeOfEither, IsLive, IsPath, IsTouched, List, LiveBetween, Node, PathLeads, Some, WeighedBetween, at_number, ends_of, inl, inr, sym, weighed_of, ℕ, [], ◌∙◌, ◌∷◌, ◌≡◌, ◌⊎◌}
 use Rattle.lot_machine.proofs.Weighed.{there-weighed, weighed-there}
-use Rattle.lot_machine.specs.Touched.{IsEdgeOfEither, IsPath, PathLeads, IsChangedEdge, IsChangedLife, IsChangedNode, IsTouched, WeighedBetween, LiveBetween}
 
 module _ (before mid after : Funding) (edges : WeighedBetween before mid after) where
   -- an edge in between is there before or after

@@ -1,20 +1,6 @@
 -- Where nobody lends, a thread that isn't live is worth nothing.
-use Rattle.std.proofs.Common.{◌≡◌, ℕ, zero, suc, ◌==◌, Bool, true, false, ◌||◌, Option, Some, None, List, map, length, option_and_then, option_map, cond, refl, sym, ◌∙◌, ap}
-use Rattle.std.proofs.lemmas.Bool.{eqb-true}
-use Rattle.lot_machine.specs.declared.sizes.Sizes.{Sizes}
-use Rattle.lot_machine.specs.declared.record.Record.{Record}
-use Rattle.lot_machine.specs.declared.record.Status.{Status}
-use Rattle.lot_machine.specs.declared.record.Status.TheVariants.{Ready, Running, Receiving, Queued, Served, Waiting, Asleep, Dead}
-use Rattle.lot_machine.specs.declared.funding.Lend.TheVariants.{Nobody}
-use Rattle.lot_machine.specs.declared.ticket.Ticket.{Ticket}
-use Rattle.lot_machine.specs.declared.ticket.Target.{Target}
+use Rattle.lot_machine.proofs.Common.{Asleep, Bool, Dead, Funding, List, Nobody, None, Option, Queued, Ready, Receiving, Record, Running, Served, Sizes, Some, Status, Target, Ticket, Waiting, activates_within, ap, at_number, backing_thread, borrower, borrower_of, cond, eqb-true, false, is_active, is_backed, is_backed_within, is_live, is_thread, lend_of, lends_lead, lends_lead_within, length, map, numbers, option_and_then, option_any, option_map, own_value, refl, suc, sym, thread_value, ticket_value, ticket_value_within, true, user_currency_count, zero, ℕ, ◌==◌, ◌||◌, ◌∙◌, ◌≡◌}
 use Rattle.lot_machine.specs.declared.ticket.Target.TheVariants as target
-use Rattle.lot_machine.specs.Numbered.{at_number, numbers, option_any}
-use Rattle.lot_machine.specs.Funding.{Funding, backing_thread, is_thread, user_currency_count}
-use Rattle.lot_machine.specs.Lends.{borrower, borrower_of, lends_lead, lends_lead_within, is_live, is_backed, is_backed_within}
-use Rattle.lot_machine.specs.Activity.{is_active, activates_within}
-use Rattle.lot_machine.specs.Value.{ticket_value, ticket_value_within, own_value, thread_value}
-use Rattle.lot_machine.specs.State.{lend_of}
 use Rattle.lot_machine.proofs.Sums.{sum-filter, sum-same, sum-nothing}
 use Rattle.lot_machine.proofs.Tickets as tickets
 use Rattle.lot_machine.proofs.TrapCycles.{at_number-map}

@@ -1,25 +1,9 @@
 -- Without lending of queued calls no holder but the mutexes is there, and none changes.
-use Rattle.std.proofs.Common.{◌≡◌, ℕ, suc, ◌+◌, ◌-◌, ◌==◌, ◌<◌, ◌≤◌, Bool, true, false, ◌||◌, cond, nat_lt, nat_le, ◌&&◌, is_none, Option, Some, None, List, [], ◌∷◌, length, map, refl, sym, ◌∙◌, ap, arith, slice_get}
-use Rattle.std.proofs.Math.ListN.{length-set}
-use Rattle.std.proofs.lemmas.Bool.{le-ltb}
-use Rattle.std.proofs.lemmas.List.{length-replicate}
-use Rattle.std.proofs.lemmas.Option.{slice_get_within}
-use Rattle.lot_machine.specs.declared.event.Event.{Event}
-use Rattle.lot_machine.specs.declared.sizes.Sizes.{Sizes}
-use Rattle.lot_machine.specs.declared.record.Status.TheVariants.{Queued}
-use Rattle.lot_machine.specs.declared.reply.Outcome.{Outcome}
+use Rattle.lot_machine.proofs.Common.{Bool, Event, List, Mutex, Nobody, None, Option, Outcome, PutMutex, Queued, Sizes, Some, State, ToMutex, ap, arith, at_number, before_lock, cond, false, funding_of, held_by, holder_of, holders, is_no_mutex, is_none, le-ltb, leads_back, left_by, lend_of, lends_lead, lends_on_to, length, length-replicate, length-set, map, mutex_at, nat_le, nat_lt, opening, option_any, port_holders, refl, served_at, set_number, slice_get, slice_get_within, state_after, step, suc, sym, true, unserved, with_server, without_servers, ℕ, [], ◌&&◌, ◌+◌, ◌-◌, ◌<◌, ◌==◌, ◌||◌, ◌∙◌, ◌∷◌, ◌≡◌, ◌≤◌}
 use Rattle.lot_machine.specs.declared.reply.Outcome.TheVariants as outcome
-use Rattle.lot_machine.specs.declared.funding.Lend.TheVariants.{Nobody, ToMutex}
-use Rattle.lot_machine.specs.Numbered.{at_number, set_number, option_any}
-use Rattle.lot_machine.specs.Lends.{lends_lead, lends_on_to}
-use Rattle.lot_machine.specs.State.{State, Mutex, opening, funding_of, holder_of, holders, lend_of}
-use Rattle.lot_machine.specs.Mutexes.{mutex_at}
-use Rattle.lot_machine.specs.Servers.{held_by, with_server, leads_back, served_at, port_holders, unserved, without_servers, before_lock, left_by}
-use Rattle.lot_machine.specs.Step.{is_no_mutex, step, state_after}
 use Rattle.lot_machine.proofs.Changes.{number-there}
 use Rattle.lot_machine.proofs.Tickets.{at_number-suc}
 use Rattle.lot_machine.proofs.StepChanges.{By, Keeps, kept, step-leads, by_event}
-use Rattle.lot_machine.specs.Change.{PutMutex}
 
 -- ---- counted
 

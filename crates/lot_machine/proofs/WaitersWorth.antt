@@ -1,18 +1,5 @@
 -- What the waiters for one mutex are worth together: at most what base's active tickets are.
-use Rattle.std.proofs.Common.{◌≡◌, ℕ, suc, ◌+◌, ◌≤◌, ◌*◌, Bool, true, false, Some, List, [], ◌∷◌, length, sum_by, slice_get, option_and_then, refl, sym, ◌∙◌, ap, subst, arith, cond}
-use Rattle.std.specs.List.{range_with_len}
-use Rattle.std.proofs.lemmas.List.{length-map}
-use Rattle.std.proofs.lemmas.List.Sums.{sum_by-cons}
-use Rattle.lot_machine.specs.declared.record.Record.{Record}
-use Rattle.lot_machine.specs.declared.record.Status.TheVariants.{Waiting}
-use Rattle.lot_machine.specs.Numbered.{numbers}
-use Rattle.lot_machine.specs.Funding.{Funding}
-use Rattle.lot_machine.specs.Activity.{active_amount}
-use Rattle.lot_machine.specs.Lends.{borrower, borrower_of, IsLendChain, LendsOnTo, lends_lead}
-use Rattle.lot_machine.specs.Value.{own_value}
-use Rattle.lot_machine.specs.State.{State, lend_of, funding_of, live_of, value_of}
-use Rattle.lot_machine.specs.Facts.{HasNoCycle, FundsThere}
-use Rattle.lot_machine.specs.Order.{IsQueue}
+use Rattle.lot_machine.proofs.Common.{Bool, Funding, FundsThere, HasNoCycle, IsLendChain, IsQueue, LendsOnTo, List, Record, Some, State, Waiting, active_amount, ap, arith, borrower, borrower_of, cond, false, funding_of, lend_of, lends_lead, length, length-map, live_of, numbers, option_and_then, own_value, range_with_len, refl, slice_get, subst, suc, sum_by, sum_by-cons, sym, true, value_of, ℕ, [], ◌*◌, ◌+◌, ◌∙◌, ◌∷◌, ◌≡◌, ◌≤◌}
 use Rattle.lot_machine.proofs.Sums.{sum-filter, sum-le, sum-same, sum-swap}
 use Rattle.lot_machine.proofs.Tickets.{some-injective}
 use Rattle.lot_machine.proofs.LendDepth.{lends_lead-exact}

@@ -1,12 +1,6 @@
 -- An edge that has ends has a weight, and the other way round.
-use Rattle.std.proofs.Common.{◌≡◌, ◌≢◌, ℕ, Option, Some, None, refl, sym, ◌∙◌, ap, option_map, option_and_then}
-use Rattle.lot_machine.specs.declared.ticket.Ticket.{Ticket}
-use Rattle.lot_machine.specs.declared.funding.Node.{Node}
+use Rattle.lot_machine.proofs.Common.{Edge, Funding, IsWeighedOnlyIn, Node, None, OfLender, OfMutex, OfTicket, Option, Some, Ticket, ap, ends_of, option_and_then, option_map, refl, sym, target_node, ticket_at, weighed_of, ℕ, ◌∙◌, ◌≡◌, ◌≢◌}
 use Rattle.lot_machine.specs.declared.funding.Node.TheVariants as node
-use Rattle.lot_machine.specs.declared.funding.Edge.{Edge}
-use Rattle.lot_machine.specs.declared.funding.Edge.TheVariants.{OfTicket, OfLender, OfMutex}
-use Rattle.lot_machine.specs.Funding.{Funding, ticket_at, target_node, ends_of, weighed_of}
-use Rattle.lot_machine.specs.Touched.{IsWeighedOnlyIn}
 use Rattle.lot_machine.proofs.Tickets.{some-injective}
 
 -- the ends without the weight

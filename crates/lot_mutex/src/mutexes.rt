@@ -17,7 +17,7 @@ ghost use Rattle.lot_mutex.specs.Listed.{IsMutexTrap, UnlockSettles, owners_of};
 use crate::lottery::Lottery;
 use lot_machine::{After, Drawn, MutexNumber, Outcome, Status, ThreadNumber};
 use lot_queues::Queues;
-use lot_threads::{TrapEffect, Threads};
+use lot_threads::{Threads, TrapEffect};
 use lot_value::GraphChange;
 
 /// A lock by a running thread: it takes a free mutex, or otherwise waits behind earlier threads.

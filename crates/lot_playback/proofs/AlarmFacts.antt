@@ -1,22 +1,6 @@
 -- The threads that sleep, as a table has them.
-use Rattle.std.proofs.Common.{◌≡◌, ℕ, zero, suc, ◌+◌, ◌-◌, ◌<◌, ◌≤◌, ◌⊎◌, inl, inr, Option, Some, None, List, [], ◌∷◌, ◌++◌, length, replicate, slice_get, refl, sym, ◌∙◌, ap, arith, append-nil}
-use Rattle.std.specs.List.{flat_map, range_with_len}
-use Rattle.std.specs.Prelude.{map, take}
-use Rattle.std.specs.Option.{IfSome, option_flatten, option_map_or}
-use Rattle.std.proofs.lemmas.Bool.{cases_lt}
-use Rattle.std.proofs.lemmas.List.{length-replicate}
-use Rattle.lot_machine.specs.Bounds.{IsBetween}
-use Rattle.lot_machine.proofs.Tickets.{at_number-suc}
-use Rattle.lot_simulation.specs.declared.timed.Due.{Due}
-use Rattle.lot_machine.proofs.RecordsKept.{found-runs, numbered}
+use Rattle.lot_playback.proofs.Common.{Alarms, AreAlarms, AreNumbered, Due, Each, IfSome, IsBetween, IsNextAlarm, List, Moment, None, Option, Program, Seen, Sleeper, Some, World, alarm_at, alarms_in, all_due, ap, append-nil, arith, at_number-suc, cases_lt, each-due, earliest, earliest-one, first-due, flat_map, found-runs, inl, inr, length, length-replicate, map, next_due, numbered, option_flatten, option_map_or, range_with_len, refl, replicate, sleeper-found, sleeper_on, slice_get, suc, sym, take, world_of, zero, ℕ, [], ◌++◌, ◌+◌, ◌-◌, ◌<◌, ◌∙◌, ◌∷◌, ◌≡◌, ◌≤◌, ◌⊎◌}
 use Rattle.lot_machine.specs.declared.record.Status.TheVariants as status
-use Rattle.lot_simulation.specs.declared.timed.Sleeper.{Sleeper}
-use Rattle.lot_simulation.specs.Timed.{Moment, all_due, earliest, next_due}
-use Rattle.lot_simulation.specs.World.{Program, World, sleeper_on}
-use Rattle.lot_simulation.proofs.TimesRise.{Each, each-due, earliest-one, sleeper-found, first-due}
-use Rattle.lot_engine.specs.Seen.{Seen, world_of}
-use Rattle.lot_playback.specs.declared.alarms.Alarms.{Alarms}
-use Rattle.lot_playback.specs.InTime.{AreAlarms, AreNumbered, IsNextAlarm, alarm_at, alarms_in}
 use Rattle.lot_playback.proofs.TimeFacts.{range-push}
 
 -- ---- the turns of the threads that sleep

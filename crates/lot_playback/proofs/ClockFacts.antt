@@ -1,23 +1,7 @@
 -- A system whose turns come in the order of time.
-use Rattle.std.proofs.Common.{◌≡◌, ℕ, zero, suc, ◌+◌, ◌-◌, ◌<◌, ◌^◌, true, false, Option, None, Some, List, [], ◌∷◌, ◌++◌, length, take, drop, refl, sym, ◌∙◌, ap, subst, arith, length-append}
-use Rattle.std.specs.Prelude.{IsSome, is_some}
-use Rattle.lot_machine.specs.declared.event.Event.{Event}
-use Rattle.lot_machine.specs.declared.reply.Reply.{Reply}
-use Rattle.lot_simulation.specs.declared.timed.Due.{Due}
-use Rattle.lot_simulation.specs.Timed.{Moment, TimedTurn, due_first, moment_after, next_due, opening_moment, timed_room, timed_turns, turn_due, turns_from}
-use Rattle.lot_simulation.specs.World.{Program, World, opening_world}
-use Rattle.lot_simulation.specs.World.TurnAnswer.{Answered, Ended}
-use Rattle.lot_playback.specs.InTime.{IsAtEnd, IsDue, IsFollowed, due_turn, moment_in, next_turns, turns_done}
-use Rattle.lot_engine.specs.Playing.{turn_in}
-use Rattle.lot_engine.specs.Seen.{Seen, Setting, after_turn, world_of}
-use Rattle.lot_playback.specs.declared.timekeeper.Timekeeper.{Timekeeper}
+use Rattle.lot_playback.proofs.Common.{Answered, Due, Ended, Event, IsAtEnd, IsAtTime, IsDue, IsFollowed, IsNext, IsSome, List, MadeTurn, MakesTurn, Moment, NextTurn, None, Option, Program, Reply, Reports, Seen, Setting, Some, Stage, TimedTurn, Timekeeper, World, after_turn, ap, arith, drop, due_first, due_turn, false, is_some, length, length-append, moment_after, moment_in, next_due, next_turns, opening_moment, opening_world, played-after, refl, subst, suc, sym, take, timed_room, timed_turns, true, turn_due, turn_in, turn_in_time, turns_by, turns_done, turns_from, turns_in_time, turns_left, world_of, zero, ℕ, [], ◌++◌, ◌+◌, ◌-◌, ◌<◌, ◌^◌, ◌∙◌, ◌∷◌, ◌≡◌}
 use Rattle.lot_playback.proofs.FollowFacts.{all-done, one-next}
-use Rattle.lot_engine.proofs.PlayingFacts.{played-after}
-use Rattle.lot_playback.specs.declared.turn.NextTurn.{NextTurn}
 use Rattle.lot_playback.specs.declared.turn.Turn.{Turn as ATurn}
-use Rattle.lot_playback.specs.Orders.{IsAtTime}
-use Rattle.lot_playback.specs.Stages.{IsNext, MakesTurn, Reports, Stage, turns_left}
-use Rattle.lot_playback.specs.Turns.{MadeTurn, turn_in_time, turns_by, turns_in_time}
 use Rattle.lot_playback.proofs.MadeFacts.{counted-answered, made-more}
 use Rattle.lot_playback.proofs.TurnFacts.{drop-timed, moment-world, none-timed, world_after_timed}
 

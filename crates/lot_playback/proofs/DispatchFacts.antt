@@ -1,40 +1,8 @@
 -- A draw and the end of a quantum change the status of one thread at most, and no value.
-use Rattle.std.proofs.Common.{◌≡◌, ℕ, ◌-◌, ◌*◌, Bool, false, Option, Some, None, List, [], ◌∷◌, length, map, filter, is_none, slice_index, option_map, ◌⊎◌, inl, inr, refl, sym, ◌∙◌, ap, subst}
-use Rattle.std.specs.Prelude.{sum_by, if◌then◌else◌}
-use Rattle.std.specs.List.{range_with_len}
-use Rattle.std.proofs.lemmas.List.{length-map, map-set}
-use Rattle.lot_machine.specs.declared.drawn.Drawn.{Drawn}
-use Rattle.lot_machine.specs.declared.event.Event.{Event}
+use Rattle.lot_playback.proofs.Common.{Answered, Answers, BadProcessor, Bool, Currencies, Drawn, Event, Funding, IsDispatch, Lend, List, None, NotRunning, Option, Record, Refusal, Reply, Sharers, Some, State, Step, Threads, active_amount, all-pass, ap, at_number, at_number-map, change_record, currency_value, draw, event_effect, event_refusal, false, filter, filter-passes, funding_of, if◌then◌else◌, index-holds, inl, inr, is-ready, is_bad_processor, is_live, is_live_status, is_none, is_ready, lend_of, length, length-map, live_of, makes, makes_currency, makes_one, map, map-set, moved_thread, number-kept, numbers, option_any, option_map, range_with_len, ready_threads, refl, set_number, slice_index, some-injective, started, status-other, status_of, step, stopped, subst, sum_by, sym, there-runs, thread_on, thread_there, thread_value, unless_refused, used_there, value_in, weight_of, whole_in, winner, with_ticks, ℕ, [], ◌*◌, ◌-◌, ◌∙◌, ◌∷◌, ◌≡◌, ◌⊎◌}
 use Rattle.lot_machine.specs.declared.event.Event.TheVariants as event
-use Rattle.lot_machine.specs.declared.funding.Lend.{Lend}
-use Rattle.lot_machine.specs.declared.record.Record.{Record}
 use Rattle.lot_machine.specs.declared.record.Status.TheVariants as status
-use Rattle.lot_machine.specs.declared.refusal.Refusal.{Refusal}
-use Rattle.lot_machine.specs.declared.refusal.Refusal.TheVariants.{BadProcessor, NotRunning}
-use Rattle.lot_machine.specs.declared.reply.Reply.{Reply}
 use Rattle.lot_machine.specs.declared.reply.Reply.TheVariants as answer
-use Rattle.lot_machine.specs.Commands.{Step, unless_refused}
-use Rattle.lot_machine.specs.Funding.{Funding}
-use Rattle.lot_machine.specs.Lends.{is_live}
-use Rattle.lot_machine.specs.Lottery.{winner}
-use Rattle.lot_machine.specs.Numbered.{at_number, numbers, option_any, set_number}
-use Rattle.lot_machine.specs.State.{State, change_record, funding_of, is_live_status, is_ready, lend_of, live_of, ready_threads, status_of, thread_on, weight_of}
-use Rattle.lot_machine.specs.Step.{draw, event_effect, event_refusal, is_bad_processor, started, step, stopped, thread_there, used_there}
-use Rattle.lot_machine.specs.Traps.{with_ticks}
-use Rattle.lot_machine.specs.Activity.{active_amount}
-use Rattle.lot_machine.specs.Value.{currency_value, thread_value}
-use Rattle.lot_machine.proofs.Changes.{number-kept}
-use Rattle.lot_machine.proofs.CommandsKept.{all-pass}
-use Rattle.lot_machine.proofs.Idle.{filter-passes, index-holds, is-ready, there-runs}
-use Rattle.lot_machine.proofs.Queues.{status-other}
-use Rattle.lot_machine.proofs.Tickets.{some-injective}
-use Rattle.lot_machine.proofs.TrapCycles.{at_number-map}
-use Rattle.lot_simulation.specs.World.TurnAnswer.{Answered}
-use Rattle.lot_simulation.specs.TimedReport.{makes, makes_currency}
-use Rattle.lot_playback.specs.declared.sharers.Sharers.{Sharers}
-use Rattle.lot_playback.specs.declared.sharers.Sharers.TheVariants.{Threads, Currencies}
-use Rattle.lot_playback.specs.Sharing.{makes_one, value_in, whole_in}
-use Rattle.lot_playback.specs.Owed.{Answers, IsDispatch, moved_thread}
 
 -- no thread and no currency is made
 abbrev MakesNone : Reply → Type 0

@@ -1,37 +1,8 @@
 -- What threads are due, and how long they wait to run, turn by turn.
-use Rattle.std.proofs.Common.{◌≡◌, ℕ, ◌+◌, ◌-◌, ◌*◌, ◌/◌, ◌^◌, ◌<◌, ◌≤◌, ◌==◌, Bool, true, false, Option, Some, None, is_some, set, ne_eqb, ◌≢◌, List, [], ◌∷◌, ◌++◌, length, ◌⊎◌, inl, inr, refl, sym, ◌∙◌, ap, subst, arith}
-use Rattle.std.specs.Prelude.{slice_index_or, if◌then◌else◌}
-use Rattle.std.proofs.lemmas.List.Sums.{fold_push}
-use Rattle.std.proofs.lemmas.List.{get_or-set_other, get_or_default, length-set}
-use Rattle.std.proofs.lemmas.Bool.{cases_eq, cases_lt, eq-eqb}
-use Rattle.std.proofs.lemmas.Grind.{get_or-set_at}
-use Rattle.std.proofs.Math.Nat.{div-le_self, mul-add, mul-div-le, mul-le-mul_right}
-use Rattle.lot_machine.specs.declared.record.Record.{Record}
-use Rattle.lot_machine.specs.declared.record.Status.{Status}
-use Rattle.lot_machine.specs.declared.record.Status.TheVariants.{Ready, Running, Receiving, Queued, Served, Waiting, Asleep, Dead}
-use Rattle.lot_machine.specs.declared.event.Event.{Event}
-use Rattle.lot_machine.specs.declared.reply.Reply.{Reply}
-use Rattle.lot_machine.specs.Facts.{IsSound}
-use Rattle.lot_machine.specs.Numbered.{option_any}
-use Rattle.lot_machine.specs.State.{State, is_ready, status_of}
-use Rattle.lot_machine.proofs.RecordsKept.{numbered}
-use Rattle.lot_machine.proofs.Tickets.{some-injective}
-use Rattle.lot_simulation.specs.declared.timed.Spans.{Spans}
-use Rattle.lot_simulation.specs.Timed.{TimedTurn}
-use Rattle.lot_simulation.specs.TimedReport.{no_spans, span_begun, span_ended}
-use Rattle.lot_simulation.specs.World.{TurnAnswer}
-use Rattle.lot_simulation.specs.World.TurnAnswer.{Answered}
-use Rattle.lot_playback.specs.declared.dues.DueTable.{DueTable}
-use Rattle.lot_playback.specs.declared.dues.Owing.{Owing}
-use Rattle.lot_playback.specs.declared.sharers.Sharers.{Sharers}
-use Rattle.lot_playback.specs.declared.sharers.Sharers.TheVariants.{Threads}
-use Rattle.lot_simulation.specs.TimedReport.{due_after, due_from, makes, queued, rate_in, ready_after, ready_in, tick_parts, time_from}
+use Rattle.lot_playback.proofs.Common.{Answered, Answers, AreDue, AreFew, AreOwed, AreReadyFor, AreWaiting, Asleep, Bool, Dead, DueTable, Event, HasFew, HaveQueued, HaveQueuedOne, HaveValues, IsDispatch, IsOwed, IsReadyFor, IsSound, List, None, NoneWaitsBeyond, Option, Owing, Queued, Ready, Receiving, Record, Reply, Running, Served, Sharers, Some, Spans, State, Status, Threads, TimedTurn, TurnAnswer, Waiting, ap, arith, cases_eq, cases_lt, count_in, div-le_self, due_after, due_from, due_to, eq-eqb, false, fold_push, forgotten, get_or-set_at, get_or-set_other, get_or_default, if◌then◌else◌, inl, inr, is_ready, is_some, length, length-set, makes, makes_one, moved_thread, mul-add, mul-div-le, mul-le-mul_right, ne_eqb, no_spans, numbered, option_any, part_in, parts_before, queued, rate_in, ready_after, ready_in, refl, set, shared_ticks, slice_index_or, some-injective, span_begun, span_ended, state_after, status_of, subst, sym, tick_parts, time_after, time_from, time_shared, true, value_in, waits_before, whole_in, ℕ, [], ◌*◌, ◌++◌, ◌+◌, ◌-◌, ◌/◌, ◌<◌, ◌==◌, ◌^◌, ◌∙◌, ◌∷◌, ◌≡◌, ◌≢◌, ◌≤◌, ◌⊎◌}
 use Rattle.lot_playback.proofs.DispatchFacts.{none-made, status-kept, value-kept, whole-kept}
 use Rattle.lot_playback.proofs.MadeCurrencies.{count-grows}
 use Rattle.lot_playback.proofs.WorthFacts.{value-none, value-within, whole-small}
-use Rattle.lot_playback.specs.Sharing.{count_in, due_to, makes_one, part_in, shared_ticks, time_shared, value_in, whole_in}
-use Rattle.lot_playback.specs.InTime.{AreFew}
-use Rattle.lot_playback.specs.Owed.{Answers, AreDue, AreOwed, AreReadyFor, AreWaiting, HasFew, HaveQueued, HaveQueuedOne, HaveValues, IsDispatch, IsOwed, IsReadyFor, NoneWaitsBeyond, forgotten, moved_thread, parts_before, state_after, time_after, waits_before}
 
 -- ---- one turn more
 

@@ -1,35 +1,9 @@
 -- One more of a program's turns in time.
-use Rattle.std.proofs.Common.{◌≡◌, ℕ, zero, suc, ◌+◌, ◌-◌, ◌^◌, ◌<◌, ◌≤◌, ◌==◌, Bool, true, false, Option, Some, None, List, [], ◌∷◌, ◌++◌, ◌||◌, length, take, drop, refl, sym, ◌∙◌, ap, subst, arith, append_assoc, append-nil, length-append, length-drop, ne_eqb}
-use Rattle.std.specs.Prelude.{map, count_by, if◌then◌else◌, Result, Ok, Err, IsErr, IfOk}
-use Rattle.std.proofs.lemmas.List.{length-map, map-append}
-use Rattle.std.proofs.Math.Seq.{take-append_seam, drop-append_seam}
-use Rattle.lot_machine.specs.declared.command.Command.{Command}
-use Rattle.lot_machine.specs.declared.event.Event.{Event}
-use Rattle.lot_machine.specs.declared.reply.Reply.{Reply}
-use Rattle.lot_simulation.specs.declared.timed.Due.{Due}
-use Rattle.std.proofs.lemmas.List.Sums.{sum_by_push}
-use Rattle.lot_simulation.specs.Report.{ActorTurn, count_in, total_of}
-use Rattle.lot_simulation.specs.Timed.{Moment, TimedTurn, turns_from, timed_turns, timed_room, next_due, due_first, turn_due, moment_after, moment_after_all, opening_moment, alarms_after, clocks_after, is_idle_draw, is_refusal}
-use Rattle.lot_simulation.specs.TimedReport.{actor_turns, refusals_in}
-use Rattle.lot_simulation.specs.World.{Program, World, TurnAnswer, actor_event, console_turn, next_name, processor_turn, resolved, system_turn}
-use Rattle.lot_simulation.specs.World.TurnAnswer.{Answered, Ended}
-use Rattle.lot_simulation.proofs.OtherTurns.{turn-grows}
-use Rattle.lot_simulation.proofs.TimedRuns.{turns-few}
-use Rattle.lot_simulation.proofs.TimesRise.{AreLater, alarms-later}
-use Rattle.lot_machine.specs.Bounds.{IsWithinBounds}
+use Rattle.lot_playback.proofs.Common.{ActorTurn, Answered, Answers, AreAlarms, AreLater, AreNumbered, Bool, Command, Due, Ended, Err, Event, FoundNodes, HasDues, HasFollowed, HasLayoutFor, HasRoomFor, IfOk, IsErr, IsFollowed, IsOpened, IsWithinBounds, List, Moment, None, Ok, Option, Program, Reply, Result, Seen, Some, TimedTurn, Timekeeper, TurnAnswer, World, actor_event, actor_turns, after_turn, alarms-later, alarms_after, alarms_in, ap, append-nil, append_assoc, arith, clocks_after, commands_made, console_turn, count-console, count-processor, count_by, drop, drop-append_seam, due_first, false, if◌then◌else◌, is_idle_draw, is_refusal, length, length-append, length-drop, length-map, map, map-append, moment_after, moment_after_all, moment_in, ne_eqb, next_due, next_name, next_turns, opening, opening_moment, processor_turn, refl, refusals_in, resolved, step, subst, suc, sum_by_push, sym, system_run-one_more, system_turn, take, take-append_seam, timed_turns, total_of, true, turn-grows, turn_due, turns-few, turns_done, turns_from, world_of, zero, ℕ, [], ◌++◌, ◌+◌, ◌-◌, ◌<◌, ◌==◌, ◌^◌, ◌||◌, ◌∙◌, ◌∷◌, ◌≡◌, ◌≤◌}
+use Rattle.lot_simulation.specs.Report.{count_in}
+use Rattle.lot_simulation.specs.Timed.{timed_room}
 use Rattle.lot_machine.specs.declared.event.Event.TheVariants as event
-use Rattle.lot_machine.specs.State.{opening}
-use Rattle.lot_machine.specs.Step.{step}
-use Rattle.lot_playback.specs.Owed.{Answers}
 use Rattle.lot_playback.proofs.AlarmFacts.{none-asleep}
-use Rattle.lot_playback.specs.declared.timekeeper.Timekeeper.{Timekeeper}
-use Rattle.lot_playback.specs.Following.{IsOpened}
-use Rattle.lot_playback.specs.InTime.{AreAlarms, AreNumbered, HasDues, HasFollowed, HasRoomFor, IsFollowed, alarms_in, moment_in, next_turns, turns_done}
-use Rattle.lot_graph.specs.Found.{FoundNodes}
-use Rattle.lot_engine.specs.Searching.{HasLayoutFor}
-use Rattle.lot_engine.specs.Seen.{Seen, after_turn, commands_made, world_of}
-use Rattle.lot_engine.proofs.Runs.{system_run-one_more}
-use Rattle.lot_engine.proofs.TurnFacts.{count-console, count-processor}
 
 -- ---- turns from a moment on
 

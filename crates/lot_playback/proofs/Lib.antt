@@ -1,3 +1,4 @@
+pub mod Common
 pub mod TimeFacts
 pub mod AlarmFacts
 pub mod SpanFacts

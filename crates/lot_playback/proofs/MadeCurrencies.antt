@@ -1,26 +1,6 @@
 -- What a turn makes: no thread and no currency goes out of count, and the reply tells each new currency.
-use Rattle.std.proofs.Common.{◌≡◌, ℕ, ◌+◌, ◌<◌, ◌≤◌, ◌==◌, true, Option, Some, None, List, [], ◌∷◌, length, refl, ◌∙◌, ap, arith}
-use Rattle.std.proofs.lemmas.Bool.{eq-eqb}
-use Rattle.std.proofs.lemmas.List.{length-append, length-set}
-use Rattle.lot_machine.specs.Change.{NewCurrency, DropCurrency}
-use Rattle.lot_machine.specs.declared.command.Command.{Command}
-use Rattle.lot_machine.specs.declared.command.Command.TheVariants.{MakeCurrency, RemoveCurrency}
-use Rattle.lot_machine.specs.declared.event.Event.{Event}
+use Rattle.lot_playback.proofs.Common.{Answered, Answers, By, Command, Console, Currencies, DropCurrency, Event, Keeps, List, MakeCurrency, NewCurrency, None, Option, Refusal, RemoveCurrency, Reply, Sharers, Some, State, Step, Threads, ap, arith, by_event, command_effect, command_refusal, command_step, count_in, currency_or_base, eq-eqb, free_currencies, kept, length, length-append, length-set, makes_currency, next_place, placed, refl, step, step-grown, step-leads, true, unless_refused, ℕ, [], ◌+◌, ◌<◌, ◌==◌, ◌∙◌, ◌∷◌, ◌≡◌, ◌≤◌}
 use Rattle.lot_machine.specs.declared.event.Event.TheVariants as event
-use Rattle.lot_machine.specs.declared.refusal.Refusal.{Refusal}
-use Rattle.lot_machine.specs.declared.reply.Reply.{Reply}
-use Rattle.lot_machine.specs.Commands.{Step, command_effect, command_refusal, command_step, currency_or_base, unless_refused}
-use Rattle.lot_machine.specs.Places.{next_place, placed}
-use Rattle.lot_machine.specs.State.{State, free_currencies}
-use Rattle.lot_machine.specs.Step.{step}
-use Rattle.lot_machine.proofs.StepChanges.{By, Console, Keeps, by_event, kept, step-leads}
-use Rattle.lot_machine.proofs.StepSizes.{step-grown}
-use Rattle.lot_simulation.specs.TimedReport.{makes_currency}
-use Rattle.lot_simulation.specs.World.TurnAnswer.{Answered}
-use Rattle.lot_playback.specs.declared.sharers.Sharers.{Sharers}
-use Rattle.lot_playback.specs.declared.sharers.Sharers.TheVariants.{Threads, Currencies}
-use Rattle.lot_playback.specs.Owed.{Answers}
-use Rattle.lot_playback.specs.Sharing.{count_in}
 
 -- there are no fewer currencies, and the reply tells each new one
 record Tells (s : State) (next : Step) : Type 0 where

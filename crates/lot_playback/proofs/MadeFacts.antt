@@ -1,20 +1,5 @@
 -- A system that has made turns of its program, and one turn more.
-use Rattle.std.proofs.Common.{◌≡◌, ℕ, Bool, List, [], ◌∷◌, ◌++◌, refl, sym, ◌∙◌, ap, append-nil}
-use Rattle.std.proofs.lemmas.Grind.{flat_map-append}
-use Rattle.lot_machine.specs.declared.command.Command.{Command}
-use Rattle.lot_machine.specs.declared.event.Event.{Event}
-use Rattle.lot_machine.specs.declared.reply.Reply.{Reply}
-use Rattle.lot_simulation.specs.Report.{ActorTurn, turns_made}
-use Rattle.lot_simulation.specs.World.{Program, World, TurnAnswer, TurnMade, console_turn, opening_world}
-use Rattle.lot_simulation.specs.World.TurnAnswer.{Answered, Ended}
-use Rattle.lot_engine.specs.Playing.{turn_in}
-use Rattle.lot_engine.specs.Seen.{Seen, Setting, after_turn, world_of}
-use Rattle.lot_engine.specs.Turns.{IsEnded}
-use Rattle.lot_engine.proofs.CountFacts.{turns_made-answered}
-use Rattle.lot_playback.specs.Turns.{MadeTurn, counted_turn, counted_turns, world_after_turns}
-use Rattle.lot_playback.specs.declared.playback.Order.{Order}
-use Rattle.lot_playback.specs.Orders.{made_in}
-use Rattle.lot_playback.specs.Stages.{HasMade, Stage}
+use Rattle.lot_playback.proofs.Common.{ActorTurn, Answered, Bool, Command, Ended, Event, HasMade, IsEnded, List, MadeTurn, Order, Program, Reply, Seen, Setting, Stage, TurnAnswer, TurnMade, World, after_turn, ap, append-nil, console_turn, counted_turn, counted_turns, flat_map-append, made_in, opening_world, refl, sym, turn_in, turns_made, turns_made-answered, world_after_turns, world_of, ℕ, [], ◌++◌, ◌∙◌, ◌∷◌, ◌≡◌}
 
 -- the world after turns is that which the last of them leaves
 pub world-one_more : (w : World) (turns : List MadeTurn) (made : MadeTurn) → world_after_turns w (turns ++ made ∷ []) ≡ made.turn.world

@@ -1,18 +1,6 @@
 -- A system at a place of its schedule.
-use Rattle.std.proofs.Common.{◌≡◌, ℕ, zero, suc, ◌+◌, ◌<◌, ◌≤◌, All, Option, None, List, [], ◌∷◌, ◌++◌, length, get_or, take, drop, refl, sym, ◌∙◌, ap, subst, arith}
-use Rattle.std.proofs.lemmas.List.{length-take}
-use Rattle.std.proofs.lemmas.List.Elements.{All-head, All-tail}
-use Rattle.lot_simulation.specs.Report.{turns_made}
-use Rattle.lot_simulation.specs.World.{Program, World, opening_world}
-use Rattle.lot_program.specs.Programs.{IsProgram}
-use Rattle.lot_engine.specs.Playing.{HasPlayed, IsPlayed, turn_in}
-use Rattle.lot_engine.specs.Seen.{Seen, Setting, world_of}
-use Rattle.lot_engine.proofs.PlayingFacts.{played-more}
-use Rattle.lot_playback.specs.declared.turn.NextTurn.{NextTurn}
+use Rattle.lot_playback.proofs.Common.{All, All-head, All-tail, HasPlayed, IsAtPlace, IsNext, IsPlayed, IsProgram, List, MadeTurn, MakesTurn, NextTurn, None, Option, Program, Reports, Seen, Setting, Stage, World, ap, arith, counted_turn, drop, get_or, length, length-take, opening_world, played-more, refl, scheduled_turn, scheduled_turns, subst, suc, sym, take, turn_in, turns_by, turns_left, turns_made, world_of, zero, ℕ, [], ◌++◌, ◌+◌, ◌<◌, ◌∙◌, ◌∷◌, ◌≡◌, ◌≤◌}
 use Rattle.lot_playback.specs.declared.turn.Turn.{Turn as ATurn}
-use Rattle.lot_playback.specs.Orders.{IsAtPlace}
-use Rattle.lot_playback.specs.Stages.{IsNext, MakesTurn, Reports, Stage, turns_left}
-use Rattle.lot_playback.specs.Turns.{MadeTurn, counted_turn, scheduled_turn, scheduled_turns, turns_by}
 use Rattle.lot_playback.proofs.MadeFacts.{made-more}
 use Rattle.lot_playback.proofs.TurnFacts.{drop-scheduled, none-scheduled}
 

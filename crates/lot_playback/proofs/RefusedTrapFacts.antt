@@ -1,14 +1,7 @@
 -- Refused traps, turn by turn.
-use Rattle.std.proofs.Common.{◌≡◌, ℕ, ◌+◌, ◌<◌, ◌≤◌, ◌==◌, Bool, true, false, List, [], ◌∷◌, ◌++◌, length, sym, ◌∙◌, ap, arith}
-use Rattle.std.specs.Prelude.{slice_index, if◌then◌else◌}
-use Rattle.std.proofs.lemmas.List.Sums.{fold_push}
+use Rattle.lot_playback.proofs.Common.{Answered, AreRefusedTraps, Bool, HaveCounted, List, TimedTurn, TurnAnswer, ap, arith, false, fold_push, if◌then◌else◌, length, refusals_after, refused_traps_in, slice_index, sym, true, ℕ, [], ◌++◌, ◌+◌, ◌<◌, ◌==◌, ◌∙◌, ◌∷◌, ◌≡◌, ◌≤◌}
 use Rattle.lot_machine.specs.declared.reply.Reply.TheVariants as reply
 use Rattle.lot_machine.specs.declared.reply.Outcome.TheVariants as outcome
-use Rattle.lot_simulation.specs.Timed.{TimedTurn}
-use Rattle.lot_simulation.specs.TimedReport.{refusals_after, refused_traps_in}
-use Rattle.lot_simulation.specs.World.{TurnAnswer}
-use Rattle.lot_simulation.specs.World.TurnAnswer.{Answered}
-use Rattle.lot_playback.specs.InTime.{AreRefusedTraps, HaveCounted}
 
 -- one turn more
 refused-more : (done : List TimedTurn) (turn : TimedTurn) (t : ℕ) (a : TurnAnswer) → turn.turn.answer ≡ a → refused_traps_in (done ++ turn ∷ []) t ≡ refusals_after t (refused_traps_in done t) a

@@ -1,12 +1,7 @@
 -- What an answer changes of who waits for a mutex.
-use Rattle.std.proofs.Common.{◌≡◌, refl}
+use Rattle.lot_playback.proofs.Common.{Answered, Event, Reply, change_by, is_locking, mutex_wait, refl, ◌≡◌}
 use Rattle.lot_machine.specs.declared.action.Action.TheVariants as action
-use Rattle.lot_machine.specs.declared.event.Event.{Event}
 use Rattle.lot_machine.specs.declared.event.Event.TheVariants as event
-use Rattle.lot_machine.specs.declared.reply.Reply.{Reply}
-use Rattle.lot_simulation.specs.TimedReport.{mutex_wait}
-use Rattle.lot_simulation.specs.World.TurnAnswer.{Answered}
-use Rattle.lot_playback.specs.InTime.{change_by, is_locking}
 
 -- it depends on the event in nothing but whether that is a lock
 pub change_by_locking : (e : Event) (r : Reply) → mutex_wait (Answered e r) ≡ change_by (is_locking e) r

@@ -1,39 +1,8 @@
 -- The ticks of the threads below currencies, turn by turn.
-use Rattle.std.proofs.Common.{◌≡◌, ◌≢◌, ◌↔◌, ℕ, ◌+◌, ◌-◌, ◌^◌, ◌<◌, ◌≤◌, ◌==◌, Bool, true, false, Option, Some, None, List, [], ◌∷◌, ◌++◌, length, set, ◌⊎◌, inl, inr, refl, sym, ◌∙◌, map, ap, subst, arith, ne_eqb, unwrap_or, nat_le}
-use Rattle.std.specs.Prelude.{slice_index, if◌then◌else◌, IsTrue}
-use Rattle.std.proofs.lemmas.Bool.{cases_eq, cases_lt, eq-eqb}
-use Rattle.std.proofs.lemmas.List.{get_or-set_other, length-set}
-use Rattle.std.proofs.lemmas.Grind.{get_or-set_at}
-use Rattle.lot_machine.specs.declared.command.Command.{Command}
+use Rattle.lot_playback.proofs.Common.{Answered, Answers, AreCurrencies, AreDue, Bool, Command, Currencies, CurrencyTable, Drawn, Ended, Event, FoundNodes, HasFound, HasFoundFor, HasOthersAbove, HaveAdded, HaveRun, IsBetween, IsTrue, List, None, Option, Program, RanOn, Record, Refusal, Reply, Running, ScriptTrap, Slice, Some, State, Step, TimedTurn, TurnAnswer, World, action_of, actor_event, ap, arith, cases_eq, cases_lt, command_effect, command_refusal, console_turn, currency_ticks_after, currency_ticks_from, currency_ticks_in, draw, eq-eqb, event-for, event_effect, event_for, event_of_slice, event_refusal, false, found-runs, get_or-set_at, get_or-set_other, if◌then◌else◌, inl, inr, length, length-set, makes_currency, map, nat_le, ne_eqb, next_name, number_of, numbered, processor_event, ready_threads, refl, resolved, set, slice_index, slice_on, stands_below, state_after, step, subst, sym, system_turn, thread_on, thread_there, ticks_below, ticks_in, true, unless_refused, unwrap_or, weight_of, winner, ℕ, [], ◌++◌, ◌+◌, ◌-◌, ◌<◌, ◌==◌, ◌^◌, ◌↔◌, ◌∙◌, ◌∷◌, ◌≡◌, ◌≢◌, ◌≤◌, ◌⊎◌}
 use Rattle.lot_machine.specs.declared.command.Command.TheVariants as command
-use Rattle.lot_machine.specs.declared.drawn.Drawn.{Drawn}
-use Rattle.lot_machine.specs.declared.event.Event.{Event}
 use Rattle.lot_machine.specs.declared.event.Event.TheVariants as event
-use Rattle.lot_machine.specs.declared.refusal.Refusal.{Refusal}
-use Rattle.lot_machine.specs.declared.reply.Reply.{Reply}
 use Rattle.lot_machine.specs.declared.reply.Reply.TheVariants as reply
-use Rattle.lot_machine.specs.declared.record.Record.{Record}
-use Rattle.lot_machine.specs.declared.record.Status.TheVariants.{Running}
-use Rattle.lot_machine.proofs.RecordsKept.{found-runs, numbered}
-use Rattle.lot_machine.specs.Bounds.{IsBetween}
-use Rattle.lot_machine.specs.Commands.{Step, command_effect, command_refusal, unless_refused}
-use Rattle.lot_machine.specs.Lottery.{winner}
-use Rattle.lot_machine.specs.State.{State, ready_threads, thread_on, weight_of}
-use Rattle.lot_machine.specs.Step.{draw, event_effect, event_refusal, step, thread_there}
-use Rattle.lot_graph.specs.Found.{FoundNodes, HasFound}
-use Rattle.lot_simulation.specs.declared.script.ScriptTrap.{ScriptTrap}
-use Rattle.lot_simulation.specs.Below.{stands_below}
-use Rattle.lot_simulation.specs.Report.{ticks_in}
-use Rattle.lot_simulation.specs.Script.{Slice}
-use Rattle.lot_simulation.specs.Timed.{TimedTurn}
-use Rattle.lot_simulation.specs.TimedReport.{currency_ticks_after, currency_ticks_from, currency_ticks_in, makes_currency, ticks_below}
-use Rattle.lot_simulation.specs.World.{Program, World, TurnAnswer, action_of, actor_event, console_turn, event_of_slice, next_name, processor_event, resolved, slice_on, number_of, system_turn}
-use Rattle.lot_simulation.specs.World.TurnAnswer.{Answered, Ended}
-use Rattle.lot_simulation.proofs.OtherTurns.{event-for, event_for}
-use Rattle.lot_playback.specs.declared.currencies.CurrencyTable.{CurrencyTable}
-use Rattle.lot_playback.specs.declared.sharers.Sharers.TheVariants.{Currencies}
-use Rattle.lot_playback.specs.Owed.{Answers, AreDue, state_after}
-use Rattle.lot_playback.specs.TicksBelow.{AreCurrencies, HasFoundFor, HasOthersAbove, HaveAdded, HaveRun, RanOn}
 use Rattle.lot_playback.proofs.MadeCurrencies.{new-told}
 
 -- ---- the thread of a turn

@@ -1,15 +1,5 @@
 -- Whose turn is next in time.
-use Rattle.std.proofs.Common.{◌≡◌, ℕ, zero, suc, ◌+◌, ◌*◌, ◌<◌, ◌≤◌, Bool, true, false, Option, Some, None, List, [], ◌∷◌, ◌++◌, length, get_or, set, take, drop, refl, sym, ◌∙◌, ap, subst, arith, append_assoc, append-nil}
-use Rattle.std.specs.Prelude.{nat_le, ◌||◌, is_none, map, option_map, replicate, slice_get, unwrap_or}
-use Rattle.std.specs.List.{flat_map, range_with_len}
-use Rattle.std.proofs.lemmas.Bool.{leb-true, leb-false, le-leb}
-use Rattle.lot_simulation.specs.declared.timed.Due.{Due}
-use Rattle.lot_simulation.specs.declared.timed.Clock.{Clock}
-use Rattle.lot_machine.specs.State.{State, thread_on}
-use Rattle.lot_simulation.specs.Timed.{Moment, clock_after_console, clock_of, clocks_after_console, cost_of, earliest, processor_due, sooner, within, woken}
-use Rattle.lot_simulation.specs.World.{processor_event}
-use Rattle.lot_machine.proofs.Tickets.{at_number-suc}
-use Rattle.lot_playback.specs.InTime.{HaveIdled, sooner_of}
+use Rattle.lot_playback.proofs.Common.{Bool, Clock, Due, HaveIdled, List, Moment, None, Option, Some, State, ap, append-nil, append_assoc, arith, at_number-suc, clock_after_console, clock_of, clocks_after_console, cost_of, drop, earliest, false, flat_map, get_or, is_none, le-leb, leb-false, leb-true, length, map, nat_le, option_map, processor_due, processor_event, range_with_len, refl, replicate, set, slice_get, sooner, sooner_of, subst, suc, sym, take, thread_on, true, unwrap_or, within, woken, zero, ℕ, [], ◌*◌, ◌++◌, ◌+◌, ◌<◌, ◌||◌, ◌∙◌, ◌∷◌, ◌≡◌, ◌≤◌}
 
 -- ---- lists of the numbers of a range
 

@@ -1,8 +1,5 @@
 -- Where a program's turns are cut.
-use Rattle.std.proofs.Common.{◌≡◌, ℕ, zero, suc, List, [], ◌∷◌, take, drop, refl}
-use Rattle.lot_simulation.specs.Timed.{Moment, TimedTurn, moment_after, moment_after_all}
-use Rattle.lot_simulation.specs.World.{Program, World, system_after, system_turn}
-use Rattle.lot_playback.specs.Turns.{scheduled_turns, turns_in_time}
+use Rattle.lot_playback.proofs.Common.{List, Moment, Program, TimedTurn, World, drop, moment_after, moment_after_all, refl, scheduled_turns, suc, system_after, system_turn, take, turns_in_time, zero, ℕ, [], ◌∷◌, ◌≡◌}
 
 -- the turns of a schedule from a place on
 pub drop-scheduled : (program : Program) (w : World) (actors : List ℕ) (n : ℕ) → drop n (scheduled_turns program w actors) ≡ scheduled_turns program (system_after program w (take n actors)) (drop n actors)

@@ -1,11 +1,5 @@
 -- The value of live threads, one after another.
-use Rattle.std.proofs.Common.{◌≡◌, ℕ, zero, suc, ◌+◌, cond, Bool, true, false, List, [], ◌∷◌, filter, refl, sym, ◌∙◌, ap, subst, arith}
-use Rattle.std.specs.Prelude.{sum_by, if◌then◌else◌}
-use Rattle.std.specs.List.{range_with_len}
-use Rattle.std.proofs.lemmas.List.Sums.{sum_by-cons}
-use Rattle.lot_machine.specs.Lends.{is_live}
-use Rattle.lot_machine.specs.State.{State, live_of, value_of}
-use Rattle.lot_simulation.specs.TimedReport.{live_part}
+use Rattle.lot_playback.proofs.Common.{Bool, List, State, ap, arith, cond, false, filter, if◌then◌else◌, is_live, live_of, live_part, range_with_len, refl, subst, suc, sum_by, sum_by-cons, sym, true, value_of, zero, ℕ, [], ◌+◌, ◌∙◌, ◌∷◌, ◌≡◌}
 
 -- one number more counts if it passes
 passed-push : (f : ℕ → ℕ) (test : ℕ → Bool) (a k : ℕ) → sum_by f (filter test (range_with_len a (suc k))) ≡ sum_by f (filter test (range_with_len a k)) + (if test (a + k) then f (a + k) else 0)

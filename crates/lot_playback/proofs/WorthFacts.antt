@@ -1,31 +1,6 @@
 -- Reached states are sound: so no thread and no currency is worth more than the whole, and what doesn't exist is worth
 -- nothing.
-use Rattle.std.proofs.Common.{◌≡◌, ℕ, zero, suc, ◌-◌, ◌^◌, ◌<◌, ◌≤◌, Bool, true, false, cond, Option, Some, None, get_or, slice_get, sum_by, filter, filter_map, is_some, List, [], ◌∷◌, length, ◌⊎◌, inl, inr, refl, sym, ◌∙◌, ap, arith}
-use Rattle.std.specs.Prelude.{if◌then◌else◌}
-use Rattle.std.specs.Option.{option_flatten}
-use Rattle.std.proofs.lemmas.List.{length-map}
-use Rattle.std.proofs.lemmas.List.FromFn.{get_or-range_with_len, length-range_with_len}
-use Rattle.std.proofs.lemmas.List.Sums.{get_or-le-sum_by}
-use Rattle.std.proofs.lemmas.Option.{slice_get_cases}
-use Rattle.lot_machine.specs.Bounds.{IsWithinBounds}
-use Rattle.lot_machine.specs.declared.record.Record.{Record}
-use Rattle.lot_machine.specs.declared.ticket.Ticket.{Ticket}
-use Rattle.lot_machine.specs.Facts.{IsSound, live_value}
-use Rattle.lot_machine.specs.Funding.{Funding, is_currency, ticket_in}
-use Rattle.lot_machine.specs.Lends.{is_live}
-use Rattle.lot_machine.specs.Numbered.{at_number, numbers, option_any}
-use Rattle.lot_machine.specs.State.{State, funding_of, is_live_status, live_of, value_of}
-use Rattle.lot_machine.proofs.CurrencyFlow.{currency-bounded}
-use Rattle.lot_machine.proofs.OrderKept.{order-sound}
-use Rattle.lot_machine.proofs.Sums.{sum-filter}
-use Rattle.lot_machine.proofs.Tickets.{at_number-suc, is_currency-is, target-of, ticket_in-suc}
-use Rattle.lot_simulation.specs.Below.{worth_of}
-use Rattle.lot_simulation.specs.TimedReport.{live_part}
-use Rattle.lot_simulation.specs.World.{Program, system_run}
-use Rattle.lot_engine.proofs.InOrder.{run-in-order}
-use Rattle.lot_playback.specs.declared.sharers.Sharers.{Sharers}
-use Rattle.lot_playback.specs.declared.sharers.Sharers.TheVariants.{Threads, Currencies}
-use Rattle.lot_playback.specs.Sharing.{count_in, value_in, whole_in}
+use Rattle.lot_playback.proofs.Common.{Bool, Currencies, Funding, IsSound, IsWithinBounds, List, None, Option, Program, Record, Sharers, Some, State, Threads, Ticket, ap, arith, at_number, at_number-suc, cond, count_in, currency-bounded, false, filter, filter_map, funding_of, get_or, get_or-le-sum_by, get_or-range_with_len, if◌then◌else◌, inl, inr, is_currency, is_currency-is, is_live, is_live_status, is_some, length, length-map, length-range_with_len, live_of, live_part, live_value, numbers, option_any, option_flatten, order-sound, refl, run-in-order, slice_get, slice_get_cases, suc, sum-filter, sum_by, sym, system_run, target-of, ticket_in, ticket_in-suc, true, value_in, value_of, whole_in, worth_of, zero, ℕ, [], ◌-◌, ◌<◌, ◌^◌, ◌∙◌, ◌∷◌, ◌≡◌, ◌≤◌, ◌⊎◌}
 
 -- ---- reached states
 

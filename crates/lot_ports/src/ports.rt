@@ -13,7 +13,7 @@ ghost use Rattle.lot_ports.specs.Traps.{IsPortTrap};
 
 use lot_machine::{After, Outcome, PortNumber, Status, ThreadNumber};
 use lot_queues::Queues;
-use lot_threads::{TrapEffect, Threads};
+use lot_threads::{Threads, TrapEffect};
 
 /// A call to a port: the thread that has waited longest to receive there serves it, or otherwise it is queued.
 pub fn call(

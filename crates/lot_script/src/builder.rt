@@ -5,7 +5,7 @@ ghost use Rattle.lot_simulation.specs.Reading.{checked};
 ghost use Rattle.lot_script.specs.Drafts.{IsLine, CanNest, line_checks, loops_after, pushed};
 
 use crate::Script;
-use lot_simulation::{InputRefusal, ScriptLine, Range, ScriptTrap, ranges};
+use lot_simulation::{InputRefusal, Range, ScriptLine, ScriptTrap, ranges};
 use std::alloc::{AllocError, Global};
 use std::marker::Model;
 

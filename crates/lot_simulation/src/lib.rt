@@ -27,7 +27,7 @@ pub mod worked;
 pub use format::Format;
 pub use forms::{Argument, Form, Range};
 pub use input::{BodyWord, HeaderWord, InputFault, InputRefusal, ScriptWord, TicketRef};
-pub use script::{ScriptLine, MutexTrap, PortTrap, ScriptTrap};
+pub use script::{MutexTrap, PortTrap, ScriptLine, ScriptTrap};
 pub use separators::Separators;
 pub use style::LineStyle;
 pub use timed::{Clock, Due, EarlyEnd, PastLives, Sleeper, Span, SpanChange, Spans, TICK_PARTS};

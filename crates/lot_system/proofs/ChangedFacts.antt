@@ -1,14 +1,5 @@
 -- Figures of which those at one place have changed, or none.
-use Rattle.std.proofs.Common.{◌≡◌, ◌<◌, ℕ, zero, suc, Option, None, Some, List, [], ◌∷◌, length, refl, sym, ap, ◌∙◌, arith}
-use Rattle.std.proofs.lemmas.List.{length-set, get_or-set_same, get_or-set_other}
-use Rattle.std.specs.List.{slice_get}
-use Rattle.std.specs.Option.{option_flatten}
-use Rattle.std.specs.Prelude.{slice_index_or, slice_set}
-use Rattle.lot_machine.specs.declared.row.ThreadRow.{ThreadRow}
-use Rattle.lot_print.specs.declared.figures.Figures.{Figures}
-use Rattle.lot_print.specs.declared.timed_totals.CurrencyShares.{CurrencyShares}
-use Rattle.lot_print.specs.declared.timed_totals.ThreadShares.{ThreadShares}
-use Rattle.lot_system.specs.Seeds.{IsChangedAt, currency_added, currency_after, row_added, shares_added, shares_after, thread_after}
+use Rattle.lot_system.proofs.Common.{CurrencyShares, Figures, IsChangedAt, List, None, Option, Some, ThreadRow, ThreadShares, ap, arith, currency_added, currency_after, get_or-set_other, get_or-set_same, length, length-set, option_flatten, refl, row_added, shares_added, shares_after, slice_get, slice_index_or, slice_set, suc, sym, thread_after, zero, ℕ, [], ◌<◌, ◌∙◌, ◌∷◌, ◌≡◌}
 
 module _ {F : Type 0} where
   any-default : (old : List F) (place : ℕ) (a b : F) → place < length old → slice_index_or old place a ≡ slice_index_or old place b

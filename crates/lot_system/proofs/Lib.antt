@@ -1,3 +1,4 @@
+pub mod Common
 pub mod WritingFacts
 pub mod ListingFacts
 pub mod TimedReportFacts

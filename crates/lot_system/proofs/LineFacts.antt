@@ -1,14 +1,5 @@
 -- Lines that were put, one turn after another.
-use Rattle.std.proofs.Common.{◌≡◌, ℕ, Bool, true, false, Option, Result, Ok, Err, List, [], ◌∷◌, ◌++◌, sym, ◌∙◌, ap, subst, append-nil}
-use Rattle.std.specs.List.{flat_map}
-use Rattle.std.specs.Prelude.{IfErr, OnOk}
-use Rattle.std.proofs.lemmas.Grind.{flat_map-append}
-use Rattle.lot_io.specs.declared.fault.IoFault.{IoFault}
-use Rattle.lot_io.specs.declared.fault.IoFault.TheVariants.{Write}
-use Rattle.lot_io.specs.Writing.{Begins, IsPut, Put, Written}
-use Rattle.lot_io.proofs.WritingFacts.{begins-front}
-use Rattle.lot_print.proofs.PageFacts.{put-all, put-begun, puts-both, puts-stop}
-use Rattle.lot_playback.specs.Turns.{MadeTurn}
+use Rattle.lot_system.proofs.Common.{Begins, Bool, Err, IfErr, IoFault, IsPut, List, MadeTurn, Ok, OnOk, Option, Put, Result, Write, Written, ap, append-nil, begins-front, false, flat_map, flat_map-append, put-all, put-begun, puts-both, puts-stop, subst, sym, true, ℕ, [], ◌++◌, ◌∙◌, ◌∷◌, ◌≡◌}
 
 -- ---- texts of turns, each of which is this one
 

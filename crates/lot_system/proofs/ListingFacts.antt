@@ -1,17 +1,6 @@
 -- How many rows a listing has, and that it is its first line and theirs.
-use Rattle.std.proofs.Common.{◌≡◌, ℕ, zero, suc, ◌+◌, Bool, true, false, List, [], ◌∷◌, ◌++◌, length, filter, refl, sym, ◌∙◌, ap, arith, append-nil, append_assoc, length-append}
-use Rattle.std.specs.Prelude.{codes}
-use Rattle.std.specs.Fmt.{decimal}
-use Rattle.std.specs.List.{flat_map, range_with_len}
-use Rattle.std.proofs.lemmas.List.Elements.{filter-append}
-use Rattle.lot_machine.specs.declared.command.Kind.{Kind}
-use Rattle.lot_machine.specs.declared.command.Kind.TheVariants.{Tickets, Currencies, Threads}
-use Rattle.lot_machine.specs.State.{State}
-use Rattle.lot_simulation.specs.declared.style.LineStyle.{LineStyle}
-use Rattle.lot_simulation.specs.Texts.{newline, front, listing_text}
-use Rattle.lot_print.specs.Listings.{listing_line}
-use Rattle.lot_engine.specs.Seen.{given_count}
-use Rattle.lot_system.specs.Listing.{first_number, row_line, rows_among}
+use Rattle.lot_system.proofs.Common.{Bool, Currencies, Kind, LineStyle, List, State, Tickets, ap, append-nil, append_assoc, arith, codes, decimal, false, filter, filter-append, first_number, flat_map, front, given_count, length, length-append, listing_line, listing_text, newline, range_with_len, refl, row_line, rows_among, suc, sym, true, zero, ℕ, [], ◌++◌, ◌+◌, ◌∙◌, ◌∷◌, ◌≡◌}
+use Rattle.lot_machine.specs.declared.command.Kind.TheVariants.{Threads}
 
 pub numbers-push : (a k : ℕ) → range_with_len a (suc k) ≡ range_with_len a k ++ (a + k) ∷ []
 numbers-push a zero = let e : a + 0 ≡ a = omega arith in ap (λ n. n ∷ []) (sym e)

@@ -1,15 +1,5 @@
 -- A play whose turns are written first, and then the report.
-use Rattle.std.proofs.Common.{◌≡◌, ℕ, Bool, true, false, Option, Result, Ok, Err, List, ◌++◌, refl, sym, ap, subst}
-use Rattle.std.specs.Prelude.{IfOk, OnOk}
-use Rattle.std.specs.Result.{IsErrAnd}
-use Rattle.std.specs.Io.KnownBytes.{Appends}
-use Rattle.lot_io.specs.declared.fault.IoFault.{IoFault}
-use Rattle.lot_io.specs.declared.fault.IoFault.TheVariants.{Write}
-use Rattle.lot_io.specs.Writing.{Begins}
-use Rattle.lot_io.proofs.WritingFacts.{appends-both, begins-after, begins-front}
-use Rattle.lot_system.specs.declared.inputs.Played.{Played}
-use Rattle.lot_system.specs.declared.inputs.Played.TheVariants.{Done}
-use Rattle.lot_system.specs.Played.{EndsPlay}
+use Rattle.lot_system.proofs.Common.{Appends, Begins, Bool, Done, EndsPlay, Err, IfOk, IoFault, IsErrAnd, List, Ok, OnOk, Option, Played, Result, Write, ap, appends-both, begins-after, begins-front, false, refl, subst, sym, true, ℕ, ◌++◌, ◌≡◌}
 
 module _ (old new : Option (List ℕ)) (turns last all : List ℕ) (is : all ≡ turns ++ last) (failed : Bool) where
   -- the writer fails among the turns

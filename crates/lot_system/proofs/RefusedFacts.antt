@@ -1,18 +1,5 @@
 -- Whether a refusal ended the play of a system that has made all of its program's turns.
-use Rattle.std.proofs.Common.{◌≡◌, ◌||◌, true, false, Bool, ℕ, List, [], ◌∷◌, ◌++◌, refl, sym, ap, ◌∙◌}
-use Rattle.std.specs.Prelude.{◌&&◌, Some, is_some}
-use Rattle.std.specs.List.{list_any}
-use Rattle.lot_simulation.specs.Seeded.{with_seed}
-use Rattle.lot_simulation.specs.Timed.{is_stopped, last_moment, moment_after_all, opening_moment}
-use Rattle.lot_simulation.specs.World.{Program}
-use Rattle.lot_engine.specs.Seen.{Seen}
-use Rattle.lot_playback.proofs.ClockFacts.{time-end}
-use Rattle.lot_playback.specs.declared.playback.Order.{Order}
-use Rattle.lot_playback.specs.declared.playback.Order.TheVariants.{Scheduled, InTime}
-use Rattle.lot_playback.specs.InTime.{moment_in}
-use Rattle.lot_playback.specs.Orders.{IsInOrder, made_in}
-use Rattle.lot_playback.specs.Stages.{Stage, turns_left}
-use Rattle.lot_system.specs.Leaving.{any_ends_refused, ends_refused, stopped_in}
+use Rattle.lot_system.proofs.Common.{Bool, InTime, IsInOrder, List, Order, Program, Scheduled, Seen, Some, Stage, any_ends_refused, ap, ends_refused, false, is_some, is_stopped, last_moment, list_any, made_in, moment_after_all, moment_in, opening_moment, refl, stopped_in, sym, time-end, true, turns_left, with_seed, ℕ, [], ◌&&◌, ◌++◌, ◌||◌, ◌∙◌, ◌∷◌, ◌≡◌}
 
 refused-at-end : (program : Program) (seen : Seen) (order : Order) → seen.setting.program ≡ program → IsInOrder seen order
     → turns_left (record { seen = seen; made = made_in seen order }) ≡ [] → stopped_in program seen order ≡ ends_refused program

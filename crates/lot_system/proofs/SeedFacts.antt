@@ -1,32 +1,5 @@
 -- Figures over one more play.
-use Rattle.std.proofs.Common.{◌≡◌, ◌≢◌, ◌≤◌, true, false, ◌⊎◌, inl, inr, ℕ, suc, ne_eqb, ◌+◌, ◌*◌, ◌/◌, ◌%◌, ◌-◌, ◌<◌, Option, None, Some, option_map, List, [], ◌∷◌, ◌++◌, length, refl, sym, ◌∙◌, ap, subst, arith}
-use Rattle.std.specs.Prelude.{IsSome, slice_index_or, if◌then◌else◌}
-use Rattle.std.specs.List.{range_with_len}
-use Rattle.std.proofs.Math.Nat.{add-mul, add-mul-div_right, div-add-mod', mul_comm, mul_assoc}
-use Rattle.std.proofs.lemmas.List.Sums.{fold_push}
-use Rattle.std.proofs.lemmas.Bool.{cases_eq}
-use Rattle.lot_machine.specs.Rows.{currency_name, thread_row}
-use Rattle.lot_simulation.specs.Report.{ticks_in, total_of, turns_made}
-use Rattle.lot_simulation.specs.Seeded.{with_seed}
-use Rattle.lot_simulation.specs.Timed.{Moment, ended_at, last_moment, moment_after_all, opening_moment, timed_turns}
-use Rattle.lot_simulation.specs.TimedReport.{actor_turns, tick_parts}
-use Rattle.lot_simulation.specs.World.{Program, World}
-use Rattle.lot_engine.specs.Seen.{Seen, world_of}
-use Rattle.lot_playback.proofs.ClockFacts.{time-end}
-use Rattle.lot_playback.specs.declared.playback.Order.{Order}
-use Rattle.lot_playback.specs.declared.playback.Order.TheVariants.{Scheduled, InTime}
-use Rattle.lot_playback.specs.declared.timekeeper.Timekeeper.{Timekeeper}
-use Rattle.lot_playback.specs.InTime.{IsAtEnd, moment_in}
-use Rattle.lot_playback.specs.Orders.{IsInOrder, made_in}
-use Rattle.lot_playback.specs.Stages.{HasMade, Stage, turns_left}
-use Rattle.lot_playback.specs.Turns.{program_turns}
-use Rattle.lot_print.specs.declared.figures.Figures.{Figures}
-use Rattle.lot_print.specs.declared.figures.ProcessorFigures.{ProcessorFigures}
-use Rattle.lot_print.specs.declared.figures.WholeFigures.{WholeFigures}
-use Rattle.lot_system.specs.declared.figures.AllFigures.{AllFigures}
-use Rattle.lot_system.specs.Last.{all_ticks, last_world}
-use Rattle.lot_system.specs.ReportTable.{currency_shares_in, processor_in, shares_in, whole_in}
-use Rattle.lot_system.specs.Seeds.{AreAllFigures, AreChanged, AreEach, AreOverOneMore, IsChangedAt, IsOver, currency_after, currency_at_end, currency_played, no_figures, no_processor_figures, no_whole_figures, over, percent_of, processor_added, processor_at_end, processor_played, seeds_between, thread_after, thread_played, thread_told, told_at_end, whole_added, whole_at_end, whole_played}
+use Rattle.lot_system.proofs.Common.{AllFigures, AreAllFigures, AreChanged, AreEach, AreOverOneMore, Figures, HasMade, InTime, IsAtEnd, IsChangedAt, IsInOrder, IsOver, IsSome, List, Moment, None, Option, Order, ProcessorFigures, Program, Scheduled, Seen, Some, Stage, Timekeeper, WholeFigures, World, actor_turns, add-mul, add-mul-div_right, all_ticks, ap, arith, cases_eq, currency_after, currency_at_end, currency_name, currency_played, currency_shares_in, div-add-mod', ended_at, false, fold_push, if◌then◌else◌, inl, inr, last_moment, last_world, length, made_in, moment_after_all, moment_in, mul_assoc, mul_comm, ne_eqb, no_figures, no_processor_figures, no_whole_figures, opening_moment, option_map, over, percent_of, processor_added, processor_at_end, processor_in, processor_played, program_turns, range_with_len, refl, seeds_between, shares_in, slice_index_or, subst, suc, sym, thread_after, thread_played, thread_row, thread_told, tick_parts, ticks_in, time-end, timed_turns, told_at_end, total_of, true, turns_left, turns_made, whole_added, whole_at_end, whole_in, whole_played, with_seed, world_of, ℕ, [], ◌%◌, ◌*◌, ◌++◌, ◌+◌, ◌-◌, ◌/◌, ◌<◌, ◌∙◌, ◌∷◌, ◌≡◌, ◌≢◌, ◌≤◌, ◌⊎◌}
 use Rattle.lot_system.proofs.ListingFacts.{numbers-push}
 
 -- ---- the end of a play

@@ -1,14 +1,5 @@
 -- The table of a system that has made all of its program's turns is the program's.
-use Rattle.std.proofs.Common.{◌≡◌, ℕ, Option, None, Some, true, false, refl, sym, ap, ◌∙◌}
-use Rattle.std.specs.Prelude.{IsSome, is_some}
-use Rattle.lot_simulation.specs.Timed.{timed_turns}
-use Rattle.lot_simulation.specs.World.{Program, World}
-use Rattle.lot_engine.specs.Seen.{Seen, world_of}
-use Rattle.lot_playback.specs.Stages.{HasMade}
-use Rattle.lot_playback.specs.Turns.{program_turns}
-use Rattle.lot_system.specs.declared.form.ReportForm.{ReportForm}
-use Rattle.lot_system.specs.ReportTable.{last_table, scheduled_table, table_in}
-use Rattle.lot_system.specs.Last.{last_world}
+use Rattle.lot_system.proofs.Common.{HasMade, IsSome, None, Option, Program, ReportForm, Seen, Some, World, ap, false, is_some, last_table, last_world, program_turns, refl, scheduled_table, sym, table_in, timed_turns, true, world_of, ℕ, ◌∙◌, ◌≡◌}
 
 table-of : (form : ReportForm) (program : Program) (d : Option ℕ) → IsSome d → table_in form (last_world program).state (timed_turns program) ≡ last_table form program d
 table-of form program None wrong = absurd (let e : false ≡ true = wrong in cc)

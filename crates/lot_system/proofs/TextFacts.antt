@@ -1,12 +1,5 @@
 -- The output of `play` is the text of each of the program's turns, and then the report.
-use Rattle.std.proofs.Common.{◌≡◌, ℕ, Option, None, Some, List, [], ◌∷◌, ◌++◌, refl, ap}
-use Rattle.std.specs.List.{flat_map}
-use Rattle.lot_simulation.specs.Output.{played_output, timed_text, turn_text, turn_texts}
-use Rattle.lot_simulation.specs.declared.style.LineStyle.TheVariants.{Whole}
-use Rattle.lot_simulation.specs.Timed.{TimedTurn, timed_turns}
-use Rattle.lot_simulation.specs.World.{Program, World, opening_world, system_turn}
-use Rattle.lot_playback.specs.Turns.{scheduled_turns, turns_by, turns_in_time}
-use Rattle.lot_system.specs.Texts.{last_report, made_texts}
+use Rattle.lot_system.proofs.Common.{List, None, Option, Program, Some, TimedTurn, Whole, World, ap, flat_map, last_report, made_texts, opening_world, played_output, refl, scheduled_turns, system_turn, timed_text, timed_turns, turn_text, turn_texts, turns_by, turns_in_time, ℕ, [], ◌++◌, ◌∷◌, ◌≡◌}
 
 texts-scheduled : (program : Program) (w : World) (actors : List ℕ) → turn_texts program w actors ≡ made_texts (scheduled_turns program w actors)
 texts-scheduled program w [] = refl

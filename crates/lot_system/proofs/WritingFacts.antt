@@ -1,11 +1,5 @@
 -- What is written in parts.
-use Rattle.std.proofs.Common.{◌≡◌, ℕ, zero, suc, ◌+◌, ◌-◌, ◌<◌, Bool, Option, Result, Ok, Err, List, [], ◌++◌, sym, subst, ◌∙◌, ap, append_assoc, append-nil, arith}
-use Rattle.std.specs.List.{flat_map, range_with_len}
-use Rattle.std.specs.Io.KnownBytes.{Appends}
-use Rattle.lot_io.specs.Writing.{Begins, Put, Written}
-use Rattle.lot_io.proofs.WritingFacts.{appends-both, begins-front, begins-after}
-use Rattle.lot_io.specs.declared.fault.IoFault.{IoFault}
-use Rattle.lot_playback.proofs.TimeFacts.{range-push}
+use Rattle.lot_system.proofs.Common.{Appends, Begins, Bool, Err, IoFault, List, Ok, Option, Put, Result, Written, ap, append-nil, append_assoc, appends-both, arith, begins-after, begins-front, flat_map, range-push, range_with_len, subst, suc, sym, zero, ℕ, [], ◌++◌, ◌+◌, ◌-◌, ◌<◌, ◌∙◌, ◌≡◌}
 
 -- a text that is written after what waited, so that nothing waits
 pub put-written : {U : Type 0} (old mid new : Option (List ℕ)) (before after text : List ℕ) (failed : Bool) (r : Result U IoFault) → after ≡ [] → Appends old mid before → Written mid new failed r text → Put old new before after failed r text

@@ -15,7 +15,7 @@ ghost use Rattle.lot_print.specs.declared.figures.Subject.TheVariants as subject
 use crate::figures::{AllFigures, add_play};
 use crate::reports::note_ended;
 use crate::summary::note_turns;
-use crate::{ReportForm, Played, Warnings};
+use crate::{Played, ReportForm, Warnings};
 use lot_io::{IoFault, Watched, flush};
 use lot_playback::Playback;
 use lot_print::{

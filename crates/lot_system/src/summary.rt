@@ -9,7 +9,7 @@ ghost use Rattle.lot_playback.specs.Stages.{HasMade, turns_left};
 ghost use Rattle.lot_playback.specs.Turns.{program_turns};
 
 use crate::report_table::end_with_table;
-use crate::{ReportForm, Played, Warnings, end_play, play_through};
+use crate::{Played, ReportForm, Warnings, end_play, play_through};
 use lot_engine::System;
 use lot_io::{IoFault, Watched};
 use lot_playback::{Observer, Playback, Turn};

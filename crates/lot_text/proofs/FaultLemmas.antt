@@ -1,17 +1,6 @@
 -- What a function that reads has read.
-use Rattle.std.proofs.Common.{◌≡◌, ◌≢◌, ℕ, List, [], ◌∷◌, ◌++◌, length, Result, Ok, Err, refl}
-use Rattle.std.specs.Prelude.{IfErr, IsErr, IsErrAnd, MatchResult}
-use Rattle.std.proofs.lemmas.Bool.{false≢true}
-use Rattle.std.proofs.lemmas.List.{append_assoc}
-use Rattle.lot_simulation.specs.declared.input.InputFault.{InputFault}
-use Rattle.lot_simulation.specs.declared.input.InputRefusal.{InputRefusal}
-use Rattle.lot_simulation.specs.declared.input.InputRefusal.TheVariants.{BadLine}
-use Rattle.lot_simulation.specs.Reading.{◌>>=◌, each, each_pair}
-use Rattle.lot_text.specs.declared.fault.LineFault.{LineFault}
-use Rattle.lot_text.specs.declared.fault.LineFault.TheVariants.{Memory, Refused}
-use Rattle.lot_text.specs.declared.fault.ParseFault.{ParseFault}
+use Rattle.lot_text.proofs.Common.{BadLine, Err, Fails, Gives, IfErr, InputFault, InputRefusal, IsErr, IsErrAnd, IsFaultOf, LineFault, List, MatchResult, Memory, Ok, ParseFault, Refused, Result, append_assoc, each, each_pair, false≢true, length, refl, ℕ, [], ◌++◌, ◌>>=◌, ◌∷◌, ◌≡◌, ◌≢◌}
 use Rattle.lot_text.specs.declared.fault.ParseFault.TheVariants as parse_fault
-use Rattle.lot_text.specs.Faults.{Fails, Gives, IsFaultOf}
 
 -- what fails first fails the whole
 pub Fails-then : {A B : Type 0} (fault : LineFault) (given : Result A InputRefusal) (next : A → Result B InputRefusal) → Fails fault given

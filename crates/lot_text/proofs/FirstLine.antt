@@ -1,14 +1,5 @@
 -- The first of the lines, and those after it.
-use Rattle.std.proofs.Common.{◌≡◌, ◌<◌, ◌≤◌, ◌+◌, ◌-◌, ℕ, zero, suc, min, max, ◌==◌, sym, ◌∙◌, Option, None, Ok, Err, Bool, true, false, not, List, [], ◌∷◌, length, take, drop, refl, ap, arith, cond, if◌then◌else◌}
-use Rattle.std.specs.List.{prefix_len}
-use Rattle.std.proofs.lemmas.List.{length-take, drop_min, length-drop, take_rest}
-use Rattle.lot_simulation.specs.Lines.{lines_of, with_first_byte, without_end}
-use Rattle.lot_simulation.specs.Reading.{Reading, ◌>>=◌}
-use Rattle.lot_simulation.specs.Grammar.{read_lines, read_line, refused_on, program_in, whole_program}
-use Rattle.lot_simulation.specs.declared.input.InputRefusal.{InputRefusal}
-use Rattle.lot_text.specs.declared.fault.LineFault.{LineFault}
-use Rattle.lot_text.specs.declared.fault.LineFault.TheVariants.{Memory, Refused}
-use Rattle.lot_text.specs.Faults.{Fails, IsFaultOf, fault_on}
+use Rattle.lot_text.proofs.Common.{Bool, Err, Fails, InputRefusal, IsFaultOf, LineFault, List, Memory, None, Ok, Option, Reading, Refused, ap, arith, cond, drop, drop_min, false, fault_on, if◌then◌else◌, length, length-drop, length-take, lines_of, max, min, not, prefix_len, program_in, read_line, read_lines, refl, refused_on, suc, sym, take, take_rest, true, whole_program, with_first_byte, without_end, zero, ℕ, [], ◌+◌, ◌-◌, ◌<◌, ◌==◌, ◌>>=◌, ◌∙◌, ◌∷◌, ◌≡◌, ◌≤◌}
 
 -- how many bytes the first line has before its byte 10
 abbrev pub first_len : List ℕ → ℕ

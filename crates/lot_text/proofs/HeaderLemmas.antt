@@ -1,14 +1,6 @@
 -- Header lines, by whether they come too late.
-use Rattle.std.proofs.Common.{◌≡◌, ◌<◌, ℕ, false, Option, Some, None, Ok, List, refl, arith}
-use Rattle.std.specs.Prelude.{◌||◌, is_some, nat_le}
-use Rattle.std.proofs.lemmas.Bool.{leb-false, or_parts, true≢false}
-use Rattle.lot_simulation.specs.declared.input.HeaderWord.{HeaderWord}
+use Rattle.lot_text.proofs.Common.{Fails, HeaderWord, LineFault, List, None, Ok, Option, Reading, Some, arith, false, header_in_order, header_line, header_place, is_after_seed, is_given, is_late, is_some, leb-false, nat_le, or_parts, refl, true≢false, with_header_word, ℕ, ◌<◌, ◌||◌, ◌≡◌}
 use Rattle.lot_simulation.specs.declared.input.HeaderWord.TheVariants as header
-use Rattle.lot_simulation.specs.Grammar.{header_in_order, header_line, is_after_seed, is_given, is_late, with_header_word}
-use Rattle.lot_simulation.specs.Reading.{Reading}
-use Rattle.lot_simulation.specs.Words.{header_place}
-use Rattle.lot_text.specs.declared.fault.LineFault.{LineFault}
-use Rattle.lot_text.specs.Faults.{Fails}
 use Rattle.lot_text.proofs.FaultLemmas.{Fails-then}
 
 -- ---- the place of a word

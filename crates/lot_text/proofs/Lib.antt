@@ -1,3 +1,4 @@
+pub mod Common
 pub mod FaultLemmas
 pub mod FirstLine
 pub mod HeaderLemmas

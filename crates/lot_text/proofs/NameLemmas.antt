@@ -1,16 +1,6 @@
 -- Lines that give a name to a port, a mutex, a script or a ticket.
-use Rattle.std.proofs.Common.{◌≡◌, ◌<◌, ◌≤◌, ℕ, Bool, true, false, Result, Ok, Err, List, [], ◌∷◌, ◌++◌, length, Some, refl}
-use Rattle.std.specs.Prelude.{nat_le}
-use Rattle.std.proofs.lemmas.Bool.{le-leb, lt-leb}
-use Rattle.lot_machine.specs.declared.command.Command.{Command}
+use Rattle.lot_text.proofs.Common.{Bool, Command, Err, InputRefusal, List, Ok, Reading, Result, Some, TooLong, add_named, add_naming, after_header, body_after_header, body_place, checked, false, le-leb, length, lt-leb, nat_le, new_name, new_name_alone, refl, script_names, true, ℕ, [], ◌++◌, ◌<◌, ◌>>=◌, ◌∷◌, ◌≡◌, ◌≤◌}
 use Rattle.lot_simulation.specs.declared.input.BodyWord.TheVariants as body
-use Rattle.lot_simulation.specs.declared.input.InputRefusal.{InputRefusal}
-use Rattle.lot_simulation.specs.declared.input.InputRefusal.TheVariants.{TooLong}
-use Rattle.lot_simulation.specs.Grammar.{add_named, add_naming, body_after_header, script_names}
-use Rattle.lot_simulation.specs.Reading.{Reading, ◌>>=◌, checked, new_name}
-use Rattle.lot_simulation.specs.Words.{body_place}
-use Rattle.lot_text.specs.Alone.{new_name_alone}
-use Rattle.lot_text.specs.Readings.{after_header}
 
 -- a line that names a port is read by its only token
 pub port-line : (n : ℕ) (r : Reading) (tokens : List (List ℕ))

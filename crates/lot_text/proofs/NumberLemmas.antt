@@ -1,12 +1,5 @@
 -- Numbers that have more than 64 bits, and those that don't.
-use Rattle.std.proofs.Common.{◌≡◌, ◌<◌, ◌≤◌, ◌+◌, ◌-◌, ◌*◌, ◌^◌, ℕ, suc, Bool, true, false, List, [], ◌∷◌, length, drop, get_or, Some, None, refl, sym, ap, ◌∙◌, arith, le-leb}
-use Rattle.std.specs.Prelude.{nat_le}
-use Rattle.std.specs.Bool.{then_some}
-use Rattle.std.specs.Char.{digit_value}
-use Rattle.std.specs.Str.Parse.{digits_value_after}
-use Rattle.std.proofs.lemmas.Bool.{leb-false, lt-leb}
-use Rattle.std.proofs.Common.{drop-cons}
-use Rattle.lot_text.specs.Numbers.{within_64_bits}
+use Rattle.lot_text.proofs.Common.{Bool, List, None, Some, ap, arith, digit_value, digits_value_after, drop, drop-cons, false, get_or, le-leb, leb-false, length, lt-leb, nat_le, refl, suc, sym, then_some, true, within_64_bits, ℕ, [], ◌*◌, ◌+◌, ◌-◌, ◌<◌, ◌^◌, ◌∙◌, ◌∷◌, ◌≡◌, ◌≤◌}
 
 -- a number of 64 bits is within them
 pub within_64_bits-of : (n : ℕ) → n < 2 ^ 64 → Some n ≡ within_64_bits n

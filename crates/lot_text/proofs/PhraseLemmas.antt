@@ -1,14 +1,5 @@
 -- The words of a line within a script, from left to right.
-use Rattle.std.proofs.Common.{◌≡◌, ◌<◌, ℕ, Bool, true, false, Some, Ok, List, [], ◌∷◌, drop, length, take, refl, sym, ap, ◌∙◌, arith}
-use Rattle.std.specs.Prelude.{if◌then◌else◌}
-use Rattle.std.proofs.lemmas.List.{length-drop}
-use Rattle.lot_simulation.specs.Grammar.{is_alone, phrase_inside, phrases_inside, phrases_of, script_line, stands_alone}
-use Rattle.lot_simulation.specs.Reading.{OpenScript, Reading, ◌>>=◌}
-use Rattle.lot_simulation.specs.Words.{timed_script_words, word_in}
-use Rattle.lot_simulation.specs.declared.input.ScriptWord.{ScriptWord}
-use Rattle.lot_text.specs.declared.fault.LineFault.{LineFault}
-use Rattle.lot_text.specs.Faults.{Fails}
-use Rattle.lot_text.specs.Readings.{argument_count, phrase_at}
+use Rattle.lot_text.proofs.Common.{Bool, Fails, LineFault, List, Ok, OpenScript, Reading, ScriptWord, Some, ap, argument_count, arith, drop, false, if◌then◌else◌, is_alone, length, length-drop, phrase_at, phrase_inside, phrases_inside, phrases_of, refl, script_line, stands_alone, sym, take, timed_script_words, true, word_in, ℕ, [], ◌<◌, ◌>>=◌, ◌∙◌, ◌∷◌, ◌≡◌}
 use Rattle.lot_text.proofs.FaultLemmas.{Fails-then}
 
 -- the first word of a line, with what belongs to it, and the words after it

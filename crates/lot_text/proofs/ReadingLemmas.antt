@@ -1,19 +1,6 @@
 -- States of reading stay within the bounds of an input.
-use Rattle.std.proofs.Common.{◌≡◌, ◌∙◌, ◌<◌, ◌≤◌, ◌+◌, ℕ, Bool, false, Option, Some, None, Ok, Err, List, [], ◌∷◌, ◌++◌, length, refl, sym, ap, arith, rules}
-use Rattle.std.specs.Prelude.{All, IsTrue, nat_lt}
-use Rattle.std.specs.List.Sorted.{IsNonDecreasing}
-use Rattle.std.proofs.lemmas.Bool.{le-leb, lt-leb, true≢false}
-use Rattle.std.proofs.lemmas.Grind.{common_steps}
-use Rattle.std.proofs.lemmas.List.{append-nil, length-append}
-use Rattle.std.proofs.lemmas.List.Elements.{All-append, All-push, All-same}
-use Rattle.lot_machine.specs.Bounds.{IsBetween}
-use Rattle.lot_machine.specs.declared.command.Command.{Command}
+use Rattle.lot_text.proofs.Common.{All, All-append, All-push, All-same, Bool, Command, Err, IsBetween, IsBody, IsNonDecreasing, IsReading, IsTrue, List, NamedScript, None, Ok, OpenScript, Option, Reading, Some, TooLong, add_naming, after_header, ap, append-nil, arith, body_place, common_steps, false, header_line, le-leb, length, length-append, lt-leb, nat_lt, number_between, refl, rules, sym, true≢false, ℕ, [], ◌++◌, ◌+◌, ◌<◌, ◌∙◌, ◌∷◌, ◌≡◌, ◌≤◌}
 use Rattle.lot_simulation.specs.declared.input.HeaderWord.TheVariants as header
-use Rattle.lot_simulation.specs.declared.input.InputRefusal.TheVariants.{TooLong}
-use Rattle.lot_simulation.specs.Reading.{NamedScript, OpenScript, Reading, number_between}
-use Rattle.lot_simulation.specs.Grammar.{add_naming, header_line}
-use Rattle.lot_simulation.specs.Words.{body_place}
-use Rattle.lot_text.specs.Readings.{IsBody, IsReading, after_header}
 
 -- the body comes after the header
 past-header : body_place ≡ 0 → ⊥

@@ -1,16 +1,6 @@
 -- Runs of turns of one actor.
-use Rattle.std.proofs.Common.{◌≡◌, ◌<◌, ◌≤◌, ◌+◌, ◌%◌, ◌==◌, ◌↔◌, ◌||◌, Bool, true, false, not, ℕ, Result, Ok, Err, List, [], ◌∷◌, ◌++◌, length, replicate, get_or, take, refl, sym, arith, ◌∙◌}
-use Rattle.std.specs.Prelude.{All, IsTrue}
-use Rattle.std.proofs.lemmas.Bool.{eq-eqb, not-false, not-true, true≢false}
-use Rattle.std.proofs.lemmas.List.{append-nil, take_more}
-use Rattle.std.proofs.lemmas.List.Concat.{flat_map-append}
-use Rattle.std.proofs.lemmas.List.Elements.{All-append, All-replicate, All-nil, All-head, All-tail}
-use Rattle.lot_simulation.specs.declared.input.InputRefusal.{InputRefusal}
-use Rattle.lot_simulation.specs.declared.input.InputRefusal.TheVariants.{BadLine}
+use Rattle.lot_text.proofs.Common.{ActorRun, All, All-append, All-head, All-nil, All-replicate, All-tail, BadLine, Bool, Err, InputRefusal, IsTrue, List, Ok, Reading, Result, actors_of, add_runs, after_header, append-nil, arith, body_after_header, each_pair, eq-eqb, false, flat_map-append, get_or, length, not, not-false, not-true, pairs_added, refl, replicate, run_of, sym, take, take_more, true, true≢false, ℕ, [], ◌%◌, ◌++◌, ◌+◌, ◌<◌, ◌==◌, ◌||◌, ◌↔◌, ◌∙◌, ◌∷◌, ◌≡◌, ◌≤◌}
 use Rattle.lot_simulation.specs.declared.input.BodyWord.TheVariants as body
-use Rattle.lot_simulation.specs.Reading.{Reading, each_pair}
-use Rattle.lot_simulation.specs.Grammar.{ActorRun, actors_of, add_runs, body_after_header, run_of}
-use Rattle.lot_text.specs.Readings.{after_header, pairs_added}
 
 -- fewer than two tokens are no pair
 pub each_pair-none : {A : Type 0} (read : List ℕ → List ℕ → Result A InputRefusal) (tokens : List (List ℕ)) → length tokens ≤ 1 → each_pair read tokens ≡ Ok []

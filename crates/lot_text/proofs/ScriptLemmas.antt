@@ -1,10 +1,5 @@
 -- Scripts by their names.
-use Rattle.std.proofs.Common.{◌≡◌, ◌+◌, ℕ, Bool, not, cond, List, [], ◌∷◌, map, Some, None, refl, ap}
-use Rattle.std.specs.Prelude.{position, unwrap_or}
-use Rattle.std.specs.List.{prefix_len}
-use Rattle.std.specs.Str.{bytes_eq}
-use Rattle.std.proofs.lemmas.List.{length-map}
-use Rattle.lot_simulation.specs.Reading.{NamedScript, number_named}
+use Rattle.lot_text.proofs.Common.{Bool, List, NamedScript, None, Some, ap, bytes_eq, cond, length-map, map, not, number_named, position, prefix_len, refl, unwrap_or, ℕ, [], ◌+◌, ◌∷◌, ◌≡◌}
 
 -- how many stand at the front is not changed by looking at a part of each
 prefix_len-map : {X Y : Type 0} (p : Y → Bool) (f : X → Y) (xs : List X) → prefix_len p (map f xs) ≡ prefix_len (λ x. p (f x)) xs

@@ -1,11 +1,7 @@
 -- Lines that make a ticket, which may have a name.
-use Rattle.std.proofs.Common.{◌≡◌, Bool, true, false, ℕ, List, [], ◌∷◌, refl}
-use Rattle.lot_machine.specs.declared.command.Command.TheVariants.{MakeTicket, MakeFunded}
+use Rattle.lot_text.proofs.Common.{Bool, List, MakeFunded, MakeTicket, Reading, any_name, any_number, body_line, false, name_at_end, names_ticket, refl, script_names, script_number, ticket_added, true, ℕ, [], ◌>>=◌, ◌∷◌, ◌≡◌}
 use Rattle.lot_machine.specs.declared.reference.CurrencyRef.TheVariants as currency_ref
 use Rattle.lot_simulation.specs.declared.input.BodyWord.TheVariants as body
-use Rattle.lot_simulation.specs.Grammar.{body_line, names_ticket, script_names}
-use Rattle.lot_simulation.specs.Reading.{Reading, ◌>>=◌, any_name, any_number, script_number}
-use Rattle.lot_text.specs.Readings.{name_at_end, ticket_added}
 
 -- a line of `mktkt` is read by its end, and then from left to right
 pub make_ticket-read : (n : ℕ) (r : Reading) (amount currency : List ℕ) (tokens : List (List ℕ))

@@ -1,15 +1,5 @@
 -- The first word of a line, and those after it.
-use Rattle.std.proofs.Common.{◌≡◌, ◌<◌, ◌+◌, ◌-◌, ℕ, zero, suc, ◌==◌, Bool, true, false, not, ◌&&◌, ◌||◌, cond, List, [], ◌∷◌, length, take, drop, filter, refl, ap, ◌∙◌, arith, lt-ltb}
-use Rattle.std.specs.Prelude.{nat_le, nat_lt}
-use Rattle.std.specs.List.{prefix_len, slice_split, onto_first}
-use Rattle.std.proofs.lemmas.Bool.{and_parts}
-use Rattle.std.proofs.lemmas.Bool.Decides.{nat_tests}
-use Rattle.std.proofs.lemmas.List.{take_rest, take_all, drop_all}
-use Rattle.std.proofs.lemmas.List.Folds.{length-prefix_len}
-use Rattle.lot_simulation.specs.declared.separators.Separators.{Separators}
-use Rattle.lot_simulation.specs.declared.separators.Separators.TheVariants.{Spaces, Blanks}
-use Rattle.lot_simulation.specs.Lines.{is_comment, is_ignored, is_printable, separates, tokens_of}
-use Rattle.lot_text.specs.Tokens.{words_of}
+use Rattle.lot_text.proofs.Common.{Blanks, Bool, List, Separators, Spaces, and_parts, ap, arith, cond, drop, drop_all, false, filter, is_comment, is_ignored, is_printable, length, length-prefix_len, lt-ltb, nat_le, nat_lt, nat_tests, not, onto_first, prefix_len, refl, separates, slice_split, suc, take, take_all, take_rest, tokens_of, true, words_of, zero, ℕ, [], ◌&&◌, ◌+◌, ◌-◌, ◌<◌, ◌==◌, ◌||◌, ◌∙◌, ◌∷◌, ◌≡◌}
 
 abbrev is_word : List ℕ → Bool
 is_word word = nat_lt 0 (length word)

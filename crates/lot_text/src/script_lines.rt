@@ -11,7 +11,9 @@ use crate::number::only_number;
 use crate::reading::{NamedScript, OpenScript, Reading};
 use crate::tokens::Tokens;
 use lot_script::ScriptBuilder;
-use lot_simulation::{InputRefusal, ScriptLine, MutexTrap, PortTrap, ScriptTrap, ScriptWord, ranges};
+use lot_simulation::{
+    InputRefusal, MutexTrap, PortTrap, ScriptLine, ScriptTrap, ScriptWord, ranges,
+};
 
 /// A line of this script, which stays open until `endscript`.
 pub(crate) fn script_line(
@@ -131,7 +133,11 @@ fn at_port(
 {
     let port = tokens.only()?;
     let port = known_name(reading.ports.as_slice(), port)?;
-    add_line(reading, script, ScriptLine::Trap(ScriptTrap::AtPort(asked, port)))
+    add_line(
+        reading,
+        script,
+        ScriptLine::Trap(ScriptTrap::AtPort(asked, port)),
+    )
 }
 
 /// `lock MUTEX` or `unlock MUTEX`
@@ -190,7 +196,11 @@ fn end_script(
 }
 
 /// Adds this line to the script, unless it has as many lines as are allowed.
-fn add_line(reading: &mut Reading, mut script: OpenScript, line: ScriptLine) -> Result<(), LineFault>
+fn add_line(
+    reading: &mut Reading,
+    mut script: OpenScript,
+    line: ScriptLine,
+) -> Result<(), LineFault>
     requires room { length reading.old.scripts < 256 }
     requires number { IsLine line }
     requires nesting { CanNest script.loops line }

@@ -7,7 +7,7 @@ use crate::fault_of;
 use lot_machine::{Command, CurrencyRef, Kind, Limits, Name, Sizes, TargetRef, ThreadRef};
 use lot_program::{Commands, Program, Seed};
 use lot_script::Script;
-use lot_simulation::{InputFault, InputRefusal, ScriptLine, MutexTrap, PortTrap, ScriptTrap};
+use lot_simulation::{InputFault, InputRefusal, MutexTrap, PortTrap, ScriptLine, ScriptTrap};
 use lot_text::{ParseFault, parse, parse_seeded};
 use same::{check_same, check_same_at};
 use std::alloc::Global;

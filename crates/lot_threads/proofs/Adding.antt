@@ -1,42 +1,6 @@
 -- What is kept of the threads, after one more is made.
-use Rattle.std.proofs.Common.{◌≡◌, ◌⊎◌, inl, inr, ℕ, zero, suc, ◌+◌, ◌-◌, ◌<◌, Option, Some, None, List, [], ◌∷◌, ◌++◌, All, Bool, true, false, option_map, slice_get, slice_set, length-set, length, map, ap, sym, ◌∙◌, refl, subst, arith, length-append, option_and_then}
-use Rattle.std.specs.Option.{option_flatten}
-use Rattle.std.proofs.lemmas.Bool.{cases_eq}
-use Rattle.std.proofs.lemmas.List.{length-map, map-append}
-use Rattle.std.proofs.lemmas.List.Elements.{All-append, All-cons, All-nil}
-use Rattle.std.proofs.Math.Seq.{set-append_seam}
-use Rattle.lot_machine.specs.declared.sizes.Sizes.{Sizes}
-use Rattle.lot_machine.specs.declared.funding.Node.{Node}
-use Rattle.lot_machine.specs.declared.funding.Edge.{Edge}
-use Rattle.lot_machine.specs.declared.funding.Edge.TheVariants.{OfTicket, OfLender, OfMutex}
-use Rattle.lot_machine.specs.declared.funding.Lend.{Lend}
-use Rattle.lot_machine.specs.declared.funding.Lend.TheVariants.{Nobody}
-use Rattle.lot_machine.specs.declared.record.Record.{Record}
-use Rattle.lot_machine.specs.declared.record.Thread.{Thread}
-use Rattle.lot_machine.specs.declared.record.Status.TheVariants.{Ready, Running}
-use Rattle.lot_machine.specs.Funding.{Funding, weighed_of}
-use Rattle.lot_machine.specs.Lends.{IsLive}
-use Rattle.lot_machine.specs.Numbered.{at_number, set_number}
-use Rattle.lot_machine.specs.State.{lend_of, is_live_status, status_of}
-use Rattle.lot_machine.proofs.Tickets.{at_number-suc, some-injective}
-use Rattle.lot_machine.proofs.Changes.{number-push}
-use Rattle.lot_machine.proofs.Queues.{number-set_same}
-use Rattle.lot_machine.proofs.TwoSteps.{edges-between}
-use Rattle.lot_graph.specs.Changes.{with_lends}
-use Rattle.lot_graph.specs.Graphs.{LimitedFunding, IsThread}
-use Rattle.lot_value.specs.Caches.{Known, IsStale}
-use Rattle.lot_value.specs.Valued.{Valued, MakesStale}
-use Rattle.lot_draw.specs.declared.competing.Competitor.{Competitor}
-use Rattle.lot_draw.specs.Competing.{AreReady, competitor_at, competitor_of}
-use Rattle.lot_draw.specs.Queued.{Queued, AreWeights}
-use Rattle.lot_draw.proofs.Together.{queue-set, competes-more, weights-follow}
-use Rattle.lot_threads.specs.Timely.{IsTimely}
-use Rattle.lot_threads.specs.Runners.{AreRunners, runner_at}
-use Rattle.lot_machine.specs.Commands.{newborn}
-use Rattle.lot_threads.specs.Threaded.{AreOf}
-use Rattle.lot_value.proofs.Lending.{number-some, lent_weighed}
+use Rattle.lot_threads.proofs.Common.{All, All-append, All-cons, All-nil, AreOf, AreReady, AreRunners, AreWeights, Bool, Competitor, Edge, Funding, IsLive, IsStale, IsThread, IsTimely, Known, Lend, LimitedFunding, List, MakesStale, Nobody, Node, None, OfLender, OfMutex, OfTicket, Option, Queued, Ready, Record, Running, Sizes, Some, Thread, Valued, ap, arith, at_number, at_number-suc, cases_eq, competes-more, competitor_at, competitor_of, edges-between, false, inl, inr, is_live_status, lend_of, length, length-append, length-map, length-set, lent_weighed, makes-both, map, map-append, newborn, number-push, number-set_same, number-some, option_and_then, option_flatten, option_map, queue-set, refl, runner_at, set-append_seam, set_number, slice_get, slice_set, some-injective, status_of, subst, suc, sym, true, weighed_of, weights-follow, with_lends, zero, ℕ, [], ◌++◌, ◌+◌, ◌-◌, ◌<◌, ◌∙◌, ◌∷◌, ◌≡◌, ◌⊎◌}
 use Rattle.lot_threads.proofs.Together.{number-other}
-use Rattle.lot_value.proofs.TwoChanges.{makes-both}
 
 -- ---- lists with one more
 

@@ -1,19 +1,5 @@
 -- A change of tickets, currencies or owners, as one of all that is kept of the threads.
-use Rattle.std.proofs.Common.{◌≡◌, ◌∙◌, ◌⊎◌, ℕ, Bool, Option, List, ap, refl, subst, sym}
-use Rattle.lot_machine.specs.declared.sizes.Sizes.{Sizes}
-use Rattle.lot_machine.specs.declared.funding.Lend.{Lend}
-use Rattle.lot_machine.specs.declared.funding.Node.{Node}
-use Rattle.lot_machine.specs.declared.record.Record.{Record}
-use Rattle.lot_machine.specs.declared.record.Thread.{Thread}
-use Rattle.lot_machine.specs.State.{live_in}
-use Rattle.lot_graph.specs.Changes.{with_lends}
-use Rattle.lot_value.specs.declared.change.GraphChange.{GraphChange}
-use Rattle.lot_value.specs.declared.change.GraphChange.TheVariants.{PutThread}
-use Rattle.lot_value.specs.Caches.{IsStale}
-use Rattle.lot_value.specs.Changing.{StaleBy, applied, lends_after, live_after}
-use Rattle.lot_value.specs.Valued.{Valued}
-use Rattle.lot_draw.specs.Queued.{Queued}
-use Rattle.lot_threads.specs.Threaded.{AreOf, LeavesThreads, lends_in}
+use Rattle.lot_threads.proofs.Common.{AreOf, Bool, GraphChange, IsStale, LeavesThreads, Lend, List, Node, Option, PutThread, Queued, Record, Sizes, StaleBy, Thread, Valued, ap, applied, lends_after, lends_in, live_after, live_in, refl, subst, sym, with_lends, ℕ, ◌∙◌, ◌≡◌, ◌⊎◌}
 use Rattle.lot_threads.proofs.Together.{IsReached, graph-is, graph-of, stale-of}
 
 lends-stay : (lends : List Lend) (c : GraphChange) → LeavesThreads c → lends_after lends c ≡ lends

@@ -1,21 +1,6 @@
 -- What may be lent when a trap ends: whatever makes no cycle.
-use Rattle.std.proofs.Common.{◌≡◌, ◌∙◌, ℕ, ◌⊎◌, inl, inr, suc, ◌-◌, Some, List, [], ◌∷◌, ap, sym, refl, subst}
-use Rattle.lot_machine.specs.declared.funding.Node.{Node}
+use Rattle.lot_threads.proofs.Common.{CanLend, Edge, Funding, FundsThere, HasNoCycle, IsBorrower, IsWay, Lend, LendReaches, List, Nobody, Node, OfLender, OfMutex, OfTicket, Some, ToMutex, ToThread, ap, at_number, ends_of, inl, inr, lend-edge, lend_node, lent_ends, no-way-back, number-set, number-set_same, number-there, refl, set_number, subst, suc, sym, ℕ, [], ◌-◌, ◌∙◌, ◌∷◌, ◌≡◌, ◌⊎◌}
 use Rattle.lot_machine.specs.declared.funding.Node.TheVariants as node
-use Rattle.lot_machine.specs.declared.funding.Edge.{Edge}
-use Rattle.lot_machine.specs.declared.funding.Edge.TheVariants.{OfTicket, OfLender, OfMutex}
-use Rattle.lot_machine.specs.declared.funding.Lend.{Lend}
-use Rattle.lot_machine.specs.declared.funding.Lend.TheVariants.{Nobody, ToThread, ToMutex}
-use Rattle.lot_machine.specs.Funding.{Funding, ends_of, lend_node}
-use Rattle.lot_machine.specs.Facts.{FundsThere, HasNoCycle}
-use Rattle.lot_machine.specs.Numbered.{at_number, set_number}
-use Rattle.lot_machine.proofs.Changes.{number-set, number-there}
-use Rattle.lot_machine.proofs.Edges.{no-way-back}
-use Rattle.lot_machine.proofs.Queues.{number-set_same}
-use Rattle.lot_graph.specs.Graphs.{IsBorrower, IsWay, LendReaches}
-use Rattle.lot_graph.proofs.WayLemmas.{lend-edge}
-use Rattle.lot_value.specs.Changing.{CanLend}
-use Rattle.lot_value.proofs.Lending.{lent_ends}
 
 module _ (f : Funding) (t : ℕ) (lend : Lend) (alone : at_number f.lends t ≡ Some Nobody) where
   -- each edge stays when a thread that lent to nobody lends

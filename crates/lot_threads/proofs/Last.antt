@@ -1,18 +1,5 @@
 -- A change of threads, and then one of a record that the first change left: what a trap does, and what becomes of its thread.
-use Rattle.std.proofs.Common.{◌≡◌, ◌∙◌, ℕ, ◌⊎◌, inl, inr, suc, ◌-◌, Some, option_map, ap, sym}
-use Rattle.lot_machine.specs.declared.sizes.Sizes.{Sizes}
-use Rattle.lot_machine.specs.declared.funding.Edge.{Edge}
-use Rattle.lot_machine.specs.declared.funding.Edge.TheVariants.{OfTicket, OfLender, OfMutex}
-use Rattle.lot_machine.specs.declared.record.Record.{Record}
-use Rattle.lot_machine.specs.Funding.{weighed_of}
-use Rattle.lot_machine.specs.Numbered.{at_number, set_number}
-use Rattle.lot_machine.specs.State.{is_live_status, lend_of, live_in}
-use Rattle.lot_machine.specs.Touched.{WeighedBetween, LiveBetween}
-use Rattle.lot_machine.proofs.Changes.{number-set, number-there}
-use Rattle.lot_machine.proofs.TwoSteps.{edges-between, live-between}
-use Rattle.lot_machine.proofs.TrapCycles.{at_number-map}
-use Rattle.lot_threads.specs.Threaded.{Threaded, MakesStaleIn, funding_in, lends_in, with_records}
-use Rattle.lot_value.proofs.Lending.{lent_weighed}
+use Rattle.lot_threads.proofs.Common.{Edge, LiveBetween, MakesStaleIn, OfLender, OfMutex, OfTicket, Record, Sizes, Some, Threaded, WeighedBetween, ap, at_number, at_number-map, edges-between, funding_in, inl, inr, is_live_status, lend_of, lends_in, lent_weighed, live-between, live_in, number-set, number-there, option_map, set_number, suc, sym, weighed_of, with_records, ℕ, ◌-◌, ◌∙◌, ◌≡◌, ◌⊎◌}
 use Rattle.lot_threads.proofs.TwoChanges.{makes-both-in}
 
 module _ (a b c : Threaded) (lending : b.lending ≡ a.lending) (t : ℕ) (was next : Record) (left : at_number a.records t ≡ Some was) (there : at_number b.records t ≡ Some was)

@@ -1,18 +1,6 @@
 -- Ways between threads are chains of lends.
-use Rattle.std.proofs.Common.{◌≡◌, ◌∙◌, ◌↔◌, ℕ, zero, suc, ◌≤◌, Option, Some, None, List, [], ◌∷◌, length, option_and_then, option_map, ap, sym, refl, subst, arith}
-use Rattle.lot_machine.specs.declared.funding.Node.{Node}
+use Rattle.lot_threads.proofs.Common.{Funding, IsEdge, IsWay, Lend, LendsLead, LendsTo, List, Nobody, Node, None, OfLender, OfMutex, OfTicket, Option, Reaches, Some, Ticket, ToMutex, ToThread, ap, arith, at_number, borrower, lead-reaches, lend_node, length, lent_ends, option_and_then, option_map, owner_of, refl, some-injective, subst, suc, sym, target_node, ticket_at, zero, ℕ, [], ◌↔◌, ◌∙◌, ◌∷◌, ◌≡◌, ◌≤◌}
 use Rattle.lot_machine.specs.declared.funding.Node.TheVariants as node
-use Rattle.lot_machine.specs.declared.funding.Edge.TheVariants.{OfTicket, OfLender, OfMutex}
-use Rattle.lot_machine.specs.declared.funding.Lend.{Lend}
-use Rattle.lot_machine.specs.declared.funding.Lend.TheVariants.{Nobody, ToThread, ToMutex}
-use Rattle.lot_machine.specs.declared.ticket.Ticket.{Ticket}
-use Rattle.lot_machine.specs.Funding.{Funding, IsEdge, lend_node, owner_of, target_node, ticket_at}
-use Rattle.lot_machine.specs.Numbered.{at_number}
-use Rattle.lot_machine.specs.Lends.{LendsLead, LendsTo, borrower}
-use Rattle.lot_machine.proofs.Tickets.{some-injective}
-use Rattle.lot_graph.specs.Graphs.{IsWay, Reaches}
-use Rattle.lot_graph.proofs.WayLemmas.{lead-reaches}
-use Rattle.lot_value.proofs.Lending.{lent_ends}
 
 abbrev from_of : Option (Node × Node) → Node
 from_of None = node.Currency 0

@@ -1,4 +1,5 @@
 -- Lemmas, in the order in which they stand on each other.
+pub mod Common
 pub mod TwoChanges
 pub mod Running
 pub mod Together

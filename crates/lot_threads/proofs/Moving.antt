@@ -1,9 +1,5 @@
 -- Who may begin to run.
-use Rattle.std.proofs.Common.{◌≡◌, ℕ, Some, None}
-use Rattle.lot_machine.specs.declared.record.Status.TheVariants.{Running}
-use Rattle.lot_machine.specs.State.{status_of, thread_on}
-use Rattle.lot_machine.proofs.RecordsKept.{nobody-runs}
-use Rattle.lot_threads.specs.Threaded.{Threaded}
+use Rattle.lot_threads.proofs.Common.{None, Running, Some, Threaded, nobody-runs, status_of, thread_on, ℕ, ◌≡◌}
 
 -- nobody else runs where nobody runs
 pub nobody-else : (v : Threaded) (p t : ℕ) → thread_on v.records p ≡ None → (u more : ℕ) → status_of v.records u ≡ Some (Running p more) → u ≡ t

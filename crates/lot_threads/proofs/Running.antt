@@ -1,21 +1,6 @@
 -- Who runs where, after a thread's record changes.
-use Rattle.std.proofs.Common.{◌≡◌, ◌⊎◌, inl, inr, ℕ, suc, ◌-◌, ◌≤◌, Option, Some, None, List, length, ap, sym, ◌∙◌, refl, subst, arith, option_map, length-set}
-use Rattle.std.specs.Option.{option_flatten}
-use Rattle.std.proofs.lemmas.Bool.{cases_eq}
-use Rattle.lot_machine.specs.declared.record.Record.{Record}
-use Rattle.lot_machine.specs.declared.record.Status.{Status}
-use Rattle.lot_machine.specs.declared.record.Status.TheVariants.{Ready, Running, Receiving, Queued, Served, Waiting, Asleep, Dead}
-use Rattle.lot_machine.specs.Bounds.{IsBetween}
-use Rattle.lot_machine.specs.Numbered.{at_number, set_number}
-use Rattle.lot_machine.specs.State.{status_of, thread_on, used_by}
-use Rattle.lot_machine.proofs.Tickets.{some-injective}
-use Rattle.lot_machine.proofs.Changes.{number-set, number-there}
-use Rattle.lot_machine.proofs.Queues.{number-set_same}
-use Rattle.lot_machine.proofs.RecordsKept.{nobody-runs, found-runs, runs-used_by}
-use Rattle.lot_machine.proofs.LendSums.{number-within}
-use Rattle.lot_value.proofs.Lending.{number-some}
-use Rattle.lot_threads.specs.Threaded.{Threaded, CanRun}
-use Rattle.lot_threads.specs.Runners.{AreRunners, runner_at, with_runner, without_runner}
+use Rattle.lot_threads.proofs.Common.{AreRunners, Asleep, CanRun, Dead, IsBetween, List, None, Option, Ready, Receiving, Record, Running, Served, Some, Status, Threaded, Waiting, ap, arith, at_number, cases_eq, found-runs, inl, inr, length, length-set, nobody-runs, number-set, number-set_same, number-some, number-there, number-within, option_flatten, option_map, refl, runner_at, runs-used_by, set_number, some-injective, status_of, subst, suc, sym, thread_on, used_by, with_runner, without_runner, ℕ, ◌-◌, ◌∙◌, ◌≡◌, ◌≤◌, ◌⊎◌}
+use Rattle.lot_machine.specs.declared.record.Status.TheVariants.{Queued}
 
 -- ---- entries of the table
 

@@ -1,36 +1,5 @@
 -- What is kept of the threads, after a change of one record.
-use Rattle.std.proofs.Common.{◌≡◌, ◌⊎◌, inl, inr, ℕ, zero, suc, ◌-◌, ◌≤◌, Option, Some, None, List, [], All, Bool, option_map, slice_get, length, ap, sym, ◌∙◌, refl, subst, arith, length-set, option_and_then, replicate}
-use Rattle.std.specs.Option.{option_flatten}
-use Rattle.std.proofs.lemmas.Bool.{cases_eq}
-use Rattle.std.proofs.lemmas.List.{map-set, length-map}
-use Rattle.std.proofs.lemmas.List.Elements.{All-set}
-use Rattle.lot_machine.specs.declared.sizes.Sizes.{Sizes}
-use Rattle.lot_machine.specs.declared.funding.Node.{Node}
-use Rattle.lot_machine.specs.declared.funding.Lend.{Lend}
-use Rattle.lot_machine.specs.declared.record.Record.{Record}
-use Rattle.lot_machine.specs.declared.record.Thread.{Thread}
-use Rattle.lot_machine.specs.declared.record.Status.TheVariants.{Running}
-use Rattle.lot_machine.specs.Bounds.{IsBetween}
-use Rattle.lot_machine.specs.Funding.{Funding}
-use Rattle.lot_machine.specs.Numbered.{at_number, set_number}
-use Rattle.lot_machine.specs.State.{lend_of, is_live_status, status_of}
-use Rattle.lot_machine.specs.Touched.{IsTouched, PathLeads}
-use Rattle.lot_machine.proofs.Tickets.{at_number-suc}
-use Rattle.lot_machine.proofs.Changes.{number-set}
-use Rattle.lot_machine.proofs.Queues.{number-set_same}
-use Rattle.lot_graph.specs.Changes.{with_lends}
-use Rattle.lot_graph.specs.Graphs.{LimitedFunding, IsThread}
-use Rattle.lot_value.specs.Caches.{Known, IsStale}
-use Rattle.lot_value.specs.Valued.{Valued, MakesStale}
-use Rattle.lot_draw.specs.declared.competing.Competitor.{Competitor}
-use Rattle.lot_draw.specs.Competing.{AreReady, competitor_at, competitor_of}
-use Rattle.lot_draw.specs.Queued.{Queued, AreWeights, CompetesIn}
-use Rattle.lot_draw.proofs.Together.{queue-set, competes-more, competes-none, weights-follow}
-use Rattle.lot_threads.specs.Timely.{IsTimely}
-use Rattle.lot_threads.specs.Runners.{AreRunners, runner_at, with_runner, without_runner}
-use Rattle.lot_value.specs.Changing.{CanLend}
-use Rattle.lot_threads.specs.Threaded.{AreOf, lends_in}
-use Rattle.lot_value.proofs.Lending.{number-some}
+use Rattle.lot_threads.proofs.Common.{All, All-set, AreOf, AreReady, AreRunners, AreWeights, Bool, CanLend, CompetesIn, Competitor, Funding, IsBetween, IsStale, IsThread, IsTimely, IsTouched, Known, Lend, LimitedFunding, List, MakesStale, Node, None, Option, PathLeads, Queued, Record, Running, Sizes, Some, Thread, Valued, ap, arith, at_number, at_number-suc, cases_eq, competes-more, competes-none, competitor_at, competitor_of, inl, inr, is_live_status, lend_of, lends_in, length, length-map, length-set, map-set, number-set, number-set_same, number-some, option_and_then, option_flatten, option_map, queue-set, refl, replicate, runner_at, set_number, slice_get, status_of, subst, suc, sym, weights-follow, with_lends, with_runner, without_runner, zero, ℕ, [], ◌-◌, ◌∙◌, ◌≡◌, ◌≤◌, ◌⊎◌}
 use Rattle.lot_threads.proofs.Running.{runs-changed}
 
 -- another number has what it had

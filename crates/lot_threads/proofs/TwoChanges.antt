@@ -1,23 +1,6 @@
 -- What two changes of threads make stale together.
-use Rattle.std.proofs.Common.{◌≡◌, ◌∙◌, ℕ, ◌⊎◌, inl, inr, Option, Some, None, List, refl, ap, sym, option_map, option_and_then}
-use Rattle.std.specs.Option.{option_flatten}
-use Rattle.lot_machine.specs.declared.sizes.Sizes.{Sizes}
-use Rattle.lot_machine.specs.declared.ticket.Ticket.{Ticket}
-use Rattle.lot_machine.specs.declared.funding.Edge.{Edge}
-use Rattle.lot_machine.specs.declared.funding.Edge.TheVariants.{OfTicket, OfLender, OfMutex}
-use Rattle.lot_machine.specs.declared.funding.Lend.{Lend}
-use Rattle.lot_machine.specs.declared.funding.Node.{Node}
+use Rattle.lot_threads.proofs.Common.{Edge, IsStaleIn, Lend, List, LiveBetween, MakesStaleIn, Node, None, OfLender, OfMutex, OfTicket, Option, Record, Sizes, Some, Threaded, Ticket, WeighedBetween, ap, at_number, at_number-map, funding_in, inl, inr, is_live_status, lend_node, lend_of, live-between, live_in, makes-together, option_and_then, option_flatten, option_map, refl, some-injective, sym, target_node, weighed_of, ℕ, ◌∙◌, ◌≡◌, ◌⊎◌}
 use Rattle.lot_machine.specs.declared.funding.Node.TheVariants as node
-use Rattle.lot_machine.specs.declared.record.Record.{Record}
-use Rattle.lot_machine.specs.Funding.{lend_node, target_node, weighed_of}
-use Rattle.lot_machine.specs.Numbered.{at_number}
-use Rattle.lot_machine.specs.State.{is_live_status, lend_of, live_in}
-use Rattle.lot_machine.specs.Touched.{WeighedBetween, LiveBetween}
-use Rattle.lot_machine.proofs.Tickets.{some-injective}
-use Rattle.lot_machine.proofs.TrapCycles.{at_number-map}
-use Rattle.lot_machine.proofs.TwoSteps.{live-between}
-use Rattle.lot_value.proofs.TwoChanges.{makes-together}
-use Rattle.lot_threads.specs.Threaded.{Threaded, IsStaleIn, MakesStaleIn, funding_in}
 
 -- if the threads in between have no edge with its weight and no live thread that neither end has, and lack none that both have
 pub makes-both-in : (a b c : Threaded) → WeighedBetween (funding_in a) (funding_in b) (funding_in c) → LiveBetween (live_in a.records) (live_in b.records) (live_in c.records) → MakesStaleIn a b → MakesStaleIn b c → MakesStaleIn a c

@@ -1,24 +1,7 @@
 -- Ways from a thread that competes or runs: it lends to nobody, so no edge leads from it.
-use Rattle.std.proofs.Common.{◌≡◌, ◌≢◌, ◌∙◌, ℕ, zero, suc, ◌<◌, ◌≤◌, length, arith, Bool, true, false, Option, Some, None, List, [], ◌∷◌, option_map, ap, sym, refl, subst, if◌then◌else◌}
-use Rattle.std.proofs.lemmas.List.{length-map}
-use Rattle.std.proofs.lemmas.Option.{slice_get_within}
-use Rattle.lot_machine.specs.declared.sizes.Sizes.{Sizes}
-use Rattle.lot_machine.specs.declared.funding.Node.{Node}
+use Rattle.lot_threads.proofs.Common.{Bool, CanLend, Funding, IsEdge, IsLive, IsLiveIn, IsThread, IsThreadOf, Lend, LendReaches, List, Nobody, Node, None, Option, Reaches, Record, Sizes, Some, Status, Threaded, ToThread, ap, arith, at_number, at_number-map, at_number-suc, false, funding_in, if◌then◌else◌, is_live_status, lend_node, lend_of, lends_in, length, length-map, live_in, option_map, refl, slice_get_within, some-injective, status_of, subst, suc, sym, true, zero, ℕ, [], ◌<◌, ◌∙◌, ◌∷◌, ◌≡◌, ◌≢◌, ◌≤◌}
 use Rattle.lot_machine.specs.declared.funding.Node.TheVariants as node
-use Rattle.lot_machine.specs.declared.funding.Lend.{Lend}
-use Rattle.lot_machine.specs.declared.funding.Lend.TheVariants.{Nobody, ToThread}
-use Rattle.lot_machine.specs.declared.record.Record.{Record}
-use Rattle.lot_machine.specs.declared.record.Status.{Status}
 use Rattle.lot_machine.specs.declared.record.Status.TheVariants as status
-use Rattle.lot_machine.specs.Funding.{Funding, IsEdge, lend_node}
-use Rattle.lot_machine.specs.Numbered.{at_number}
-use Rattle.lot_machine.specs.Lends.{IsLive}
-use Rattle.lot_machine.specs.State.{is_live_status, lend_of, live_in, status_of}
-use Rattle.lot_machine.proofs.Tickets.{at_number-suc, some-injective}
-use Rattle.lot_machine.proofs.TrapCycles.{at_number-map}
-use Rattle.lot_graph.specs.Graphs.{IsThread, LendReaches, Reaches}
-use Rattle.lot_value.specs.Changing.{CanLend}
-use Rattle.lot_threads.specs.Threaded.{Threaded, IsLiveIn, IsThreadOf, funding_in, lends_in}
 use Rattle.lot_threads.proofs.Leads.{lender-next}
 
 -- who competes or runs lends to nobody

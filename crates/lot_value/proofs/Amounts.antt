@@ -1,34 +1,6 @@
 -- A ticket gets another amount: it funds nothing for a while, and then the same again.
-use Rattle.std.proofs.Common.{◌≡◌, ◌≢◌, ◌⊎◌, inl, inr, ℕ, suc, ◌-◌, Option, Some, None, List, [], ◌∷◌, ap, sym, ◌∙◌, refl, subst, option_map, option_and_then, arith}
-use Rattle.std.specs.Bool.{IsTrue}
-use Rattle.std.specs.Option.{option_flatten}
-use Rattle.lot_machine.specs.declared.ticket.Ticket.{Ticket}
-use Rattle.lot_machine.specs.declared.ticket.Target.{Target}
+use Rattle.lot_value.proofs.Common.{Activity, AreTogether, ChainLeads, Currency, Edge, EdgeEnds, FollowsGraph, Funding, FundsFrom, FundsThere, HasEquation, HasNoCycle, IsCycle, IsFunding, IsTarget, IsTrue, Known, LimitedFunding, List, Node, None, OfLender, OfMutex, OfTicket, Option, Some, Target, Thread, Ticket, Valued, WeighedBetween, ap, arith, at_number, chain-path, ends_of_edge, flatten-some, inl, inr, is_funding, issuer_of, number-kept, number-set, number-set_same, number-there, option_and_then, option_any, option_flatten, option_map, path-chain, path-fewer, refl, reissued, retargeted, set-twice, set_number, some-injective, subst, suc, sym, target_node, target_of, ticket-ends, ticket_at, ticket_in, weighed_of, with_amount, with_target, with_tickets, ℕ, [], ◌-◌, ◌∙◌, ◌∷◌, ◌≡◌, ◌≢◌, ◌⊎◌}
 use Rattle.lot_machine.specs.declared.ticket.Target.TheVariants as target
-use Rattle.lot_machine.specs.declared.funding.Node.{Node}
-use Rattle.lot_machine.specs.declared.funding.Node.TheVariants.{Currency, Thread}
-use Rattle.lot_machine.specs.declared.funding.Edge.{Edge}
-use Rattle.lot_machine.specs.declared.funding.Edge.TheVariants.{OfTicket, OfLender, OfMutex}
-use Rattle.lot_machine.specs.Commands.{is_funding}
-use Rattle.lot_machine.specs.Numbered.{at_number, set_number, option_any}
-use Rattle.lot_machine.specs.Funding.{Funding, ticket_at, ticket_in, target_of, issuer_of, target_node, weighed_of, with_target, with_amount, retargeted, reissued, ChainLeads}
-use Rattle.lot_machine.specs.Equations.{HasEquation}
-use Rattle.lot_machine.specs.Facts.{HasNoCycle, FundsThere}
-use Rattle.lot_machine.specs.Touched.{WeighedBetween}
-use Rattle.lot_machine.proofs.Changes.{number-set, number-there, number-kept}
-use Rattle.lot_machine.proofs.FundingKept.{FundsFrom, chain-path, path-chain}
-use Rattle.lot_machine.proofs.Paths.{path-fewer}
-use Rattle.lot_machine.proofs.Queues.{number-set_same}
-use Rattle.lot_machine.proofs.Tickets.{flatten-some, some-injective}
-use Rattle.lot_graph.proofs.FieldLemmas.{set-twice}
-use Rattle.lot_graph.specs.Changes.{with_tickets}
-use Rattle.lot_graph.specs.Graphs.{LimitedFunding, IsFunding, IsTarget, IsCycle}
-use Rattle.lot_value.specs.Valued.{Valued, AreTogether, FollowsGraph}
-use Rattle.lot_graph.proofs.EndLemmas.{ticket-ends}
-use Rattle.lot_active.specs.declared.edge_ends.EdgeEnds.{EdgeEnds}
-use Rattle.lot_active.specs.Activity.{Activity}
-use Rattle.lot_active.specs.Fundings.{ends_of_edge}
-use Rattle.lot_value.specs.Caches.{Known}
 use Rattle.lot_value.proofs.Ends.{there-edge}
 use Rattle.lot_value.proofs.TwoChanges.{follows-both}
 

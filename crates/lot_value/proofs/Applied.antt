@@ -1,20 +1,6 @@
 -- A change of the parts, as a change of the whole.
-use Rattle.std.proofs.Common.{◌≡◌, ◌∙◌, ℕ, inl, Bool, true, false, Option, Some, None, List, OnSome, ap, sym, refl}
-use Rattle.std.specs.Option.{SomeIff}
-use Rattle.lot_machine.specs.declared.funding.Node.{Node}
-use Rattle.lot_machine.specs.declared.funding.Lend.{Lend}
-use Rattle.lot_machine.specs.declared.ticket.Target.{Target}
+use Rattle.lot_value.proofs.Common.{Activity, Becomes, Bool, CanTarget, Follows, FollowsGraph, FollowsLives, Funding, GraphChange, HoldsOfOwners, IsCycle, IsStale, IsTarget, Known, Lend, LimitedFunding, List, MovesNothing, Node, None, OnSome, Option, PutThread, Some, SomeIff, StaleBy, Target, Valued, ap, applied, false, graph_after, inl, live_after, live_of, refl, set_number, sym, true, with_lends, ℕ, ◌∙◌, ◌≡◌}
 use Rattle.lot_machine.specs.declared.ticket.Target.TheVariants as target
-use Rattle.lot_machine.specs.Funding.{Funding}
-use Rattle.lot_machine.specs.Numbered.{set_number}
-use Rattle.lot_graph.specs.Graphs.{LimitedFunding, IsCycle, IsTarget}
-use Rattle.lot_graph.specs.Changes.{with_lends}
-use Rattle.lot_active.specs.Activity.{Activity}
-use Rattle.lot_value.specs.declared.change.GraphChange.{GraphChange}
-use Rattle.lot_value.specs.declared.change.GraphChange.TheVariants.{PutThread}
-use Rattle.lot_value.specs.Caches.{Known, IsStale}
-use Rattle.lot_value.specs.Changing.{CanTarget, MovesNothing, HoldsOfOwners, StaleBy, applied, graph_after, live_after}
-use Rattle.lot_value.specs.Valued.{Valued, Becomes, Follows, FollowsGraph, FollowsLives, live_of}
 use Rattle.lot_value.proofs.TwoChanges.{lives-first, graph-first}
 use Rattle.lot_value.proofs.Unchanged.{Stays}
 

@@ -1,6 +1,5 @@
 -- Counts that go on.
-use Rattle.std.proofs.Common.{◌≡◌, ℕ, zero, suc, ◌+◌, ◌-◌, ◌^◌, ◌<◌, min, ap, refl, arith}
-use Rattle.lot_value.specs.Counts.{counted_up}
+use Rattle.lot_value.proofs.Common.{ap, arith, counted_up, min, refl, suc, zero, ℕ, ◌+◌, ◌-◌, ◌<◌, ◌^◌, ◌≡◌}
 
 counted-some : (count more : ℕ) → 0 < more → counted_up count more ≡ min (count + more) (2 ^ 64 - 1)
 counted-some count zero some = absurd (omega arith)

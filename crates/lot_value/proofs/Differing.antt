@@ -1,28 +1,5 @@
 -- Which equations a change leaves.
-use Rattle.std.proofs.Common.{◌≡◌, ◌≢◌, ℕ, ◌*◌, ◌/◌, ◌⊎◌, ◌↔◌, inl, inr, IsTrue, Bool, true, false, Option, Some, List, Contains, option_map, unwrap_or, ap, sym, ◌∙◌, refl, subst}
-use Rattle.std.proofs.lemmas.Bool.{cases_eq}
-use Rattle.lot_machine.specs.declared.ticket.Ticket.{Ticket}
-use Rattle.lot_machine.specs.declared.funding.Node.{Node}
-use Rattle.lot_machine.specs.declared.funding.Node.TheVariants.{Currency}
-use Rattle.lot_machine.specs.declared.funding.Edge.{Edge}
-use Rattle.lot_machine.specs.declared.funding.Edge.TheVariants.{OfTicket, OfLender, OfMutex}
-use Rattle.lot_machine.specs.Funding.{Funding, ticket_at, ends_of, IsEdge}
-use Rattle.lot_machine.specs.Activity.{IsActive, is_active, active_amount}
-use Rattle.lot_machine.specs.Equations.{HasEquation, LeadsInto, share}
-use Rattle.lot_machine.proofs.Tickets.{some-injective}
-use Rattle.lot_machine.proofs.TicketDepth.{is_active-exact}
-use Rattle.lot_machine.proofs.EdgesOnce.{kept-shares}
-use Rattle.lot_graph.specs.declared.layout.Layout.{Layout}
-use Rattle.lot_graph.specs.Graphs.{LimitedFunding, IsSound, IsNodeOf}
-use Rattle.lot_graph.specs.Places.{node_place, IsNodeWithin, layout_of}
-use Rattle.lot_graph.proofs.EndLemmas.{ticket-ends}
-use Rattle.lot_active.specs.declared.edge_ends.EdgeEnds.{EdgeEnds}
-use Rattle.lot_active.specs.Activity.{Activity, mark_of}
-use Rattle.lot_active.specs.Changes.{IsActiveNode, ChangesNodes, switched_nodes, adjusted_nodes}
-use Rattle.lot_active.specs.Fundings.{IsKeptFor, ends_of_edge, edge_between, counted_amount}
-use Rattle.lot_active.proofs.NodeChanges.{kept-node}
-use Rattle.lot_active.proofs.Ways.{ticket-active, active-ticket}
-use Rattle.lot_value.specs.Caches.{CoversChange, TouchesListed, HasSameEquation}
+use Rattle.lot_value.proofs.Common.{Activity, Bool, ChangesNodes, Contains, CoversChange, Currency, Edge, EdgeEnds, Funding, HasEquation, HasSameEquation, IsActive, IsActiveNode, IsEdge, IsKeptFor, IsNodeOf, IsNodeWithin, IsSound, IsTrue, Layout, LeadsInto, LimitedFunding, List, Node, OfLender, OfMutex, OfTicket, Option, Some, Ticket, TouchesListed, active-ticket, active_amount, adjusted_nodes, ap, cases_eq, counted_amount, edge_between, ends_of, ends_of_edge, false, inl, inr, is_active, is_active-exact, kept-node, kept-shares, layout_of, mark_of, node_place, option_map, refl, share, some-injective, subst, switched_nodes, sym, ticket-active, ticket-ends, ticket_at, true, unwrap_or, ℕ, ◌*◌, ◌/◌, ◌↔◌, ◌∙◌, ◌≡◌, ◌≢◌, ◌⊎◌}
 use Rattle.lot_value.proofs.Ends.{edge-there, there-edge}
 use Rattle.lot_value.proofs.Nodes.{node-number, contains-or, node-within, within-node}
 use Rattle.lot_value.proofs.Shares.{same-test, share-off, share-base, share-user}

@@ -1,11 +1,5 @@
 -- The ends of an edge.
-use Rattle.std.proofs.Common.{◌≡◌, Option, Some, None, option_map, ◌∙◌, refl, sym, ap}
-use Rattle.lot_machine.specs.declared.funding.Node.{Node}
-use Rattle.lot_machine.specs.declared.funding.Edge.{Edge}
-use Rattle.lot_machine.specs.Funding.{Funding, ends_of}
-use Rattle.lot_machine.proofs.Tickets.{some-injective}
-use Rattle.lot_active.specs.declared.edge_ends.EdgeEnds.{EdgeEnds}
-use Rattle.lot_active.specs.Fundings.{ends_of_edge, edge_between, counted_amount}
+use Rattle.lot_value.proofs.Common.{Edge, EdgeEnds, Funding, Node, None, Option, Some, ap, counted_amount, edge_between, ends_of, ends_of_edge, option_map, refl, some-injective, sym, ◌∙◌, ◌≡◌}
 
 module _ (f : Funding) (edge : Edge) (from to : Node) (at : ends_of f edge ≡ Some (from, to)) where
   pub edge-there : ends_of_edge f edge ≡ Some (edge_between (counted_amount f edge) from to)

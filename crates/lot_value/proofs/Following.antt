@@ -1,33 +1,5 @@
 -- What is kept together follows each change.
-use Rattle.std.proofs.Common.{◌≡◌, ℕ, zero, suc, ◌+◌, ◌-◌, ◌<◌, ◌≤◌, ◌^◌, ◌⊎◌, inl, inr, Bool, true, false, Option, Some, None, List, [], ◌∷◌, ◌++◌, Contains, All, length, map, replicate, slice_get, slice_set, slice_index, slice_index_or, sum_by, ap, sym, ◌∙◌, refl, subst, arith, append-nil, length-set}
-use Rattle.std.proofs.lemmas.List.{length-replicate}
-use Rattle.std.proofs.lemmas.Option.{slice_get_within, slice_get-get_or, get_or_from_slice_get}
-use Rattle.std.specs.Option.{IfSome, option_flatten}
-use Rattle.std.specs.List.{range_with_len}
-use Rattle.lot_machine.specs.declared.ticket.Ticket.{Ticket}
-use Rattle.lot_machine.specs.declared.funding.Node.{Node}
-use Rattle.lot_machine.specs.declared.funding.Node.TheVariants.{Currency, Thread, Mutex}
-use Rattle.lot_machine.specs.declared.funding.Edge.{Edge}
-use Rattle.lot_machine.specs.declared.funding.Edge.TheVariants.{OfTicket, OfLender, OfMutex}
-use Rattle.lot_machine.specs.Bounds.{IsUnit}
-use Rattle.lot_machine.specs.Numbered.{at_number, set_number, numbers}
-use Rattle.lot_machine.specs.Funding.{Funding, ends_of, IsEdge, ticket_at, owner_of, target_node}
-use Rattle.lot_machine.specs.Lends.{IsLive}
-use Rattle.lot_machine.specs.Touched.{IsChangedNode, IsTouched, IsChangedLife, IsPath, PathLeads}
-use Rattle.lot_machine.specs.Equations.{HasEquation, edges_into, Reaches, IsWay}
-use Rattle.lot_machine.proofs.BaseKept.{active-bounded}
-use Rattle.lot_machine.proofs.Tickets.{at_number-suc, some-injective}
-use Rattle.lot_machine.proofs.EdgesOnce.{into-once}
-use Rattle.lot_graph.specs.Graphs.{LimitedFunding, IsThread, opening_funding}
-use Rattle.lot_graph.specs.Places.{node_place, node_count, IsNodeWithin, FitsLimits, layout_of}
-use Rattle.lot_active.specs.Activity.{Activity, awake_at}
-use Rattle.lot_active.specs.Changes.{ChangesNodes, SwitchesNode, switched_nodes}
-use Rattle.lot_graph.proofs.EndLemmas.{ticket-ends, lender-ends, mutex-ends}
-use Rattle.lot_active.proofs.Lists.{set-same}
-use Rattle.lot_active.specs.Fundings.{AwakeAre, IsKeptFor, ends_of_edge}
-use Rattle.lot_value.specs.Caches.{Known, IsStale, IsRight, IsSmall, TouchesListed}
-use Rattle.lot_value.specs.Touched.{Touched, IsUser, IsListed}
-use Rattle.lot_value.specs.Valued.{live_of, AreTogether, Follows}
+use Rattle.lot_value.proofs.Common.{Activity, All, AreTogether, AwakeAre, Bool, ChangesNodes, Contains, Currency, Edge, FitsLimits, Follows, Funding, HasEquation, IfSome, IsChangedLife, IsChangedNode, IsEdge, IsKeptFor, IsListed, IsLive, IsNodeWithin, IsPath, IsRight, IsSmall, IsStale, IsThread, IsTouched, IsUnit, IsUser, IsWay, Known, LimitedFunding, List, Mutex, Node, None, OfLender, OfMutex, OfTicket, Option, PathLeads, Reaches, Some, SwitchesNode, Thread, Ticket, Touched, TouchesListed, active-bounded, ap, append-nil, arith, at_number, at_number-suc, awake_at, edges_into, ends_of, ends_of_edge, false, get_or_from_slice_get, inl, inr, into-once, layout_of, lender-ends, length, length-replicate, length-set, live_of, map, mutex-ends, node_count, node_place, numbers, opening_funding, option_flatten, owner_of, range_with_len, refl, replicate, set-same, set_number, slice_get, slice_get-get_or, slice_get_within, slice_index, slice_index_or, slice_set, some-injective, subst, suc, sum_by, switched_nodes, sym, target_node, ticket-ends, ticket_at, true, zero, ℕ, [], ◌++◌, ◌+◌, ◌-◌, ◌<◌, ◌^◌, ◌∙◌, ◌∷◌, ◌≡◌, ◌≤◌, ◌⊎◌}
 use Rattle.lot_value.proofs.Listed.{contains-first}
 use Rattle.lot_value.proofs.Mapped.{length-mapped}
 use Rattle.lot_value.proofs.Nodes.{node-number}

@@ -1,37 +1,10 @@
 -- What the calls of a graph are to what is kept together.
-use Rattle.std.proofs.Common.{◌≡◌, ℕ, ◌-◌, ◌⊎◌, Bool, Option, Some, None, List, length, ap, sym, ◌∙◌, refl, subst, arith, length-set}
-use Rattle.lot_machine.specs.declared.ticket.Target.{Target}
+use Rattle.lot_value.proofs.Common.{Activity, AddsEdge, AreTogether, Bool, ChangesNodes, Currency, Edge, EdgeEnds, FitsLimits, Follows, Funding, HasEquation, IsBorrower, IsEdge, IsKeptFor, IsListed, IsMutex, IsNodeWithin, IsRight, IsStale, IsTarget, IsThread, IsTouched, IsUnit, Known, Layout, Lend, LimitedFunding, List, Mutex, Nobody, Node, None, OfLender, OfMutex, OfTicket, Option, PathLeads, Some, StandsFor, Target, Thread, ToMutex, ToThread, Touched, TouchesListed, ap, arith, at_number, counted_amount, disown-edge, edge_between, ends-mutex, ends_of_edge, free-kept, fund-edge, lend-edge, lend_node, lender-ends, length, length-set, live_of, mutex-ends, own-edge, owner_of, refl, set_number, some-injective, subst, sym, target-ticket, target_node, target_of, ticket-ends, unfund-edge, unlend-edge, with_lends, with_owners, with_target, with_tickets, ℕ, ◌-◌, ◌∙◌, ◌≡◌, ◌⊎◌}
 use Rattle.lot_machine.specs.declared.ticket.Target.TheVariants as target
-use Rattle.lot_machine.specs.declared.funding.Node.{Node}
-use Rattle.lot_machine.specs.declared.funding.Node.TheVariants.{Currency, Thread, Mutex}
-use Rattle.lot_machine.specs.declared.funding.Edge.{Edge}
-use Rattle.lot_machine.specs.declared.funding.Edge.TheVariants.{OfTicket, OfLender, OfMutex}
-use Rattle.lot_machine.specs.declared.funding.Lend.{Lend}
-use Rattle.lot_machine.specs.declared.funding.Lend.TheVariants.{Nobody, ToThread, ToMutex}
-use Rattle.lot_machine.specs.Numbered.{at_number, set_number}
-use Rattle.lot_machine.specs.Bounds.{IsUnit}
-use Rattle.lot_machine.specs.Funding.{Funding, target_of, owner_of, target_node, lend_node, with_target, IsEdge}
-use Rattle.lot_machine.specs.Touched.{IsTouched, PathLeads}
-use Rattle.lot_machine.specs.Equations.{HasEquation}
-use Rattle.lot_machine.proofs.Tickets.{some-injective}
-use Rattle.lot_graph.specs.declared.layout.Layout.{Layout}
-use Rattle.lot_graph.specs.Graphs.{LimitedFunding, IsTarget, IsThread, IsMutex, IsBorrower}
-use Rattle.lot_graph.specs.Places.{IsNodeWithin, FitsLimits}
-use Rattle.lot_graph.proofs.EndLemmas.{ticket-ends, lender-ends, mutex-ends, ends-mutex}
-use Rattle.lot_graph.proofs.FieldLemmas.{target-ticket, free-kept}
-use Rattle.lot_active.specs.declared.edge_ends.EdgeEnds.{EdgeEnds}
-use Rattle.lot_active.specs.Activity.{Activity}
-use Rattle.lot_active.specs.Changes.{ChangesNodes}
-use Rattle.lot_active.specs.Fundings.{IsKeptFor, AddsEdge, ends_of_edge, edge_between, counted_amount}
-use Rattle.lot_active.proofs.CallEdits.{fund-edge, unfund-edge, lend-edge, unlend-edge, own-edge, disown-edge}
-use Rattle.lot_value.specs.Caches.{Known, IsStale, IsRight, TouchesListed}
-use Rattle.lot_value.specs.Touched.{Touched, IsListed}
-use Rattle.lot_value.specs.Valued.{live_of, AreTogether, StandsFor, Follows}
 use Rattle.lot_value.proofs.Ends.{edge-there, there-edge}
 use Rattle.lot_value.proofs.Nodes.{within-node}
 use Rattle.lot_value.proofs.OneEdge.{Differ, has-same, same-layout, right-one, stale-one}
 use Rattle.lot_value.proofs.Following.{live-is, live-length}
-use Rattle.lot_graph.specs.Changes.{with_lends, with_owners, with_tickets}
 
 -- ---- one edge
 

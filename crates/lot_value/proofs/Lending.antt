@@ -1,23 +1,6 @@
 -- Edges when a thread lends to nobody, between two lends.
-use Rattle.std.proofs.Common.{◌≡◌, ◌↔◌, ◌⊎◌, inl, inr, Bool, true, false, not, ℕ, zero, ◌-◌, ◌<◌, ◌≤◌, [], ◌∷◌, length, slice_get, get_or, refl, arith, subst, suc, Option, Some, None, List, ap, sym, ◌∙◌, option_and_then, option_map}
-use Rattle.std.specs.Bool.{IsTrue}
-use Rattle.std.proofs.lemmas.Option.{slice_get_read}
-use Rattle.lot_machine.specs.declared.funding.Node.{Node}
-use Rattle.lot_machine.specs.declared.funding.Edge.{Edge}
-use Rattle.lot_machine.specs.declared.funding.Edge.TheVariants.{OfTicket, OfLender, OfMutex}
+use Rattle.lot_value.proofs.Common.{Bool, CanLend, Edge, Funding, IsMutex, IsThread, IsTrue, IsWay, Lend, LendReaches, LimitedFunding, List, Nobody, Node, None, OfLender, OfMutex, OfTicket, Option, Reaches, Some, ToMutex, ToThread, WeighedBetween, ap, arith, at_number, at_number-suc, ends_of, false, get_or, inl, inr, lend_node, length, not, number-kept, number-set, number-set_same, number-there, option_and_then, option_map, refl, set-twice, set_number, slice_get, slice_get_read, some-injective, subst, suc, sym, true, weighed_of, with_lends, zero, ℕ, [], ◌-◌, ◌<◌, ◌↔◌, ◌∙◌, ◌∷◌, ◌≡◌, ◌≤◌, ◌⊎◌}
 use Rattle.lot_machine.specs.declared.funding.Node.TheVariants as node
-use Rattle.lot_machine.specs.declared.funding.Lend.{Lend}
-use Rattle.lot_machine.specs.declared.funding.Lend.TheVariants.{Nobody, ToThread, ToMutex}
-use Rattle.lot_machine.specs.Funding.{Funding, ends_of, weighed_of, lend_node}
-use Rattle.lot_machine.specs.Numbered.{at_number, set_number}
-use Rattle.lot_machine.specs.Touched.{WeighedBetween}
-use Rattle.lot_graph.proofs.FieldLemmas.{set-twice}
-use Rattle.lot_graph.specs.Graphs.{LimitedFunding, IsThread, IsMutex, LendReaches, IsWay, Reaches}
-use Rattle.lot_value.specs.Changing.{CanLend}
-use Rattle.lot_graph.specs.Changes.{with_lends}
-use Rattle.lot_machine.proofs.Tickets.{at_number-suc, some-injective}
-use Rattle.lot_machine.proofs.Changes.{number-set, number-there, number-kept}
-use Rattle.lot_machine.proofs.Queues.{number-set_same}
 
 -- something stands at a number within bounds
 place-some : {A : Type 0} (xs : List A) (i : ℕ) → i < length xs → (x : A) × (slice_get xs i ≡ Some x)

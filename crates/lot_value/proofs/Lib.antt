@@ -1,4 +1,5 @@
 -- Lemmas, in the order in which they stand on each other.
+pub mod Common
 pub mod Counting
 pub mod Listed
 pub mod Mapped

@@ -1,15 +1,5 @@
 -- What lists contain, and the one list of the stale nodes after a push, a removal and a move.
-use Rattle.std.proofs.Common.{◌≡◌, ℕ, zero, suc, ◌+◌, ◌<◌, ◌⊎◌, inl, inr, Some, List, [], ◌∷◌, ◌++◌, Contains, length, slice_get, sum_by, ap, sym, ◌∙◌, refl, subst, arith, append_assoc, append-nil}
-use Rattle.std.specs.List.{remove}
-use Rattle.std.proofs.lemmas.Bool.{cases_eq}
-use Rattle.std.proofs.lemmas.List.{get_or-set_same}
-use Rattle.std.proofs.lemmas.List.Sums.{sum_by_push, sum_by-remove}
-use Rattle.std.proofs.lemmas.List.Elements.{Contains-append_left, Contains-append_right, Contains-push_cases}
-use Rattle.std.proofs.lemmas.Option.{slice_get_within, get_or_from_slice_get}
-use Rattle.lot_lists.specs.NodeLists.{NodeLists, nodes_of, node_at, with_pushed, with_removed}
-use Rattle.lot_machine.specs.Equations.{HasEachOnce}
-use Rattle.lot_machine.proofs.EachOnce.{contains-at, left-before, still-left}
-use Rattle.lot_value.specs.Marking.{IsReordered, IsStaleList}
+use Rattle.lot_value.proofs.Common.{Contains, Contains-append_left, Contains-append_right, Contains-push_cases, HasEachOnce, IsReordered, IsStaleList, List, NodeLists, Some, ap, append-nil, append_assoc, arith, cases_eq, contains-at, get_or-set_same, get_or_from_slice_get, inl, inr, left-before, length, node_at, nodes_of, refl, remove, slice_get, slice_get_within, still-left, subst, suc, sum_by, sum_by-remove, sum_by_push, sym, with_pushed, with_removed, zero, ℕ, [], ◌++◌, ◌+◌, ◌<◌, ◌∙◌, ◌∷◌, ◌≡◌, ◌⊎◌}
 
 -- ---- what a list contains
 

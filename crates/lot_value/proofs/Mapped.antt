@@ -1,12 +1,5 @@
 -- Lists that are mapped.
-use Rattle.std.proofs.Common.{◌≡◌, ◌↔◌, ℕ, suc, ◌<◌, List, [], ◌∷◌, Contains, length, map, sum_by, ap, sym, ◌∙◌, refl, subst, arith}
-use Rattle.std.proofs.lemmas.List.Sums.{sum_by-cons}
-use Rattle.lot_machine.proofs.EachOnce.{contains-mapped, mapped-contains}
-use Rattle.lot_machine.specs.declared.funding.Node.{Node}
-use Rattle.lot_graph.specs.declared.layout.Layout.{Layout}
-use Rattle.lot_graph.specs.Places.{node_place, node_of, node_count, IsNodeWithin}
-use Rattle.lot_graph.proofs.SpreadLemmas.{node-back, list-back}
-use Rattle.lot_value.specs.Marking.{IsReordered}
+use Rattle.lot_value.proofs.Common.{Contains, IsNodeWithin, IsReordered, Layout, List, Node, ap, arith, contains-mapped, length, list-back, map, mapped-contains, node-back, node_count, node_of, node_place, refl, subst, suc, sum_by, sum_by-cons, sym, ℕ, [], ◌<◌, ◌↔◌, ◌∙◌, ◌∷◌, ◌≡◌}
 
 module _ {A B : Type 0} (h : A → B) where
   pub sum-mapped : (f : B → ℕ) (xs : List A) → sum_by f (map h xs) ≡ sum_by (λ x. f (h x)) xs

@@ -1,31 +1,5 @@
 -- A mutex that moves from one live thread to another: who is active stays as it is, and both owners are touched.
-use Rattle.std.proofs.Common.{◌≡◌, ◌≢◌, ℕ, ◌⊎◌, inl, inr, Bool, Option, Some, None, List, [], ◌∷◌, Contains, length, ap, sym, ◌∙◌, refl, subst, arith, length-set, ◌-◌}
-use Rattle.std.specs.Option.{option_flatten}
-use Rattle.lot_machine.specs.declared.funding.Node.{Node}
-use Rattle.lot_machine.specs.declared.funding.Node.TheVariants.{Currency, Thread, Mutex}
-use Rattle.lot_machine.specs.declared.funding.Edge.{Edge}
-use Rattle.lot_machine.specs.declared.funding.Edge.TheVariants.{OfMutex}
-use Rattle.lot_machine.specs.Numbered.{at_number, set_number}
-use Rattle.lot_machine.specs.Funding.{ends_of, owner_of, IsEdge}
-use Rattle.lot_machine.specs.Lends.{IsLive}
-use Rattle.lot_machine.specs.Touched.{IsTouched, IsChangedEdge, PathLeads}
-use Rattle.lot_machine.proofs.Weighed.{only-there}
-use Rattle.lot_machine.specs.Equations.{HasEquation, Reaches, IsWay}
-use Rattle.lot_machine.proofs.EachOnce.{contains-nothing}
-use Rattle.lot_machine.proofs.Queues.{number-set_same}
-use Rattle.lot_graph.specs.Graphs.{LimitedFunding, IsNodeOf, IsThread, IsMutex, IsSound}
-use Rattle.lot_graph.specs.Places.{IsNodeWithin, FitsLimits, layout_of}
-use Rattle.lot_graph.specs.Changes.{with_owners}
-use Rattle.lot_graph.specs.declared.layout.Layout.{Layout}
-use Rattle.lot_active.specs.declared.edge_ends.EdgeEnds.{EdgeEnds}
-use Rattle.lot_active.specs.Activity.{Activity}
-use Rattle.lot_active.specs.Changes.{ChangesNodes}
-use Rattle.lot_active.specs.Fundings.{IsKeptFor, AddsEdge, ends_of_edge, edge_between}
-use Rattle.lot_active.proofs.CallEdits.{own-edge, disown-edge}
-use Rattle.lot_active.proofs.Moved.{moved-changes, moved-kept, unlisted}
-use Rattle.lot_value.specs.Caches.{Known, IsStale, IsRight, TouchesListed}
-use Rattle.lot_value.specs.Touched.{Touched}
-use Rattle.lot_value.specs.Valued.{live_of, AreTogether, Follows}
+use Rattle.lot_value.proofs.Common.{Activity, AddsEdge, AreTogether, Bool, ChangesNodes, Contains, Currency, Edge, EdgeEnds, FitsLimits, Follows, HasEquation, IsChangedEdge, IsEdge, IsKeptFor, IsLive, IsMutex, IsNodeOf, IsNodeWithin, IsRight, IsSound, IsStale, IsThread, IsTouched, IsWay, Known, Layout, LimitedFunding, List, Mutex, Node, None, OfMutex, Option, PathLeads, Reaches, Some, Thread, Touched, TouchesListed, ap, arith, at_number, contains-nothing, disown-edge, edge_between, ends_of, ends_of_edge, inl, inr, layout_of, length, length-set, live_of, moved-changes, moved-kept, number-set_same, only-there, option_flatten, own-edge, owner_of, refl, set_number, subst, sym, unlisted, with_owners, ℕ, [], ◌-◌, ◌∙◌, ◌∷◌, ◌≡◌, ◌≢◌, ◌⊎◌}
 use Rattle.lot_value.proofs.Ends.{edge-there, there-edge, to-is}
 use Rattle.lot_value.proofs.Following.{right-follows, reach-path}
 use Rattle.lot_value.proofs.GraphCalls.{live-one, stands-came, stands-went, together-one}

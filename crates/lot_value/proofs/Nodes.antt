@@ -1,11 +1,5 @@
 -- Nodes within the limits.
-use Rattle.std.proofs.Common.{◌≡◌, ℕ, zero, ◌⊎◌, inl, inr, List, [], ◌∷◌, Contains, ap, arith}
-use Rattle.std.proofs.lemmas.Bool.{cases_eq}
-use Rattle.lot_machine.specs.declared.funding.Node.{Node}
-use Rattle.lot_machine.specs.declared.funding.Node.TheVariants.{Currency, Thread, Mutex}
-use Rattle.lot_machine.proofs.EachOnce.{contains-nothing, contains-later}
-use Rattle.lot_graph.specs.Graphs.{LimitedFunding, IsNodeOf}
-use Rattle.lot_graph.specs.Places.{IsNodeWithin, layout_of}
+use Rattle.lot_value.proofs.Common.{Contains, Currency, IsNodeOf, IsNodeWithin, LimitedFunding, List, Mutex, Node, Thread, ap, arith, cases_eq, contains-later, contains-nothing, inl, inr, layout_of, zero, ℕ, [], ◌∷◌, ◌≡◌, ◌⊎◌}
 use Rattle.lot_value.proofs.Listed.{contains-cases}
 
 pub node-within : (w : LimitedFunding) (node : Node) → IsNodeOf w node → IsNodeWithin (layout_of w) node

@@ -1,22 +1,5 @@
 -- What is kept together follows an edge that comes or goes.
-use Rattle.std.proofs.Common.{◌≡◌, ◌⊎◌, inl, inr, Bool, Some, None, List, [], length, ap, sym, ◌∙◌, refl, subst, arith}
-use Rattle.lot_machine.specs.declared.funding.Node.{Node}
-use Rattle.lot_machine.specs.declared.funding.Node.TheVariants.{Currency, Thread, Mutex}
-use Rattle.lot_machine.specs.declared.funding.Edge.{Edge}
-use Rattle.lot_machine.specs.declared.funding.Edge.TheVariants.{OfTicket, OfLender, OfMutex}
-use Rattle.lot_machine.specs.Funding.{Funding, ends_of, IsEdge}
-use Rattle.lot_machine.specs.Touched.{IsTouched, IsChangedEdge, PathLeads}
-use Rattle.lot_machine.proofs.Weighed.{only-there}
-use Rattle.lot_machine.specs.Equations.{HasEquation, Reaches}
-use Rattle.lot_graph.specs.Graphs.{LimitedFunding}
-use Rattle.lot_graph.specs.Places.{layout_of}
-use Rattle.lot_active.specs.declared.edge_ends.EdgeEnds.{EdgeEnds}
-use Rattle.lot_active.specs.Activity.{Activity}
-use Rattle.lot_active.specs.Changes.{ChangesNodes}
-use Rattle.lot_active.specs.Fundings.{IsKeptFor, AddsEdge, ends_of_edge}
-use Rattle.lot_value.specs.Caches.{Known, IsStale, IsRight, TouchesListed}
-use Rattle.lot_value.specs.Touched.{Touched, IsListed}
-use Rattle.lot_value.specs.Valued.{StandsFor}
+use Rattle.lot_value.proofs.Common.{Activity, AddsEdge, Bool, ChangesNodes, Currency, Edge, EdgeEnds, Funding, HasEquation, IsChangedEdge, IsEdge, IsKeptFor, IsListed, IsRight, IsStale, IsTouched, Known, LimitedFunding, List, Mutex, Node, None, OfLender, OfMutex, OfTicket, PathLeads, Reaches, Some, StandsFor, Thread, Touched, TouchesListed, ap, arith, ends_of, ends_of_edge, inl, inr, layout_of, length, only-there, refl, subst, sym, [], ◌∙◌, ◌≡◌, ◌⊎◌}
 use Rattle.lot_value.proofs.Ends.{edge-there, there-edge, to-is}
 use Rattle.lot_value.proofs.Nodes.{same-or-not as same-node}
 use Rattle.lot_value.proofs.Rightness.{has-not-base}

@@ -1,21 +1,5 @@
 -- How the stale sources of a node come to the back of the list.
-use Rattle.std.proofs.Common.{◌≡◌, ℕ, ◌-◌, ◌⊎◌, inl, inr, Bool, true, false, Option, Some, None, List, [], ◌∷◌, ◌++◌, Contains, length, slice_get, ap, sym, ◌∙◌, refl, subst, arith, length-set}
-use Rattle.std.specs.Bool.{OnTrue, OnFalse}
-use Rattle.std.specs.List.{remove}
-use Rattle.std.specs.Option.{IfNone, is_some}
-use Rattle.std.proofs.lemmas.List.{length_push}
-use Rattle.std.proofs.lemmas.List.Elements.{Contains-push_cases}
-use Rattle.lot_lists.specs.NodeLists.{NodeLists, nodes_of, node_at, IsFree, IsConsistent, HasSameSize, with_pushed, with_removed}
-use Rattle.lot_machine.specs.declared.funding.Node.{Node}
-use Rattle.lot_machine.specs.declared.funding.Edge.{Edge}
-use Rattle.lot_machine.specs.Funding.{Funding, IsEdge, ends_of}
-use Rattle.lot_machine.specs.Equations.{HasEachOnce, LeadsInto}
-use Rattle.lot_machine.proofs.Tickets.{some-injective}
-use Rattle.lot_machine.proofs.EachOnce.{contains-nothing}
-use Rattle.lot_graph.specs.declared.layout.Layout.{Layout}
-use Rattle.lot_graph.specs.Places.{node_place}
-use Rattle.lot_graph.proofs.EndLemmas.{pair}
-use Rattle.lot_value.specs.Marking.{IsStaleList, IsReordered, IsRaising, LeadsFromPlace, last_of}
+use Rattle.lot_value.proofs.Common.{Bool, Contains, Contains-push_cases, Edge, Funding, HasEachOnce, HasSameSize, IfNone, IsConsistent, IsEdge, IsFree, IsRaising, IsReordered, IsStaleList, Layout, LeadsFromPlace, LeadsInto, List, Node, NodeLists, None, OnFalse, OnTrue, Option, Some, ap, arith, contains-nothing, ends_of, false, inl, inr, is_some, last_of, length, length-set, length_push, node_at, node_place, nodes_of, pair, refl, remove, slice_get, some-injective, subst, sym, true, with_pushed, with_removed, ℕ, [], ◌++◌, ◌-◌, ◌∙◌, ◌∷◌, ◌≡◌, ◌⊎◌}
 use Rattle.lot_value.proofs.Listed.{last-pushed, moved-is, reordered-move, reordered-same, reordered-then}
 
 -- the list after a change that keeps its size

@@ -1,21 +1,6 @@
 -- A rank of nodes that rises along each edge, computed from the graph alone.
-use Rattle.std.proofs.Common.{◌≡◌, ℕ, zero, suc, ◌+◌, ◌<◌, ◌≤◌, Some, List, [], ◌∷◌, Contains, length, map, sum_by, option_map, unwrap_or, ap, sym, ◌∙◌, refl, arith}
-use Rattle.std.proofs.lemmas.List.Sums.{sum_by-cons}
-use Rattle.lot_machine.specs.declared.funding.Node.{Node}
-use Rattle.lot_machine.specs.declared.funding.Node.TheVariants.{Currency}
-use Rattle.lot_machine.specs.declared.funding.Edge.{Edge}
-use Rattle.lot_machine.specs.Funding.{Funding, ends_of, IsEdge}
-use Rattle.lot_machine.specs.Facts.{HasNoCycle}
-use Rattle.lot_machine.specs.Equations.{IsWay, LeadsInto, edges_into}
-use Rattle.lot_machine.proofs.EachOnce.{contains-later}
-use Rattle.lot_machine.proofs.EdgesOnce.{into-once}
-use Rattle.lot_graph.specs.declared.layout.Layout.{Layout}
-use Rattle.lot_graph.specs.Places.{node_place, node_count, FitsIn}
+use Rattle.lot_value.proofs.Common.{Contains, Currency, Edge, FitsIn, Funding, HasNoCycle, IsEdge, IsWay, Layout, LeadsInto, List, Node, Some, ap, arith, contains-later, edges_into, ends-places, ends_of, into-once, length, map, net-no_cycle, net-sound, net_of, node_count, node_place, option_map, refl, suc, sum_by, sum_by-cons, sym, unwrap_or, way-short, zero, ℕ, [], ◌+◌, ◌<◌, ◌∙◌, ◌∷◌, ◌≡◌, ◌≤◌}
 use Rattle.lot_active.specs.Nets.{IsWay as IsNetWay}
-use Rattle.lot_active.specs.Fundings.{net_of}
-use Rattle.lot_active.proofs.Ends.{ends-places, net-sound}
-use Rattle.lot_active.proofs.Local.{way-short}
-use Rattle.lot_active.proofs.Ways.{net-no_cycle}
 use Rattle.lot_value.proofs.Listed.{contains-first}
 
 abbrev pub source_of : Funding → Edge → Node

@@ -1,12 +1,5 @@
 -- Sums over the edges into a node, some of which were read.
-use Rattle.std.proofs.Common.{◌≡◌, ℕ, ◌+◌, ◌≤◌, List, [], ◌∷◌, ◌++◌, length, sum_by, ap, sym, ◌∙◌, refl, arith}
-use Rattle.std.proofs.lemmas.List.Sums.{sum_by-cons, sum_by-append}
-use Rattle.lot_machine.specs.declared.funding.Node.{Node}
-use Rattle.lot_machine.specs.declared.funding.Edge.{Edge}
-use Rattle.lot_machine.specs.Funding.{Funding, edge_count_into}
-use Rattle.lot_machine.specs.Equations.{HasEachOnce, LeadsInto, edges_into}
-use Rattle.lot_machine.proofs.EdgesOnce.{into-sums}
-use Rattle.lot_machine.proofs.EdgeSums.{edges-many}
+use Rattle.lot_value.proofs.Common.{Edge, Funding, HasEachOnce, LeadsInto, List, Node, ap, arith, edge_count_into, edges-many, edges_into, into-sums, length, refl, sum_by, sum_by-append, sum_by-cons, sym, ℕ, [], ◌++◌, ◌+◌, ◌∙◌, ◌∷◌, ◌≡◌, ◌≤◌}
 use Rattle.lot_value.proofs.Listed.{each-done}
 
 pub length-ones : {A : Type 0} (xs : List A) → sum_by (λ x. 1) xs ≡ length xs

@@ -1,24 +1,5 @@
 -- What is right of values that are kept: what they are worth, and what is right after a touch.
-use Rattle.std.proofs.Common.{◌≡◌, ◌≢◌, ℕ, ◌<◌, ◌^◌, ◌⊎◌, inl, inr, Bool, Some, List, [], ◌∷◌, ◌++◌, Contains, length, map, ap, sym, ◌∙◌, refl, subst, arith}
-use Rattle.std.proofs.lemmas.List.Elements.{Contains-append_left, Contains-append_right}
-use Rattle.lot_machine.specs.declared.funding.Node.{Node}
-use Rattle.lot_machine.specs.declared.funding.Node.TheVariants.{Currency, Thread, Mutex}
-use Rattle.lot_machine.specs.declared.funding.Edge.{Edge}
-use Rattle.lot_machine.specs.declared.funding.Edge.TheVariants.{OfTicket, OfLender, OfMutex}
-use Rattle.lot_machine.specs.Funding.{Funding, IsEdge, ends_of}
-use Rattle.lot_machine.specs.Value.{node_value}
-use Rattle.lot_machine.specs.Equations.{HasEquation, shares_into, Reaches, IsWay}
-use Rattle.lot_machine.proofs.EachOnce.{contains-nothing, contains-mapped, mapped-contains}
-use Rattle.lot_machine.proofs.Edges.{ends-are}
-use Rattle.lot_machine.proofs.LendSums.{number-within}
-use Rattle.lot_machine.proofs.NodeShares.{same-shares, solution, values-solve}
-use Rattle.lot_machine.proofs.NodeBounds.{node-bounded}
-use Rattle.lot_graph.specs.declared.layout.Layout.{Layout}
-use Rattle.lot_graph.specs.Graphs.{LimitedFunding, IsSound, IsNodeOf}
-use Rattle.lot_graph.specs.Places.{node_place, node_of, node_count, IsNodeWithin, FitsIn, FitsLimits, layout_of}
-use Rattle.lot_graph.proofs.SpreadLemmas.{node-back}
-use Rattle.lot_value.specs.Caches.{Known, IsStale, IsRight, IsRightBut, DiffersAt, IsSmall, value_in}
-use Rattle.lot_value.specs.Marking.{LeadsToPlace, Marks, MarksNodes}
+use Rattle.lot_value.proofs.Common.{Bool, Contains, Contains-append_left, Contains-append_right, Currency, DiffersAt, Edge, FitsIn, FitsLimits, Funding, HasEquation, IsEdge, IsNodeOf, IsNodeWithin, IsRight, IsRightBut, IsSmall, IsSound, IsStale, IsWay, Known, Layout, LeadsToPlace, LimitedFunding, List, Marks, MarksNodes, Mutex, Node, OfLender, OfMutex, OfTicket, Reaches, Some, Thread, ap, arith, contains-mapped, contains-nothing, ends-are, ends_of, inl, inr, layout_of, length, map, mapped-contains, node-back, node-bounded, node_count, node_of, node_place, node_value, number-within, refl, same-shares, shares_into, solution, subst, sym, value_in, values-solve, ℕ, [], ◌++◌, ◌<◌, ◌^◌, ◌∙◌, ◌∷◌, ◌≡◌, ◌≢◌, ◌⊎◌}
 use Rattle.lot_value.proofs.Listed.{contains-cases}
 use Rattle.lot_value.proofs.Nodes.{node-number, contains-or, node-within, within-node}
 

@@ -1,24 +1,5 @@
 -- The next node to settle, and what is right when it is.
-use Rattle.std.proofs.Common.{◌≡◌, ℕ, zero, suc, ◌+◌, ◌-◌, ◌<◌, ◌⊎◌, inl, inr, Bool, true, Option, Some, None, List, [], ◌∷◌, Contains, length, map, slice_get, slice_index, set, sum_by, ap, sym, ◌∙◌, refl, subst, arith, length-set}
-use Rattle.std.specs.List.{remove}
-use Rattle.std.specs.Option.{IfSome, is_some}
-use Rattle.std.proofs.lemmas.Grind.{get_or-set_at}
-use Rattle.std.proofs.lemmas.List.{get_or-set_other}
-use Rattle.lot_lists.specs.NodeLists.{NodeLists, nodes_of, node_at, IsFree, with_removed}
-use Rattle.lot_machine.specs.declared.funding.Node.{Node}
-use Rattle.lot_machine.specs.Funding.{Funding, IsEdge, edge_count_into}
-use Rattle.lot_machine.specs.Facts.{HasNoCycle}
-use Rattle.lot_machine.specs.Equations.{shares_into}
-use Rattle.lot_machine.proofs.EachOnce.{contains-nothing, contains-later, contains-mapped, mapped-contains, contains-at, left-before, still-left}
-use Rattle.lot_machine.proofs.NodeShares.{same-shares}
-use Rattle.lot_graph.specs.declared.layout.Layout.{Layout}
-use Rattle.lot_graph.specs.Graphs.{LimitedFunding, IsNodeOf}
-use Rattle.lot_graph.specs.Places.{node_place, node_of, node_count, IsNodeWithin, FitsIn, FitsLimits, layout_of}
-use Rattle.lot_graph.proofs.WalkLemmas.{mapped-at}
-use Rattle.lot_graph.proofs.SpreadLemmas.{same-list, node-back, list-back}
-use Rattle.lot_value.specs.Counts.{counted_up}
-use Rattle.lot_value.specs.Caches.{Known, IsStale, IsRight, Settles, kept_worth, value_in, edges_into_all}
-use Rattle.lot_value.specs.Marking.{IsStaleList, IsReordered, IsFreshPlace, LeadsFromPlace}
+use Rattle.lot_value.proofs.Common.{Bool, Contains, FitsIn, FitsLimits, Funding, HasNoCycle, IfSome, IsEdge, IsFree, IsFreshPlace, IsNodeOf, IsNodeWithin, IsReordered, IsRight, IsStale, IsStaleList, Known, Layout, LeadsFromPlace, LimitedFunding, List, Node, NodeLists, None, Option, Settles, Some, ap, arith, contains-at, contains-later, contains-mapped, contains-nothing, counted_up, edge_count_into, edges_into_all, get_or-set_at, get_or-set_other, inl, inr, is_some, kept_worth, layout_of, left-before, length, length-set, list-back, map, mapped-at, mapped-contains, node-back, node_at, node_count, node_of, node_place, nodes_of, refl, remove, same-list, same-shares, set, shares_into, slice_get, slice_index, still-left, subst, suc, sum_by, sym, true, value_in, with_removed, zero, ℕ, [], ◌+◌, ◌-◌, ◌<◌, ◌∙◌, ◌∷◌, ◌≡◌, ◌⊎◌}
 use Rattle.lot_value.proofs.Rank.{rank, rank-rises}
 use Rattle.lot_value.proofs.Counting.{counted-more}
 use Rattle.lot_value.proofs.Listed.{contains-first, listed-low, list-within, removed-is, sum-taken}

@@ -1,23 +1,5 @@
 -- What the edge of a ticket passes on, by what is kept of its activity.
-use Rattle.std.proofs.Common.{◌≡◌, ◌≢◌, ℕ, ◌*◌, ◌/◌, ◌≤◌, ◌==◌, ◌↔◌, Bool, true, false, Some, Option, List, IsTrue, option_map, unwrap_or, ap, sym, ◌∙◌, refl, subst}
-use Rattle.std.proofs.lemmas.Bool.{eqb-true, eqb-false}
-use Rattle.lot_machine.specs.declared.ticket.Ticket.{Ticket}
-use Rattle.lot_machine.specs.declared.funding.Node.{Node}
-use Rattle.lot_machine.specs.declared.funding.Node.TheVariants.{Currency}
-use Rattle.lot_machine.specs.declared.funding.Edge.{Edge}
-use Rattle.lot_machine.specs.declared.funding.Edge.TheVariants.{OfTicket, OfLender, OfMutex}
-use Rattle.lot_machine.specs.Funding.{Funding, ticket_at, target_of, ends_of}
-use Rattle.lot_machine.specs.Activity.{IsActive, is_active, active_amount}
-use Rattle.lot_machine.specs.Equations.{ticket_share, share, LeadsInto}
-use Rattle.lot_machine.proofs.Tickets.{some-injective}
-use Rattle.lot_machine.proofs.Edges.{ends-are}
-use Rattle.lot_machine.proofs.TicketDepth.{is_active-exact}
-use Rattle.lot_machine.proofs.NodeBounds.{issuer-amount}
-use Rattle.lot_graph.specs.Graphs.{LimitedFunding}
-use Rattle.lot_graph.specs.Places.{FitsLimits}
-use Rattle.lot_graph.proofs.EndLemmas.{ticket-ends}
-use Rattle.lot_active.specs.Activity.{Activity}
-use Rattle.lot_active.specs.Fundings.{IsKeptFor}
+use Rattle.lot_value.proofs.Common.{Activity, Bool, Currency, Edge, FitsLimits, Funding, IsActive, IsKeptFor, IsTrue, LeadsInto, LimitedFunding, List, Node, OfLender, OfMutex, OfTicket, Option, Some, Ticket, active_amount, ap, ends-are, ends_of, eqb-false, eqb-true, false, is_active, is_active-exact, issuer-amount, option_map, refl, share, some-injective, subst, sym, target_of, ticket-ends, ticket_at, ticket_share, true, unwrap_or, ℕ, ◌*◌, ◌/◌, ◌==◌, ◌↔◌, ◌∙◌, ◌≡◌, ◌≢◌, ◌≤◌}
 use Rattle.lot_value.proofs.Nodes.{node-number}
 
 pub same-test : (a b : Bool) → (a ≡ true → b ≡ true) → (b ≡ true → a ≡ true) → a ≡ b

@@ -1,28 +1,5 @@
 -- How marks spread from a node that is touched.
-use Rattle.std.proofs.Common.{◌≡◌, ℕ, zero, suc, ◌+◌, ◌-◌, ◌<◌, ◌≤◌, ◌⊎◌, inl, inr, Bool, true, false, not, Option, Some, None, List, [], ◌∷◌, ◌++◌, Contains, length, map, option_and_then, option_map, slice_get, get_or, ap, sym, ◌∙◌, refl, subst, arith}
-use Rattle.std.specs.Option.{IfSome, IfNone, IsSome, is_some}
-use Rattle.std.proofs.lemmas.Bool.{cases_lt, cases_eq}
-use Rattle.std.proofs.lemmas.List.{map-append}
-use Rattle.std.proofs.lemmas.List.Elements.{Contains-append_left, Contains-append_right, Contains-push_cases}
-use Rattle.std.proofs.lemmas.Option.{slice_get_within, slice_get-get_or}
-use Rattle.lot_lists.specs.NodeLists.{NodeLists, nodes_of, node_at, IsFree, IsConsistent, with_pushed}
-use Rattle.lot_machine.specs.declared.ticket.Ticket.{Ticket}
-use Rattle.lot_machine.specs.declared.funding.Node.{Node}
-use Rattle.lot_machine.specs.declared.funding.Node.TheVariants.{Currency, Thread, Mutex}
-use Rattle.lot_machine.specs.Funding.{Funding, IsEdge, ends_of, ticket_at, target_node}
-use Rattle.lot_machine.specs.declared.funding.Edge.{Edge}
-use Rattle.lot_machine.specs.declared.funding.Edge.TheVariants.{OfTicket, OfLender, OfMutex}
-use Rattle.lot_machine.specs.Equations.{Reaches, HasEachOnce}
-use Rattle.lot_machine.proofs.Tickets.{some-injective, issuer-of}
-use Rattle.lot_machine.proofs.Changes.{place-after}
-use Rattle.lot_machine.proofs.EachOnce.{place-in, contains-at, contains-nothing, mapped-contains}
-use Rattle.lot_graph.specs.declared.layout.Layout.{Layout}
-use Rattle.lot_graph.specs.Places.{node_place, node_of, IsNodeWithin, FitsIn}
-use Rattle.lot_graph.proofs.SpreadLemmas.{only-list, node-back}
-use Rattle.lot_graph.specs.Graphs.{LeadsOutOf, IsIssuedIn}
-use Rattle.lot_graph.proofs.EndLemmas.{pair, ticket-ends, lender-ends, mutex-ends, ends-ticket}
-use Rattle.lot_graph.proofs.WayLemmas.{reaches-then, edge-reaches}
-use Rattle.lot_value.specs.Marking.{LeadsToPlace, Spreads, Marks}
+use Rattle.lot_value.proofs.Common.{Bool, Contains, Contains-append_left, Contains-append_right, Contains-push_cases, Currency, Edge, FitsIn, Funding, HasEachOnce, IfNone, IfSome, IsConsistent, IsEdge, IsFree, IsIssuedIn, IsNodeWithin, IsSome, Layout, LeadsOutOf, LeadsToPlace, List, Marks, Mutex, Node, NodeLists, None, OfLender, OfMutex, OfTicket, Option, Reaches, Some, Spreads, Thread, Ticket, ap, arith, cases_eq, cases_lt, contains-at, contains-nothing, edge-reaches, ends-ticket, ends_of, false, get_or, inl, inr, is_some, issuer-of, lender-ends, length, map, map-append, mapped-contains, mutex-ends, node-back, node_at, node_of, node_place, nodes_of, not, only-list, option_and_then, option_map, pair, place-after, place-in, reaches-then, refl, slice_get, slice_get-get_or, slice_get_within, some-injective, subst, suc, sym, target_node, ticket-ends, ticket_at, true, with_pushed, zero, ℕ, [], ◌++◌, ◌+◌, ◌-◌, ◌<◌, ◌∙◌, ◌∷◌, ◌≡◌, ◌≤◌, ◌⊎◌}
 use Rattle.lot_value.proofs.Listed.{contains-first, last-pushed, pushed-is}
 
 -- ---- the test of what is listed

@@ -1,30 +1,6 @@
 -- What a ticket is worth, by the values that are kept.
-use Rattle.std.proofs.Common.{◌≡◌, ℕ, zero, suc, ◌<◌, ◌≤◌, ◌^◌, IsTrue, Bool, true, false, Option, Some, List, Contains, option_map, unwrap_or, sum_by, length, not, ◌==◌, if◌then◌else◌, ◌*◌, ◌/◌, ap, sym, ◌∙◌, refl, subst, arith}
-use Rattle.lot_machine.specs.declared.ticket.Ticket.{Ticket}
-use Rattle.lot_machine.specs.declared.ticket.Target.{Target}
+use Rattle.lot_value.proofs.Common.{Bool, Contains, Currency, Edge, FitsLimits, Funding, IsFunding, IsRight, IsSmall, IsSound, IsStale, IsTrue, Known, Layout, LimitedFunding, List, Node, OfTicket, Option, Some, Target, Ticket, activates_within, active_amount, ap, arith, backing_currency, currency_value, edges_into, ends-ticket, ends_of, eqb-false, false, funding-ticket, get_or-le-sum_by, if◌then◌else◌, into-once, is_active, is_funding, is_unfunded, kept_worth, length, node-bounded, node_value, not, option_any, option_map, other_ticket, refl, share, some-injective, subst, suc, sum_by, sym, target_node, ticket-is, ticket_at, ticket_share, ticket_value, ticket_value_within, true, unwrap_or, user_currency_count, value_in, values-solve, zero, ℕ, ◌*◌, ◌/◌, ◌<◌, ◌==◌, ◌^◌, ◌∙◌, ◌≡◌, ◌≤◌}
 use Rattle.lot_machine.specs.declared.ticket.Target.TheVariants as target
-use Rattle.lot_machine.specs.declared.funding.Node.{Node}
-use Rattle.lot_machine.specs.declared.funding.Node.TheVariants.{Currency}
-use Rattle.lot_machine.specs.declared.funding.Edge.{Edge}
-use Rattle.lot_machine.specs.declared.funding.Edge.TheVariants.{OfTicket}
-use Rattle.lot_machine.specs.Funding.{Funding, ticket_at, ends_of, target_node, backing_currency, user_currency_count}
-use Rattle.lot_machine.specs.Numbered.{option_any}
-use Rattle.lot_machine.specs.Commands.{is_funding, is_unfunded}
-use Rattle.lot_machine.specs.Activity.{is_active, active_amount, activates_within}
-use Rattle.lot_machine.specs.Equations.{share, ticket_share, edges_into}
-use Rattle.lot_machine.specs.Value.{ticket_value, ticket_value_within, currency_value, node_value}
-use Rattle.lot_machine.proofs.NodeBounds.{other_ticket, node-bounded}
-use Rattle.lot_machine.proofs.NodeShares.{ticket-is, values-solve}
-use Rattle.lot_machine.proofs.EdgesOnce.{into-once}
-use Rattle.std.proofs.lemmas.List.Sums.{get_or-le-sum_by}
-use Rattle.std.proofs.lemmas.Bool.{eqb-false}
-use Rattle.lot_machine.proofs.Tickets.{some-injective}
-use Rattle.lot_graph.specs.declared.layout.Layout.{Layout}
-use Rattle.lot_graph.specs.Graphs.{LimitedFunding, IsSound, IsFunding}
-use Rattle.lot_graph.specs.Places.{FitsLimits}
-use Rattle.lot_graph.proofs.EndLemmas.{ends-ticket}
-use Rattle.lot_graph.proofs.FieldLemmas.{funding-ticket}
-use Rattle.lot_value.specs.Caches.{Known, IsStale, IsRight, IsSmall, value_in, kept_worth}
 use Rattle.lot_value.proofs.Rightness.{has-not-base, right-worth}
 
 unfunded-off : (k : ℕ) (f : Funding) (live : List Bool) → activates_within k f live target.Unfunded ≡ false

@@ -1,19 +1,5 @@
 -- What several touches come to.
-use Rattle.std.proofs.Common.{◌≡◌, ◌≢◌, ◌⊎◌, ℕ, inl, inr, Bool, Some, List, [], ◌∷◌, ◌++◌, Contains, ap, sym, ◌∙◌, refl, subst, append-nil}
-use Rattle.std.proofs.lemmas.List.Elements.{Contains-push_cases, Contains-append_right}
-use Rattle.lot_machine.specs.declared.funding.Node.{Node}
-use Rattle.lot_machine.specs.declared.funding.Edge.{Edge}
-use Rattle.lot_machine.specs.Funding.{Funding, ends_of, IsEdge}
-use Rattle.lot_machine.specs.Equations.{HasEquation, Reaches}
-use Rattle.lot_machine.proofs.EachOnce.{contains-later}
-use Rattle.lot_machine.proofs.Tickets.{some-injective}
-use Rattle.lot_graph.specs.Graphs.{LimitedFunding}
-use Rattle.lot_graph.proofs.EndLemmas.{pair}
-use Rattle.lot_value.specs.Caches.{Known, IsStale, IsRightBut, TouchesListed}
-use Rattle.lot_active.specs.Activity.{Activity}
-use Rattle.lot_machine.specs.declared.funding.Node.TheVariants.{Currency}
-use Rattle.lot_active.specs.Changes.{switched_nodes, adjusted_nodes}
-use Rattle.lot_value.specs.Touched.{Touched, IsUser, IsFundedBy, IsListed, IsSwitchedOrFunded}
+use Rattle.lot_value.proofs.Common.{Activity, Bool, Contains, Contains-append_right, Contains-push_cases, Currency, Edge, Funding, HasEquation, IsEdge, IsFundedBy, IsListed, IsRightBut, IsStale, IsSwitchedOrFunded, IsUser, Known, LimitedFunding, List, Node, Reaches, Some, Touched, TouchesListed, adjusted_nodes, ap, append-nil, contains-later, ends_of, inl, inr, pair, refl, some-injective, subst, switched_nodes, sym, ℕ, [], ◌++◌, ◌∙◌, ◌∷◌, ◌≡◌, ◌≢◌, ◌⊎◌}
 use Rattle.lot_value.proofs.Listed.{contains-first}
 
 -- more may be pending

@@ -1,13 +1,5 @@
 -- What two changes of a graph make stale together.
-use Rattle.std.proofs.Common.{◌≡◌, ◌⊎◌, ◌∙◌, inl, inr, List, Bool, ap, sym, subst}
-use Rattle.lot_machine.specs.declared.funding.Node.{Node}
-use Rattle.lot_machine.specs.Numbered.{at_number}
-use Rattle.lot_machine.specs.Funding.{Funding, weighed_of}
-use Rattle.lot_machine.specs.Touched.{IsTouched, PathLeads, WeighedBetween, LiveBetween}
-use Rattle.lot_machine.proofs.TwoSteps.{leads-first, leads-second, touched-first, touched-second, live-between, edges-between}
-use Rattle.lot_graph.specs.Graphs.{LimitedFunding}
-use Rattle.lot_value.specs.Caches.{Known, IsStale}
-use Rattle.lot_value.specs.Valued.{Valued, MakesStale, FollowsGraph}
+use Rattle.lot_value.proofs.Common.{Bool, FollowsGraph, Funding, IsStale, IsTouched, Known, LimitedFunding, List, LiveBetween, MakesStale, Node, PathLeads, Valued, WeighedBetween, ap, at_number, edges-between, inl, inr, leads-first, leads-second, live-between, subst, sym, touched-first, touched-second, weighed_of, ◌∙◌, ◌≡◌, ◌⊎◌}
 
 -- what two steps make stale, given what is stale before, between and after them
 module _ (f g h : Funding) (k l m : List Bool) (before between after : Node → Type 0) (edges : WeighedBetween f g h) (live : LiveBetween k l m) where

@@ -1,40 +1,13 @@
 -- What is kept together follows a change that moves no edge and switches nothing.
-use Rattle.std.proofs.Common.{◌≡◌, ℕ, ◌+◌, ◌≤◌, ◌↔◌, inl, Bool, false, Some, None, List, [], ◌∷◌, ◌++◌, length, ap, sym, ◌∙◌, refl, subst, arith}
-use Rattle.std.proofs.lemmas.List.{length_push}
-use Rattle.lot_machine.specs.declared.ticket.Ticket.{Ticket}
+use Rattle.lot_value.proofs.Common.{Activity, AreTogether, Bool, CoversChange, Currency, Edge, FitsLimits, Funding, HasEquation, IsActive, IsActiveNode, IsKeptFor, IsNodeOf, IsNodeWithin, IsRight, IsSound, Known, Layout, LimitedFunding, List, Mutex, Nobody, Node, None, OfTicket, Some, Thread, Ticket, active-ticket, active_amount, again-ends, again-kept, ap, arith, at_number, counted_amount, currencies-kept, destroy-ends, destroy-kept, edge_between, ends_of, ends_of_edge, false, inl, issue-ends, issue-kept, kept-amount, kept-node, layout_of, length, length_push, live_of, mark_of, node_place, refl, set_amount-ends, set_amount-kept, set_number, subst, sym, target-ticket, target_of, thread-ends, thread-kept, ticket-active, ticket-ends, with_amount, with_currencies, with_lends, with_new_ticket, with_tickets, without_ticket, ℕ, [], ◌++◌, ◌+◌, ◌↔◌, ◌∙◌, ◌∷◌, ◌≡◌, ◌≤◌}
 use Rattle.lot_machine.specs.declared.ticket.Target.TheVariants as target
-use Rattle.lot_machine.specs.Numbered.{at_number, set_number}
-use Rattle.lot_machine.specs.declared.funding.Node.{Node}
-use Rattle.lot_machine.specs.declared.funding.Node.TheVariants.{Currency, Thread, Mutex}
-use Rattle.lot_machine.specs.declared.funding.Edge.{Edge}
-use Rattle.lot_machine.specs.declared.funding.Edge.TheVariants.{OfTicket}
-use Rattle.lot_machine.specs.declared.funding.Lend.TheVariants.{Nobody}
-use Rattle.lot_machine.specs.Funding.{Funding, ends_of, target_of, with_new_ticket, without_ticket, with_amount}
-use Rattle.lot_machine.specs.Activity.{IsActive, active_amount}
-use Rattle.lot_machine.specs.Equations.{HasEquation}
-use Rattle.lot_graph.specs.declared.layout.Layout.{Layout}
-use Rattle.lot_graph.specs.Graphs.{LimitedFunding, IsSound, IsNodeOf}
-use Rattle.lot_graph.specs.Places.{node_place, IsNodeWithin, FitsLimits, layout_of}
-use Rattle.lot_graph.proofs.EndLemmas.{ticket-ends}
-use Rattle.lot_active.specs.Activity.{Activity, mark_of}
-use Rattle.lot_active.specs.Changes.{IsActiveNode}
-use Rattle.lot_active.specs.Fundings.{IsKeptFor, ends_of_edge, edge_between, counted_amount}
-use Rattle.lot_active.proofs.Bridge.{kept-amount}
-use Rattle.lot_active.proofs.NodeChanges.{kept-node}
-use Rattle.lot_active.proofs.Ways.{ticket-active, active-ticket}
-use Rattle.lot_value.specs.Caches.{Known, IsRight, CoversChange}
-use Rattle.lot_value.specs.Valued.{live_of, AreTogether}
 use Rattle.lot_value.proofs.Ends.{edge-there, there-edge}
 use Rattle.lot_value.proofs.Nodes.{node-within, within-node}
-use Rattle.lot_active.proofs.CallEdits.{issue-kept, again-kept, destroy-kept, set_amount-kept, currencies-kept, thread-kept}
-use Rattle.lot_active.proofs.Edits.{issue-ends, again-ends, destroy-ends, set_amount-ends, thread-ends}
 use Rattle.lot_value.proofs.OneEdge.{has-same}
 use Rattle.lot_value.proofs.GraphCalls.{live-one, together-one}
 use Rattle.lot_value.proofs.Following.{live-is, live-length}
-use Rattle.lot_graph.proofs.FieldLemmas.{target-ticket}
 use Rattle.lot_value.proofs.Differing.{same-equation}
 use Rattle.lot_value.proofs.Rightness.{pending-more}
-use Rattle.lot_graph.specs.Changes.{with_currencies, with_lends, with_tickets}
 
 -- the same activity is kept for both, and each edge leads where it led
 module _ (v : Activity) (before after : LimitedFunding) (live now : List Bool) (was : IsKeptFor v before live) (is : IsKeptFor v after now) (layout : layout_of after ≡ layout_of before) (alike : (edge : Edge) → ends_of_edge after.funding edge ≡ ends_of_edge before.funding edge) where

@@ -2,15 +2,17 @@
 ghost use Rattle.std.specs.Prelude.{◌≤◌, IsSomeAnd, IsTrue};
 
 use crate::command_line::request::{CommandLine, Request, Showing, View};
-use crate::command_line::subcommands::{LINES, OptionRow, Subcommand, SubcommandRow, Value, subcommands};
+use crate::command_line::subcommands::{
+    LINES, OptionRow, Subcommand, SubcommandRow, Value, subcommands,
+};
 use crate::command_line::tips::clearer;
 use clap::builder::ValueParser;
 use clap::error::ErrorKind;
 use clap::{Arg, ArgAction, ArgMatches, Command, Error};
 use lot_curves::{By, Interval, Measure};
 use lot_explain::Detail;
-use lot_system::{ReportForm, Seeds};
 use lot_program::Seed;
+use lot_system::{ReportForm, Seeds};
 use std::alloc::{AllocError, Global};
 use std::convert::AsStr;
 

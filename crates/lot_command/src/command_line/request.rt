@@ -2,8 +2,8 @@
 
 use lot_curves::{By, Interval, Measure};
 use lot_explain::Detail;
-use lot_system::{ReportForm, Seeds};
 use lot_program::Seed;
+use lot_system::{ReportForm, Seeds};
 
 /// What a command line asks for.
 #[derive(Clone, Copy)]

@@ -1,6 +1,11 @@
 //! The problem with the refused line, in the order in which the reader finds it: first its bytes, then its first
 //! word, then its number of words, then each of them, and then the limit that it exceeds.
 
+use crate::lines::{
+    Keyword, Named, OpenScript, Shape, argument_at, body_word, count_words, first_word, form_in,
+    form_outside, has_header_line, has_room_for, header_word, is_only_timed, name_numbered,
+    nearest_word, row_of, word_at, words_at_end, words_of,
+};
 use crate::refusals::header::HeaderLines;
 use crate::refusals::hint::{Hint, Words};
 use crate::refusals::input::Refused;
@@ -10,11 +15,6 @@ use crate::refusals::problem::{
     NameProblem, NumberProblem, Problem, WordCount,
 };
 use crate::refusals::word::{new_problem, word_problem};
-use crate::lines::{
-    Keyword, Named, OpenScript, Shape, argument_at, body_word, count_words, first_word, form_in,
-    form_outside, has_header_line, has_room_for, header_word, is_only_timed, name_numbered,
-    nearest_word, row_of, word_at, words_at_end, words_of,
-};
 use lot_machine::is_good_name;
 use lot_simulation::{
     AS_WORD, BodyWord, FIRST_WORD, Form, Format, HeaderWord, InputRefusal, ScriptWord,

@@ -1,6 +1,8 @@
 //! The refused line, and the content of the lines before it.
 
-use crate::lines::{OpenScript, after_line, body_word, ends_line, first_word, header_word, word_at};
+use crate::lines::{
+    OpenScript, after_line, body_word, ends_line, first_word, header_word, word_at,
+};
 use lot_simulation::{BodyWord, Format, HeaderWord, Separators};
 
 /// The refused line, and the content of the lines before it.

@@ -1,10 +1,10 @@
 //! The words of a line inside a script, one or several, each with its argument.
 
+use crate::lines::{OpenScript, Shape, argument_at, row_of, words_of};
 use crate::refusals::explain::{loop_problem, no_script_word};
 use crate::refusals::input::Refused;
 use crate::refusals::problem::{FormProblem, Problem};
 use crate::refusals::word::word_problem;
-use crate::lines::{OpenScript, Shape, argument_at, row_of, words_of};
 use lot_simulation::ScriptWord;
 use std::alloc::Global;
 

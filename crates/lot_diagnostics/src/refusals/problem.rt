@@ -1,9 +1,9 @@
 //! Problems of lines.
 
+use crate::lines::{Named, Nearest, Shape};
 use crate::refusals::header::HeaderLines;
 use crate::refusals::hint::Hint;
 use crate::refusals::number::Numeral;
-use crate::lines::{Named, Nearest, Shape};
 use lot_simulation::InputRefusal;
 use std::fmt;
 use thiserror::Error;

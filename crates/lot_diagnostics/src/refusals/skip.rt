@@ -1,12 +1,12 @@
 //! Whether a refused line can be skipped, since its fault has no consequences for other lines.
 ghost use Rattle.std.specs.Prelude.{◌≡◌, IsFalse};
 
-use crate::refusals::input::Refused;
-use crate::refusals::problem::{ByteProblem, KeywordProblem, Problem};
 use crate::lines::{
     Keyword, body_word, count_words, first_word, form_outside, header_word, nearer_word,
     nearest_word, row_of, words_of,
 };
+use crate::refusals::input::Refused;
+use crate::refusals::problem::{ByteProblem, KeywordProblem, Problem};
 use lot_simulation::{AS_WORD, BodyWord, Form, HeaderWord, ScriptWord};
 use std::alloc::Global;
 use std::str;

@@ -1,9 +1,9 @@
 //! The problem with one word of a line.
 
+use crate::lines::{Named, is_given, nearest_name};
 use crate::refusals::input::Refused;
 use crate::refusals::number::{Numeral, number_of};
 use crate::refusals::problem::{NameProblem, NumberProblem, Problem};
-use crate::lines::{Named, is_given, nearest_name};
 use lot_machine::is_good_name;
 use lot_simulation::{Argument, COMPENSATION_WORD, LENDING_WORD, Range, ranges};
 use std::alloc::Global;

@@ -19,12 +19,12 @@ mod slicing;
 mod texts;
 mod turnstile;
 
+use crate::tests::same::check_same;
 use lot_engine::System;
 use lot_machine::Reply;
-use lot_system::write_end;
 use lot_program::Program;
+use lot_system::write_end;
 use lot_text::{Watched, parse};
-use crate::tests::same::check_same;
 use seats::Shares;
 use std::alloc::Global;
 use std::process::Abort;

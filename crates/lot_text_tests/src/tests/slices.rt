@@ -1,7 +1,7 @@
 //! Worked scripts. What is expected follows from their lists, unrolled by hand.
 use super::same::{check_same, check_same_at};
 use lot_script::{Place, Script, ScriptBuilder};
-use lot_simulation::{InputRefusal, ScriptLine, MutexTrap, PortTrap, ScriptTrap};
+use lot_simulation::{InputRefusal, MutexTrap, PortTrap, ScriptLine, ScriptTrap};
 use std::alloc::Global;
 use std::process::Abort;
 
@@ -148,7 +148,11 @@ fn traps(rt: HostRuntime) {
     check_slices(&rt, rt.alloc(), EACH_TRAP, EACH_TRAP_SLICES);
 }
 
-const ROUND_A_CALL: &[ScriptLine] = &[ScriptLine::Compute(5), ScriptLine::Trap(CALL_3), ScriptLine::Compute(1)];
+const ROUND_A_CALL: &[ScriptLine] = &[
+    ScriptLine::Compute(5),
+    ScriptLine::Trap(CALL_3),
+    ScriptLine::Compute(1),
+];
 
 const ROUND_A_CALL_SLICES: &[&[Sliced]] = &[
     &[(4, 4, None, 0), (2, 1, Some(CALL_3), 0), (1, 1, None, 0)],
@@ -222,7 +226,12 @@ fn ends_of_eight_loops(rt: HostRuntime) {
 }
 
 /// Checks that the line can't come next, and why.
-fn check_refused(rt: &impl Abort, builder: &ScriptBuilder, line: ScriptLine, refusal: InputRefusal) {
+fn check_refused(
+    rt: &impl Abort,
+    builder: &ScriptBuilder,
+    line: ScriptLine,
+    refusal: InputRefusal,
+) {
     check_same_at(rt, &line, &builder.check(line), &Err(refusal));
 }
 

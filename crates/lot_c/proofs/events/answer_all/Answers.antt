@@ -1,11 +1,4 @@
-use Rattle.std.proofs.Common.{◌≡◌, ◌<◌, length, refl, subst, sym, ap, ◌∙◌, arith}
-use Rattle.std.proofs.lemmas.List.{length-set}
-use Rattle.lot_machine.specs.declared.reply.Reply.{Reply}
-use Rattle.lot_machine.specs.State.{State}
-use Rattle.lot_machine.specs.Step.{step, state_after}
-use Rattle.lot_machine.proofs.StepSizes.{step-limits}
-use Rattle.lot_kernel.specs.Counted.{Counts}
-use Rattle.lot_c.specs.Replies.{plain_reply}
+use Rattle.lot_c.proofs.Common.{Counts, Reply, State, ap, arith, length, length-set, plain_reply, refl, state_after, step, step-limits, subst, sym, ◌<◌, ◌∙◌, ◌≡◌}
 use Rattle.lot_c.proofs.Runs.{meant-more, fault-more, written-step, done-more}
 use Rattle.lot_c.proofs.events.answer_all.Goals as goal
 

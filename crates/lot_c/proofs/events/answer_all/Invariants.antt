@@ -1,8 +1,5 @@
-use Rattle.std.proofs.Common.{◌≡◌, ◌+◌, ◌++◌, length, take, drop}
-use Rattle.lot_machine.specs.Step.{replies, state_after}
-use Rattle.lot_kernel.specs.Counted.{AreDone}
-use Rattle.lot_kernel.specs.Snapshots.{Snapshot}
-use Rattle.lot_c.specs.Calls.{events_meant, first_fault, replies_written}
+use Rattle.lot_c.proofs.Common.{AreDone, Snapshot, events_meant, first_fault, length, replies, replies_written, state_after, take, ◌++◌, ◌+◌, ◌≡◌}
+use Rattle.std.proofs.Common.{drop}
 use Rattle.lot_c.proofs.events.answer_all.Given as goal
 
 -- what was done so far and what is left to do come to the whole

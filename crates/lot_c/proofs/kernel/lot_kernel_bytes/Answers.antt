@@ -1,6 +1,5 @@
 -- The bytes of the kernel's box, and those that the kernel requests.
-use Rattle.std.proofs.Common.{refl, ◌∙◌, ap, arith}
-use Rattle.lot_kernel.specs.Memory.{bytes_of}
+use Rattle.lot_c.proofs.Common.{ap, arith, bytes_of, refl, ◌∙◌}
 use Rattle.lot_c.proofs.kernel.lot_kernel_bytes.Goals as goal
 
 pub returns-in-Some : goal.returns-in-Some

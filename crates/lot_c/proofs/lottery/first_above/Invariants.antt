@@ -1,7 +1,6 @@
 -- The running sum is that of the weights passed, and at most the number; the place that is sought is not among those.
-use Rattle.std.proofs.Common.{◌≡◌, ◌≤◌, ◌+◌, sum, drop, map}
-use Rattle.lot_machine.specs.Lottery.{first_above, running_sums}
-use Rattle.lot_c.specs.Wides.{wide_meant}
+use Rattle.lot_c.proofs.Common.{first_above, map, running_sums, sum, wide_meant, ◌+◌, ◌≡◌, ◌≤◌}
+use Rattle.std.proofs.Common.{drop}
 use Rattle.lot_c.proofs.lottery.first_above.Given as goal
 
 abbrev pub invariant-loop-place : goal.invariant-loop-place

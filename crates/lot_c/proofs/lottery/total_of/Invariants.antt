@@ -1,6 +1,5 @@
-use Rattle.std.proofs.Common.{◌≡◌, ◌+◌, drop, map}
-use Rattle.std.specs.Prelude.{sum}
-use Rattle.lot_c.specs.Wides.{wide_meant}
+use Rattle.lot_c.proofs.Common.{map, sum, wide_meant, ◌+◌, ◌≡◌}
+use Rattle.std.proofs.Common.{drop}
 use Rattle.lot_c.proofs.lottery.total_of.Given as goal
 
 -- the total so far and the weights that are left come to the sum

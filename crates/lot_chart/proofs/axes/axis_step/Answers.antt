@@ -1,5 +1,4 @@
-use Rattle.std.proofs.Common.{◌∙◌, sym}
-use Rattle.lot_chart.specs.Axes.{steps}
+use Rattle.lot_chart.proofs.Common.{steps, sym, ◌∙◌}
 use Rattle.lot_chart.proofs.Steps.{first-found, first-later}
 use Rattle.lot_chart.proofs.axes.axis_step.Goals as goal
 

@@ -1,7 +1,5 @@
-use Rattle.std.proofs.Common.{◌≡◌, ◌*◌, nat_lt, drop}
-use Rattle.std.specs.Prelude.{find, unwrap_or}
+use Rattle.lot_chart.proofs.Common.{drop, find, nat_lt, steps, unwrap_or, ◌*◌, ◌≡◌}
 use Rattle.lot_chart.specs.Axes as definitions
-use Rattle.lot_chart.specs.Axes.{steps}
 use Rattle.lot_chart.proofs.axes.axis_step.Given as goal
 
 -- no step passed so far is wide enough

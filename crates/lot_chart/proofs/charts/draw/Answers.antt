@@ -1,11 +1,4 @@
-use Rattle.std.proofs.Common.{◌≡◌, List, ap, subst, sym, ◌∙◌}
-use Rattle.std.specs.Prelude.{max}
-use Rattle.lot_chart.specs.declared.lines.PlotLine.{PlotLine}
-use Rattle.lot_chart.specs.Charts.{most_shown, top_at}
-use Rattle.lot_chart.specs.declared.standings.Standing.{Standing}
-use Rattle.lot_chart.specs.Dues.{most_due}
-use Rattle.lot_chart.specs.Gauges.{AreLinesOf, HaveDues}
-use Rattle.lot_chart.specs.Lines.{lines_of, most_in}
+use Rattle.lot_chart.proofs.Common.{AreLinesOf, HaveDues, List, PlotLine, Standing, ap, lines_of, max, most_due, most_in, most_shown, subst, sym, top_at, ◌∙◌, ◌≡◌}
 use Rattle.lot_chart.proofs.MeterFacts.{lines-are}
 use Rattle.lot_chart.proofs.Whole.{chart-is}
 use Rattle.lot_chart.proofs.charts.draw.Goals as goal

@@ -1,9 +1,4 @@
-use Rattle.std.proofs.Common.{◌++◌}
-use Rattle.std.proofs.lemmas.Result.{on_ok_weaker}
-use Rattle.std.specs.List.{flat_map}
-use Rattle.lot_curves.specs.Stretches.{last_end}
-use Rattle.lot_chart.specs.Axes.{marks, time_marks}
-use Rattle.lot_chart.specs.Charts.{command_marks, frame, height_mark, highest, time_mark}
+use Rattle.lot_chart.proofs.Common.{command_marks, flat_map, frame, height_mark, highest, last_end, marks, on_ok_weaker, time_mark, time_marks, ◌++◌}
 use Rattle.lot_chart.proofs.Parts.{parts-two}
 use Rattle.lot_chart.proofs.charts.push_axes.Goals as goal
 

@@ -1,6 +1,4 @@
-use Rattle.std.proofs.Common.{rules, ◌≡◌, ◌-◌, ◌++◌, codes}
-use Rattle.std.proofs.lemmas.Result.{on_ok_weaker}
-use Rattle.std.specs.Fmt.{decimal}
+use Rattle.lot_chart.proofs.Common.{codes, decimal, on_ok_weaker, rules, ◌++◌, ◌-◌, ◌≡◌}
 use Rattle.lot_chart.proofs.Parts.{parts-after, parts-two}
 use Rattle.lot_chart.proofs.charts.push_command_mark.Goals as goal
 

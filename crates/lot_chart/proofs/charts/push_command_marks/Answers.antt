@@ -1,8 +1,4 @@
-use Rattle.std.proofs.Common.{◌≡◌, ℕ, ◌++◌, Option, List, take, refl, ap, ◌∙◌}
-use Rattle.std.specs.List.{flat_map}
-use Rattle.std.proofs.lemmas.List.{take_all}
-use Rattle.lot_chart.specs.Charts.{column_mark}
-use Rattle.lot_chart.specs.Marks.{marked}
+use Rattle.lot_chart.proofs.Common.{List, Option, ap, column_mark, flat_map, marked, refl, take, take_all, ℕ, ◌++◌, ◌∙◌, ◌≡◌}
 use Rattle.lot_chart.proofs.Parts.{parts-next}
 use Rattle.lot_chart.proofs.charts.push_command_marks.Goals as goal
 

@@ -1,6 +1,4 @@
-use Rattle.std.proofs.Common.{◌≡◌, ◌++◌, take}
-use Rattle.std.specs.List.{flat_map}
-use Rattle.lot_chart.specs.Charts.{column_mark}
+use Rattle.lot_chart.proofs.Common.{column_mark, flat_map, take, ◌++◌, ◌≡◌}
 use Rattle.lot_chart.proofs.charts.push_command_marks.Given as goal
 
 -- the marks of the columns passed so far are put

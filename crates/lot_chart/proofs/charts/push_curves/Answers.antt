@@ -1,5 +1,4 @@
-use Rattle.std.proofs.Common.{refl}
-use Rattle.lot_chart.specs.Charts.{curve}
+use Rattle.lot_chart.proofs.Common.{curve, refl}
 use Rattle.lot_chart.proofs.Parts.{parts-next}
 use Rattle.lot_chart.proofs.charts.push_curves.Goals as goal
 

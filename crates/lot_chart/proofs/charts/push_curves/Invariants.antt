@@ -1,6 +1,4 @@
-use Rattle.std.proofs.Common.{◌≡◌, ◌++◌, take}
-use Rattle.std.specs.List.{flat_map}
-use Rattle.lot_chart.specs.Charts.{curve}
+use Rattle.lot_chart.proofs.Common.{curve, flat_map, take, ◌++◌, ◌≡◌}
 use Rattle.lot_chart.proofs.charts.push_curves.Given as goal
 
 -- the lines passed so far are put

@@ -1,6 +1,4 @@
-use Rattle.std.proofs.Common.{◌++◌, codes}
-use Rattle.std.proofs.lemmas.Result.{on_ok_weaker}
-use Rattle.lot_chart.specs.Charts.{heights_label}
+use Rattle.lot_chart.proofs.Common.{codes, heights_label, on_ok_weaker, ◌++◌}
 use Rattle.lot_chart.proofs.Parts.{parts-two}
 use Rattle.lot_chart.proofs.charts.push_frame.Goals as goal
 

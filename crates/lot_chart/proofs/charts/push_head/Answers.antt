@@ -1,7 +1,4 @@
-use Rattle.std.proofs.Common.{◌++◌, codes}
-use Rattle.std.proofs.lemmas.Result.{on_ok_weaker}
-use Rattle.std.specs.Fmt.{decimal}
-use Rattle.lot_chart.specs.Escapes.{escaped}
+use Rattle.lot_chart.proofs.Common.{codes, decimal, escaped, on_ok_weaker, ◌++◌}
 use Rattle.lot_chart.proofs.Parts.{parts-after, parts-two}
 use Rattle.lot_chart.proofs.charts.push_head.Goals as goal
 

@@ -1,6 +1,4 @@
-use Rattle.std.proofs.Common.{◌*◌, ◌++◌, ap, ◌∙◌}
-use Rattle.lot_chart.specs.Axes.{axis_step}
-use Rattle.lot_chart.specs.Charts.{height_mark}
+use Rattle.lot_chart.proofs.Common.{ap, axis_step, height_mark, ◌*◌, ◌++◌, ◌∙◌}
 use Rattle.lot_chart.proofs.Parts.{parts-more}
 use Rattle.lot_chart.proofs.charts.push_height_marks.Goals as goal
 

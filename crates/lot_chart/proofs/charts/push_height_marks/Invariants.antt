@@ -1,7 +1,4 @@
-use Rattle.std.proofs.Common.{◌≡◌, ◌*◌, ◌++◌, map}
-use Rattle.std.specs.List.{flat_map, range_with_len}
-use Rattle.lot_chart.specs.Axes.{axis_step}
-use Rattle.lot_chart.specs.Charts.{height_mark}
+use Rattle.lot_chart.proofs.Common.{axis_step, flat_map, height_mark, map, range_with_len, ◌*◌, ◌++◌, ◌≡◌}
 use Rattle.lot_chart.proofs.charts.push_height_marks.Given as goal
 
 -- the marks passed so far are put

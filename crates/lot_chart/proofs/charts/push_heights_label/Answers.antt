@@ -1,5 +1,4 @@
-use Rattle.std.proofs.lemmas.Result.{on_ok_weaker}
-use Rattle.lot_chart.specs.Charts.{lines_label, measure_label}
+use Rattle.lot_chart.proofs.Common.{lines_label, measure_label, on_ok_weaker}
 use Rattle.lot_chart.proofs.Parts.{parts-two}
 use Rattle.lot_chart.proofs.charts.push_heights_label.Goals as goal
 

@@ -1,5 +1,4 @@
-use Rattle.std.proofs.Common.{refl}
-use Rattle.lot_chart.specs.Charts.{label}
+use Rattle.lot_chart.proofs.Common.{label, refl}
 use Rattle.lot_chart.proofs.Parts.{parts-next}
 use Rattle.lot_chart.proofs.charts.push_labels.Goals as goal
 

@@ -1,6 +1,4 @@
-use Rattle.std.proofs.Common.{◌≡◌, ◌++◌, take}
-use Rattle.std.specs.List.{flat_map}
-use Rattle.lot_chart.specs.Charts.{label}
+use Rattle.lot_chart.proofs.Common.{flat_map, label, take, ◌++◌, ◌≡◌}
 use Rattle.lot_chart.proofs.charts.push_labels.Given as goal
 
 -- the names of the lines passed so far are put

@@ -1,7 +1,4 @@
-use Rattle.std.proofs.Common.{◌++◌, codes}
-use Rattle.std.proofs.lemmas.Result.{on_ok_weaker}
-use Rattle.lot_chart.specs.Charts.{colour}
-use Rattle.lot_chart.specs.Shares.{tenths}
+use Rattle.lot_chart.proofs.Common.{codes, colour, on_ok_weaker, tenths, ◌++◌}
 use Rattle.lot_chart.proofs.Parts.{parts-after, parts-two}
 use Rattle.lot_chart.proofs.charts.push_leader.Goals as goal
 

@@ -1,8 +1,4 @@
-use Rattle.std.proofs.Common.{◌++◌, codes}
-use Rattle.std.proofs.lemmas.Result.{on_ok_weaker}
-use Rattle.lot_chart.specs.Charts.{name_of}
-use Rattle.lot_chart.specs.Escapes.{escaped}
-use Rattle.lot_chart.specs.Shares.{share_of, tenths}
+use Rattle.lot_chart.proofs.Common.{codes, escaped, name_of, on_ok_weaker, share_of, tenths, ◌++◌}
 use Rattle.lot_chart.proofs.Parts.{parts-after, parts-two}
 use Rattle.lot_chart.proofs.charts.push_name.Goals as goal
 

@@ -1,10 +1,4 @@
-use Rattle.std.proofs.Common.{List, length, ℕ, ◌+◌, ap, ◌∙◌}
-use Rattle.std.proofs.lemmas.List.{length-map}
-use Rattle.std.proofs.lemmas.Result.{on_ok_weaker}
-use Rattle.std.proofs.lemmas.List.FromFn.{length-map-range_with_len}
-use Rattle.lot_curves.specs.Curves.{sample_count, sample_tick, sample_ticks}
-use Rattle.lot_curves.specs.Stretches.{last_end}
-use Rattle.lot_chart.specs.Charts.{longest_name, top_at, width_for}
+use Rattle.lot_chart.proofs.Common.{List, ap, last_end, length, length-map, length-map-range_with_len, longest_name, on_ok_weaker, sample_count, sample_tick, sample_ticks, top_at, width_for, ℕ, ◌+◌, ◌∙◌}
 use Rattle.lot_chart.proofs.Whole.{picture-is}
 use Rattle.lot_chart.proofs.charts.push_picture.Goals as goal
 

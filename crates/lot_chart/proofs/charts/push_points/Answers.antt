@@ -1,5 +1,4 @@
-use Rattle.std.proofs.Common.{◌++◌, get_or, ap, ◌∙◌}
-use Rattle.lot_chart.specs.Charts.{point, sample_point}
+use Rattle.lot_chart.proofs.Common.{ap, get_or, point, sample_point, ◌++◌, ◌∙◌}
 use Rattle.lot_chart.proofs.Parts.{parts-sample}
 use Rattle.lot_chart.proofs.charts.push_points.Goals as goal
 

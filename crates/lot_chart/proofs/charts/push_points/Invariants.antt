@@ -1,6 +1,4 @@
-use Rattle.std.proofs.Common.{◌≡◌, ◌++◌}
-use Rattle.std.specs.List.{flat_map, range_with_len}
-use Rattle.lot_chart.specs.Charts.{sample_point}
+use Rattle.lot_chart.proofs.Common.{flat_map, range_with_len, sample_point, ◌++◌, ◌≡◌}
 use Rattle.lot_chart.proofs.charts.push_points.Given as goal
 
 -- the points of the samples passed so far are put

@@ -1,9 +1,4 @@
-use Rattle.std.proofs.Common.{◌≡◌, ◌+◌, ◌*◌, ◌++◌, ◌≤◌, map, ap, ◌∙◌, arith}
-use Rattle.std.proofs.lemmas.Nat.{mul-le}
-use Rattle.std.specs.List.{flat_map, range_with_len}
-use Rattle.lot_curves.specs.Stretches.{last_end}
-use Rattle.lot_chart.specs.Axes.{axis_step, lead, time_mark_count}
-use Rattle.lot_chart.specs.Charts.{time_mark}
+use Rattle.lot_chart.proofs.Common.{ap, arith, axis_step, flat_map, last_end, lead, map, mul-le, range_with_len, time_mark, time_mark_count, ◌*◌, ◌++◌, ◌+◌, ◌∙◌, ◌≡◌, ◌≤◌}
 use Rattle.lot_chart.proofs.Parts.{parts-more}
 use Rattle.lot_chart.proofs.charts.push_time_marks.Goals as goal
 

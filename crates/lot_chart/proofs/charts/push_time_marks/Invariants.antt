@@ -1,8 +1,4 @@
-use Rattle.std.proofs.Common.{◌≡◌, ◌+◌, ◌*◌, ◌++◌, map}
-use Rattle.std.specs.List.{flat_map, range_with_len}
-use Rattle.lot_curves.specs.Stretches.{last_end}
-use Rattle.lot_chart.specs.Axes.{axis_step, lead}
-use Rattle.lot_chart.specs.Charts.{time_mark}
+use Rattle.lot_chart.proofs.Common.{axis_step, flat_map, last_end, lead, map, range_with_len, time_mark, ◌*◌, ◌++◌, ◌+◌, ◌≡◌}
 use Rattle.lot_chart.proofs.charts.push_time_marks.Given as goal
 
 -- the marks passed so far are put

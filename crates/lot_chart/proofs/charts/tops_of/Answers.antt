@@ -1,10 +1,4 @@
-use Rattle.std.proofs.Common.{◌≡◌, ◌+◌, ◌++◌, [], ◌∷◌, map, sym, ap, ◌∙◌, arith}
-use Rattle.std.specs.List.{range_with_len}
-use Rattle.std.proofs.lemmas.List.{map_push}
-use Rattle.std.proofs.lemmas.List.FromFn.{map-range_with_len_more}
-use Rattle.lot_curves.specs.Curves.{sample_tick}
-use Rattle.lot_curves.specs.Stretches.{last_end}
-use Rattle.lot_chart.specs.Charts.{top_at}
+use Rattle.lot_chart.proofs.Common.{ap, arith, last_end, map, map-range_with_len_more, map_push, range_with_len, sample_tick, sym, top_at, [], ◌++◌, ◌+◌, ◌∙◌, ◌∷◌, ◌≡◌}
 use Rattle.lot_chart.proofs.charts.tops_of.Goals as goal
 
 pub loop-sample-preserved : goal.loop-sample-preserved

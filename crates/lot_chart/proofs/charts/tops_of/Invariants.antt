@@ -1,8 +1,4 @@
-use Rattle.std.proofs.Common.{◌≡◌, map}
-use Rattle.std.specs.List.{range_with_len}
-use Rattle.lot_curves.specs.Curves.{sample_tick}
-use Rattle.lot_curves.specs.Stretches.{last_end}
-use Rattle.lot_chart.specs.Charts.{top_at}
+use Rattle.lot_chart.proofs.Common.{last_end, map, range_with_len, sample_tick, top_at, ◌≡◌}
 use Rattle.lot_chart.proofs.charts.tops_of.Given as goal
 
 -- the tops of the samples passed so far

@@ -1,14 +1,4 @@
-use Rattle.std.proofs.Common.{◌≡◌, ◌*◌, ◌^◌, ◌<◌, length, sym, ap, ◌∙◌, arith}
-use Rattle.std.specs.Prelude.{max, fold}
-use Rattle.std.specs.Int.{div_ceil}
-use Rattle.std.proofs.lemmas.List.{get_or_default, take_all}
-use Rattle.std.proofs.lemmas.List.Sums.{fold_more}
-use Rattle.lot_curves.specs.declared.stretch.Measure.TheVariants.{Ticks}
-use Rattle.lot_curves.specs.Curves.{sample_tick, total_at}
-use Rattle.lot_curves.specs.Stretches.{last_end}
-use Rattle.lot_chart.specs.declared.standings.Standing.{Standing}
-use Rattle.lot_chart.specs.Dues.{due_ticks, last_sample, line_share}
-use Rattle.lot_chart.specs.Gauges.{IsLineOf}
+use Rattle.lot_chart.proofs.Common.{IsLineOf, Standing, Ticks, ap, arith, div_ceil, due_ticks, fold, fold_more, get_or_default, last_end, last_sample, length, line_share, max, sample_tick, sym, take_all, total_at, ◌*◌, ◌<◌, ◌^◌, ◌∙◌, ◌≡◌}
 use Rattle.lot_chart.proofs.due_lines.most_due_of.Goals as goal
 
 pub loop-place-preserved : goal.loop-place-preserved

@@ -1,6 +1,4 @@
-use Rattle.std.proofs.Common.{◌≡◌, max, take, fold}
-use Rattle.lot_chart.specs.Dues.{Dues, due_ticks}
-use Rattle.lot_chart.specs.Gauges.{AreDues}
+use Rattle.lot_chart.proofs.Common.{AreDues, Dues, due_ticks, fold, max, take, ◌≡◌}
 use Rattle.lot_chart.proofs.due_lines.most_due_of.Given as goal
 
 -- the most that is due to the lines passed so far

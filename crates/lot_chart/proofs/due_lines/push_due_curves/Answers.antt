@@ -1,8 +1,4 @@
-use Rattle.std.proofs.Common.{◌≡◌, ◌++◌, Option, Some, None, subst}
-use Rattle.lot_chart.specs.declared.metering.LineDues.{LineDues}
-use Rattle.lot_chart.specs.Charts.{due_curves}
-use Rattle.lot_chart.specs.Dues.{Dues}
-use Rattle.lot_chart.specs.Gauges.{HaveDues}
+use Rattle.lot_chart.proofs.Common.{Dues, HaveDues, LineDues, None, Option, Some, due_curves, subst, ◌++◌, ◌≡◌}
 use Rattle.lot_chart.proofs.due_lines.push_due_curves.Goals as goal
 
 pub returns-in_ok-push_thin_lines-in-Some : goal.returns-in_ok-push_thin_lines-in-Some

@@ -1,13 +1,4 @@
-use Rattle.std.proofs.Common.{◌≡◌, ◌+◌, ◌*◌, ◌^◌, ◌<◌, ◌++◌, ℕ, List, length, map, get_or, ap, ◌∙◌, arith}
-use Rattle.std.specs.List.{flat_map, range_with_len}
-use Rattle.std.proofs.lemmas.List.{get_or-map, length-map}
-use Rattle.std.proofs.lemmas.List.FromFn.{get_or-map-range_with_len, length-map-range_with_len}
-use Rattle.lot_curves.specs.declared.stretch.Measure.TheVariants.{Ticks}
-use Rattle.lot_curves.specs.Curves.{Curves, sample_count, sample_tick, sample_ticks, total_at}
-use Rattle.lot_curves.specs.Stretches.{last_end}
-use Rattle.lot_chart.specs.Charts.{due_point, point_at}
-use Rattle.lot_chart.specs.Dues.{due_height}
-use Rattle.lot_chart.specs.Lines.{height_of}
+use Rattle.lot_chart.proofs.Common.{Curves, List, Ticks, ap, arith, due_height, due_point, flat_map, get_or, get_or-map, get_or-map-range_with_len, height_of, last_end, length, length-map, length-map-range_with_len, map, point_at, range_with_len, sample_count, sample_tick, sample_ticks, total_at, ℕ, ◌*◌, ◌++◌, ◌+◌, ◌<◌, ◌^◌, ◌∙◌, ◌≡◌}
 use Rattle.lot_chart.proofs.Parts.{parts-sample}
 use Rattle.lot_chart.proofs.due_lines.push_due_points.Goals as goal
 

@@ -1,9 +1,4 @@
-use Rattle.std.proofs.Common.{◌≡◌, ◌++◌, List}
-use Rattle.std.specs.List.{flat_map, range_with_len}
-use Rattle.lot_chart.specs.declared.standings.Standing.{Standing}
-use Rattle.lot_chart.specs.Charts.{due_point}
-use Rattle.lot_chart.specs.Dues.{Dues}
-use Rattle.lot_chart.specs.Gauges.{AreDues, IsLineOf}
+use Rattle.lot_chart.proofs.Common.{AreDues, Dues, IsLineOf, List, Standing, due_point, flat_map, range_with_len, ◌++◌, ◌≡◌}
 use Rattle.lot_chart.proofs.due_lines.push_due_points.Given as goal
 
 -- the points of the samples passed so far are put

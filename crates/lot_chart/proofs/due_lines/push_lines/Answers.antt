@@ -1,5 +1,4 @@
-use Rattle.std.proofs.Common.{◌<◌, refl, length, arith}
-use Rattle.lot_chart.specs.Charts.{due_curve}
+use Rattle.lot_chart.proofs.Common.{arith, due_curve, length, refl, ◌<◌}
 use Rattle.lot_chart.proofs.Parts.{parts-next}
 use Rattle.lot_chart.proofs.due_lines.push_lines.Goals as goal
 

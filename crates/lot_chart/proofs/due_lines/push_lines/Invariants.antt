@@ -1,9 +1,4 @@
-use Rattle.std.proofs.Common.{◌≡◌, ◌++◌, List, take}
-use Rattle.std.specs.List.{flat_map}
-use Rattle.lot_chart.specs.declared.standings.Standing.{Standing}
-use Rattle.lot_chart.specs.Charts.{due_curve}
-use Rattle.lot_chart.specs.Dues.{Dues}
-use Rattle.lot_chart.specs.Gauges.{AreDues, AreLinesOf}
+use Rattle.lot_chart.proofs.Common.{AreDues, AreLinesOf, Dues, List, Standing, due_curve, flat_map, take, ◌++◌, ◌≡◌}
 use Rattle.lot_chart.proofs.due_lines.push_lines.Given as goal
 
 -- the thin lines of the lines passed so far are put

@@ -1,7 +1,4 @@
-use Rattle.std.proofs.Common.{◌++◌, codes}
-use Rattle.std.proofs.lemmas.Result.{on_ok_weaker}
-use Rattle.std.specs.List.{flat_map}
-use Rattle.lot_chart.specs.Charts.{due_curve}
+use Rattle.lot_chart.proofs.Common.{codes, due_curve, flat_map, on_ok_weaker, ◌++◌}
 use Rattle.lot_chart.proofs.Parts.{parts-two}
 use Rattle.lot_chart.proofs.due_lines.push_thin_lines.Goals as goal
 

@@ -1,8 +1,4 @@
-use Rattle.std.proofs.Common.{◌≡◌, map}
-use Rattle.std.specs.List.{range_with_len}
-use Rattle.lot_curves.specs.declared.stretch.Measure.TheVariants.{Ticks}
-use Rattle.lot_curves.specs.Curves.{sample_tick, total_at}
-use Rattle.lot_curves.specs.Stretches.{last_end}
+use Rattle.lot_chart.proofs.Common.{Ticks, last_end, map, range_with_len, sample_tick, total_at, ◌≡◌}
 use Rattle.lot_chart.proofs.due_lines.ran_of.Given as goal
 
 -- the ticks of the samples passed so far

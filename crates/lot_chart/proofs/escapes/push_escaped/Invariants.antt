@@ -1,5 +1,4 @@
-use Rattle.std.proofs.Common.{◌≡◌, ◌++◌, take}
-use Rattle.lot_chart.specs.Escapes.{escaped}
+use Rattle.lot_chart.proofs.Common.{escaped, take, ◌++◌, ◌≡◌}
 use Rattle.lot_chart.proofs.escapes.push_escaped.Given as goal
 
 -- the bytes passed so far are put

@@ -1,8 +1,4 @@
-use Rattle.std.proofs.Common.{◌-◌, length, ◌∙◌, ap, sym}
-use Rattle.std.specs.Prelude.{drop}
-use Rattle.std.proofs.lemmas.List.FromFn.{length-range_with_len}
-use Rattle.lot_curves.specs.Curves.{numbers_by}
-use Rattle.lot_engine.specs.Seen.{world_of}
+use Rattle.lot_chart.proofs.Common.{ap, drop, length, length-range_with_len, numbers_by, sym, world_of, ◌-◌, ◌∙◌}
 use Rattle.lot_chart.proofs.Ran.{length-rest}
 use Rattle.lot_chart.proofs.gathering.column_count.Goals as goal
 

@@ -1,6 +1,4 @@
-use Rattle.std.proofs.Common.{◌≡◌, ◌∙◌, refl, sym, subst}
-use Rattle.std.specs.Prelude.{IfOk, IsSome}
-use Rattle.lot_curves.specs.Curves.{Curves}
+use Rattle.lot_chart.proofs.Common.{Curves, IfOk, IsSome, refl, subst, sym, ◌∙◌, ◌≡◌}
 use Rattle.lot_chart.proofs.NotedFacts.{timed-curves-are, untimed-curves-are}
 use Rattle.lot_chart.proofs.gathering.gather.Goals as goal
 

@@ -1,5 +1,4 @@
-use Rattle.std.proofs.Common.{◌||◌, ◌∙◌, ap, refl}
-use Rattle.lot_system.specs.Leaving.{ends_refused}
+use Rattle.lot_chart.proofs.Common.{ap, ends_refused, refl, ◌||◌, ◌∙◌}
 use Rattle.lot_chart.proofs.Notes.{gathered}
 use Rattle.lot_chart.proofs.gathering.gather_by.Goals as goal
 

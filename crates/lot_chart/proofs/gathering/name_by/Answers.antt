@@ -1,6 +1,4 @@
-use Rattle.std.proofs.Common.{length, arith}
-use Rattle.std.proofs.lemmas.List.FromFn.{length-range_with_len}
-use Rattle.lot_engine.specs.Seen.{world_of}
+use Rattle.lot_chart.proofs.Common.{arith, length, length-range_with_len, world_of}
 use Rattle.lot_chart.proofs.gathering.name_by.Goals as goal
 
 pub thread_name-requires : goal.thread_name-requires

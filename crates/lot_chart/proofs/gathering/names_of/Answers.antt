@@ -1,8 +1,4 @@
-use Rattle.std.proofs.Common.{◌≡◌, ◌+◌, [], ◌∷◌, ◌++◌, List, ℕ, length, map, ap, ◌∙◌, sym, arith}
-use Rattle.std.specs.List.{range_with_len}
-use Rattle.std.proofs.lemmas.List.FromFn.{map-range_with_len_more}
-use Rattle.lot_curves.specs.Curves.{name_by, numbers_by}
-use Rattle.lot_engine.specs.Seen.{Seen, world_of}
+use Rattle.lot_chart.proofs.Common.{List, Seen, ap, arith, length, map, map-range_with_len_more, name_by, numbers_by, range_with_len, sym, world_of, ℕ, [], ◌++◌, ◌+◌, ◌∙◌, ◌∷◌, ◌≡◌}
 use Rattle.lot_chart.proofs.Columns.{numbers-are}
 use Rattle.lot_chart.proofs.gathering.names_of.Goals as goal
 

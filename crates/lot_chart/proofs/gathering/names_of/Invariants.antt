@@ -1,7 +1,4 @@
-use Rattle.std.proofs.Common.{◌≡◌, map, vec_len}
-use Rattle.std.specs.List.{range_with_len}
-use Rattle.lot_curves.specs.Curves.{name_by}
-use Rattle.lot_engine.specs.Seen.{world_of}
+use Rattle.lot_chart.proofs.Common.{map, name_by, range_with_len, vec_len, world_of, ◌≡◌}
 use Rattle.lot_chart.proofs.gathering.names_of.Given as goal
 
 -- the names of the columns passed so far are there

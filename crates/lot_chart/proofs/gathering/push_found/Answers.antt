@@ -1,9 +1,4 @@
-use Rattle.std.proofs.Common.{◌≡◌, ◌+◌, ◌-◌, ◌++◌, ◌∷◌, [], filter, map, ap, sym, ◌∙◌, arith}
-use Rattle.std.specs.Prelude.{if◌then◌else◌}
-use Rattle.std.specs.List.{range_with_len}
-use Rattle.lot_simulation.specs.Below.{stands_below}
-use Rattle.lot_curves.specs.declared.stretch.Stretch.{Stretch}
-use Rattle.lot_curves.specs.Stretches.{in_column}
+use Rattle.lot_chart.proofs.Common.{Stretch, ap, arith, filter, if◌then◌else◌, in_column, map, range_with_len, stands_below, sym, [], ◌++◌, ◌+◌, ◌-◌, ◌∙◌, ◌∷◌, ◌≡◌}
 use Rattle.lot_chart.proofs.Ran.{all-numbers, found-more}
 use Rattle.lot_chart.proofs.gathering.push_found.Goals.{then-has+in_ok-push_stretch, else-has}
 use Rattle.lot_chart.proofs.gathering.push_found.Goals as goal

@@ -1,10 +1,4 @@
-use Rattle.std.proofs.Common.{◌≡◌, ◌-◌, ◌^◌, ◌<◌, ◌≤◌, ℕ, ◌++◌, filter, length, map}
-use Rattle.std.specs.Prelude.{max}
-use Rattle.std.specs.List.{range_with_len}
-use Rattle.lot_machine.specs.State.{State}
-use Rattle.lot_simulation.specs.Below.{stands_below}
-use Rattle.lot_curves.specs.Stretches.{in_column, last_end}
-use Rattle.lot_engine.specs.Searching.{HasThoseAbove}
+use Rattle.lot_chart.proofs.Common.{HasThoseAbove, State, filter, in_column, last_end, length, map, max, range_with_len, stands_below, ℕ, ◌++◌, ◌-◌, ◌<◌, ◌^◌, ◌≡◌, ◌≤◌}
 use Rattle.lot_chart.proofs.gathering.push_found.Given as goal
 
 -- the stretches of the currencies passed so far are there

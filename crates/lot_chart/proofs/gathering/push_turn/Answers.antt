@@ -1,7 +1,4 @@
-use Rattle.std.proofs.Common.{ap, arith}
-use Rattle.lot_machine.specs.declared.event.Event.TheVariants.{Expire}
-use Rattle.lot_curves.specs.declared.stretch.Stretch.{Stretch}
-use Rattle.lot_simulation.specs.World.TurnAnswer.{Answered}
+use Rattle.lot_chart.proofs.Common.{Answered, Expire, Stretch, ap, arith}
 use Rattle.lot_chart.proofs.Ran.{columns-pushed, on-both, on-ok, thread-pushed}
 use Rattle.lot_chart.proofs.gathering.push_turn.Goals as goal
 

@@ -1,9 +1,4 @@
-use Rattle.std.proofs.Common.{◌∙◌, sym, subst}
-use Rattle.std.specs.Prelude.{◌↔◌, IsTrue}
-use Rattle.lot_machine.proofs.Tickets.{some-injective}
-use Rattle.lot_graph.specs.Found.{HasFound}
-use Rattle.lot_simulation.specs.Below.{stands_below}
-use Rattle.lot_engine.specs.Seen.{world_of}
+use Rattle.lot_chart.proofs.Common.{HasFound, IsTrue, some-injective, stands_below, subst, sym, world_of, ◌↔◌, ◌∙◌}
 use Rattle.lot_chart.proofs.Ran.{runner-there}
 use Rattle.lot_chart.proofs.gathering.search.Goals as goal
 

@@ -1,5 +1,4 @@
-use Rattle.std.proofs.Common.{arith, sym}
-use Rattle.lot_engine.specs.Seen.{world_of}
+use Rattle.lot_chart.proofs.Common.{arith, sym, world_of}
 use Rattle.lot_chart.proofs.Worth.{worth-none}
 use Rattle.lot_chart.proofs.gauges.currency_value.Goals as goal
 

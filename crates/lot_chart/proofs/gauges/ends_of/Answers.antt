@@ -1,7 +1,4 @@
-use Rattle.std.proofs.Common.{◌≡◌, ◌+◌, ◌++◌, [], ◌∷◌, map, sym, ap, ◌∙◌, arith}
-use Rattle.std.specs.List.{range_with_len}
-use Rattle.std.proofs.lemmas.List.FromFn.{map-range_with_len_more}
-use Rattle.lot_chart.specs.Gauges.{end_tick}
+use Rattle.lot_chart.proofs.Common.{ap, arith, end_tick, map, map-range_with_len_more, range_with_len, sym, [], ◌++◌, ◌+◌, ◌∙◌, ◌∷◌, ◌≡◌}
 use Rattle.lot_chart.proofs.gauges.ends_of.Goals as goal
 
 pub loop-sample-preserved : goal.loop-sample-preserved

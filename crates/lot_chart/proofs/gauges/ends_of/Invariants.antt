@@ -1,6 +1,4 @@
-use Rattle.std.proofs.Common.{◌≡◌, map}
-use Rattle.std.specs.List.{range_with_len}
-use Rattle.lot_chart.specs.Gauges.{end_tick}
+use Rattle.lot_chart.proofs.Common.{end_tick, map, range_with_len, ◌≡◌}
 use Rattle.lot_chart.proofs.gauges.ends_of.Given as goal
 
 -- the ticks of the samples passed so far

@@ -1,5 +1,4 @@
-use Rattle.std.proofs.Common.{◌≡◌, length}
-use Rattle.lot_chart.specs.Gauges.{HaveRead, flow_at}
+use Rattle.lot_chart.proofs.Common.{HaveRead, flow_at, length, ◌≡◌}
 use Rattle.lot_chart.proofs.gauges.read_until.Given as goal
 
 -- the sum was read at the ticks passed so far

@@ -1,6 +1,4 @@
-use Rattle.std.proofs.Common.{◌≡◌}
-use Rattle.lot_engine.specs.Seen.{world_of}
-use Rattle.lot_chart.specs.Gauges.{IsRenewed}
+use Rattle.lot_chart.proofs.Common.{IsRenewed, world_of, ◌≡◌}
 use Rattle.lot_chart.proofs.Loops.{HaveSome}
 use Rattle.lot_chart.proofs.gauges.renew_all.Given as goal
 

@@ -1,10 +1,4 @@
-use Rattle.std.proofs.Common.{◌≡◌, ◌+◌, ◌++◌, [], ◌∷◌, map, sym, ap, ◌∙◌, arith}
-use Rattle.std.specs.List.{range_with_len}
-use Rattle.std.proofs.lemmas.List.FromFn.{map-range_with_len_more}
-use Rattle.lot_curves.specs.Curves.{sample_tick}
-use Rattle.lot_curves.specs.Stretches.{last_end}
-use Rattle.lot_curves.specs.Windows.{start_of}
-use Rattle.lot_chart.specs.Gauges.{start_tick}
+use Rattle.lot_chart.proofs.Common.{ap, arith, last_end, map, map-range_with_len_more, range_with_len, sample_tick, start_of, start_tick, sym, [], ◌++◌, ◌+◌, ◌∙◌, ◌∷◌, ◌≡◌}
 use Rattle.lot_chart.proofs.gauges.starts_of.Goals as goal
 
 pub loop-sample-preserved : goal.loop-sample-preserved

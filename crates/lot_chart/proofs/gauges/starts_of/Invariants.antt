@@ -1,6 +1,4 @@
-use Rattle.std.proofs.Common.{◌≡◌, map}
-use Rattle.std.specs.List.{range_with_len}
-use Rattle.lot_chart.specs.Gauges.{start_tick}
+use Rattle.lot_chart.proofs.Common.{map, range_with_len, start_tick, ◌≡◌}
 use Rattle.lot_chart.proofs.gauges.starts_of.Given as goal
 
 -- the ticks of the samples passed so far

@@ -1,6 +1,5 @@
-use Rattle.std.proofs.Common.{◌≡◌, ◌+◌, ◌*◌, ◌≤◌, ◌++◌, drop}
+use Rattle.lot_chart.proofs.Common.{drop, lines_after, ◌*◌, ◌++◌, ◌+◌, ◌≡◌, ◌≤◌}
 use Rattle.lot_chart.specs.Lines as definitions
-use Rattle.lot_chart.specs.Lines.{lines_after}
 use Rattle.lot_chart.proofs.lines.lines_of.Given as goal
 
 -- the lines of the rest are still to come

@@ -1,6 +1,4 @@
-use Rattle.std.proofs.Common.{◌≡◌, ℕ, ◌+◌, ◌++◌, ◌<◌, Option, None, List, drop, get_or, length, take, refl, ap, sym, subst, ◌∙◌, arith}
-use Rattle.std.proofs.lemmas.List.{take_all, take_at}
-use Rattle.lot_chart.specs.Marks.{first_in}
+use Rattle.lot_chart.proofs.Common.{List, None, Option, ap, arith, drop, first_in, get_or, length, refl, subst, sym, take, take_all, take_at, ℕ, ◌++◌, ◌+◌, ◌<◌, ◌∙◌, ◌≡◌}
 use Rattle.lot_chart.proofs.FirstMarks.{first-next, marked-are}
 use Rattle.lot_chart.proofs.marks.marked.Goals as goal
 

@@ -1,5 +1,4 @@
-use Rattle.std.proofs.Common.{◌≡◌, ℕ, ◌<◌, None, get_or, length, take}
-use Rattle.lot_chart.specs.Marks.{first_in}
+use Rattle.lot_chart.proofs.Common.{None, first_in, get_or, length, take, ℕ, ◌<◌, ◌≡◌}
 use Rattle.lot_chart.proofs.marks.marked.Given as goal
 
 -- each column has the first of the commands passed so far

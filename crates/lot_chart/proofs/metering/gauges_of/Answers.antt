@@ -1,6 +1,4 @@
-use Rattle.std.proofs.Common.{ap, arith}
-use Rattle.std.proofs.lemmas.List.{get_or_default}
-use Rattle.lot_chart.specs.declared.standings.Standing.{Standing}
+use Rattle.lot_chart.proofs.Common.{Standing, ap, arith, get_or_default}
 use Rattle.lot_chart.proofs.MeterFacts.{new-one}
 use Rattle.lot_chart.proofs.metering.gauges_of.Goals as goal
 

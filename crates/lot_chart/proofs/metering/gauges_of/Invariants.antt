@@ -1,9 +1,4 @@
-use Rattle.std.proofs.Common.{ℕ, ◌≡◌, ◌<◌, length}
-use Rattle.std.specs.Prelude.{slice_index_or}
-use Rattle.lot_chart.specs.declared.gauges.Gauge.{Gauge}
-use Rattle.lot_chart.specs.declared.gauges.Growth.TheVariants.{Due}
-use Rattle.lot_chart.specs.declared.standings.Standing.{Standing}
-use Rattle.lot_chart.specs.Gauges.{IsNew}
+use Rattle.lot_chart.proofs.Common.{Due, Gauge, IsNew, Standing, length, slice_index_or, ℕ, ◌<◌, ◌≡◌}
 use Rattle.lot_chart.proofs.metering.gauges_of.Given as goal
 
 -- there is a gauge for each line passed so far

@@ -1,12 +1,4 @@
-use Rattle.std.proofs.Common.{◌≡◌, ℕ, Option, Some, None, refl, subst, ap, ◌∙◌}
-use Rattle.std.specs.Prelude.{IfOk}
-use Rattle.lot_simulation.specs.World.{Program}
-use Rattle.lot_curves.specs.declared.by.By.{By}
-use Rattle.lot_curves.specs.declared.interval.Interval.{Interval}
-use Rattle.lot_curves.specs.Curves.{Curves, curves_by, windowed}
-use Rattle.lot_curves.specs.Intervals.{curves_within}
-use Rattle.lot_chart.specs.Charts.{chart}
-use Rattle.lot_chart.specs.Dues.{dues_by}
+use Rattle.lot_chart.proofs.Common.{By, Curves, IfOk, Interval, None, Option, Program, Some, ap, chart, curves_by, curves_within, dues_by, refl, subst, windowed, ℕ, ◌∙◌, ◌≡◌}
 use Rattle.lot_chart.proofs.Ran.{on-ok}
 use Rattle.lot_chart.proofs.Shows.{shows-plays}
 use Rattle.lot_chart.proofs.showing.chart_program.Goals as goal

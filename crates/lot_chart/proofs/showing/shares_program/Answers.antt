@@ -1,7 +1,4 @@
-use Rattle.std.proofs.Common.{ap, ◌∙◌}
-use Rattle.lot_curves.specs.Curves.{curves_of, windowed}
-use Rattle.lot_curves.specs.Intervals.{curves_within}
-use Rattle.lot_chart.specs.Tables.{table}
+use Rattle.lot_chart.proofs.Common.{ap, curves_of, curves_within, table, windowed, ◌∙◌}
 use Rattle.lot_chart.proofs.Ran.{on-ok}
 use Rattle.lot_chart.proofs.Shows.{shows-plays}
 use Rattle.lot_chart.proofs.showing.shares_program.Goals as goal

@@ -1,6 +1,4 @@
-use Rattle.std.proofs.Common.{◌≡◌, ◌++◌, take}
-use Rattle.std.specs.List.{flat_map}
-use Rattle.lot_chart.specs.Tables.{next_field}
+use Rattle.lot_chart.proofs.Common.{flat_map, next_field, take, ◌++◌, ◌≡◌}
 use Rattle.lot_chart.proofs.tables.push_header.Given as goal
 
 -- the names passed so far are put

@@ -1,7 +1,4 @@
-use Rattle.std.proofs.Common.{◌≡◌, ◌++◌, take}
-use Rattle.std.specs.List.{flat_map}
-use Rattle.lot_chart.specs.Shares.{figure_text}
-use Rattle.lot_chart.specs.Tables.{next_field}
+use Rattle.lot_chart.proofs.Common.{figure_text, flat_map, next_field, take, ◌++◌, ◌≡◌}
 use Rattle.lot_chart.proofs.tables.push_row.Given as goal
 
 -- the figures passed so far are put

@@ -1,7 +1,4 @@
-use Rattle.std.proofs.Common.{◌≡◌, ◌+◌, ◌++◌, ap, ◌∙◌, rules}
-use Rattle.lot_curves.specs.Curves.{row_at, sample_tick}
-use Rattle.lot_curves.specs.Stretches.{last_end}
-use Rattle.lot_chart.specs.Tables.{row_line, sampled_line}
+use Rattle.lot_chart.proofs.Common.{ap, last_end, row_at, row_line, rules, sample_tick, sampled_line, ◌++◌, ◌+◌, ◌∙◌, ◌≡◌}
 use Rattle.lot_chart.proofs.Parts.{parts-more}
 use Rattle.lot_chart.proofs.tables.push_rows.Goals as goal
 

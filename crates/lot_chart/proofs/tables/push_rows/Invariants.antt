@@ -1,8 +1,4 @@
-use Rattle.std.proofs.Common.{◌≡◌, ◌++◌, length, map}
-use Rattle.std.specs.List.{flat_map, range_with_len}
-use Rattle.lot_curves.specs.Curves.{sample_tick}
-use Rattle.lot_curves.specs.Stretches.{last_end}
-use Rattle.lot_chart.specs.Tables.{sampled_line}
+use Rattle.lot_chart.proofs.Common.{flat_map, last_end, length, map, range_with_len, sample_tick, sampled_line, ◌++◌, ◌≡◌}
 use Rattle.lot_chart.proofs.tables.push_rows.Given as goal
 
 -- the lines of the samples passed so far are put

@@ -1,5 +1,4 @@
-use Rattle.std.proofs.Common.{arith}
-use Rattle.lot_simulation.proofs.RecordCounts.{quanta-add_up, ticks-add_up, quanta-within, ticks-within}
+use Rattle.lot_engine.proofs.Common.{arith, quanta-add_up, quanta-within, ticks-add_up, ticks-within}
 use Rattle.lot_engine.proofs.laws.threads_add_up.Goals as goal
 
 pub returns-clause-quanta : goal.returns-clause-quanta

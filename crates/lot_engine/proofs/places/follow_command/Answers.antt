@@ -1,9 +1,5 @@
 -- The thread that was made is after all the others, or in the place of a removed one.
-use Rattle.std.proofs.Common.{is_some, option_map, sym, subst, ap, ◌∙◌, arith}
-use Rattle.lot_machine.specs.declared.record.Thread.{Thread}
-use Rattle.lot_machine.specs.declared.sizes.Sizes.{Sizes}
-use Rattle.lot_machine.specs.State.{free_threads}
-use Rattle.lot_engine.specs.Steps.{MakesIn, MakesNone}
+use Rattle.lot_engine.proofs.Common.{MakesIn, MakesNone, Sizes, Thread, ap, arith, free_threads, is_some, option_map, subst, sym, ◌∙◌}
 use Rattle.lot_engine.proofs.PlaceFacts.{at-lengths, made-there, new-at, next-few, next-same, next-within, none-at}
 use Rattle.lot_engine.proofs.places.follow_command.Goals as goal
 

@@ -1,8 +1,4 @@
-use Rattle.std.proofs.Common.{◌≡◌, ℕ, Option, length, ap, sym, subst, ◌∙◌}
-use Rattle.lot_machine.specs.Bounds.{IsBetween}
-use Rattle.lot_machine.specs.Numbered.{set_number}
-use Rattle.lot_script.specs.Places.{Place}
-use Rattle.lot_engine.specs.Steps.{delivered_to_place}
+use Rattle.lot_engine.proofs.Common.{IsBetween, Option, Place, ap, delivered_to_place, length, set_number, subst, sym, ℕ, ◌∙◌, ◌≡◌}
 use Rattle.lot_engine.proofs.PlaceFacts.{delivered-set}
 use Rattle.lot_engine.proofs.places.follow_slice.Goals as goal
 

@@ -1,10 +1,5 @@
 -- The place that moves on is the thread's.
-use Rattle.std.proofs.Common.{ap, sym, subst, ◌∙◌}
-use Rattle.lot_machine.specs.Numbered.{set_number}
-use Rattle.lot_script.specs.Places.{Place}
-use Rattle.lot_script.specs.Slices.{IsSlice}
-use Rattle.lot_engine.specs.declared.turn.Done.{Done}
-use Rattle.lot_engine.specs.Steps.{place_of, slice_between}
+use Rattle.lot_engine.proofs.Common.{Done, IsSlice, Place, ap, place_of, set_number, slice_between, subst, sym, ◌∙◌}
 use Rattle.lot_engine.proofs.PlaceFacts.{place-is, place-set}
 use Rattle.lot_engine.proofs.places.pass_slice.Goals as goal
 

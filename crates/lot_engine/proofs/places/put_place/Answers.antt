@@ -1,7 +1,5 @@
 -- A number above the count is the next one only if no place is free.
-use Rattle.std.proofs.Common.{◌≡◌, ℕ, List, [], ◌∷◌, refl, arith}
-use Rattle.lot_machine.specs.Places.{placed}
-use Rattle.lot_engine.specs.Steps.{IsNext}
+use Rattle.lot_engine.proofs.Common.{IsNext, List, arith, placed, refl, ℕ, [], ◌∷◌, ◌≡◌}
 use Rattle.lot_engine.proofs.places.put_place.Goals as goal
 
 pub returns-else-index-len-clause-put : goal.returns-else-index-len-clause-put

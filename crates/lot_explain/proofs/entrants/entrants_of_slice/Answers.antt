@@ -1,5 +1,4 @@
-use Rattle.std.proofs.Common.{sym}
-use Rattle.lot_engine.specs.Steps.{done_of}
+use Rattle.lot_explain.proofs.Common.{done_of, sym}
 use Rattle.lot_explain.proofs.entrants.entrants_of_slice.Goals as goal
 
 pub returns-in-Some-clause-entrants : goal.returns-in-Some-clause-entrants

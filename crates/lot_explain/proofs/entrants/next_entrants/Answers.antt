@@ -1,7 +1,4 @@
-use Rattle.std.proofs.Common.{◌∙◌, ap, arith}
-use Rattle.lot_simulation.specs.World.{number_of}
-use Rattle.lot_engine.specs.Seen.{world_of}
-use Rattle.lot_explain.specs.Lots.{entrants_in}
+use Rattle.lot_explain.proofs.Common.{ap, arith, entrants_in, number_of, world_of, ◌∙◌}
 use Rattle.lot_explain.proofs.EventFacts.{event-given}
 use Rattle.lot_explain.proofs.entrants.next_entrants.Goals as goal
 

@@ -1,7 +1,4 @@
-use Rattle.std.proofs.Common.{rules}
-use Rattle.lot_playback.specs.Turns.{program_turns}
-use Rattle.lot_system.proofs.LineFacts.{pages-out}
-use Rattle.lot_explain.specs.MadeTurns.{explained_turns}
+use Rattle.lot_explain.proofs.Common.{explained_turns, pages-out, program_turns, rules}
 use Rattle.lot_explain.proofs.explained.explain_turns.Goals as goal
 
 pub returns-clause-text : goal.returns-clause-text

@@ -1,10 +1,4 @@
-use Rattle.std.proofs.Common.{◌++◌, ◌∙◌, codes, subst}
-use Rattle.std.specs.Fmt.{decimal}
-use Rattle.lot_engine.specs.Seen.{Seen, world_of}
-use Rattle.lot_io.specs.Writing.{Put}
-use Rattle.lot_simulation.specs.Texts.{front, reply_text}
-use Rattle.lot_explain.specs.Funding.{funding_in}
-use Rattle.lot_explain.specs.Lots.{won_in, won_lines}
+use Rattle.lot_explain.proofs.Common.{Put, Seen, codes, decimal, front, funding_in, reply_text, subst, won_in, won_lines, world_of, ◌++◌, ◌∙◌}
 use Rattle.lot_explain.proofs.TurnFacts.{answered-text, ended-text, total-is}
 use Rattle.lot_explain.proofs.explained.put_explained.Goals as goal
 

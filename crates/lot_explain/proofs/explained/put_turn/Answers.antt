@@ -1,9 +1,4 @@
-use Rattle.std.proofs.Common.{◌≡◌, ◌++◌, codes, Err, rules}
-use Rattle.std.specs.Fmt.{decimal}
-use Rattle.lot_simulation.specs.Texts.{front, reply_text}
-use Rattle.lot_engine.specs.Seen.{world_of}
-use Rattle.lot_explain.specs.Funding.{funding_in}
-use Rattle.lot_explain.specs.Lots.{won_in, won_lines}
+use Rattle.lot_explain.proofs.Common.{Err, codes, decimal, front, funding_in, reply_text, rules, won_in, won_lines, world_of, ◌++◌, ◌≡◌}
 use Rattle.lot_explain.proofs.TurnFacts.{begins-first, put-then}
 use Rattle.lot_explain.proofs.explained.put_turn.Goals as goal
 

@@ -1,9 +1,5 @@
 -- The report is written after what explains the turns.
-use Rattle.std.proofs.Common.{◌≡◌, Err}
-use Rattle.lot_system.specs.Texts.{last_report}
-use Rattle.lot_playback.specs.Turns.{program_turns}
-use Rattle.lot_system.proofs.PlayedFacts.{ends-well, err-is, fails-first, fails-last}
-use Rattle.lot_explain.specs.MadeTurns.{explained_turns}
+use Rattle.lot_explain.proofs.Common.{Err, ends-well, err-is, explained_turns, fails-first, fails-last, last_report, program_turns, ◌≡◌}
 use Rattle.lot_explain.proofs.MadeTexts.{program-texts}
 use Rattle.lot_explain.proofs.explaining.explain_program.Goals as goal
 

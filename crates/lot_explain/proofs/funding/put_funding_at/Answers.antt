@@ -1,8 +1,4 @@
-use Rattle.std.proofs.Common.{◌≡◌, Err, rules}
-use Rattle.lot_engine.specs.Seen.{world_of}
-use Rattle.lot_io.proofs.WritingFacts.{begins-front}
-use Rattle.lot_system.proofs.WritingFacts.{put-written}
-use Rattle.lot_explain.specs.Funding.{funding_at, funding_lines}
+use Rattle.lot_explain.proofs.Common.{Err, begins-front, funding_at, funding_lines, put-written, rules, world_of, ◌≡◌}
 use Rattle.lot_explain.proofs.FundingFacts.{funding-timed}
 use Rattle.lot_explain.proofs.funding.put_funding_at.Goals as goal
 

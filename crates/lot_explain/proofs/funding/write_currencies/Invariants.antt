@@ -1,8 +1,4 @@
-use Rattle.std.proofs.Common.{◌≡◌, false}
-use Rattle.std.specs.List.{flat_map, range_with_len}
-use Rattle.std.specs.Io.KnownBytes.{Appends}
-use Rattle.lot_engine.specs.Seen.{world_of}
-use Rattle.lot_explain.specs.Funding.{currency_funds}
+use Rattle.lot_explain.proofs.Common.{Appends, currency_funds, false, flat_map, range_with_len, world_of, ◌≡◌}
 use Rattle.lot_explain.proofs.funding.write_currencies.Given as goal
 
 -- the lines of the currencies passed so far are written

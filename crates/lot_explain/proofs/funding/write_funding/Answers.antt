@@ -1,9 +1,4 @@
-use Rattle.std.proofs.Common.{◌≡◌, Err, length, rules}
-use Rattle.std.specs.List.{flat_map, range_with_len}
-use Rattle.lot_machine.specs.Numbered.{numbers}
-use Rattle.lot_engine.specs.Seen.{world_of}
-use Rattle.lot_io.proofs.WritingFacts.{begins-front, writes-after}
-use Rattle.lot_explain.specs.Funding.{currency_funds, ticket_funds}
+use Rattle.lot_explain.proofs.Common.{Err, begins-front, currency_funds, flat_map, length, numbers, range_with_len, rules, ticket_funds, world_of, writes-after, ◌≡◌}
 use Rattle.lot_explain.proofs.funding.write_funding.Goals as goal
 
 pub returns-in_err-write_tickets-clause-text : goal.returns-in_err-write_tickets-clause-text

@@ -1,9 +1,4 @@
-use Rattle.std.proofs.Common.{◌≡◌, ◌+◌, ◌∙◌, Err, List, ℕ, ap, arith, length, rules, subst}
-use Rattle.std.specs.List.{flat_map, range_with_len}
-use Rattle.std.specs.Io.KnownBytes.{Appends}
-use Rattle.lot_engine.specs.Seen.{world_of}
-use Rattle.lot_system.proofs.WritingFacts.{range-more, range-stops}
-use Rattle.lot_explain.specs.Funding.{ticket_funds}
+use Rattle.lot_explain.proofs.Common.{Appends, Err, List, ap, arith, flat_map, length, range-more, range-stops, range_with_len, rules, subst, ticket_funds, world_of, ℕ, ◌+◌, ◌∙◌, ◌≡◌}
 use Rattle.lot_explain.proofs.funding.write_tickets.Goals as goal
 
 pub returns-in_err-write_ticket-clause-text : goal.returns-in_err-write_ticket-clause-text

@@ -1,8 +1,4 @@
-use Rattle.std.proofs.Common.{◌≡◌, length, ◌∙◌, ap, arith}
-use Rattle.std.specs.List.{flat_map, range_with_len}
-use Rattle.lot_machine.specs.Numbered.{numbers}
-use Rattle.lot_engine.specs.Seen.{Seen, world_of}
-use Rattle.lot_explain.specs.Gathering.{lot_if_ready}
+use Rattle.lot_explain.proofs.Common.{Seen, ap, arith, flat_map, length, lot_if_ready, numbers, range_with_len, world_of, ◌∙◌, ◌≡◌}
 use Rattle.lot_explain.proofs.GatheringFacts.{each-more, ready-lots}
 use Rattle.lot_explain.proofs.gathering.push_all_ready.Goals as goal
 

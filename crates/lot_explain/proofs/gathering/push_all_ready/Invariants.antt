@@ -1,8 +1,4 @@
-use Rattle.std.proofs.Common.{◌≡◌, ◌≤◌}
-use Rattle.std.specs.List.{flat_map, range_with_len}
-use Rattle.std.specs.Prelude.{vec_capacity, vec_len}
-use Rattle.lot_engine.specs.Seen.{world_of}
-use Rattle.lot_explain.specs.Gathering.{lot_if_ready}
+use Rattle.lot_explain.proofs.Common.{flat_map, lot_if_ready, range_with_len, vec_capacity, vec_len, world_of, ◌≡◌, ◌≤◌}
 use Rattle.lot_explain.proofs.gathering.push_all_ready.Given as goal
 
 -- the lots of the threads passed so far are there

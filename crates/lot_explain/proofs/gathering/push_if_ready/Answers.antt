@@ -1,5 +1,4 @@
-use Rattle.std.proofs.Common.{sym, append-nil}
-use Rattle.lot_engine.specs.Seen.{world_of}
+use Rattle.lot_explain.proofs.Common.{append-nil, sym, world_of}
 use Rattle.lot_explain.proofs.RowFacts.{idle-other}
 use Rattle.lot_explain.proofs.gathering.push_if_ready.Goals as goal
 

@@ -1,7 +1,4 @@
-use Rattle.std.proofs.Common.{◌≡◌, map, take}
-use Rattle.std.specs.Prelude.{vec_capacity}
-use Rattle.lot_engine.specs.Seen.{world_of}
-use Rattle.lot_explain.specs.Lots.{waiter_lot}
+use Rattle.lot_explain.proofs.Common.{map, take, vec_capacity, waiter_lot, world_of, ◌≡◌}
 use Rattle.lot_explain.proofs.gathering.push_waiters.Given as goal
 
 -- the lots of the waiters passed so far are there

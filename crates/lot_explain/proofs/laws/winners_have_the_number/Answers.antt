@@ -1,12 +1,4 @@
-use Rattle.std.proofs.Common.{◌≡◌, ℕ, ◌+◌, Option, Some, ◌++◌, ◌∷◌, ◌∙◌, ap, arith, subst}
-use Rattle.std.specs.Option.{IfSome}
-use Rattle.lot_machine.specs.declared.event.Event.{Event}
-use Rattle.lot_machine.specs.declared.reply.Reply.{Reply}
-use Rattle.lot_simulation.specs.World.{Program, World, system_turn}
-use Rattle.lot_simulation.specs.World.TurnAnswer.{Answered}
-use Rattle.lot_explain.specs.declared.won.Won.{Won}
-use Rattle.lot_explain.specs.Lots.{lot_diagnostics, lots_of, total_of, won_in}
-use Rattle.lot_explain.specs.Numbers.{number_in}
+use Rattle.lot_explain.proofs.Common.{Answered, Event, IfSome, Option, Program, Reply, Some, Won, World, ap, arith, lot_diagnostics, lots_of, number_in, subst, system_turn, total_of, won_in, ℕ, ◌++◌, ◌+◌, ◌∙◌, ◌∷◌, ◌≡◌}
 use Rattle.lot_explain.proofs.LineFacts.{lines-both}
 use Rattle.lot_explain.proofs.WonFacts.{IsOnly, turn-won}
 use Rattle.lot_explain.proofs.laws.winners_have_the_number.Goals as goal

@@ -1,7 +1,4 @@
-use Rattle.std.proofs.Common.{◌≡◌, Some, Err, rules, sym, ◌∙◌}
-use Rattle.lot_io.proofs.WritingFacts.{begins-front}
-use Rattle.lot_system.proofs.WritingFacts.{put-written}
-use Rattle.lot_explain.specs.Lots.{won_in, won_lines}
+use Rattle.lot_explain.proofs.Common.{Err, Some, begins-front, put-written, rules, sym, won_in, won_lines, ◌∙◌, ◌≡◌}
 use Rattle.lot_explain.proofs.lines.put_lots.Goals as goal
 
 pub returns-in_err-write_out-in-Some : goal.returns-in_err-write_out-in-Some

@@ -1,5 +1,4 @@
-use Rattle.std.proofs.Common.{◌≡◌, Err, rules}
-use Rattle.lot_print.specs.Loans.{loan_line}
+use Rattle.lot_explain.proofs.Common.{Err, loan_line, rules, ◌≡◌}
 use Rattle.lot_explain.proofs.LineFacts.{texts-more, texts-stop}
 use Rattle.lot_explain.proofs.lines.write_each_loan.Goals as goal
 

@@ -1,7 +1,4 @@
-use Rattle.std.proofs.Common.{◌≡◌, false, take}
-use Rattle.std.specs.List.{flat_map}
-use Rattle.std.specs.Io.KnownBytes.{Appends}
-use Rattle.lot_print.specs.Loans.{loan_line}
+use Rattle.lot_explain.proofs.Common.{Appends, false, flat_map, loan_line, take, ◌≡◌}
 use Rattle.lot_explain.proofs.lines.write_each_loan.Given as goal
 
 -- the lines of the loans passed so far are written

@@ -1,6 +1,4 @@
-use Rattle.std.proofs.Common.{◌≡◌, false, take}
-use Rattle.std.specs.Io.KnownBytes.{Appends}
-use Rattle.lot_explain.specs.Lots.{lot_diagnostics, total_of}
+use Rattle.lot_explain.proofs.Common.{Appends, false, lot_diagnostics, take, total_of, ◌≡◌}
 use Rattle.lot_explain.proofs.lines.write_lots.Given as goal
 
 -- the lines of the lots passed so far are written, and the next number is the first of the next lot

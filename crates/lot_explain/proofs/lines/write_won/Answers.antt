@@ -1,8 +1,4 @@
-use Rattle.std.proofs.Common.{◌≡◌, Err, ap, rules, subst, sym}
-use Rattle.lot_io.specs.Writing.{Begins}
-use Rattle.lot_io.proofs.WritingFacts.{begins-front, writes-after}
-use Rattle.lot_explain.specs.Loans.{loan_lines}
-use Rattle.lot_explain.specs.Lots.{lot_diagnostics}
+use Rattle.lot_explain.proofs.Common.{Begins, Err, ap, begins-front, loan_lines, lot_diagnostics, rules, subst, sym, writes-after, ◌≡◌}
 use Rattle.lot_explain.proofs.lines.write_won.Goals as goal
 
 pub returns-in_err-write_lots : goal.returns-in_err-write_lots

@@ -1,7 +1,4 @@
-use Rattle.std.proofs.Common.{◌≡◌, length, ◌∙◌, ap, arith}
-use Rattle.std.specs.List.{flat_map, range_with_len}
-use Rattle.lot_engine.specs.Seen.{Seen, world_of}
-use Rattle.lot_explain.specs.Loans.{loan_of}
+use Rattle.lot_explain.proofs.Common.{Seen, ap, arith, flat_map, length, loan_of, range_with_len, world_of, ◌∙◌, ◌≡◌}
 use Rattle.lot_explain.proofs.GatheringFacts.{each-more}
 use Rattle.lot_explain.proofs.loans.push_all_loans.Goals as goal
 

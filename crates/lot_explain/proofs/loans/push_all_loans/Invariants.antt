@@ -1,8 +1,4 @@
-use Rattle.std.proofs.Common.{◌≡◌, ◌≤◌}
-use Rattle.std.specs.List.{flat_map, range_with_len}
-use Rattle.std.specs.Prelude.{vec_capacity, vec_len}
-use Rattle.lot_engine.specs.Seen.{world_of}
-use Rattle.lot_explain.specs.Loans.{loan_of}
+use Rattle.lot_explain.proofs.Common.{flat_map, loan_of, range_with_len, vec_capacity, vec_len, world_of, ◌≡◌, ◌≤◌}
 use Rattle.lot_explain.proofs.loans.push_all_loans.Given as goal
 
 -- the loans of the threads passed so far are there

@@ -1,5 +1,4 @@
-use Rattle.std.proofs.Common.{◌∙◌, ap, ap₂}
-use Rattle.lot_lists.specs.NodeLists.{empty_lists}
+use Rattle.lot_graph.proofs.Common.{ap, ap₂, empty_lists, ◌∙◌}
 use Rattle.lot_graph.proofs.graph.empty_lists.Goals as goal
 
 pub returns-clause-issued : goal.returns-clause-issued

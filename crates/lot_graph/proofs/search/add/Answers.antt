@@ -1,5 +1,4 @@
-use Rattle.std.proofs.Common.{◌≡◌, Contains, subst, sym}
-use Rattle.lot_lists.specs.NodeLists.{IsFree, nodes_of}
+use Rattle.lot_graph.proofs.Common.{Contains, IsFree, nodes_of, subst, sym, ◌≡◌}
 use Rattle.lot_graph.proofs.SpreadLemmas.{spread-push, spread-none, found-none, found-some, only-list}
 use Rattle.lot_graph.proofs.search.add.Goals as goal
 

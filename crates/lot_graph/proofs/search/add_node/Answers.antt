@@ -1,7 +1,4 @@
-use Rattle.std.proofs.Common.{ap, sym, ◌∙◌}
-use Rattle.lot_machine.proofs.Tickets.{some-injective}
-use Rattle.lot_graph.specs.Places.{node_place}
-use Rattle.lot_graph.specs.Spread.{IsListOf}
+use Rattle.lot_graph.proofs.Common.{IsListOf, ap, node_place, some-injective, sym, ◌∙◌}
 use Rattle.lot_graph.proofs.SpreadLemmas.{spread-by}
 use Rattle.lot_graph.proofs.search.add_node.Goals as goal
 

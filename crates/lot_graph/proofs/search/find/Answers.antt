@@ -1,7 +1,4 @@
-use Rattle.std.proofs.Common.{sym, ◌∙◌, subst, arith}
-use Rattle.lot_lists.specs.NodeLists.{nodes_of}
-use Rattle.lot_graph.specs.Places.{IsNodeWithin}
-use Rattle.lot_graph.specs.Spread.{IsNext, Spreads}
+use Rattle.lot_graph.proofs.Common.{IsNext, IsNodeWithin, Spreads, arith, nodes_of, subst, sym, ◌∙◌}
 use Rattle.lot_graph.proofs.MirrorLemmas.{contains-at}
 use Rattle.lot_graph.proofs.SpreadLemmas.{followed-all, followed-end, followed-more, followed-start, found-low, list-back}
 use Rattle.lot_graph.proofs.search.find.Goals as goal

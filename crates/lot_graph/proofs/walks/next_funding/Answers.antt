@@ -1,7 +1,4 @@
-use Rattle.std.proofs.Common.{◌≡◌, ◌<◌, ◌+◌, ◌^◌, false, ap, sym, ◌∙◌, arith, refl, length, ℕ}
-use Rattle.lot_machine.specs.Commands.{is_funding}
-use Rattle.lot_machine.specs.Numbered.{option_any}
-use Rattle.lot_graph.specs.Walks.{funds_at, funding_edges}
+use Rattle.lot_graph.proofs.Common.{ap, arith, false, funding_edges, funds_at, is_funding, length, option_any, refl, sym, ℕ, ◌+◌, ◌<◌, ◌^◌, ◌∙◌, ◌≡◌}
 use Rattle.lot_graph.proofs.WalkLemmas.{all-rest, passed-over, first-low}
 use Rattle.lot_graph.proofs.walks.next_funding.Goals as goal
 

@@ -1,5 +1,4 @@
-use Rattle.std.proofs.Common.{◌≡◌, ◌+◌, ◌<◌, ◌^◌, All}
-use Rattle.lot_graph.specs.Walks.{funding_edges}
+use Rattle.lot_graph.proofs.Common.{All, funding_edges, ◌+◌, ◌<◌, ◌^◌, ◌≡◌}
 use Rattle.lot_graph.proofs.walks.next_funding.Given as goal
 
 abbrev pub invariant-loop-place : goal.invariant-loop-place

@@ -1,7 +1,4 @@
-use Rattle.std.proofs.Common.{◌∙◌, ◌<◌, length, ap, sym, arith}
-use Rattle.lot_machine.specs.declared.ticket.Ticket.{Ticket}
-use Rattle.lot_machine.specs.Funding.{is_currency}
-use Rattle.lot_machine.specs.Numbered.{option_any}
+use Rattle.lot_kernel.proofs.Common.{Ticket, ap, arith, is_currency, length, option_any, sym, ◌<◌, ◌∙◌}
 use Rattle.lot_kernel.proofs.Counting.{count-passed, count-failed}
 use Rattle.lot_kernel.proofs.counts.count_backing.Goals.{then-is_backing, else-is_backing}
 use Rattle.lot_kernel.proofs.counts.count_backing.Goals as goal

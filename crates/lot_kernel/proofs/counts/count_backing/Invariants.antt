@@ -1,6 +1,5 @@
 -- Those counted and those among the tickets that are left are all.
-use Rattle.std.proofs.Common.{◌≡◌, ◌+◌, ◌≤◌, length}
-use Rattle.lot_machine.specs.Funding.{backing_currency, is_currency}
+use Rattle.lot_kernel.proofs.Common.{backing_currency, is_currency, length, ◌+◌, ◌≡◌, ◌≤◌}
 use Rattle.lot_kernel.proofs.Counting.{count_after}
 use Rattle.lot_kernel.proofs.counts.count_backing.Given as goal
 

@@ -1,6 +1,4 @@
-use Rattle.std.proofs.Common.{◌∙◌, ◌==◌, ◌<◌, length, ap, sym, arith}
-use Rattle.lot_machine.specs.declared.ticket.Ticket.{Ticket}
-use Rattle.lot_machine.specs.Numbered.{option_any}
+use Rattle.lot_kernel.proofs.Common.{Ticket, ap, arith, length, option_any, sym, ◌<◌, ◌==◌, ◌∙◌}
 use Rattle.lot_kernel.proofs.Counting.{count-passed, count-failed}
 use Rattle.lot_kernel.proofs.counts.count_issued.Goals.{then-is_issued, else-is_issued}
 use Rattle.lot_kernel.proofs.counts.count_issued.Goals as goal

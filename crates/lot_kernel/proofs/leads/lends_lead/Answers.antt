@@ -1,10 +1,4 @@
-use Rattle.std.proofs.Common.{◌≡◌, ◌≢◌, ◌∙◌, false, true, None, is_none, is_some, ap, arith, option_map, sym}
-use Rattle.lot_machine.specs.declared.record.Record.{Record}
-use Rattle.lot_machine.specs.Numbered.{at_number}
-use Rattle.lot_machine.specs.State.{lend_of}
-use Rattle.lot_machine.proofs.TrapCycles.{at_number-map}
-use Rattle.lot_queues.specs.QueueLists.{IsThere}
-use Rattle.lot_threads.specs.Threaded.{funding_in}
+use Rattle.lot_kernel.proofs.Common.{IsThere, None, Record, ap, arith, at_number, at_number-map, false, funding_in, is_none, is_some, lend_of, option_map, sym, true, ◌∙◌, ◌≡◌, ◌≢◌}
 use Rattle.lot_kernel.proofs.Refusing.{no-record, present}
 use Rattle.lot_kernel.proofs.Trapping.{lead-nobody, number-there, number-within, reaches-lead}
 use Rattle.lot_kernel.proofs.leads.lends_lead.Goals as goal

@@ -1,9 +1,4 @@
-use Rattle.std.proofs.Common.{◌∙◌, None, length, rules, slice_get, sym, tests}
-use Rattle.std.specs.Str.{bytes_eq}
-use Rattle.std.proofs.lemmas.Iterator.Adapters.{option_map_id}
-use Rattle.std.proofs.lemmas.Iterator.Consumers.{YieldsList-from_filter, YieldsList-from_first, min_from_yields_List}
-use Rattle.lot_machine.specs.Numbered.{option_any}
-use Rattle.lot_lists.specs.NodeLists.{nodes_of}
+use Rattle.lot_kernel.proofs.Common.{None, YieldsList-from_filter, YieldsList-from_first, bytes_eq, length, min_from_yields_List, nodes_of, option_any, option_map_id, rules, slice_get, sym, tests, ◌∙◌}
 use Rattle.lot_kernel.proofs.Indexed.{bucket-of, least-first, meant-named, named-listed, no-bucket, none-meant}
 use Rattle.lot_kernel.proofs.names.currency_place.Goals as goal
 

@@ -2,8 +2,8 @@
 use super::required::{
     check_issue, check_may_lend, check_may_own, check_mutex, check_room, check_thread,
 };
-use crate::tests::same::check_step;
 use crate::is_target;
+use crate::tests::same::check_step;
 use lot_active::{Active, ends_of_edge};
 use lot_graph::Graph;
 use lot_machine::{Edge, Lend, Limits, Sizes, Target};

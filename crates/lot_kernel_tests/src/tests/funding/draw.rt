@@ -2,8 +2,8 @@
 ghost use Rattle.std.specs.Prelude.{◌<◌, IfSome};
 
 use super::required::{check_issue, check_room, check_thread};
-use crate::tests::same::check_same_at;
 use crate::may_fund;
+use crate::tests::same::check_same_at;
 use lot_draw::{Competitor, RunQueue, Winner};
 use lot_machine::{Limits, Sizes, Target, Ticket};
 use lot_value::{GraphChange, ValuedGraph};

@@ -8,8 +8,8 @@ use super::required::{
     check_issue, check_lends_nothing, check_may_own, check_mutex, check_room, check_thread,
     may_lend,
 };
-use crate::tests::same::check_step;
 use crate::is_target;
+use crate::tests::same::check_step;
 use lot_graph::Graph;
 use lot_machine::{Edge, Lend, Limits, Node, Sizes, Target, Ticket};
 use std::alloc::Global;

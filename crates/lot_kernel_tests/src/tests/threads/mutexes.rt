@@ -14,7 +14,7 @@ use lot_kept::Stack;
 use lot_machine::{Limits, MutexNumber, Outcome, Sizes, Status, ThreadNumber};
 use lot_mutex::{Lottery, are_waiting, have_same_owners, lock, pass_all_on, unlock};
 use lot_queues::Queues;
-use lot_threads::{TrapEffect, Threads};
+use lot_threads::{Threads, TrapEffect};
 use std::alloc::Global;
 use std::process::Abort;
 

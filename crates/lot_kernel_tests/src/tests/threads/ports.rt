@@ -6,7 +6,7 @@ use super::helpers::{
 use lot_machine::{Limits, Outcome, PortNumber, Sizes, Status, ThreadNumber};
 use lot_ports::{call, receive, release_clients, reply, serve};
 use lot_queues::Queues;
-use lot_threads::{TrapEffect, Threads};
+use lot_threads::{Threads, TrapEffect};
 use std::alloc::Global;
 use std::process::Abort;
 
@@ -32,7 +32,12 @@ enum Step {
 }
 
 /// The outcome of what a thread did at a port, after which it goes on or leaves.
-fn done(rt: &impl Abort, threads: &mut Threads, thread: ThreadNumber, effect: TrapEffect) -> Outcome {
+fn done(
+    rt: &impl Abort,
+    threads: &mut Threads,
+    thread: ThreadNumber,
+    effect: TrapEffect,
+) -> Outcome {
     finish(rt, threads, thread, effect.after);
     effect.outcome
 }

@@ -1,7 +1,4 @@
-use Rattle.std.specs.Prelude.{sum}
-use Rattle.lot_machine.specs.State.{weight_of}
-use Rattle.lot_machine.specs.Facts.{total_weight}
-use Rattle.lot_laws.specs.Fairness.{place_wins, thread_wins}
+use Rattle.lot_laws.proofs.Common.{place_wins, sum, thread_wins, total_weight, weight_of}
 use Rattle.lot_laws.proofs.AllDraws.{first-wins, never-of, place-of, thread-of}
 use Rattle.lot_laws.proofs.fairness.first_wins_are_geometric.Goals as goal
 

@@ -1,10 +1,5 @@
-use Rattle.std.proofs.Common.{◌≡◌, refl, sym, ◌∙◌, subst}
-use Rattle.lot_machine.specs.declared.ticket.Target.{Target}
-use Rattle.lot_machine.specs.declared.ticket.Target.TheVariants.{Unfunded, Currency, Thread}
-use Rattle.lot_machine.specs.Rows.{target_name}
-use Rattle.lot_machine.specs.State.{State, opening}
-use Rattle.lot_machine.proofs.NamesKept.{AreOwn, after-own, name-means, name_at, opening-own}
-use Rattle.lot_laws.specs.Reachable.{IsReachable}
+use Rattle.lot_laws.proofs.Common.{AreOwn, IsReachable, State, Target, Unfunded, after-own, name-means, name_at, opening, opening-own, refl, subst, sym, target_name, ◌∙◌, ◌≡◌}
+use Rattle.lot_machine.specs.declared.ticket.Target.TheVariants.{Currency, Thread}
 use Rattle.lot_laws.proofs.named.names_mean_who_has_them.Goals as goal
 
 reachable-own : (s : State) → IsReachable s → AreOwn s

@@ -1,9 +1,4 @@
-use Rattle.std.proofs.Common.{◌≡◌, ◌≤◌, is_some, count_by, true, not, ◌||◌, ◌⊎◌, inl, inr, is_none, [], ◌∷◌}
-use Rattle.std.proofs.lemmas.Bool.{or_cases}
-use Rattle.lot_machine.specs.declared.command.Command.TheVariants.{MakeTicket, MakeCurrency, MakeThread, MakeFunded}
-use Rattle.lot_machine.specs.declared.refusal.Refusal.TheVariants.{BadAmount, NoCurrency, BadName, NameTaken, NoScript}
-use Rattle.lot_machine.specs.Commands.{currency_meant, is_bad_amount, is_name, is_thread_name, is_taken, is_no_script, are_tickets_full, are_currencies_full, are_threads_full, command_refusal, command_effect}
-use Rattle.lot_machine.proofs.FullTables.{tickets-counted, currencies-counted, threads-counted}
+use Rattle.lot_laws.proofs.Common.{BadAmount, BadName, MakeCurrency, MakeFunded, MakeThread, MakeTicket, NameTaken, NoCurrency, NoScript, are_currencies_full, are_threads_full, are_tickets_full, command_effect, command_refusal, count_by, currencies-counted, currency_meant, inl, inr, is_bad_amount, is_name, is_no_script, is_none, is_some, is_taken, is_thread_name, not, or_cases, threads-counted, tickets-counted, true, [], ◌||◌, ◌∷◌, ◌≡◌, ◌≤◌, ◌⊎◌}
 use Rattle.lot_laws.proofs.EachTicket.{reachable-order}
 use Rattle.lot_laws.proofs.FullRefused.{last-fails, refusal-is}
 use Rattle.lot_laws.proofs.reused.full_means_full.Goals as goal

@@ -1,6 +1,4 @@
-use Rattle.lot_machine.specs.State.{funding_of, live_of, value_of}
-use Rattle.lot_machine.specs.Step.{step}
-use Rattle.lot_machine.proofs.OrderKept.{step-order}
+use Rattle.lot_laws.proofs.Common.{funding_of, live_of, step, step-order, value_of}
 use Rattle.lot_laws.proofs.Lending.{worth-nothing, comes-alone}
 use Rattle.lot_laws.proofs.Replied.{server-returns, caller-keeps, others-keep, together-same}
 use Rattle.lot_laws.proofs.transfers.replies_return_value.Goals as goal

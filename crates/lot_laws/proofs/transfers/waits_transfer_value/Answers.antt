@@ -1,6 +1,4 @@
-use Rattle.std.proofs.Common.{[], refl}
-use Rattle.lot_machine.specs.State.{funding_of, live_of, value_of}
-use Rattle.lot_machine.specs.Step.{step}
+use Rattle.lot_laws.proofs.Common.{funding_of, live_of, refl, step, value_of, []}
 use Rattle.lot_laws.proofs.Lending.{worth-nothing, comes-alone}
 use Rattle.lot_laws.proofs.MutexWait.{leads-gets, others-keep, together-same}
 use Rattle.lot_laws.proofs.transfers.waits_transfer_value.Goals as goal

@@ -1,5 +1,4 @@
-use Rattle.std.proofs.Common.{refl}
-use Rattle.lot_machine.specs.declared.funding.Lend.TheVariants.{Nobody}
+use Rattle.lot_machine.proofs.Common.{Nobody, refl}
 use Rattle.lot_machine.proofs.LendsKept.{HasNoCycle-lends_nobody, HasNoCycle-lends, HasNoCycle-lends_tested, HasNoCycle-lends_more}
 use Rattle.lot_machine.proofs.kept.lends_keep.Goals as goal
 

@@ -1,7 +1,4 @@
-use Rattle.std.proofs.Common.{◌≡◌, ℕ, ◌+◌, Some, List, [], ap, cond, false}
-use Rattle.lot_machine.specs.Places.{placed, next_place}
-use Rattle.lot_machine.specs.State.{State}
-use Rattle.lot_machine.specs.Commands.{newborn}
+use Rattle.lot_machine.proofs.Common.{List, Some, State, ap, cond, false, newborn, next_place, placed, ℕ, [], ◌+◌, ◌≡◌}
 use Rattle.lot_machine.proofs.reused.numbers_are_given_once.Goals as goal
 
 -- no place is free

@@ -1,7 +1,4 @@
-use Rattle.std.proofs.Common.{◌≡◌, ◌≢◌, ℕ, ◌+◌, ◌-◌, List, [], ◌∷◌, drop, ◌∙◌, ap, arith, true, cond}
-use Rattle.lot_machine.specs.Places.{next_place}
-use Rattle.lot_machine.specs.State.{State, given_again}
-use Rattle.lot_machine.specs.Commands.{drop_ticket, drop_currency, drop_thread}
+use Rattle.lot_machine.proofs.Common.{List, State, ap, arith, cond, drop, drop_currency, drop_thread, drop_ticket, given_again, next_place, true, ℕ, [], ◌+◌, ◌-◌, ◌∙◌, ◌∷◌, ◌≡◌, ◌≢◌}
 use Rattle.lot_machine.proofs.reused.the_last_removed_comes_first.Goals as goal
 
 -- these places are given again

@@ -1,27 +1,5 @@
 -- The turn is the one that is due, and the timekeeper has followed it.
-use Rattle.std.proofs.Common.{◌≡◌, ℕ, Option, ◌+◌, ◌<◌, ◌≤◌, ◌^◌, ◌++◌, [], ◌∷◌, Some, length, refl, sym, ◌∙◌, ap, subst, arith, rules, vec_len}
-use Rattle.lot_machine.specs.declared.event.Event.{Event}
-use Rattle.lot_machine.specs.declared.reply.Reply.{Reply}
-use Rattle.lot_simulation.specs.declared.timed.Due.{Due}
-use Rattle.lot_simulation.specs.declared.timed.Sleeper.{Sleeper}
-use Rattle.lot_simulation.specs.Timed.{alarms_after, clocks_after, is_idle_draw, timed_room, turn_due}
-use Rattle.lot_machine.specs.Bounds.{IsWithinBounds}
-use Rattle.lot_machine.specs.State.{opening, thread_on}
-use Rattle.lot_graph.specs.declared.layout.Layout.{Layout}
-use Rattle.lot_simulation.specs.World.{Program, World, sleeper_on, system_turn}
-use Rattle.lot_simulation.specs.World.TurnAnswer.{Answered}
-use Rattle.lot_simulation.proofs.TimedRuns.{room-small}
-use Rattle.lot_engine.specs.Playing.{turn_in}
-use Rattle.lot_engine.specs.Seen.{Seen, after_turn, world_of}
-use Rattle.lot_playback.specs.declared.timekeeper.Timekeeper.{Timekeeper}
-use Rattle.lot_playback.specs.declared.turn.NextTurn.{NextTurn}
-use Rattle.lot_playback.specs.InTime.{AreAlarms, CanFollow, HasDues, IsDue, IsFollowed, alarms_in, due_turn, moment_in, next_turns, turns_done}
-use Rattle.lot_playback.specs.Following.{CanFollowTurn, FollowsTurn, HasDuesBefore, IsTold, ToldTurn}
-use Rattle.lot_playback.specs.Owed.{Answers}
-use Rattle.lot_playback.specs.declared.turn.Turn.{Turn}
-use Rattle.lot_playback.specs.Orders.{IsAtTime}
-use Rattle.lot_playback.specs.Stages.{IsNext, answer_in}
-use Rattle.lot_playback.specs.TicksBelow.{HasOthersAbove}
+use Rattle.lot_playback.proofs.Common.{Answered, Answers, AreAlarms, CanFollow, CanFollowTurn, Due, Event, FollowsTurn, HasDues, HasDuesBefore, HasOthersAbove, IsAtTime, IsDue, IsFollowed, IsNext, IsTold, IsWithinBounds, Layout, NextTurn, Option, Program, Reply, Seen, Sleeper, Some, Timekeeper, ToldTurn, Turn, World, after_turn, alarms_after, alarms_in, answer_in, ap, arith, clocks_after, due_turn, is_idle_draw, length, moment_in, next_turns, opening, refl, room-small, rules, sleeper_on, subst, sym, system_turn, thread_on, timed_room, turn_due, turn_in, turns_done, vec_len, world_of, ℕ, [], ◌++◌, ◌+◌, ◌<◌, ◌^◌, ◌∙◌, ◌∷◌, ◌≡◌, ◌≤◌}
 use Rattle.lot_playback.proofs.TickFacts.{found-for, ran-on}
 use Rattle.lot_playback.proofs.ClockFacts.{time-due, time-made, time-more, time-there}
 use Rattle.lot_playback.proofs.FollowFacts.{answer-is, followed-more, one-next, room-few, turn-answers, within-room, world-more}

@@ -1,12 +1,5 @@
 -- The turn that is due is the timer's, if its actor is above the processors; its thread sleeps then.
-use Rattle.std.proofs.Common.{◌≡◌, ◌+◌, ◌-◌, ◌<◌, ◌≤◌, length, refl, sym, ◌∙◌, ap, arith}
-use Rattle.lot_machine.specs.Bounds.{IsBetween}
-use Rattle.lot_simulation.specs.declared.timed.Due.{Due}
-use Rattle.lot_simulation.proofs.TimedRuns.{due-there}
-use Rattle.lot_engine.specs.Playing.{turn_in}
-use Rattle.lot_engine.specs.Seen.{Seen, after_turn, world_of}
-use Rattle.lot_playback.specs.declared.timekeeper.Timekeeper.{Timekeeper}
-use Rattle.lot_playback.specs.InTime.{IsDue, moment_in}
+use Rattle.lot_playback.proofs.Common.{Due, IsBetween, IsDue, Seen, Timekeeper, after_turn, ap, arith, due-there, length, moment_in, refl, sym, turn_in, world_of, ◌+◌, ◌-◌, ◌<◌, ◌∙◌, ◌≡◌, ◌≤◌}
 use Rattle.lot_playback.proofs.AlarmFacts.{alarm-due, asleep-there, sleeper-numbered, sleeper-there}
 use Rattle.lot_playback.proofs.making.make_due.Goals as goal
 

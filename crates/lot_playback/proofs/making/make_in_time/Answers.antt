@@ -1,11 +1,4 @@
-use Rattle.std.proofs.Common.{◌≡◌, ◌∙◌, length, subst, sym}
-use Rattle.lot_graph.specs.Found.{FoundNodes}
-use Rattle.lot_engine.specs.Seen.{Seen}
-use Rattle.lot_playback.specs.declared.currencies.CurrencyTable.{CurrencyTable}
-use Rattle.lot_playback.specs.declared.timekeeper.Timekeeper.{Timekeeper}
-use Rattle.lot_playback.specs.Orders.{IsAtTime}
-use Rattle.lot_playback.specs.Stages.{IsNext, MakesTurn, Stage}
-use Rattle.lot_playback.specs.Turns.{MadeTurn}
+use Rattle.lot_playback.proofs.Common.{CurrencyTable, FoundNodes, IsAtTime, IsNext, MadeTurn, MakesTurn, Seen, Stage, Timekeeper, length, subst, sym, ◌∙◌, ◌≡◌}
 use Rattle.lot_playback.proofs.FollowFacts.{looked-followed}
 use Rattle.lot_playback.proofs.making.make_in_time.Goals as goal
 

@@ -1,15 +1,4 @@
-use Rattle.std.proofs.Common.{◌≡◌, ◌+◌, ℕ, Bool, true, false, not, None, refl, arith}
-use Rattle.std.specs.Prelude.{IsFalse, IsTrue}
-use Rattle.lot_machine.specs.declared.event.Event.{Event}
-use Rattle.lot_machine.specs.declared.reply.Reply.{Reply}
-use Rattle.lot_simulation.specs.World.TurnAnswer.{Answered}
-use Rattle.lot_engine.specs.Playing.{IsPlayed, turn_in}
-use Rattle.lot_engine.specs.Seen.{Seen, after_turn}
-use Rattle.lot_engine.specs.Turns.{IsEnded}
-use Rattle.lot_playback.specs.declared.turn.NextTurn.{NextTurn}
-use Rattle.lot_playback.specs.Orders.{IsAtPlace}
-use Rattle.lot_playback.specs.Stages.{IsNext, MakesTurn}
-use Rattle.lot_playback.specs.Turns.{MadeTurn}
+use Rattle.lot_playback.proofs.Common.{Answered, Bool, Event, IsAtPlace, IsEnded, IsFalse, IsNext, IsPlayed, IsTrue, MadeTurn, MakesTurn, NextTurn, None, Reply, Seen, after_turn, arith, false, not, refl, true, turn_in, ℕ, ◌+◌, ◌≡◌}
 use Rattle.lot_playback.proofs.MadeFacts.{counted-answered, counted-ended, ended-answer}
 use Rattle.lot_playback.proofs.PlaceFacts.{place-actor, place-below, place-made, place-more, place-room}
 use Rattle.lot_playback.proofs.making.make_scheduled.Goals as goal

@@ -1,8 +1,4 @@
-use Rattle.std.proofs.Common.{◌≡◌, ◌≤◌, ◌<◌, Option, None, Some, length, refl, sym, ◌∙◌, ap, arith, rules}
-use Rattle.std.specs.Option.{IfNone}
-use Rattle.lot_simulation.specs.Timed.{next_due}
-use Rattle.lot_simulation.specs.World.{Program}
-use Rattle.lot_playback.specs.InTime.{moment_in}
+use Rattle.lot_playback.proofs.Common.{IfNone, None, Option, Program, Some, ap, arith, length, moment_in, next_due, refl, rules, sym, ◌<◌, ◌∙◌, ◌≡◌, ◌≤◌}
 use Rattle.lot_playback.proofs.ClockFacts.{time-next, time-none}
 use Rattle.lot_playback.proofs.FollowFacts.{full-next, none-made, none-next}
 use Rattle.lot_playback.proofs.making.next_in_time.Goals as goal

@@ -1,5 +1,4 @@
-use Rattle.std.proofs.Common.{ℕ, List, None, length, get_or, refl, sym, ◌∙◌, ap, arith}
-use Rattle.lot_simulation.specs.World.{Program}
+use Rattle.lot_playback.proofs.Common.{List, None, Program, ap, arith, get_or, length, refl, sym, ℕ, ◌∙◌}
 use Rattle.lot_playback.proofs.PlaceFacts.{place-next, place-none}
 use Rattle.lot_playback.proofs.making.next_scheduled.Goals as goal
 

@@ -1,7 +1,4 @@
-use Rattle.std.proofs.Common.{◌≡◌, ◌+◌, ap, ◌∙◌, arith, refl}
-use Rattle.lot_machine.specs.State.{value_of}
-use Rattle.lot_simulation.specs.TimedReport.{live_part}
-use Rattle.lot_engine.specs.Seen.{Seen, world_of}
+use Rattle.lot_playback.proofs.Common.{Seen, ap, arith, live_part, refl, value_of, world_of, ◌+◌, ◌∙◌, ◌≡◌}
 use Rattle.lot_playback.proofs.ValueFacts.{value-more}
 use Rattle.lot_playback.proofs.values.live_value.Goals as goal
 

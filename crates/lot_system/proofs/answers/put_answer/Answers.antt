@@ -1,12 +1,4 @@
-use Rattle.std.proofs.Common.{◌≡◌, ℕ, ◌++◌, codes, Err, refl, rules, sym, ◌∙◌, ap, subst}
-use Rattle.std.specs.Fmt.{decimal}
-use Rattle.lot_machine.specs.declared.event.Event.{Event}
-use Rattle.lot_machine.specs.declared.reply.Reply.{Reply}
-use Rattle.lot_simulation.specs.declared.style.LineStyle.{LineStyle}
-use Rattle.lot_simulation.specs.Texts.{front, listing_text, plain_text, reply_text}
-use Rattle.lot_io.specs.Writing.{Put}
-use Rattle.lot_io.proofs.WritingFacts.{begins-front}
-use Rattle.lot_engine.specs.Seen.{world_of}
+use Rattle.lot_system.proofs.Common.{Err, Event, LineStyle, Put, Reply, ap, begins-front, codes, decimal, front, listing_text, plain_text, refl, reply_text, rules, subst, sym, world_of, ℕ, ◌++◌, ◌∙◌, ◌≡◌}
 use Rattle.lot_system.proofs.WritingFacts.{put-written}
 use Rattle.lot_system.proofs.answers.put_answer.Goals as goal
 

@@ -1,7 +1,5 @@
 -- Flushing writes nothing more.
-use Rattle.lot_simulation.specs.Output.{end_text}
-use Rattle.lot_io.proofs.WritingFacts.{writes-flushed}
-use Rattle.lot_system.specs.Endings.{shown_end}
+use Rattle.lot_system.proofs.Common.{end_text, shown_end, writes-flushed}
 use Rattle.lot_system.proofs.ending.write_end.Goals as goal
 
 pub returns-clause-text : goal.returns-clause-text

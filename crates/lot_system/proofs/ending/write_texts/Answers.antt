@@ -1,10 +1,5 @@
 -- The history's lines are written after the report.
-use Rattle.std.proofs.Common.{◌≡◌, ℕ, List, Err, rules, ◌∙◌, ap, subst}
-use Rattle.lot_simulation.specs.Formats.{unit_of}
-use Rattle.lot_simulation.specs.Report.{report, history_lines}
-use Rattle.lot_engine.specs.Seen.{Seen, shown_history}
-use Rattle.lot_io.specs.Writing.{Written}
-use Rattle.lot_io.proofs.WritingFacts.{begins-front, writes-after}
+use Rattle.lot_system.proofs.Common.{Err, List, Seen, Written, ap, begins-front, history_lines, report, rules, shown_history, subst, unit_of, writes-after, ℕ, ◌∙◌, ◌≡◌}
 use Rattle.lot_system.proofs.ending.write_texts.Goals as goal
 
 lines-are : (s now : Seen) (unit : ℕ) (history lines : List ℕ) → now ≡ s → unit ≡ now.setting.program.limits.unit → history ≡ lines → history_lines unit history ≡ history_lines s.setting.program.limits.unit lines

@@ -1,10 +1,4 @@
-use Rattle.std.proofs.Common.{ℕ, ◌∙◌}
-use Rattle.lot_machine.specs.Rows.{currency_name}
-use Rattle.lot_simulation.specs.Timed.{timed_turns}
-use Rattle.lot_engine.specs.Seen.{world_of}
-use Rattle.lot_print.specs.declared.figures.Figures.{Figures}
-use Rattle.lot_system.specs.ReportTable.{currency_shares_in}
-use Rattle.lot_system.specs.Seeds.{currency_after}
+use Rattle.lot_system.proofs.Common.{Figures, currency_after, currency_name, currency_shares_in, timed_turns, world_of, ℕ, ◌∙◌}
 use Rattle.lot_system.proofs.SeedFacts.{rows-left, rows-more}
 use Rattle.lot_system.proofs.figures.add_currencies.Goals as goal
 

@@ -1,6 +1,4 @@
-use Rattle.std.proofs.Common.{subst, sym}
-use Rattle.lot_playback.proofs.ClockFacts.{time-end}
-use Rattle.lot_playback.specs.InTime.{IsAtEnd}
+use Rattle.lot_system.proofs.Common.{IsAtEnd, subst, sym, time-end}
 use Rattle.lot_system.proofs.figures.add_play.Goals as goal
 
 pub add_timed-requires-clause-end : goal.add_timed-requires-clause-end

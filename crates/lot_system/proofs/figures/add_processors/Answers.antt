@@ -1,11 +1,4 @@
-use Rattle.std.proofs.Common.{ℕ, ◌+◌, ◌∙◌, subst}
-use Rattle.lot_simulation.specs.Timed.{timed_turns}
-use Rattle.lot_simulation.specs.TimedReport.{actor_turns}
-use Rattle.lot_playback.specs.InTime.{moment_in}
-use Rattle.lot_print.specs.declared.figures.ProcessorFigures.{ProcessorFigures}
-use Rattle.lot_print.specs.declared.timed_totals.TimedProcessorTotal.{TimedProcessorTotal}
-use Rattle.lot_system.specs.ReportTable.{processor_in}
-use Rattle.lot_system.specs.Seeds.{IsChangedAt, processor_added}
+use Rattle.lot_system.proofs.Common.{IsChangedAt, ProcessorFigures, TimedProcessorTotal, actor_turns, moment_in, processor_added, processor_in, subst, timed_turns, ℕ, ◌+◌, ◌∙◌}
 use Rattle.lot_system.proofs.SeedFacts.{rows-left, rows-more}
 use Rattle.lot_system.proofs.figures.add_processors.Goals as goal
 

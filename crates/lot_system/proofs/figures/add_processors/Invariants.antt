@@ -1,11 +1,4 @@
-use Rattle.std.proofs.Common.{◌≡◌, ℕ, ◌+◌, ◌<◌, ◌≤◌, length}
-use Rattle.std.specs.Prelude.{slice_index_or}
-use Rattle.lot_simulation.specs.Timed.{timed_turns}
-use Rattle.lot_simulation.specs.TimedReport.{actor_turns}
-use Rattle.lot_playback.specs.InTime.{moment_in}
-use Rattle.lot_print.specs.declared.figures.ProcessorFigures.{ProcessorFigures}
-use Rattle.lot_system.specs.ReportTable.{processor_in}
-use Rattle.lot_system.specs.Seeds.{processor_added}
+use Rattle.lot_system.proofs.Common.{ProcessorFigures, actor_turns, length, moment_in, processor_added, processor_in, slice_index_or, timed_turns, ℕ, ◌+◌, ◌<◌, ◌≡◌, ◌≤◌}
 use Rattle.lot_system.proofs.figures.add_processors.Given as goal
 
 -- the figures of the processors passed so far have those of the play, and the others are unchanged

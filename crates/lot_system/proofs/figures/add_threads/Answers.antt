@@ -1,10 +1,4 @@
-use Rattle.std.proofs.Common.{◌≡◌, ℕ, ◌+◌, ◌∙◌, ap}
-use Rattle.lot_machine.specs.Rows.{thread_row}
-use Rattle.lot_simulation.specs.Report.{ticks_in, total_of, turns_made}
-use Rattle.lot_engine.specs.Seen.{Seen, world_of}
-use Rattle.lot_engine.specs.declared.counts.Counts.{Counts}
-use Rattle.lot_print.specs.declared.figures.Figures.{Figures}
-use Rattle.lot_system.specs.Seeds.{IsChangedAt, thread_after, told_at_end}
+use Rattle.lot_system.proofs.Common.{Counts, Figures, IsChangedAt, Seen, ap, thread_after, thread_row, ticks_in, told_at_end, total_of, turns_made, world_of, ℕ, ◌+◌, ◌∙◌, ◌≡◌}
 use Rattle.lot_system.proofs.SeedFacts.{rows-left, rows-more}
 use Rattle.lot_system.proofs.figures.add_threads.Goals as goal
 

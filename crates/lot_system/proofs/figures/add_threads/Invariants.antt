@@ -1,10 +1,4 @@
-use Rattle.std.proofs.Common.{◌≡◌, ℕ, ◌+◌, ◌<◌, ◌≤◌, length}
-use Rattle.std.specs.Prelude.{slice_index_or}
-use Rattle.lot_machine.specs.Rows.{thread_row}
-use Rattle.lot_simulation.specs.Report.{ticks_in, total_of, turns_made}
-use Rattle.lot_engine.specs.Seen.{world_of}
-use Rattle.lot_print.specs.declared.figures.Figures.{Figures}
-use Rattle.lot_system.specs.Seeds.{thread_after, told_at_end}
+use Rattle.lot_system.proofs.Common.{Figures, length, slice_index_or, thread_after, thread_row, ticks_in, told_at_end, total_of, turns_made, world_of, ℕ, ◌+◌, ◌<◌, ◌≡◌, ◌≤◌}
 use Rattle.lot_system.proofs.figures.add_threads.Given as goal
 
 -- the figures of the threads passed so far have those of the play, and the others are unchanged

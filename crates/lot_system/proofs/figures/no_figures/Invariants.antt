@@ -1,5 +1,4 @@
-use Rattle.std.proofs.Common.{◌≡◌, replicate}
-use Rattle.lot_system.specs.Seeds.{no_figures}
+use Rattle.lot_system.proofs.Common.{no_figures, replicate, ◌≡◌}
 use Rattle.lot_system.proofs.figures.no_figures.Given as goal
 
 -- those of the threads passed so far

@@ -1,7 +1,4 @@
-use Rattle.std.proofs.Common.{◌≡◌, [], Err, rules, subst, append-nil}
-use Rattle.lot_simulation.specs.Texts.{fault_line}
-use Rattle.lot_io.specs.Writing.{Begins}
-use Rattle.lot_io.proofs.WritingFacts.{begins-after}
+use Rattle.lot_system.proofs.Common.{Begins, Err, append-nil, begins-after, fault_line, rules, subst, [], ◌≡◌}
 use Rattle.lot_system.proofs.inputs.refuse.Goals as goal
 
 pub returns-in_err-flush-clause-played : goal.returns-in_err-flush-clause-played

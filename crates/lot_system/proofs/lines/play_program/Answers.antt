@@ -1,6 +1,5 @@
 -- All is written before the outcome is known.
-use Rattle.std.proofs.Common.{◌≡◌, Err, refl}
-use Rattle.lot_simulation.specs.Output.{played_output}
+use Rattle.lot_system.proofs.Common.{Err, played_output, refl, ◌≡◌}
 use Rattle.lot_system.proofs.PlayedFacts.{ends-err, err-is}
 use Rattle.lot_system.proofs.lines.play_program.Goals as goal
 

@@ -1,6 +1,4 @@
-use Rattle.std.proofs.Common.{rules}
-use Rattle.lot_system.specs.Texts.{made_texts}
-use Rattle.lot_playback.specs.Turns.{program_turns}
+use Rattle.lot_system.proofs.Common.{made_texts, program_turns, rules}
 use Rattle.lot_system.proofs.LineFacts.{pages-out}
 use Rattle.lot_system.proofs.lines.write_turns.Goals as goal
 

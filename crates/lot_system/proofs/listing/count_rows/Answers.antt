@@ -1,6 +1,4 @@
-use Rattle.std.proofs.Common.{◌≡◌, ◌+◌, sym, ap, ◌∙◌, arith}
-use Rattle.lot_system.specs.Listing.{first_number, is_there}
-use Rattle.lot_engine.specs.Seen.{Seen, world_of}
+use Rattle.lot_system.proofs.Common.{Seen, ap, arith, first_number, is_there, sym, world_of, ◌+◌, ◌∙◌, ◌≡◌}
 use Rattle.lot_system.proofs.ListingFacts.{passing-there, passing-none}
 use Rattle.lot_system.proofs.listing.count_rows.Goals as goal
 use Rattle.lot_system.proofs.listing.count_rows.Goals.{then-has_row, else-has_row}

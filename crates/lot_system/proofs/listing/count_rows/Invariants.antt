@@ -1,6 +1,4 @@
-use Rattle.std.proofs.Common.{◌≡◌, ◌≤◌}
-use Rattle.lot_system.specs.Listing.{rows_among}
-use Rattle.lot_engine.specs.Seen.{world_of}
+use Rattle.lot_system.proofs.Common.{rows_among, world_of, ◌≡◌, ◌≤◌}
 use Rattle.lot_system.proofs.listing.count_rows.Given as goal
 
 -- the rows of the numbers passed so far are counted, and counting changes nothing

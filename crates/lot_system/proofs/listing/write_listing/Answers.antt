@@ -1,14 +1,5 @@
 -- The rows' lines are written after the first.
-use Rattle.std.proofs.Common.{◌≡◌, ◌++◌, codes, Err, rules, subst}
-use Rattle.std.specs.Fmt.{decimal}
-use Rattle.std.specs.List.{flat_map, range_with_len}
-use Rattle.lot_simulation.specs.Texts.{front}
-use Rattle.lot_print.specs.Listings.{listing_line}
-use Rattle.lot_io.specs.Writing.{Begins, Written}
-use Rattle.lot_io.proofs.WritingFacts.{begins-front, writes-after}
-use Rattle.lot_engine.specs.Seen.{given_count}
-use Rattle.lot_system.specs.Listing.{first_number, row_line}
-use Rattle.lot_engine.specs.Seen.{world_of}
+use Rattle.lot_system.proofs.Common.{Begins, Err, Written, begins-front, codes, decimal, first_number, flat_map, front, given_count, listing_line, range_with_len, row_line, rules, subst, world_of, writes-after, ◌++◌, ◌≡◌}
 use Rattle.lot_system.proofs.ListingFacts.{listed-after}
 use Rattle.lot_system.proofs.listing.write_listing.Goals as goal
 

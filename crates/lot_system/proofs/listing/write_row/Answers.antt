@@ -1,11 +1,5 @@
 -- The line is printed with the unit of the limits, which are those of the world.
-use Rattle.std.proofs.Common.{◌≡◌, ℕ, Option, Some, List, [], sym, ◌∙◌, ap, subst}
-use Rattle.std.specs.Option.{option_map_or}
-use Rattle.lot_machine.specs.declared.sizes.Sizes.{Sizes}
-use Rattle.lot_machine.specs.Rows.{currency_row, thread_row, ticket_row}
-use Rattle.lot_simulation.specs.Texts.{currency_line, thread_line, ticket_line}
-use Rattle.lot_io.specs.Writing.{Written}
-use Rattle.lot_engine.specs.Seen.{world_of}
+use Rattle.lot_system.proofs.Common.{List, Option, Sizes, Some, Written, ap, currency_line, currency_row, option_map_or, subst, sym, thread_line, thread_row, ticket_line, ticket_row, world_of, ℕ, [], ◌∙◌, ◌≡◌}
 use Rattle.lot_system.proofs.listing.write_row.Goals as goal
 
 -- the line of a row that there is, with the same unit

@@ -1,7 +1,4 @@
-use Rattle.std.proofs.Common.{◌≡◌, ◌+◌, Err, rules, ◌∙◌, ap, arith}
-use Rattle.lot_engine.specs.Seen.{given_count}
-use Rattle.lot_system.specs.Listing.{first_number, row_line}
-use Rattle.lot_engine.specs.Seen.{world_of}
+use Rattle.lot_system.proofs.Common.{Err, ap, arith, first_number, given_count, row_line, rules, world_of, ◌+◌, ◌∙◌, ◌≡◌}
 use Rattle.lot_system.proofs.WritingFacts.{range-more, range-stops}
 use Rattle.lot_system.proofs.listing.write_rows.Goals as goal
 

@@ -1,8 +1,4 @@
-use Rattle.std.proofs.Common.{◌≡◌, false}
-use Rattle.std.specs.List.{flat_map, range_with_len}
-use Rattle.std.specs.Io.KnownBytes.{Appends}
-use Rattle.lot_system.specs.Listing.{first_number, row_line}
-use Rattle.lot_engine.specs.Seen.{world_of}
+use Rattle.lot_system.proofs.Common.{Appends, false, first_number, flat_map, range_with_len, row_line, world_of, ◌≡◌}
 use Rattle.lot_system.proofs.listing.write_rows.Given as goal
 
 -- the lines of the numbers passed so far are written

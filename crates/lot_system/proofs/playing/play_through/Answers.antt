@@ -1,5 +1,4 @@
-use Rattle.std.proofs.Common.{◌≡◌, ◌++◌, ◌∷◌, [], Err, rules, ap, sym, ◌∙◌, append_assoc}
-use Rattle.lot_playback.specs.Stages.{turns_left}
+use Rattle.lot_system.proofs.Common.{Err, ap, append_assoc, rules, sym, turns_left, [], ◌++◌, ◌∙◌, ◌∷◌, ◌≡◌}
 use Rattle.lot_system.proofs.playing.play_through.Goals as goal
 
 pub returns-in_err-play_turn-clause-stopped : goal.returns-in_err-play_turn-clause-stopped

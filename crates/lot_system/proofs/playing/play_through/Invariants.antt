@@ -1,6 +1,4 @@
-use Rattle.std.proofs.Common.{◌≡◌, ◌++◌, List, length}
-use Rattle.lot_playback.specs.Stages.{HasMade, turns_left}
-use Rattle.lot_playback.specs.Turns.{MadeTurn, program_turns}
+use Rattle.lot_system.proofs.Common.{HasMade, List, MadeTurn, length, program_turns, turns_left, ◌++◌, ◌≡◌}
 use Rattle.lot_system.proofs.playing.play_through.Given as goal
 
 -- some of the program's turns are made, and observed, and the others are left

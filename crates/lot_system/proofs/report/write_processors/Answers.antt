@@ -1,6 +1,4 @@
-use Rattle.std.proofs.Common.{◌≡◌, ◌+◌, Err, rules, arith}
-use Rattle.lot_simulation.specs.Report.{processor_total, turns_made}
-use Rattle.lot_engine.specs.Seen.{world_of}
+use Rattle.lot_system.proofs.Common.{Err, arith, processor_total, rules, turns_made, world_of, ◌+◌, ◌≡◌}
 use Rattle.lot_system.proofs.WritingFacts.{range-more, range-stops}
 use Rattle.lot_system.proofs.report.write_processors.Goals as goal
 

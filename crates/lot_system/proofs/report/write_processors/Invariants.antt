@@ -1,7 +1,4 @@
-use Rattle.std.proofs.Common.{◌≡◌, false}
-use Rattle.std.specs.List.{flat_map, range_with_len}
-use Rattle.std.specs.Io.KnownBytes.{Appends}
-use Rattle.lot_simulation.specs.Report.{processor_total, turns_made}
+use Rattle.lot_system.proofs.Common.{Appends, false, flat_map, processor_total, range_with_len, turns_made, ◌≡◌}
 use Rattle.lot_system.proofs.report.write_processors.Given as goal
 
 -- the lines of the processors passed so far are written

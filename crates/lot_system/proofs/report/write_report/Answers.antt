@@ -1,12 +1,5 @@
 -- Each part is written after those before it.
-use Rattle.std.proofs.Common.{◌≡◌, ◌++◌, ℕ, List, length, codes, Err, rules}
-use Rattle.std.specs.List.{flat_map, range_with_len}
-use Rattle.lot_machine.specs.Numbered.{numbers}
-use Rattle.lot_simulation.specs.Report.{thread_total, processor_total, whole_total, turns_made}
-use Rattle.lot_machine.specs.Rows.{thread_row}
-use Rattle.lot_simulation.specs.Texts.{lines_for}
-use Rattle.lot_engine.specs.Seen.{Seen, world_of}
-use Rattle.lot_io.proofs.WritingFacts.{begins-after, begins-front, writes-after}
+use Rattle.lot_system.proofs.Common.{Err, List, Seen, begins-after, begins-front, codes, flat_map, length, lines_for, numbers, processor_total, range_with_len, rules, thread_row, thread_total, turns_made, whole_total, world_of, writes-after, ℕ, ◌++◌, ◌≡◌}
 use Rattle.lot_system.proofs.report.write_report.Goals as goal
 
 abbrev threads : Seen → List ℕ

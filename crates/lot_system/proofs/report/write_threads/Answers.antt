@@ -1,9 +1,4 @@
-use Rattle.std.proofs.Common.{◌≡◌, ◌+◌, ℕ, List, [], length, Err, rules, ◌∙◌, arith}
-use Rattle.std.specs.Option.{option_map_or}
-use Rattle.lot_machine.specs.Rows.{thread_row}
-use Rattle.lot_engine.specs.Seen.{Seen, world_of}
-use Rattle.lot_system.specs.declared.form.ReportForm.{ReportForm}
-use Rattle.lot_system.specs.ReportTable.{thread_text}
+use Rattle.lot_system.proofs.Common.{Err, List, ReportForm, Seen, arith, length, option_map_or, rules, thread_row, thread_text, world_of, ℕ, [], ◌+◌, ◌∙◌, ◌≡◌}
 use Rattle.lot_system.proofs.WritingFacts.{range-more, range-stops}
 use Rattle.lot_system.proofs.report.write_threads.Goals as goal
 

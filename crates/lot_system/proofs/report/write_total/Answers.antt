@@ -1,5 +1,4 @@
-use Rattle.std.proofs.Common.{ap}
-use Rattle.lot_engine.specs.declared.counts.Counts.{Counts}
+use Rattle.lot_system.proofs.Common.{Counts, ap}
 use Rattle.lot_system.proofs.report.write_total.Goals as goal
 
 pub returns : goal.returns

@@ -1,13 +1,8 @@
 -- The end of the play is that of the system it had.
-use Rattle.std.proofs.Common.{◌||◌, ap, subst, sym, ◌∙◌}
-use Rattle.lot_engine.specs.Seen.{Seen}
-use Rattle.lot_playback.specs.Orders.{IsInOrder}
-use Rattle.lot_playback.specs.Stages.{HasMade}
-use Rattle.lot_playback.specs.Turns.{program_turns}
+use Rattle.lot_system.proofs.Common.{HasMade, IsInOrder, Seen, ap, program_turns, stopped_in, subst, sym, ◌||◌, ◌∙◌}
 use Rattle.lot_system.proofs.PlayedFacts.{on-any}
 use Rattle.lot_system.proofs.RefusedFacts.{stopped-at-end}
 use Rattle.lot_system.proofs.SeedFacts.{over-at-end}
-use Rattle.lot_system.specs.Leaving.{stopped_in}
 use Rattle.lot_system.proofs.report_table.end_with_table.Goals as goal
 
 pub returns-clause-stopped : goal.returns-clause-stopped

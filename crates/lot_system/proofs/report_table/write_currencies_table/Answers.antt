@@ -1,15 +1,6 @@
 -- The columns' names, and then the rows of the currencies.
-use Rattle.std.proofs.Common.{◌≡◌, ℕ, List, Err, rules}
-use Rattle.lot_machine.specs.Rows.{currency_name}
-use Rattle.lot_simulation.specs.Below.{currency_numbers}
-use Rattle.lot_simulation.specs.Texts.{lines_for}
-use Rattle.lot_simulation.specs.Timed.{timed_turns}
-use Rattle.lot_engine.specs.Seen.{Seen, world_of}
-use Rattle.lot_io.proofs.WritingFacts.{begins-front, writes-after}
+use Rattle.lot_system.proofs.Common.{CurrencyTable, Err, List, Seen, begins-front, currency_name, currency_numbers, header_row, lines_for, rules, timed_currency_text, timed_turns, world_of, writes-after, ℕ, ◌≡◌}
 use Rattle.lot_print.specs.declared.table_rows.Columns.TheVariants.{Currencies}
-use Rattle.lot_print.specs.TableRows.{header_row}
-use Rattle.lot_system.specs.declared.form.ReportForm.TheVariants.{CurrencyTable}
-use Rattle.lot_system.specs.ReportTable.{timed_currency_text}
 use Rattle.lot_system.proofs.report_table.write_currencies_table.Goals as goal
 
 abbrev currencies : Seen → List ℕ

@@ -1,14 +1,5 @@
 -- The columns' names, and then the rows of the threads.
-use Rattle.std.proofs.Common.{◌≡◌, ℕ, List, Err, rules}
-use Rattle.lot_machine.specs.Numbered.{numbers}
-use Rattle.lot_machine.specs.Rows.{thread_row}
-use Rattle.lot_simulation.specs.Texts.{lines_for}
-use Rattle.lot_engine.specs.Seen.{Seen, world_of}
-use Rattle.lot_io.proofs.WritingFacts.{begins-front, writes-after}
-use Rattle.lot_print.specs.declared.table_rows.Columns.TheVariants.{Totals}
-use Rattle.lot_print.specs.TableRows.{header_row}
-use Rattle.lot_system.specs.declared.form.ReportForm.TheVariants.{Table}
-use Rattle.lot_system.specs.ReportTable.{thread_text}
+use Rattle.lot_system.proofs.Common.{Err, List, Seen, Table, Totals, begins-front, header_row, lines_for, numbers, rules, thread_row, thread_text, world_of, writes-after, ℕ, ◌≡◌}
 use Rattle.lot_system.proofs.report_table.write_scheduled.Goals as goal
 
 abbrev threads : Seen → List ℕ

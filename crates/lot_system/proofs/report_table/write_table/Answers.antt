@@ -1,6 +1,4 @@
-use Rattle.std.proofs.Common.{subst}
-use Rattle.lot_io.specs.Writing.{Written}
-use Rattle.lot_playback.proofs.ClockFacts.{time-end}
+use Rattle.lot_system.proofs.Common.{Written, subst, time-end}
 use Rattle.lot_system.proofs.TableFacts.{scheduled-is, timed-is}
 use Rattle.lot_system.proofs.report_table.write_table.Goals as goal
 

@@ -1,15 +1,5 @@
 -- The columns' names, and then the rows of the threads.
-use Rattle.std.proofs.Common.{◌≡◌, ℕ, List, Err, rules}
-use Rattle.lot_machine.specs.Numbered.{numbers}
-use Rattle.lot_machine.specs.Rows.{thread_row}
-use Rattle.lot_simulation.specs.Texts.{lines_for}
-use Rattle.lot_simulation.specs.Timed.{timed_turns}
-use Rattle.lot_engine.specs.Seen.{Seen, world_of}
-use Rattle.lot_io.proofs.WritingFacts.{begins-front, writes-after}
-use Rattle.lot_print.specs.declared.table_rows.Columns.TheVariants.{TimedTotals}
-use Rattle.lot_print.specs.TableRows.{header_row}
-use Rattle.lot_system.specs.declared.form.ReportForm.TheVariants.{Table}
-use Rattle.lot_system.specs.ReportTable.{timed_thread_text}
+use Rattle.lot_system.proofs.Common.{Err, List, Seen, Table, TimedTotals, begins-front, header_row, lines_for, numbers, rules, thread_row, timed_thread_text, timed_turns, world_of, writes-after, ℕ, ◌≡◌}
 use Rattle.lot_system.proofs.report_table.write_timed.Goals as goal
 
 abbrev threads : Seen → List ℕ

@@ -1,11 +1,8 @@
 -- The end of the play is that of the system it had.
-use Rattle.std.proofs.Common.{◌||◌, ap, subst, sym, ◌∙◌}
-use Rattle.lot_engine.specs.Seen.{Seen}
-use Rattle.lot_playback.specs.Orders.{IsInOrder}
+use Rattle.lot_system.proofs.Common.{IsInOrder, Seen, ap, stopped_in, subst, sym, ◌||◌, ◌∙◌}
 use Rattle.lot_system.proofs.PlayedFacts.{on-any}
 use Rattle.lot_system.proofs.RefusedFacts.{stopped-at-end}
 use Rattle.lot_system.proofs.SeedFacts.{over-at-end}
-use Rattle.lot_system.specs.Leaving.{stopped_in}
 use Rattle.lot_system.proofs.reports.end_play.Goals as goal
 
 pub returns-clause-stopped : goal.returns-clause-stopped

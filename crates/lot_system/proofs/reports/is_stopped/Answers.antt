@@ -1,5 +1,4 @@
-use Rattle.std.proofs.Common.{◌∙◌, ap, sym}
-use Rattle.lot_system.specs.Leaving.{stopped_in}
+use Rattle.lot_system.proofs.Common.{ap, stopped_in, sym, ◌∙◌}
 use Rattle.lot_system.proofs.reports.is_stopped.Goals as goal
 
 pub returns-in-InTime : goal.returns-in-InTime

@@ -1,10 +1,4 @@
-use Rattle.std.proofs.Common.{◌≡◌, ℕ, ◌∙◌, Option, None, Some, true, false, refl, sym, ap, subst}
-use Rattle.std.specs.Prelude.{IsSome, is_some}
-use Rattle.lot_io.specs.Writing.{Written}
-use Rattle.lot_simulation.specs.TimedReport.{timed_report}
-use Rattle.lot_simulation.specs.World.{Program}
-use Rattle.lot_system.specs.Texts.{last_report}
-use Rattle.lot_playback.proofs.ClockFacts.{time-end}
+use Rattle.lot_system.proofs.Common.{IsSome, None, Option, Program, Some, Written, ap, false, is_some, last_report, refl, subst, sym, time-end, timed_report, true, ℕ, ◌∙◌, ◌≡◌}
 use Rattle.lot_system.proofs.reports.report_in_time.Goals as goal
 
 pub write_timed_report-requires-clause-end : goal.write_timed_report-requires-clause-end

@@ -1,10 +1,4 @@
-use Rattle.std.proofs.Common.{◌≡◌, sym, ◌∙◌, ap, subst}
-use Rattle.lot_io.specs.Writing.{Written}
-use Rattle.lot_simulation.specs.Report.{report}
-use Rattle.lot_simulation.specs.World.{Program}
-use Rattle.lot_engine.proofs.PlayingFacts.{report-is}
-use Rattle.lot_system.specs.Texts.{last_report}
-use Rattle.lot_playback.proofs.PlaceFacts.{place-end}
+use Rattle.lot_system.proofs.Common.{Program, Written, ap, last_report, place-end, report, report-is, subst, sym, ◌∙◌, ◌≡◌}
 use Rattle.lot_system.proofs.reports.report_scheduled.Goals as goal
 
 pub returns-clause-text : goal.returns-clause-text

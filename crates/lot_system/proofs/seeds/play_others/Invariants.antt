@@ -1,7 +1,4 @@
-use Rattle.std.proofs.Common.{◌≡◌, ◌||◌, ◌-◌, ◌<◌, ◌≤◌, Some}
-use Rattle.lot_simulation.specs.Seeded.{with_seed}
-use Rattle.lot_system.specs.Leaving.{any_ends_refused, ends_refused}
-use Rattle.lot_system.specs.Seeds.{AreAllFigures, seeds_between}
+use Rattle.lot_system.proofs.Common.{AreAllFigures, Some, any_ends_refused, ends_refused, seeds_between, with_seed, ◌-◌, ◌<◌, ◌||◌, ◌≡◌, ◌≤◌}
 use Rattle.lot_system.proofs.seeds.play_others.Given as goal
 
 -- the figures over the plays so far

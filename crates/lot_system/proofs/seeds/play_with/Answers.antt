@@ -1,9 +1,5 @@
 -- What is played is the program with the seed.
-use Rattle.std.proofs.Common.{◌≡◌, ◌||◌, ap, sym, subst, ◌∙◌}
-use Rattle.std.specs.Prelude.{OnOk}
-use Rattle.lot_simulation.specs.World.{Program}
-use Rattle.lot_system.specs.Leaving.{ends_refused}
-use Rattle.lot_system.specs.Seeds.{AreOverOneMore}
+use Rattle.lot_system.proofs.Common.{AreOverOneMore, OnOk, Program, ap, ends_refused, subst, sym, ◌||◌, ◌∙◌, ◌≡◌}
 use Rattle.lot_system.proofs.seeds.play_with.Goals as goal
 
 pub play_seeded-requires-clause-threads : goal.play_seeded-requires-clause-threads

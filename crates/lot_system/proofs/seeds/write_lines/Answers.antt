@@ -1,8 +1,5 @@
 -- The lines or rows of the threads, and then the others.
-use Rattle.std.proofs.Common.{◌≡◌, Err, rules}
-use Rattle.lot_print.specs.declared.figures.Subject.TheVariants.{Thread}
-use Rattle.lot_system.specs.Seeds.{others_text, seeds_between, subjects_text}
-use Rattle.lot_io.proofs.WritingFacts.{begins-front, writes-after}
+use Rattle.lot_system.proofs.Common.{Err, Thread, begins-front, others_text, rules, seeds_between, subjects_text, writes-after, ◌≡◌}
 use Rattle.lot_system.proofs.seeds.write_lines.Goals as goal
 
 pub returns-in_err-write_subjects : goal.returns-in_err-write_subjects

@@ -1,8 +1,5 @@
 -- The lines or rows of the currencies, and then the others.
-use Rattle.std.proofs.Common.{◌≡◌, Err, rules}
-use Rattle.lot_print.specs.declared.figures.Subject.TheVariants.{Currency}
-use Rattle.lot_system.specs.Seeds.{seeds_between, subjects_text, totals_text}
-use Rattle.lot_io.proofs.WritingFacts.{begins-front, writes-after}
+use Rattle.lot_system.proofs.Common.{Currency, Err, begins-front, rules, seeds_between, subjects_text, totals_text, writes-after, ◌≡◌}
 use Rattle.lot_system.proofs.seeds.write_others.Goals as goal
 
 pub returns-in_err-write_subjects : goal.returns-in_err-write_subjects

@@ -1,8 +1,4 @@
-use Rattle.std.proofs.Common.{◌≡◌, ◌+◌, ◌<◌, ℕ, Option, List, Err, rules, arith, ap, length}
-use Rattle.lot_machine.specs.declared.sizes.Sizes.{Sizes}
-use Rattle.lot_print.specs.declared.table_rows.FiguresTable.{FiguresTable}
-use Rattle.lot_simulation.specs.World.{Program}
-use Rattle.lot_system.specs.Seeds.{no_processor_figures, processor_over, processor_text, seeds_between}
+use Rattle.lot_system.proofs.Common.{Err, FiguresTable, List, Option, Program, Sizes, ap, arith, length, no_processor_figures, processor_over, processor_text, rules, seeds_between, ℕ, ◌+◌, ◌<◌, ◌≡◌}
 use Rattle.lot_system.proofs.WritingFacts.{range-more, range-stops}
 use Rattle.lot_system.proofs.seeds.write_processors.Goals as goal
 

@@ -1,7 +1,4 @@
-use Rattle.std.proofs.Common.{◌≡◌, false}
-use Rattle.std.specs.List.{flat_map, range_with_len}
-use Rattle.std.specs.Io.KnownBytes.{Appends}
-use Rattle.lot_system.specs.Seeds.{processor_over, processor_text, seeds_between}
+use Rattle.lot_system.proofs.Common.{Appends, false, flat_map, processor_over, processor_text, range_with_len, seeds_between, ◌≡◌}
 use Rattle.lot_system.proofs.seeds.write_processors.Given as goal
 
 -- the lines of the processors passed so far are written

@@ -1,13 +1,5 @@
 -- The first line, and then the others.
-use Rattle.std.proofs.Common.{◌≡◌, ◌++◌, ℕ, Option, List, Err, rules, ap, subst}
-use Rattle.std.specs.Io.KnownBytes.{Appends}
-use Rattle.lot_print.specs.declared.figures.Subject.TheVariants.{Thread}
-use Rattle.lot_print.specs.declared.table_rows.FiguresTable.{FiguresTable}
-use Rattle.lot_simulation.specs.World.{Program}
-use Rattle.lot_io.specs.Writing.{Begins, Written}
-use Rattle.lot_io.proofs.WritingFacts.{appends-both, begins-after, begins-front, writes-flushed}
-use Rattle.lot_system.specs.declared.form.ReportForm.{ReportForm}
-use Rattle.lot_system.specs.Seeds.{others_text, seeds_between, seeds_heading, seeds_report, subjects_text, table_of}
+use Rattle.lot_system.proofs.Common.{Appends, Begins, Err, FiguresTable, List, Option, Program, ReportForm, Thread, Written, ap, appends-both, begins-after, begins-front, others_text, rules, seeds_between, seeds_heading, seeds_report, subjects_text, subst, table_of, writes-flushed, ℕ, ◌++◌, ◌≡◌}
 use Rattle.lot_system.proofs.seeds.write_report.Goals as goal
 
 -- the lines after the first, or the rows

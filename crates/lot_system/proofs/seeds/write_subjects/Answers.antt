@@ -1,8 +1,4 @@
-use Rattle.std.proofs.Common.{◌≡◌, ◌+◌, ◌<◌, ℕ, Option, List, Err, rules, arith}
-use Rattle.lot_print.specs.declared.figures.Subject.{Subject}
-use Rattle.lot_print.specs.declared.table_rows.FiguresTable.{FiguresTable}
-use Rattle.lot_simulation.specs.World.{Program}
-use Rattle.lot_system.specs.Seeds.{count_of, figures_over, figures_text, seeds_between}
+use Rattle.lot_system.proofs.Common.{Err, FiguresTable, List, Option, Program, Subject, arith, count_of, figures_over, figures_text, rules, seeds_between, ℕ, ◌+◌, ◌<◌, ◌≡◌}
 use Rattle.lot_system.proofs.WritingFacts.{range-more, range-stops}
 use Rattle.lot_system.proofs.seeds.write_subjects.Goals as goal
 

@@ -1,7 +1,4 @@
-use Rattle.std.proofs.Common.{◌≡◌, false}
-use Rattle.std.specs.List.{flat_map, range_with_len}
-use Rattle.std.specs.Io.KnownBytes.{Appends}
-use Rattle.lot_system.specs.Seeds.{figures_over, figures_text, seeds_between}
+use Rattle.lot_system.proofs.Common.{Appends, false, figures_over, figures_text, flat_map, range_with_len, seeds_between, ◌≡◌}
 use Rattle.lot_system.proofs.seeds.write_subjects.Given as goal
 
 -- the lines or rows of the threads or currencies passed so far are written

@@ -1,8 +1,5 @@
 -- The lines of the processors, and then the last.
-use Rattle.std.proofs.Common.{◌≡◌, Err, rules, subst}
-use Rattle.lot_system.specs.Seeds.{processors_text, seeds_between, whole_over, whole_text}
-use Rattle.lot_io.specs.Writing.{Written}
-use Rattle.lot_io.proofs.WritingFacts.{begins-front, writes-after}
+use Rattle.lot_system.proofs.Common.{Err, Written, begins-front, processors_text, rules, seeds_between, subst, whole_over, whole_text, writes-after, ◌≡◌}
 use Rattle.lot_system.proofs.seeds.write_totals.Goals as goal
 
 pub returns-in_err-write_processors : goal.returns-in_err-write_processors

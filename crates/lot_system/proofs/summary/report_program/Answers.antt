@@ -1,6 +1,5 @@
 -- The report is all that is written.
-use Rattle.std.proofs.Common.{◌≡◌, Err, rules}
-use Rattle.lot_system.specs.ReportTable.{report_text}
+use Rattle.lot_system.proofs.Common.{Err, report_text, rules, ◌≡◌}
 use Rattle.lot_system.proofs.PlayedFacts.{ends-err}
 use Rattle.lot_system.proofs.summary.report_program.Goals as goal
 

@@ -1,7 +1,4 @@
-use Rattle.std.proofs.Common.{arith, length, refl}
-use Rattle.lot_machine.specs.State.{opening}
-use Rattle.lot_simulation.specs.Timed.{timed_turns}
-use Rattle.lot_engine.specs.Seen.{world_of}
+use Rattle.lot_system.proofs.Common.{arith, length, opening, refl, timed_turns, world_of}
 use Rattle.lot_system.proofs.TimedReportFacts.{currencies-are, currency-shares-are, ticks-are, turns-few}
 use Rattle.lot_system.proofs.timed_currencies.shares_of.Goals as goal
 

@@ -1,11 +1,4 @@
-use Rattle.std.proofs.Common.{◌≡◌, false, []}
-use Rattle.std.specs.List.{flat_map, range_with_len}
-use Rattle.std.specs.Option.{option_map_or}
-use Rattle.std.specs.Io.KnownBytes.{Appends}
-use Rattle.lot_machine.specs.Rows.{currency_name}
-use Rattle.lot_simulation.specs.Timed.{timed_turns}
-use Rattle.lot_engine.specs.Seen.{world_of}
-use Rattle.lot_system.specs.ReportTable.{timed_currency_text}
+use Rattle.lot_system.proofs.Common.{Appends, currency_name, false, flat_map, option_map_or, range_with_len, timed_currency_text, timed_turns, world_of, [], ◌≡◌}
 use Rattle.lot_system.proofs.timed_currencies.write_currencies.Given as goal
 
 -- the lines of the currencies passed so far are written

@@ -1,5 +1,4 @@
-use Rattle.std.proofs.Common.{subst}
-use Rattle.lot_io.specs.Writing.{Written}
+use Rattle.lot_system.proofs.Common.{Written, subst}
 use Rattle.lot_system.proofs.TimedReportFacts.{currency-line}
 use Rattle.lot_system.proofs.timed_currencies.write_currency.Goals as goal
 

@@ -1,6 +1,4 @@
-use Rattle.std.proofs.Common.{◌∙◌, ap, length}
-use Rattle.std.specs.Prelude.{unwrap_or}
-use Rattle.lot_playback.specs.InTime.{moment_in}
+use Rattle.lot_system.proofs.Common.{ap, length, moment_in, unwrap_or, ◌∙◌}
 use Rattle.lot_system.proofs.TimedReportFacts.{early-is}
 use Rattle.lot_system.proofs.timed_report.early_end.Goals as goal
 

@@ -1,7 +1,4 @@
-use Rattle.std.proofs.Common.{◌∙◌, arith, length}
-use Rattle.lot_simulation.specs.Timed.{timed_turns}
-use Rattle.lot_simulation.specs.TimedReport.{life_change}
-use Rattle.lot_engine.specs.Seen.{world_of}
+use Rattle.lot_system.proofs.Common.{arith, length, life_change, timed_turns, world_of, ◌∙◌}
 use Rattle.lot_system.proofs.TimedReportFacts.{lives-are, lives-more}
 use Rattle.lot_system.proofs.timed_report.past_lives.Goals as goal
 

@@ -1,7 +1,4 @@
-use Rattle.std.proofs.Common.{◌≡◌, ◌≤◌, ◌*◌, ◌^◌}
-use Rattle.std.specs.List.{fold, range_with_len}
-use Rattle.lot_simulation.specs.Timed.{timed_turns}
-use Rattle.lot_simulation.specs.TimedReport.{life_change, no_lives, spans_in, with_lives}
+use Rattle.lot_system.proofs.Common.{fold, life_change, no_lives, range_with_len, spans_in, timed_turns, with_lives, ◌*◌, ◌^◌, ◌≡◌, ◌≤◌}
 use Rattle.lot_system.proofs.timed_report.past_lives.Given as goal
 
 -- the lives with the numbers passed so far are added up, each number's as many and as long as their types allow

@@ -1,9 +1,4 @@
-use Rattle.std.proofs.Common.{length, ◌∙◌, ap}
-use Rattle.lot_simulation.specs.Report.{turns_of}
-use Rattle.lot_simulation.specs.Timed.{timed_turns}
-use Rattle.lot_simulation.specs.TimedReport.{actor_turns}
-use Rattle.lot_engine.specs.Counted.{counted}
-use Rattle.lot_playback.specs.InTime.{moment_in}
+use Rattle.lot_system.proofs.Common.{actor_turns, ap, counted, length, moment_in, timed_turns, turns_of, ◌∙◌}
 use Rattle.lot_system.proofs.TimedReportFacts.{history-short, processor-is, turns-are}
 use Rattle.lot_system.proofs.timed_report.processor_total.Goals as goal
 

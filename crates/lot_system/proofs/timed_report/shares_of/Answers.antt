@@ -1,9 +1,4 @@
-use Rattle.std.proofs.Common.{arith, length}
-use Rattle.lot_machine.specs.State.{opening}
-use Rattle.lot_simulation.specs.Timed.{timed_turns}
-use Rattle.lot_simulation.specs.TimedReport.{life_change, mutex_change, reply_change}
-use Rattle.lot_engine.specs.Seen.{world_of}
-use Rattle.lot_playback.specs.declared.sharers.Sharers.TheVariants.{Threads}
+use Rattle.lot_system.proofs.Common.{Threads, arith, length, life_change, mutex_change, opening, reply_change, timed_turns, world_of}
 use Rattle.lot_system.proofs.TimedReportFacts.{dues-are, lives-are, turns-few, mutexes-are, ready-are, replies-are, shares-are, ticks-are, traps-are}
 use Rattle.lot_system.proofs.timed_report.shares_of.Goals as goal
 

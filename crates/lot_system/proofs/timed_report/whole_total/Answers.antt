@@ -1,7 +1,4 @@
-use Rattle.std.proofs.Common.{◌∙◌, ap}
-use Rattle.lot_engine.specs.Counted.{counted}
-use Rattle.lot_simulation.specs.Timed.{timed_turns}
-use Rattle.lot_playback.specs.InTime.{moment_in}
+use Rattle.lot_system.proofs.Common.{ap, counted, moment_in, timed_turns, ◌∙◌}
 use Rattle.lot_system.proofs.TimedReportFacts.{refused-are, turns-are, whole-is}
 use Rattle.lot_system.proofs.timed_report.whole_total.Goals as goal
 

@@ -1,14 +1,5 @@
 -- Each part is written after those before it.
-use Rattle.std.proofs.Common.{◌≡◌, ◌++◌, ℕ, List, codes, Err, rules, subst}
-use Rattle.std.specs.List.{flat_map, range_with_len}
-use Rattle.lot_simulation.specs.Report.{ticks_in, total_of}
-use Rattle.lot_simulation.specs.Timed.{ended_at, timed_turns}
-use Rattle.lot_simulation.specs.TimedReport.{actor_turns, timed_currency_lines, timed_processor_total, timed_thread_lines, timed_whole_total}
-use Rattle.lot_io.proofs.WritingFacts.{begins-after, begins-front, writes-after}
-use Rattle.lot_io.specs.Writing.{Begins, Written}
-use Rattle.lot_playback.specs.declared.timekeeper.Timekeeper.{Timekeeper}
-use Rattle.lot_playback.specs.InTime.{moment_in}
-use Rattle.lot_engine.specs.Seen.{Seen, world_of}
+use Rattle.lot_system.proofs.Common.{Begins, Err, List, Seen, Timekeeper, Written, actor_turns, begins-after, begins-front, codes, ended_at, flat_map, moment_in, range_with_len, rules, subst, ticks_in, timed_currency_lines, timed_processor_total, timed_thread_lines, timed_turns, timed_whole_total, total_of, world_of, writes-after, ℕ, ◌++◌, ◌≡◌}
 use Rattle.lot_system.proofs.TimedReportFacts.{lines-are}
 use Rattle.lot_system.proofs.timed_report.write_lines.Goals as goal
 

@@ -1,7 +1,4 @@
-use Rattle.std.proofs.Common.{ap, subst}
-use Rattle.lot_io.specs.Writing.{Written}
-use Rattle.lot_print.specs.declared.timed_totals.TimedProcessorTotal.{TimedProcessorTotal}
-use Rattle.lot_print.specs.Totals.{timed_processor_line}
+use Rattle.lot_system.proofs.Common.{TimedProcessorTotal, Written, ap, subst, timed_processor_line}
 use Rattle.lot_system.proofs.timed_report.write_processor.Goals as goal
 
 pub returns : goal.returns

@@ -1,9 +1,4 @@
-use Rattle.std.proofs.Common.{◌≡◌, ◌+◌, ℕ, List, Err, rules, arith}
-use Rattle.lot_simulation.specs.Timed.{timed_turns}
-use Rattle.lot_simulation.specs.TimedReport.{actor_turns, timed_processor_total}
-use Rattle.lot_playback.specs.declared.timekeeper.Timekeeper.{Timekeeper}
-use Rattle.lot_playback.specs.InTime.{moment_in}
-use Rattle.lot_engine.specs.Seen.{Seen, world_of}
+use Rattle.lot_system.proofs.Common.{Err, List, Seen, Timekeeper, actor_turns, arith, moment_in, rules, timed_processor_total, timed_turns, world_of, ℕ, ◌+◌, ◌≡◌}
 use Rattle.lot_system.proofs.WritingFacts.{range-more, range-stops}
 use Rattle.lot_system.proofs.timed_report.write_processors.Goals as goal
 

@@ -1,9 +1,4 @@
-use Rattle.std.proofs.Common.{◌≡◌, false}
-use Rattle.std.specs.List.{flat_map, range_with_len}
-use Rattle.std.specs.Io.KnownBytes.{Appends}
-use Rattle.lot_simulation.specs.Timed.{timed_turns}
-use Rattle.lot_simulation.specs.TimedReport.{actor_turns, timed_processor_total}
-use Rattle.lot_playback.specs.InTime.{moment_in}
+use Rattle.lot_system.proofs.Common.{Appends, actor_turns, false, flat_map, moment_in, range_with_len, timed_processor_total, timed_turns, ◌≡◌}
 use Rattle.lot_system.proofs.timed_report.write_processors.Given as goal
 
 -- the lines of the processors passed so far are written

@@ -1,5 +1,4 @@
-use Rattle.std.proofs.Common.{subst}
-use Rattle.lot_io.specs.Writing.{Written}
+use Rattle.lot_system.proofs.Common.{Written, subst}
 use Rattle.lot_system.proofs.TimedReportFacts.{is-table, thread-line, thread-record}
 use Rattle.lot_system.proofs.timed_report.write_thread.Goals as goal
 

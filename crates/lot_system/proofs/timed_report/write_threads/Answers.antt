@@ -1,12 +1,4 @@
-use Rattle.std.proofs.Common.{◌≡◌, ◌+◌, ℕ, List, [], length, Err, rules, ◌∙◌, ap, subst, arith}
-use Rattle.std.specs.List.{flat_map, range_with_len}
-use Rattle.std.specs.Option.{option_map_or}
-use Rattle.std.specs.Io.KnownBytes.{Appends}
-use Rattle.lot_machine.specs.Rows.{thread_row}
-use Rattle.lot_simulation.specs.Timed.{timed_turns}
-use Rattle.lot_engine.specs.Seen.{Seen, world_of}
-use Rattle.lot_system.specs.declared.form.ReportForm.{ReportForm}
-use Rattle.lot_system.specs.ReportTable.{timed_thread_text}
+use Rattle.lot_system.proofs.Common.{Appends, Err, List, ReportForm, Seen, ap, arith, flat_map, length, option_map_or, range_with_len, rules, subst, thread_row, timed_thread_text, timed_turns, world_of, ℕ, [], ◌+◌, ◌∙◌, ◌≡◌}
 use Rattle.lot_system.proofs.WritingFacts.{range-more, range-stops}
 use Rattle.lot_system.proofs.timed_report.write_threads.Goals as goal
 

@@ -1,11 +1,4 @@
-use Rattle.std.proofs.Common.{◌≡◌, false, []}
-use Rattle.std.specs.List.{flat_map, range_with_len}
-use Rattle.std.specs.Option.{option_map_or}
-use Rattle.std.specs.Io.KnownBytes.{Appends}
-use Rattle.lot_machine.specs.Rows.{thread_row}
-use Rattle.lot_simulation.specs.Timed.{timed_turns}
-use Rattle.lot_engine.specs.Seen.{world_of}
-use Rattle.lot_system.specs.ReportTable.{timed_thread_text}
+use Rattle.lot_system.proofs.Common.{Appends, false, flat_map, option_map_or, range_with_len, thread_row, timed_thread_text, timed_turns, world_of, [], ◌≡◌}
 use Rattle.lot_system.proofs.timed_report.write_threads.Given as goal
 
 -- the lines of the threads passed so far are written

@@ -1,13 +1,5 @@
 -- The lines of each report, and then that of an early end.
-use Rattle.std.proofs.Common.{◌≡◌, List, ℕ, Err, length, rules, subst}
-use Rattle.lot_simulation.specs.Timed.{ended_at, timed_turns}
-use Rattle.lot_simulation.specs.TimedReport.{early_end, early_text, timed_report_of}
-use Rattle.lot_simulation.specs.World.{Program}
-use Rattle.lot_io.proofs.WritingFacts.{begins-front, writes-after}
-use Rattle.lot_io.specs.Writing.{Begins, Written}
-use Rattle.lot_playback.specs.declared.timekeeper.Timekeeper.{Timekeeper}
-use Rattle.lot_playback.specs.InTime.{moment_in}
-use Rattle.lot_engine.specs.Seen.{Seen}
+use Rattle.lot_system.proofs.Common.{Begins, Err, List, Program, Seen, Timekeeper, Written, begins-front, early_end, early_text, ended_at, length, moment_in, rules, subst, timed_report_of, timed_turns, writes-after, ℕ, ◌≡◌}
 use Rattle.lot_system.proofs.TimedReportFacts.{early-line, report-is}
 use Rattle.lot_system.proofs.timed_report.write_timed_report.Goals as goal
 

@@ -1,6 +1,4 @@
-use Rattle.std.proofs.Common.{ap, subst}
-use Rattle.lot_io.specs.Writing.{Written}
-use Rattle.lot_print.specs.Totals.{timed_total_line}
+use Rattle.lot_system.proofs.Common.{Written, ap, subst, timed_total_line}
 use Rattle.lot_system.proofs.timed_report.write_total.Goals as goal
 
 pub returns : goal.returns

@@ -1,8 +1,8 @@
 //! Refused lines that can be skipped, and lines that can't.
 use crate::tests::same::check_same_at;
+use lot_diagnostics::line_to_skip;
 use lot_simulation::InputFault;
 use lot_text::{ParseFault, parse};
-use lot_diagnostics::line_to_skip;
 use std::alloc::Global;
 use std::process::Abort;
 

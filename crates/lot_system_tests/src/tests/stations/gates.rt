@@ -3,8 +3,8 @@
 ghost use Rattle.std.specs.Prelude.{All};
 ghost use Rattle.lot_station.specs.BatonSeats.{IsSeatOf};
 
-use crate::tests::stations::full::is_stopped;
 use crate::tests::same::{check_same, check_same_at};
+use crate::tests::stations::full::is_stopped;
 use crate::tests::stations::turnstile::Turnstile;
 use crate::tests::stations::{TWO_PROCESSORS, opened, parsed};
 use lot_engine::System;

@@ -2,8 +2,8 @@
 ghost use Rattle.std.specs.Prelude.{◌≡◌, ◌+◌, All, IfSome, false};
 ghost use Rattle.lot_station.specs.BatonSeats.{IsSeatOf};
 
-use crate::tests::stations::gates::run_seats;
 use crate::tests::same::check_same;
+use crate::tests::stations::gates::run_seats;
 use crate::tests::stations::turnstile::TRIES;
 use lot_engine::System;
 use lot_processors::{Gate, run_all};

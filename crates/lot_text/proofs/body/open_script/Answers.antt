@@ -1,8 +1,5 @@
-use Rattle.std.proofs.Common.{refl, arith, ap, length, sym}
+use Rattle.lot_text.proofs.Common.{Reading, ap, arith, body_after_header, length, reading_of, refl, script_names, sym}
 use Rattle.lot_simulation.specs.declared.input.BodyWord.TheVariants as body
-use Rattle.lot_simulation.specs.Grammar.{body_after_header, script_names}
-use Rattle.lot_simulation.specs.Reading.{Reading}
-use Rattle.lot_text.specs.ReadingFields.{reading_of}
 use Rattle.lot_text.proofs.FaultLemmas.{Gives-refusal, alone-refused}
 use Rattle.lot_text.proofs.NameLemmas.{script-full, script-named, script-refused}
 use Rattle.lot_text.proofs.ReadingLemmas.{with_open}

@@ -1,6 +1,4 @@
-use Rattle.std.proofs.Common.{ap, arith, length, [], ◌∷◌, refl}
-use Rattle.std.proofs.lemmas.List.{length-append}
-use Rattle.lot_text.specs.ReadingFields.{reading_of}
+use Rattle.lot_text.proofs.Common.{ap, arith, length, length-append, reading_of, refl, [], ◌∷◌}
 use Rattle.lot_text.proofs.FaultLemmas.{Gives-memory, Gives-refusal}
 use Rattle.lot_text.proofs.NameLemmas.{port-line}
 use Rattle.lot_text.proofs.ReadingLemmas.{with_ports}

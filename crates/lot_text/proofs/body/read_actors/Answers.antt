@@ -1,7 +1,4 @@
-use Rattle.std.proofs.Common.{◌∙◌, ◌≤◌, ℕ, [], ◌∷◌, Ok, length, ap, append-nil, arith}
-use Rattle.std.proofs.lemmas.List.Elements.{All-nil, All-push, All-same}
-use Rattle.std.proofs.lemmas.Result.{IfOk-from_err}
-use Rattle.lot_simulation.specs.Reading.{actor_below}
+use Rattle.lot_text.proofs.Common.{All-nil, All-push, All-same, IfOk-from_err, Ok, actor_below, ap, append-nil, arith, length, ℕ, [], ◌∙◌, ◌∷◌, ◌≤◌}
 use Rattle.lot_text.proofs.FaultLemmas.{Match-memory, Match-refusal, each-later, each-more, each-refused, more-read}
 use Rattle.lot_text.proofs.body.read_actors.Goals as goal
 

@@ -1,7 +1,4 @@
-use Rattle.std.proofs.Common.{◌≡◌, ℕ, ◌≤◌, List, ◌++◌, length, Ok, Err}
-use Rattle.std.specs.Prelude.{All}
-use Rattle.lot_simulation.specs.declared.input.InputRefusal.{InputRefusal}
-use Rattle.lot_simulation.specs.Reading.{actor_below, each}
+use Rattle.lot_text.proofs.Common.{All, Err, InputRefusal, List, Ok, actor_below, each, length, ℕ, ◌++◌, ◌≡◌, ◌≤◌}
 use Rattle.lot_text.proofs.body.read_actors.Given as goal
 
 abbrev pub invariant-loop-token : goal.invariant-loop-token

@@ -1,6 +1,5 @@
-use Rattle.std.proofs.Common.{arith}
+use Rattle.lot_text.proofs.Common.{arith, reading_of}
 use Rattle.lot_text.proofs.FaultLemmas.{Gives-memory}
-use Rattle.lot_text.specs.ReadingFields.{reading_of}
 use Rattle.lot_text.proofs.ReadingLemmas.{with_schedule}
 use Rattle.lot_text.proofs.body.schedule.Goals as goal
 

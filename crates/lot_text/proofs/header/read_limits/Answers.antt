@@ -1,8 +1,6 @@
-use Rattle.std.proofs.Common.{refl, ◌∷◌}
+use Rattle.lot_text.proofs.Common.{header_line, reading_of, refl, ◌∷◌}
 use Rattle.lot_simulation.specs.declared.input.HeaderWord.TheVariants as header
-use Rattle.lot_text.specs.ReadingFields.{reading_of}
 use Rattle.lot_text.proofs.FaultLemmas.{Gives-refusal, alone-refused}
-use Rattle.lot_simulation.specs.Grammar.{header_line}
 use Rattle.lot_text.proofs.ReadingLemmas.{limits-read, with_limits}
 use Rattle.lot_text.proofs.header.read_limits.Goals as goal
 

@@ -1,8 +1,5 @@
-use Rattle.std.proofs.Common.{refl}
+use Rattle.lot_text.proofs.Common.{header_line, reading_of, refl, true}
 use Rattle.lot_simulation.specs.declared.input.HeaderWord.TheVariants as header
-use Rattle.lot_simulation.specs.Grammar.{header_line}
-use Rattle.std.proofs.Common.{true}
-use Rattle.lot_text.specs.ReadingFields.{reading_of}
 use Rattle.lot_text.proofs.ReadingLemmas.{with_settings}
 use Rattle.lot_text.proofs.FaultLemmas.{Gives-refusal, none-refused}
 use Rattle.lot_text.proofs.header.read_reuse.Goals as goal

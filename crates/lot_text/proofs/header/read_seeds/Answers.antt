@@ -1,9 +1,4 @@
-use Rattle.std.proofs.Common.{◌∙◌, [], ◌∷◌, Ok, length, ap, append-nil, arith}
-use Rattle.std.proofs.lemmas.List.{length-append}
-use Rattle.std.proofs.lemmas.List.Elements.{All-nil, All-push, All-same}
-use Rattle.std.proofs.lemmas.Result.{IfOk-from_err}
-use Rattle.lot_simulation.specs.Reading.{number_between}
-use Rattle.lot_program.specs.Programs.{IsSeed}
+use Rattle.lot_text.proofs.Common.{All-nil, All-push, All-same, IfOk-from_err, IsSeed, Ok, ap, append-nil, arith, length, length-append, number_between, [], ◌∙◌, ◌∷◌}
 use Rattle.lot_text.proofs.FaultLemmas.{Match-memory, Match-refusal, each-later, each-more, each-refused, more-read}
 use Rattle.lot_text.proofs.header.read_seeds.Goals as goal
 

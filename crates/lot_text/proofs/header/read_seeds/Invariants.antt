@@ -1,8 +1,4 @@
-use Rattle.std.proofs.Common.{◌≡◌, ◌+◌, ℕ, List, ◌++◌, length, Ok, Err}
-use Rattle.std.specs.Prelude.{All}
-use Rattle.lot_simulation.specs.declared.input.InputRefusal.{InputRefusal}
-use Rattle.lot_simulation.specs.Reading.{number_between, each}
-use Rattle.lot_program.specs.Programs.{IsSeed}
+use Rattle.lot_text.proofs.Common.{All, Err, InputRefusal, IsSeed, List, Ok, each, length, number_between, ℕ, ◌++◌, ◌+◌, ◌≡◌}
 use Rattle.lot_text.proofs.header.read_seeds.Given as goal
 
 abbrev pub invariant-loop-token : goal.invariant-loop-token

@@ -1,9 +1,5 @@
-use Rattle.std.proofs.Common.{◌≡◌, ℕ, Ok, List, [], ◌∷◌, refl}
+use Rattle.lot_text.proofs.Common.{List, Ok, Reading, header_line, number_alone, reading_of, refl, ℕ, [], ◌>>=◌, ◌∷◌, ◌≡◌}
 use Rattle.lot_simulation.specs.declared.input.HeaderWord.TheVariants as header
-use Rattle.lot_simulation.specs.Grammar.{header_line}
-use Rattle.lot_simulation.specs.Reading.{Reading, ◌>>=◌}
-use Rattle.lot_text.specs.Alone.{number_alone}
-use Rattle.lot_text.specs.ReadingFields.{reading_of}
 use Rattle.lot_text.proofs.ReadingLemmas.{with_settings}
 use Rattle.lot_text.proofs.FaultLemmas.{Gives-refusal}
 use Rattle.lot_text.proofs.header.read_turns.Goals as goal

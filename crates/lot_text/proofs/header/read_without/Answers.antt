@@ -1,11 +1,5 @@
-use Rattle.std.proofs.Common.{◌≡◌, ◌∙◌, ap, sym, refl, Bool, true, false, Err, List, [], ◌∷◌, ℕ, if◌then◌else◌}
-use Rattle.std.specs.Prelude.{codes, not}
-use Rattle.std.specs.Str.{bytes_eq}
-use Rattle.lot_simulation.specs.declared.input.InputRefusal.TheVariants.{BadHeader, BadLine}
-use Rattle.lot_simulation.specs.Reading.{Reading, checked}
+use Rattle.lot_text.proofs.Common.{BadHeader, BadLine, Bool, Err, List, Reading, ap, bytes_eq, checked, codes, false, header_line, if◌then◌else◌, not, reading_of, refl, sym, true, without_line, ℕ, [], ◌∙◌, ◌∷◌, ◌≡◌}
 use Rattle.lot_simulation.specs.declared.input.HeaderWord.TheVariants as header
-use Rattle.lot_simulation.specs.Grammar.{header_line, without_line}
-use Rattle.lot_text.specs.ReadingFields.{reading_of}
 use Rattle.lot_text.proofs.FaultLemmas.{Gives-refusal, alone-refused}
 use Rattle.lot_text.proofs.ReadingLemmas.{with_without}
 use Rattle.lot_text.proofs.header.read_without.Goals as goal

@@ -1,6 +1,5 @@
 -- Each way out is a line of its own kind: ignored, not printable, without a token, a comment, the first, or a later one.
-use Rattle.std.proofs.Common.{Ok, Some, refl}
-use Rattle.lot_simulation.specs.Reading.{Reading}
+use Rattle.lot_text.proofs.Common.{Ok, Reading, Some, refl}
 use Rattle.lot_text.proofs.FaultLemmas.{Fails-then, Gives-fault}
 use Rattle.lot_text.proofs.input.fitting_line.Goals as goal
 

@@ -1,7 +1,4 @@
-use Rattle.std.proofs.Common.{◌≡◌, ◌<◌, ◌+◌, ◌-◌, length, take, drop, sym, ◌∙◌, arith, refl}
-use Rattle.std.proofs.lemmas.Bool.{eqb-false, eqb-true}
-use Rattle.std.proofs.lemmas.List.{take_rest}
-use Rattle.lot_simulation.specs.Lines.{lines_of}
+use Rattle.lot_text.proofs.Common.{arith, drop, eqb-false, eqb-true, length, lines_of, refl, sym, take, take_rest, ◌+◌, ◌-◌, ◌<◌, ◌∙◌, ◌≡◌}
 use Rattle.lot_text.proofs.FirstLine.{last-line, read_lines-goes_on, lines_of-count, length-after, program_in-read, program_in-stops}
 use Rattle.lot_text.proofs.input.parse.Goals as goal
 

@@ -1,6 +1,4 @@
-use Rattle.std.proofs.Common.{◌≡◌, ◌≤◌, ◌+◌, length, None}
-use Rattle.lot_simulation.specs.Grammar.{read_lines}
-use Rattle.lot_simulation.specs.Lines.{lines_of}
+use Rattle.lot_text.proofs.Common.{None, length, lines_of, read_lines, ◌+◌, ◌≡◌, ◌≤◌}
 use Rattle.lot_text.proofs.input.parse.Given as goal
 
 abbrev pub invariant-loop-rest : goal.invariant-loop-rest

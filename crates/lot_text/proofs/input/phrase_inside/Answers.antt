@@ -1,6 +1,4 @@
-use Rattle.std.proofs.Common.{◌≡◌, ◌∙◌, sym, refl, true, false, Some, Result, Ok, Err}
-use Rattle.std.specs.Prelude.{OnOk}
-use Rattle.lot_text.specs.ReadingFields.{reading_of}
+use Rattle.lot_text.proofs.Common.{Err, Ok, OnOk, Result, Some, false, reading_of, refl, sym, true, ◌∙◌, ◌≡◌}
 use Rattle.lot_text.proofs.PhraseLemmas.{phrase-read}
 use Rattle.lot_text.proofs.input.phrase_inside.Goals as goal
 

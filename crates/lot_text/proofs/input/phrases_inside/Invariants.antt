@@ -1,5 +1,4 @@
-use Rattle.std.proofs.Common.{◌≡◌, ◌∷◌, length}
-use Rattle.lot_simulation.specs.Grammar.{phrases_inside, phrases_of}
+use Rattle.lot_text.proofs.Common.{length, phrases_inside, phrases_of, ◌∷◌, ◌≡◌}
 use Rattle.lot_text.proofs.input.phrases_inside.Given as goal
 
 abbrev pub invariant-loop-tokens : goal.invariant-loop-tokens

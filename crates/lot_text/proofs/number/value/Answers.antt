@@ -1,6 +1,4 @@
-use Rattle.std.proofs.Common.{◌≡◌, drop, arith, sym}
-use Rattle.std.proofs.lemmas.List.{drop_all}
-use Rattle.std.specs.Str.Parse.{digits_value}
+use Rattle.lot_text.proofs.Common.{arith, digits_value, drop, drop_all, sym, ◌≡◌}
 use Rattle.lot_text.proofs.NumberLemmas.{within_64_bits-of, digits_value_after-past}
 use Rattle.lot_text.proofs.number.value.Goals as goal
 

@@ -1,5 +1,4 @@
-use Rattle.std.proofs.Common.{◌≡◌, ◌^◌, ◌<◌, drop}
-use Rattle.std.specs.Str.Parse.{digits_value, digits_value_after}
+use Rattle.lot_text.proofs.Common.{digits_value, digits_value_after, drop, ◌<◌, ◌^◌, ◌≡◌}
 use Rattle.lot_text.proofs.number.value.Given as goal
 
 abbrev pub invariant-loop-digit : goal.invariant-loop-digit

@@ -1,12 +1,5 @@
 -- One more seed is the next of the generator, and is one of its values.
-use Rattle.std.proofs.Common.{rules, ◌≡◌, suc, ◌+◌, ◌*◌, ◌%◌, [], ◌∷◌, ◌++◌, length, List, ℕ, sym, ◌∙◌, ap, subst, arith, length-append}
-use Rattle.std.specs.Prelude.{All, map}
-use Rattle.std.specs.List.{range_with_len}
-use Rattle.std.proofs.lemmas.List.FromFn.{map-range_with_len_more}
-use Rattle.std.proofs.lemmas.List.Elements.{All-append, All-replicate}
-use Rattle.lot_machine.specs.Bounds.{IsBetween}
-use Rattle.lot_machine.specs.Lottery.{mixed_seed}
-use Rattle.lot_program.specs.Programs.{IsSeed}
+use Rattle.lot_text.proofs.Common.{All, All-append, All-replicate, IsBetween, IsSeed, List, ap, arith, length, length-append, map, map-range_with_len_more, mixed_seed, range_with_len, rules, subst, suc, sym, ℕ, [], ◌%◌, ◌*◌, ◌++◌, ◌+◌, ◌∙◌, ◌∷◌, ◌≡◌}
 use Rattle.lot_text.proofs.reading.mixed_seeds.Goals as goal
 
 pub loop-preserved : goal.loop-preserved

@@ -1,10 +1,5 @@
 -- the seeds so far are mixed, and the last is a seed
-use Rattle.std.proofs.Common.{◌≡◌}
-use Rattle.std.specs.Prelude.{map}
-use Rattle.std.specs.List.{range_with_len}
-use Rattle.lot_machine.specs.Bounds.{IsBetween}
-use Rattle.lot_machine.specs.Lottery.{mixed_seed}
-use Rattle.lot_program.specs.Parts.{AreSeeds}
+use Rattle.lot_text.proofs.Common.{AreSeeds, IsBetween, map, mixed_seed, range_with_len, ◌≡◌}
 use Rattle.lot_text.proofs.reading.mixed_seeds.Given as goal
 
 abbrev pub invariant-loop : goal.invariant-loop

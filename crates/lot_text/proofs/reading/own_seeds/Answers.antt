@@ -1,5 +1,4 @@
-use Rattle.std.proofs.Common.{◌≡◌, arith}
-use Rattle.lot_program.proofs.SeedLemmas.{range_with_len-push, AreSeeds-own}
+use Rattle.lot_text.proofs.Common.{AreSeeds-own, arith, range_with_len-push, ◌≡◌}
 use Rattle.lot_text.proofs.reading.own_seeds.Goals as goal
 
 pub loop-processor-preserved : goal.loop-processor-preserved

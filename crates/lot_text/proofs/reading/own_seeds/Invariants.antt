@@ -1,5 +1,4 @@
-use Rattle.std.proofs.Common.{◌≡◌}
-use Rattle.std.specs.List.{range_with_len}
+use Rattle.lot_text.proofs.Common.{range_with_len, ◌≡◌}
 use Rattle.lot_text.proofs.reading.own_seeds.Given as goal
 
 abbrev pub invariant-loop-processor : goal.invariant-loop-processor

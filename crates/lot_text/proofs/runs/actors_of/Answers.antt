@@ -1,9 +1,5 @@
-use Rattle.std.proofs.Common.{◌≡◌, ◌+◌, ◌-◌, take, sym, refl, arith}
-use Rattle.std.specs.Vec.{vec_len}
-use Rattle.std.proofs.lemmas.List.{take_all}
-use Rattle.lot_simulation.proofs.ActorRuns.{length-actors_of}
+use Rattle.lot_text.proofs.Common.{IfOk-from_err, arith, length-actors_of, refl, sym, take, take_all, vec_len, ◌+◌, ◌-◌, ◌≡◌}
 use Rattle.lot_text.proofs.RunLemmas.{All-actors_of, actors_of-more}
-use Rattle.std.proofs.lemmas.Result.{IfOk-from_err}
 use Rattle.lot_text.proofs.runs.actors_of.Goals as goal
 
 pub returns-clause-count : goal.returns-clause-count

@@ -1,5 +1,4 @@
-use Rattle.std.proofs.Common.{◌≡◌, take}
-use Rattle.lot_simulation.specs.Grammar.{actors_of}
+use Rattle.lot_text.proofs.Common.{actors_of, take, ◌≡◌}
 use Rattle.lot_text.proofs.runs.actors_of.Given as goal
 
 abbrev pub invariant-loop-run : goal.invariant-loop-run

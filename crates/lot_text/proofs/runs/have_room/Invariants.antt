@@ -1,6 +1,4 @@
-use Rattle.std.proofs.Common.{◌≡◌, ◌+◌, drop}
-use Rattle.std.specs.Prelude.{sum_by}
-use Rattle.lot_simulation.specs.Grammar.{ActorRun}
+use Rattle.lot_text.proofs.Common.{ActorRun, drop, sum_by, ◌+◌, ◌≡◌}
 use Rattle.lot_text.proofs.runs.have_room.Given as goal
 
 abbrev pub invariant-loop-run : goal.invariant-loop-run

@@ -1,8 +1,5 @@
-use Rattle.std.proofs.Common.{◌∙◌, ◌≤◌, [], ◌∷◌, Ok, length, ap, append-nil, arith}
+use Rattle.lot_text.proofs.Common.{ActorRun, All-nil, All-push, All-same, IfOk-from_err, Ok, ap, append-nil, arith, length, run_of, [], ◌∙◌, ◌∷◌, ◌≤◌}
 use Rattle.lot_text.proofs.RunLemmas.{each_pair-none}
-use Rattle.std.proofs.lemmas.List.Elements.{All-nil, All-push, All-same}
-use Rattle.std.proofs.lemmas.Result.{IfOk-from_err}
-use Rattle.lot_simulation.specs.Grammar.{ActorRun, run_of}
 use Rattle.lot_text.proofs.FaultLemmas.{Match-memory, Match-refusal, more-read, pair-later, pair-more, pair-refused}
 use Rattle.lot_text.proofs.runs.read_runs.Goals as goal
 

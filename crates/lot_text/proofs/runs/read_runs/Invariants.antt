@@ -1,8 +1,4 @@
-use Rattle.std.proofs.Common.{◌≡◌, ◌≤◌, List, ◌++◌, length, Ok, Err}
-use Rattle.std.specs.Prelude.{All}
-use Rattle.lot_simulation.specs.declared.input.InputRefusal.{InputRefusal}
-use Rattle.lot_simulation.specs.Grammar.{ActorRun, run_of}
-use Rattle.lot_simulation.specs.Reading.{each_pair}
+use Rattle.lot_text.proofs.Common.{ActorRun, All, Err, InputRefusal, List, Ok, each_pair, length, run_of, ◌++◌, ◌≡◌, ◌≤◌}
 use Rattle.lot_text.proofs.runs.read_runs.Given as goal
 
 abbrev pub invariant-loop-actor : goal.invariant-loop-actor

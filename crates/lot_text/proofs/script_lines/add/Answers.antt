@@ -1,10 +1,6 @@
-use Rattle.std.proofs.Common.{◌≡◌, ℕ, List, [], ◌∷◌, refl}
+use Rattle.lot_text.proofs.Common.{List, OpenScript, Reading, add_line, number_alone, refl, script_line, within_script, ℕ, [], ◌>>=◌, ◌∷◌, ◌≡◌}
 use Rattle.lot_simulation.specs.declared.input.ScriptWord.TheVariants as word
 use Rattle.lot_simulation.specs.declared.script.ScriptLine.TheVariants as line
-use Rattle.lot_simulation.specs.Grammar.{add_line, script_line}
-use Rattle.lot_simulation.specs.Reading.{OpenScript, Reading, ◌>>=◌}
-use Rattle.lot_text.specs.Alone.{number_alone}
-use Rattle.lot_text.specs.Readings.{within_script}
 use Rattle.lot_text.proofs.FaultLemmas.{Gives-refusal}
 use Rattle.lot_text.proofs.script_lines.add.Goals as goal
 

@@ -1,6 +1,4 @@
-use Rattle.lot_text.specs.ReadingFields.{reading_of}
-use Rattle.std.proofs.Common.{subst, sym, ◌<◌, length}
-use Rattle.lot_simulation.specs.Reading.{Reading}
+use Rattle.lot_text.proofs.Common.{Reading, length, reading_of, subst, sym, ◌<◌}
 use Rattle.lot_text.proofs.FaultLemmas.{Gives-memory}
 use Rattle.lot_text.proofs.ReadingLemmas.{with_line}
 use Rattle.lot_text.proofs.script_lines.add_line.Goals as goal

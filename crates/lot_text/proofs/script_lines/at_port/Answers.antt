@@ -1,8 +1,6 @@
-use Rattle.std.proofs.Common.{refl}
+use Rattle.lot_text.proofs.Common.{refl, script_line, within_script}
 use Rattle.lot_simulation.specs.declared.input.ScriptWord.TheVariants as word
-use Rattle.lot_simulation.specs.Grammar.{script_line}
 use Rattle.lot_text.proofs.FaultLemmas.{Gives-refusal, alone-refused}
-use Rattle.lot_text.specs.Readings.{within_script}
 use Rattle.lot_text.proofs.script_lines.at_port.Goals as goal
 
 pub returns-in_err-port : goal.returns-in_err-port

@@ -1,12 +1,6 @@
-use Rattle.std.proofs.Common.{◌≡◌, ◌<◌, ◌≤◌, ◌+◌, ℕ, nat_le, List, [], ◌∷◌, Some, ap, refl, arith}
-use Rattle.std.proofs.lemmas.Bool.{le-leb, lt-leb}
-use Rattle.lot_simulation.specs.declared.input.InputRefusal.TheVariants.{TooDeep, TooLong}
+use Rattle.lot_text.proofs.Common.{List, OpenScript, Reading, Some, TooDeep, TooLong, ap, arith, checked, is_full, le-leb, lt-leb, nat_le, number_alone, refl, script_line, with_line, within_script, ℕ, [], ◌+◌, ◌<◌, ◌>>=◌, ◌∷◌, ◌≡◌, ◌≤◌}
 use Rattle.lot_simulation.specs.declared.input.ScriptWord.TheVariants as word
 use Rattle.lot_simulation.specs.declared.script.ScriptLine.TheVariants as line
-use Rattle.lot_simulation.specs.Grammar.{is_full, script_line, with_line}
-use Rattle.lot_simulation.specs.Reading.{OpenScript, Reading, ◌>>=◌, checked}
-use Rattle.lot_text.specs.Alone.{number_alone}
-use Rattle.lot_text.specs.Readings.{within_script}
 use Rattle.lot_text.proofs.FaultLemmas.{Gives-refusal}
 use Rattle.lot_text.proofs.script_lines.begin_loop.Goals as goal
 

@@ -1,7 +1,5 @@
-use Rattle.std.proofs.Common.{refl}
+use Rattle.lot_text.proofs.Common.{refl, script_line, within_script}
 use Rattle.lot_simulation.specs.declared.input.ScriptWord.TheVariants as word
-use Rattle.lot_simulation.specs.Grammar.{script_line}
-use Rattle.lot_text.specs.Readings.{within_script}
 use Rattle.lot_text.proofs.FaultLemmas.{Gives-refusal, none-refused}
 use Rattle.lot_text.proofs.script_lines.end_loop.Goals as goal
 

@@ -1,5 +1,4 @@
-use Rattle.std.proofs.Common.{◌≡◌, ◌&&◌, drop}
-use Rattle.lot_simulation.specs.Lines.{is_printable}
+use Rattle.lot_text.proofs.Common.{drop, is_printable, ◌&&◌, ◌≡◌}
 use Rattle.lot_text.proofs.tokens.are_printable.Given as goal
 
 abbrev pub invariant-loop-byte : goal.invariant-loop-byte

@@ -1,8 +1,4 @@
-use Rattle.std.proofs.Common.{nat_le, ◌∙◌, rules, tests}
-use Rattle.std.proofs.lemmas.Iterator.{YieldsList-from_slice}
-use Rattle.std.proofs.lemmas.Iterator.Consumers.{count_from_yields_List}
-use Rattle.std.proofs.lemmas.Iterator.Search.{YieldsList-from_take_while}
-use Rattle.std.proofs.lemmas.List.Folds.{length-prefix_len}
+use Rattle.lot_text.proofs.Common.{YieldsList-from_slice, YieldsList-from_take_while, count_from_yields_List, length-prefix_len, nat_le, rules, tests, ◌∙◌}
 use Rattle.lot_text.proofs.tokens.gap_len.Goals as goal
 
 pub returns-clause-gap : goal.returns-clause-gap

@@ -1,6 +1,4 @@
-use Rattle.std.proofs.Common.{◌∙◌, ap, arith, refl, sym}
-use Rattle.std.proofs.lemmas.Bool.{eqb-true, eqb-false}
-use Rattle.lot_simulation.specs.Lines.{is_ignored, separates}
+use Rattle.lot_text.proofs.Common.{ap, arith, eqb-false, eqb-true, is_ignored, refl, separates, sym, ◌∙◌}
 use Rattle.lot_text.proofs.TokenLemmas.{ignored-next, parts-end}
 use Rattle.lot_text.proofs.tokens.is_ignored.Goals as goal
 

@@ -1,8 +1,4 @@
-use Rattle.std.proofs.Common.{◌≡◌, ◌-◌, ℕ, ◌==◌, Bool, true, false, not, List, Option, None, Some, length, unwrap_or, eq-zero-or-pos, inl, inr, refl, sym, ◌∙◌, arith}
-use Rattle.std.specs.List.{prefix_len}
-use Rattle.std.proofs.lemmas.Bool.{false≢true}
-use Rattle.std.proofs.lemmas.List.Sums.{prefix_len-le-length, prefix_len_passes, prefix_len_stops}
-use Rattle.memchr.specs.Find.{IsFirstByte, is_byte}
+use Rattle.lot_text.proofs.Common.{Bool, IsFirstByte, List, None, Option, Some, arith, eq-zero-or-pos, false, false≢true, inl, inr, is_byte, length, not, prefix_len, prefix_len-le-length, prefix_len_passes, prefix_len_stops, refl, sym, true, unwrap_or, ℕ, ◌-◌, ◌==◌, ◌∙◌, ◌≡◌}
 use Rattle.lot_text.proofs.tokens.line_len.Goals as goal
 
 abbrev is_other : ℕ → Bool

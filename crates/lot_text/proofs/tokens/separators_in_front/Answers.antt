@@ -1,9 +1,4 @@
-use Rattle.std.proofs.Common.{◌∙◌, rules, tests}
-use Rattle.std.proofs.lemmas.Iterator.{YieldsList-from_slice}
-use Rattle.std.proofs.lemmas.Iterator.Consumers.{count_from_yields_List}
-use Rattle.std.proofs.lemmas.Iterator.Search.{YieldsList-from_take_while}
-use Rattle.std.proofs.lemmas.List.Folds.{length-prefix_len}
-use Rattle.lot_simulation.specs.Lines.{separates}
+use Rattle.lot_text.proofs.Common.{YieldsList-from_slice, YieldsList-from_take_while, count_from_yields_List, length-prefix_len, rules, separates, tests, ◌∙◌}
 use Rattle.lot_text.proofs.tokens.separators_in_front.Goals as goal
 
 pub returns-clause-front : goal.returns-clause-front

@@ -1,7 +1,4 @@
-use Rattle.std.proofs.Common.{◌≡◌, ◌∙◌, inl, rules, Some, ap, refl, sym}
-use Rattle.lot_machine.specs.State.{is_live_status, lend_of, sizes_of}
-use Rattle.lot_machine.proofs.Changes.{number-kept}
-use Rattle.lot_value.proofs.Lending.{lend-kept}
+use Rattle.lot_threads.proofs.Common.{Some, ap, inl, is_live_status, lend-kept, lend_of, number-kept, refl, rules, sizes_of, sym, ◌∙◌, ◌≡◌}
 use Rattle.lot_threads.proofs.following.follow_status.Goals as goal
 
 pub returns-else-ne : goal.returns-else-ne

@@ -1,10 +1,4 @@
-use Rattle.std.proofs.Common.{◌≡◌, ◌⊎◌, ◌∙◌, inl, inr, sym, subst, ap}
-use Rattle.lot_machine.specs.declared.funding.Node.{Node}
-use Rattle.lot_machine.specs.Equations.{HasEquation}
-use Rattle.lot_graph.specs.Graphs.{IsNodeOf}
-use Rattle.lot_value.specs.Caches.{IsStale, Known}
-use Rattle.lot_value.specs.Touched.{IsListed}
-use Rattle.lot_value.specs.Valued.{live_of}
+use Rattle.lot_value.proofs.Common.{HasEquation, IsListed, IsNodeOf, IsStale, Known, Node, ap, inl, inr, live_of, subst, sym, ◌∙◌, ◌≡◌, ◌⊎◌}
 use Rattle.lot_value.proofs.Ends.{there-edge, to-is}
 use Rattle.lot_value.proofs.OneEdge.{ends-have}
 use Rattle.lot_value.proofs.GraphCalls.{follows-one}

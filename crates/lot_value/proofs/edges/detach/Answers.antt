@@ -1,11 +1,7 @@
-use Rattle.std.proofs.Common.{◌≡◌, ◌⊎◌, ◌∙◌, inl, inr, refl, ap}
-use Rattle.lot_machine.specs.declared.funding.Node.{Node}
-use Rattle.lot_value.specs.Touched.{IsListed}
-use Rattle.lot_value.specs.Valued.{live_of}
+use Rattle.lot_value.proofs.Common.{IsListed, Known, Node, ap, inl, inr, live_of, refl, ◌∙◌, ◌≡◌, ◌⊎◌}
 use Rattle.lot_value.proofs.OneEdge.{ends-have}
 use Rattle.lot_value.proofs.GraphCalls.{follows-one}
 use Rattle.lot_value.proofs.Touches.{touched-one, touched-then, listed-more}
-use Rattle.lot_value.specs.Caches.{Known}
 use Rattle.lot_value.proofs.edges.detach.Goals as goal
 
 pub touch_listed-requires : goal.touch_listed-requires

@@ -1,5 +1,4 @@
-use Rattle.std.proofs.Common.{◌≡◌, Contains, subst, sym}
-use Rattle.lot_lists.specs.NodeLists.{nodes_of, IsFree}
+use Rattle.lot_value.proofs.Common.{Contains, IsFree, nodes_of, subst, sym, ◌≡◌}
 use Rattle.lot_value.proofs.Spreading.{spread-push, spread-none, found-free, found-listed}
 use Rattle.lot_value.proofs.marking.add.Goals as goal
 

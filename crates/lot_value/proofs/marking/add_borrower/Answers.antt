@@ -1,12 +1,4 @@
-use Rattle.std.proofs.Common.{◌≡◌, ◌∙◌, Some, option_and_then, ap, sym, arith}
-use Rattle.lot_machine.specs.declared.funding.Edge.TheVariants.{OfLender}
-use Rattle.lot_machine.specs.declared.funding.Node.TheVariants.{Thread}
-use Rattle.lot_machine.specs.Funding.{lend_node}
-use Rattle.lot_machine.proofs.Tickets.{some-injective}
-use Rattle.lot_graph.specs.declared.layout.Layout.{Layout}
-use Rattle.lot_graph.specs.Fields.{head_of}
-use Rattle.lot_graph.specs.Places.{layout_of, node_place}
-use Rattle.lot_graph.proofs.SpreadLemmas.{list-low, lender-edge, thread-edge}
+use Rattle.lot_value.proofs.Common.{Layout, OfLender, Some, Thread, ap, arith, head_of, layout_of, lend_node, lender-edge, list-low, node_place, option_and_then, some-injective, sym, thread-edge, ◌∙◌, ◌≡◌}
 use Rattle.lot_value.proofs.Spreading.{spread-edge}
 use Rattle.lot_value.proofs.marking.add_borrower.Goals as goal
 use Rattle.lot_value.proofs.marking.add_borrower.Goals.{After-list_of}

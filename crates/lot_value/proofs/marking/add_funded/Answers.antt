@@ -1,14 +1,4 @@
-use Rattle.std.proofs.Common.{◌≡◌, ◌∙◌, Some, List, ℕ, ap, sym, subst, arith}
-use Rattle.lot_machine.specs.declared.funding.Node.TheVariants.{Currency}
-use Rattle.lot_machine.specs.declared.funding.Edge.TheVariants.{OfTicket}
-use Rattle.lot_machine.specs.Equations.{HasEachOnce}
-use Rattle.lot_machine.specs.Funding.{ends_of}
-use Rattle.lot_machine.proofs.Tickets.{ticket-of}
-use Rattle.lot_graph.specs.Graphs.{IsIssuedIn}
-use Rattle.lot_graph.specs.Places.{layout_of, node_place}
-use Rattle.lot_graph.specs.declared.layout.Layout.{Layout}
-use Rattle.lot_graph.proofs.SpreadLemmas.{list-low}
-use Rattle.lot_value.specs.Marking.{IsStaleList}
+use Rattle.lot_value.proofs.Common.{Currency, HasEachOnce, IsIssuedIn, IsStaleList, Layout, List, OfTicket, Some, ap, arith, ends_of, layout_of, list-low, node_place, subst, sym, ticket-of, ℕ, ◌∙◌, ◌≡◌}
 use Rattle.lot_value.proofs.Listed.{each-next, each-here, each-done}
 use Rattle.lot_value.proofs.Spreading.{targets-none, funded-ends, funded-none, funded-more, funded-skip, funded-all}
 use Rattle.lot_value.proofs.marking.add_funded.Goals as goal

@@ -1,10 +1,4 @@
-use Rattle.std.proofs.Common.{◌++◌, map}
-use Rattle.lot_machine.specs.declared.funding.Node.TheVariants.{Currency}
-use Rattle.lot_machine.specs.declared.funding.Edge.TheVariants.{OfTicket}
-use Rattle.lot_machine.specs.Equations.{HasEachOnce}
-use Rattle.lot_graph.specs.Graphs.{IsIssuedIn}
-use Rattle.lot_graph.specs.Places.{node_count, layout_of}
-use Rattle.lot_value.specs.Marking.{IsStaleList, Spreads}
+use Rattle.lot_value.proofs.Common.{Currency, HasEachOnce, IsIssuedIn, IsStaleList, OfTicket, Spreads, layout_of, map, node_count, ◌++◌}
 use Rattle.lot_value.proofs.Spreading.{IsTargetOf}
 use Rattle.lot_value.proofs.marking.add_funded.Given as goal
 

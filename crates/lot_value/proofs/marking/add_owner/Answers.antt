@@ -1,11 +1,4 @@
-use Rattle.std.proofs.Common.{◌≡◌, ◌∙◌, Some, option_map, ap, sym, arith}
-use Rattle.lot_machine.specs.declared.funding.Edge.TheVariants.{OfMutex}
-use Rattle.lot_machine.specs.declared.funding.Node.TheVariants.{Thread, Mutex}
-use Rattle.lot_machine.proofs.Tickets.{some-injective}
-use Rattle.lot_graph.specs.declared.layout.Layout.{Layout}
-use Rattle.lot_graph.specs.Fields.{head_of}
-use Rattle.lot_graph.specs.Places.{layout_of, node_place}
-use Rattle.lot_graph.proofs.SpreadLemmas.{list-low, owner-edge, mutex-edge}
+use Rattle.lot_value.proofs.Common.{Layout, Mutex, OfMutex, Some, Thread, ap, arith, head_of, layout_of, list-low, mutex-edge, node_place, option_map, owner-edge, some-injective, sym, ◌∙◌, ◌≡◌}
 use Rattle.lot_value.proofs.Spreading.{spread-edge}
 use Rattle.lot_value.proofs.marking.add_owner.Goals as goal
 use Rattle.lot_value.proofs.marking.add_owner.Goals.{After-list_of}

@@ -1,8 +1,4 @@
-use Rattle.std.proofs.Common.{◌∙◌, Contains, ap, arith, subst}
-use Rattle.lot_lists.specs.NodeLists.{nodes_of, IsFree}
-use Rattle.lot_graph.specs.declared.layout.Layout.{Layout}
-use Rattle.lot_graph.specs.Places.{layout_of, node_place}
-use Rattle.lot_graph.proofs.SpreadLemmas.{list-low}
+use Rattle.lot_value.proofs.Common.{Contains, IsFree, Layout, ap, arith, layout_of, list-low, node_place, nodes_of, subst, ◌∙◌}
 use Rattle.lot_value.proofs.Nodes.{node-within}
 use Rattle.lot_value.proofs.Spreading.{marks-nothing, listed-some, listed-free}
 use Rattle.lot_value.proofs.marking.mark.Goals as goal

@@ -1,11 +1,4 @@
-use Rattle.std.proofs.Common.{◌∙◌, ◌+◌, ◌<◌, Some, ap, sym, arith, length, subst}
-use Rattle.lot_lists.specs.NodeLists.{nodes_of, node_at, with_pushed}
-use Rattle.lot_machine.proofs.EachOnce.{contains-at}
-use Rattle.lot_machine.specs.declared.funding.Node.{Node}
-use Rattle.lot_graph.specs.declared.layout.Layout.{Layout}
-use Rattle.lot_graph.specs.Places.{layout_of, node_of, node_count, IsNodeWithin}
-use Rattle.lot_graph.proofs.SpreadLemmas.{list-low, list-back}
-use Rattle.lot_value.specs.Marking.{LeadsToPlace, Spreads}
+use Rattle.lot_value.proofs.Common.{IsNodeWithin, Layout, LeadsToPlace, Node, Some, Spreads, ap, arith, contains-at, layout_of, length, list-back, list-low, node_at, node_count, node_of, nodes_of, subst, sym, with_pushed, ◌+◌, ◌<◌, ◌∙◌}
 use Rattle.lot_value.proofs.Nodes.{node-within, within-node}
 use Rattle.lot_value.proofs.Listed.{listed-low}
 use Rattle.lot_value.proofs.Raising.{same-list}

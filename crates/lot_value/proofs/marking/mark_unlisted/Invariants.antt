@@ -1,7 +1,4 @@
-use Rattle.std.proofs.Common.{◌≡◌, ◌+◌, length}
-use Rattle.lot_lists.specs.NodeLists.{nodes_of, node_at}
-use Rattle.lot_graph.specs.Places.{node_count, layout_of}
-use Rattle.lot_value.specs.Marking.{IsStaleList}
+use Rattle.lot_value.proofs.Common.{IsStaleList, layout_of, length, node_at, node_count, nodes_of, ◌+◌, ◌≡◌}
 use Rattle.lot_value.proofs.Spreading.{IsFollowed}
 use Rattle.lot_value.proofs.marking.mark_unlisted.Given as goal
 

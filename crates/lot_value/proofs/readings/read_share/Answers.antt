@@ -1,7 +1,4 @@
-use Rattle.std.proofs.Common.{◌∙◌, ap, sym}
-use Rattle.lot_machine.specs.Equations.{share}
-use Rattle.lot_graph.specs.Places.{layout_of}
-use Rattle.lot_value.specs.Caches.{kept_worth}
+use Rattle.lot_value.proofs.Common.{ap, kept_worth, layout_of, share, sym, ◌∙◌}
 use Rattle.lot_value.proofs.readings.read_share.Goals as goal
 
 pub returns-in-OfTicket-clause-value : goal.returns-in-OfTicket-clause-value

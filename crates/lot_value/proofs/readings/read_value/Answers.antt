@@ -1,11 +1,4 @@
-use Rattle.std.proofs.Common.{◌≡◌, ◌∙◌, ap, sym, subst, refl, arith, ◌+◌, List, [], ◌∷◌, ◌++◌, length}
-use Rattle.std.proofs.lemmas.List.{length_push}
-use Rattle.std.proofs.lemmas.List.Sums.{sum_by_push}
-use Rattle.lot_machine.specs.declared.funding.Edge.{Edge}
-use Rattle.lot_machine.specs.Equations.{HasEachOnce, LeadsInto, share}
-use Rattle.lot_graph.specs.Places.{layout_of}
-use Rattle.lot_value.specs.Caches.{kept_worth}
-use Rattle.lot_value.specs.Counts.{counted_up}
+use Rattle.lot_value.proofs.Common.{Edge, HasEachOnce, LeadsInto, List, ap, arith, counted_up, kept_worth, layout_of, length, length_push, refl, share, subst, sum_by_push, sym, [], ◌++◌, ◌+◌, ◌∙◌, ◌∷◌, ◌≡◌}
 use Rattle.lot_value.proofs.Counting.{counted-more}
 use Rattle.lot_value.proofs.Reading.{next-sum, all-sum, all-count}
 use Rattle.lot_value.proofs.Listed.{each-next, each-here}

@@ -1,9 +1,4 @@
-use Rattle.std.proofs.Common.{◌≡◌, ◌++◌, Bool, List, length, sum_by}
-use Rattle.lot_machine.specs.Equations.{HasEachOnce, LeadsInto, share}
-use Rattle.lot_graph.specs.Places.{layout_of}
-use Rattle.lot_value.specs.Counts.{counted_up}
-use Rattle.lot_value.specs.Caches.{kept_worth}
-use Rattle.lot_value.specs.Sources.{AreSources}
+use Rattle.lot_value.proofs.Common.{AreSources, Bool, HasEachOnce, LeadsInto, List, counted_up, kept_worth, layout_of, length, share, sum_by, ◌++◌, ◌≡◌}
 use Rattle.lot_value.proofs.readings.read_value.Given as goal
 
 -- the edges are those that were read and those that are left

@@ -1,9 +1,4 @@
-use Rattle.std.proofs.Common.{◌≡◌, ◌∙◌, ◌*◌, ◌/◌, ap, ap₂, sym, arith, slice_index_or, ℕ, Bool, List}
-use Rattle.lot_machine.specs.declared.funding.Edge.TheVariants.{OfTicket}
-use Rattle.lot_machine.specs.Equations.{share}
-use Rattle.lot_graph.specs.Places.{layout_of}
-use Rattle.lot_value.specs.Sources.{AreSources}
-use Rattle.lot_value.specs.Caches.{kept_worth}
+use Rattle.lot_value.proofs.Common.{AreSources, Bool, List, OfTicket, ap, ap₂, arith, kept_worth, layout_of, share, slice_index_or, sym, ℕ, ◌*◌, ◌/◌, ◌∙◌, ◌≡◌}
 use Rattle.lot_value.proofs.Shares.{active-is, share-off, share-base, share-user, share-amount, ticket-here, ticket-target}
 use Rattle.lot_value.proofs.readings.ticket_share.Goals as goal
 

@@ -1,5 +1,4 @@
-use Rattle.std.proofs.Common.{ap, option_map}
-use Rattle.lot_machine.specs.declared.ticket.Ticket.{Ticket}
+use Rattle.lot_value.proofs.Common.{Ticket, ap, option_map}
 use Rattle.lot_value.proofs.Amounts.{is-funding, free-target, changed-target, changed-there, changed-apart, reissued-again}
 use Rattle.lot_value.proofs.reissuing.fund_again.Goals as goal
 

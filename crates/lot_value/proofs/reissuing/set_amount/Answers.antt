@@ -1,7 +1,4 @@
-use Rattle.std.proofs.Common.{ap, sym, ◌∙◌}
-use Rattle.lot_machine.specs.Funding.{ticket_at}
-use Rattle.lot_graph.specs.Graphs.{LimitedFunding}
-use Rattle.lot_value.specs.declared.change.GraphChange.TheVariants.{SetAmount}
+use Rattle.lot_value.proofs.Common.{LimitedFunding, SetAmount, ap, sym, ticket_at, ◌∙◌}
 use Rattle.lot_value.proofs.Amounts.{amount-same}
 use Rattle.lot_value.proofs.Applied.{done, follows-none}
 use Rattle.lot_value.proofs.reissuing.set_amount.Goals as goal

@@ -1,5 +1,4 @@
-use Rattle.std.proofs.Common.{sym, subst}
-use Rattle.lot_value.specs.declared.change.GraphChange.TheVariants.{PutThread}
+use Rattle.lot_value.proofs.Common.{PutThread, subst, sym}
 use Rattle.lot_value.proofs.Applied.{Done, live-and-lend, lend-and-sleep}
 use Rattle.lot_value.proofs.relending.put_thread.Goals as goal
 

@@ -1,5 +1,4 @@
-use Rattle.std.proofs.Common.{◌≡◌, Some, refl, ◌∙◌, ap}
-use Rattle.lot_machine.specs.declared.funding.Lend.TheVariants.{Nobody}
+use Rattle.lot_value.proofs.Common.{Nobody, Some, ap, refl, ◌∙◌, ◌≡◌}
 use Rattle.lot_value.proofs.TwoChanges.{follows-both}
 use Rattle.lot_value.proofs.Lending.{lend-kept, lend-twice, lends-nobody, edges-lent, apart-fewer, number-some}
 use Rattle.lot_value.proofs.Applied.{follows-none}

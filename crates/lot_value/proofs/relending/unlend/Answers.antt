@@ -1,5 +1,4 @@
-use Rattle.std.proofs.Common.{refl}
-use Rattle.lot_machine.specs.declared.funding.Lend.TheVariants.{Nobody}
+use Rattle.lot_value.proofs.Common.{Nobody, refl}
 use Rattle.lot_value.proofs.Lending.{lend-kept}
 use Rattle.lot_value.proofs.Applied.{follows-none}
 use Rattle.lot_value.proofs.relending.unlend.Goals as goal

@@ -1,12 +1,4 @@
-use Rattle.std.proofs.Common.{◌∙◌, ◌<◌, ap, sym, subst}
-use Rattle.std.proofs.lemmas.Bool.{OnFalse_at, OnTrue_at}
-use Rattle.lot_lists.specs.NodeLists.{NodeLists, nodes_of}
-use Rattle.lot_machine.specs.declared.funding.Node.{Node}
-use Rattle.lot_graph.specs.declared.layout.Layout.{Layout}
-use Rattle.lot_machine.proofs.EachOnce.{contains-at}
-use Rattle.lot_graph.specs.Places.{IsNodeWithin, node_of, node_count, layout_of}
-use Rattle.lot_graph.proofs.SpreadLemmas.{list-back}
-use Rattle.lot_value.specs.Marking.{IsFreshPlace, LeadsFromPlace}
+use Rattle.lot_value.proofs.Common.{IsFreshPlace, IsNodeWithin, Layout, LeadsFromPlace, Node, NodeLists, OnFalse_at, OnTrue_at, ap, contains-at, layout_of, list-back, node_count, node_of, nodes_of, subst, sym, ◌<◌, ◌∙◌}
 use Rattle.lot_value.proofs.Listed.{list-within, reordered-same, reordered-then}
 use Rattle.lot_value.proofs.Nodes.{within-node}
 use Rattle.lot_value.proofs.Settled.{rank-falls, fresh-place, last-none}

@@ -1,6 +1,4 @@
-use Rattle.lot_lists.specs.NodeLists.{nodes_of}
-use Rattle.lot_graph.specs.Places.{node_count, layout_of}
-use Rattle.lot_value.specs.Marking.{IsStaleList, IsReordered, last_of}
+use Rattle.lot_value.proofs.Common.{IsReordered, IsStaleList, last_of, layout_of, node_count, nodes_of}
 use Rattle.lot_value.proofs.Settled.{rank_of}
 use Rattle.lot_value.proofs.settling.fresh_back.Given as goal
 

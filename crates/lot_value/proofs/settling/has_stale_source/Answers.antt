@@ -1,14 +1,4 @@
-use Rattle.std.proofs.Common.{◌≡◌, ◌∙◌, ap, sym, subst, arith, false, Some, List, Contains}
-use Rattle.std.proofs.lemmas.Bool.{OnFalse_from}
-use Rattle.lot_lists.specs.NodeLists.{nodes_of}
-use Rattle.lot_machine.specs.declared.funding.Edge.{Edge}
-use Rattle.lot_machine.specs.declared.funding.Node.{Node}
-use Rattle.lot_machine.specs.Funding.{IsEdge, ends_of}
-use Rattle.lot_machine.specs.Equations.{HasEachOnce, LeadsInto}
-use Rattle.lot_machine.proofs.Tickets.{some-injective}
-use Rattle.lot_graph.specs.declared.layout.Layout.{Layout}
-use Rattle.lot_graph.specs.Places.{layout_of, node_place}
-use Rattle.lot_graph.proofs.SpreadLemmas.{list-low}
+use Rattle.lot_value.proofs.Common.{Contains, Edge, HasEachOnce, IsEdge, Layout, LeadsInto, List, Node, OnFalse_from, Some, ap, arith, ends_of, false, layout_of, list-low, node_place, nodes_of, some-injective, subst, sym, ◌∙◌, ◌≡◌}
 use Rattle.lot_value.proofs.Listed.{each-next, each-here, each-done}
 use Rattle.lot_value.proofs.Spreading.{listed-some}
 use Rattle.lot_value.proofs.Raising.{free-none, raising-start, raising-kept, raising-none}

@@ -1,9 +1,4 @@
-use Rattle.std.proofs.Common.{◌≡◌, ◌++◌, ℕ, Contains, false}
-use Rattle.std.specs.Bool.{OnTrue}
-use Rattle.lot_lists.specs.NodeLists.{nodes_of}
-use Rattle.lot_machine.specs.Equations.{HasEachOnce, LeadsInto}
-use Rattle.lot_graph.specs.Places.{layout_of}
-use Rattle.lot_value.specs.Marking.{IsRaising, LeadsFromPlace}
+use Rattle.lot_value.proofs.Common.{Contains, HasEachOnce, IsRaising, LeadsFromPlace, LeadsInto, OnTrue, false, layout_of, nodes_of, ℕ, ◌++◌, ◌≡◌}
 use Rattle.lot_value.proofs.settling.has_stale_source.Given as goal
 
 -- the edges are those that were looked at and those that are left, and of those looked at one has a stale source, or none has

@@ -1,12 +1,4 @@
-use Rattle.std.proofs.Common.{◌∙◌, List, arith, ap, sym, subst, Contains, Some}
-use Rattle.lot_lists.specs.NodeLists.{nodes_of, with_pushed, with_removed}
-use Rattle.lot_machine.specs.declared.funding.Edge.{Edge}
-use Rattle.lot_machine.specs.Equations.{HasEachOnce, LeadsInto}
-use Rattle.lot_machine.proofs.EachOnce.{place-in}
-use Rattle.lot_machine.proofs.Tickets.{some-injective}
-use Rattle.lot_graph.specs.Places.{layout_of, node_place}
-use Rattle.lot_graph.proofs.SpreadLemmas.{list-low}
-use Rattle.lot_graph.specs.declared.layout.Layout.{Layout}
+use Rattle.lot_value.proofs.Common.{Contains, Edge, HasEachOnce, Layout, LeadsInto, List, Some, ap, arith, layout_of, list-low, node_place, nodes_of, place-in, some-injective, subst, sym, with_pushed, with_removed, ◌∙◌}
 use Rattle.lot_value.proofs.Listed.{each-next, each-here, each-done}
 use Rattle.lot_value.proofs.Spreading.{listed-some}
 use Rattle.lot_value.proofs.Raising.{same-list, free-none, raising-start, raising-moved, raising-kept, raising-raised, raising-none}

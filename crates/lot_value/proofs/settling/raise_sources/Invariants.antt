@@ -1,7 +1,4 @@
-use Rattle.std.proofs.Common.{◌++◌}
-use Rattle.lot_machine.specs.Equations.{HasEachOnce, LeadsInto}
-use Rattle.lot_graph.specs.Places.{node_count, layout_of}
-use Rattle.lot_value.specs.Marking.{IsStaleList, IsRaising}
+use Rattle.lot_value.proofs.Common.{HasEachOnce, IsRaising, IsStaleList, LeadsInto, layout_of, node_count, ◌++◌}
 use Rattle.lot_value.proofs.settling.raise_sources.Given as goal
 
 -- the edges are those that were looked at and those that are left

@@ -1,7 +1,4 @@
-use Rattle.std.proofs.Common.{◌≡◌, ◌∙◌, Some, sym, subst, length-set}
-use Rattle.std.specs.List.{remove}
-use Rattle.lot_lists.specs.NodeLists.{nodes_of, node_at}
-use Rattle.lot_value.specs.Marking.{IsReordered}
+use Rattle.lot_value.proofs.Common.{IsReordered, Some, length-set, node_at, nodes_of, remove, subst, sym, ◌∙◌, ◌≡◌}
 use Rattle.lot_value.proofs.Listed.{moved-is, reordered-move}
 use Rattle.lot_value.proofs.settling.turn_over.Goals as goal
 

@@ -1,10 +1,4 @@
-use Rattle.std.proofs.Common.{◌∙◌, List, ap, sym, subst, arith}
-use Rattle.std.proofs.lemmas.Grind.{common_steps}
-use Rattle.lot_machine.specs.declared.funding.Node.{Node}
-use Rattle.lot_machine.specs.Funding.{IsEdge}
-use Rattle.lot_machine.proofs.EachOnce.{contains-nothing}
-use Rattle.lot_value.specs.Caches.{Known}
-use Rattle.lot_value.specs.Touched.{IsUser, IsFundedBy}
+use Rattle.lot_value.proofs.Common.{IsEdge, IsFundedBy, IsUser, Known, List, Node, ap, arith, common_steps, contains-nothing, subst, sym, ◌∙◌}
 use Rattle.lot_value.proofs.Touches.{touched-none, touched-then, funded-more, next-listed, all-yielded}
 use Rattle.lot_value.proofs.touching.touch_funded.Goals as goal
 

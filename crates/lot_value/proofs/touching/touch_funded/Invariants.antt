@@ -1,7 +1,4 @@
-use Rattle.std.proofs.Common.{◌≡◌, ◌++◌}
-use Rattle.lot_machine.specs.declared.funding.Node.{Node}
-use Rattle.lot_value.specs.Caches.{IsStale}
-use Rattle.lot_value.specs.Touched.{Touched, IsFundedBy}
+use Rattle.lot_value.proofs.Common.{IsFundedBy, IsStale, Node, Touched, ◌++◌, ◌≡◌}
 use Rattle.lot_value.proofs.touching.touch_funded.Given as goal
 
 -- the nodes are those that were yielded and those that are left

@@ -1,6 +1,4 @@
-use Rattle.lot_machine.specs.declared.funding.Node.{Node}
-use Rattle.lot_machine.specs.Funding.{IsEdge}
-use Rattle.lot_value.specs.Touched.{IsUser}
+use Rattle.lot_value.proofs.Common.{IsEdge, IsUser, Node}
 use Rattle.lot_value.proofs.Touches.{touched-none, touched-then}
 use Rattle.lot_value.proofs.touching.touch_funded_by.Goals as goal
 

@@ -1,7 +1,4 @@
-use Rattle.std.proofs.Common.{inr, Contains, List, ap, subst, ◌∙◌}
-use Rattle.lot_machine.specs.declared.funding.Node.{Node}
-use Rattle.lot_value.specs.Caches.{Known}
-use Rattle.lot_value.specs.Touched.{IsFundedBy, IsListed, IsSwitchedOrFunded}
+use Rattle.lot_value.proofs.Common.{Contains, IsFundedBy, IsListed, IsSwitchedOrFunded, Known, List, Node, ap, inr, subst, ◌∙◌}
 use Rattle.lot_value.proofs.Touches.{touched-then, listed-so, listed-all}
 use Rattle.lot_value.proofs.touching.touch_listed.Goals as goal
 

@@ -1,6 +1,4 @@
-use Rattle.std.proofs.Common.{◌≡◌, refl}
-use Rattle.lot_machine.specs.declared.funding.Node.{Node}
-use Rattle.lot_machine.specs.Equations.{HasEquation}
+use Rattle.lot_value.proofs.Common.{HasEquation, Node, refl, ◌≡◌}
 use Rattle.lot_value.proofs.Touches.{touched-one}
 use Rattle.lot_value.proofs.touching.touch_node.Goals as goal
 

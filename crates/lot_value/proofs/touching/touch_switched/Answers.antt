@@ -1,12 +1,4 @@
-use Rattle.std.proofs.Common.{◌≡◌, ◌∙◌, inl, inr, Contains, List, ap, sym, subst, arith}
-use Rattle.std.proofs.lemmas.Grind.{common_steps}
-use Rattle.lot_machine.specs.declared.funding.Node.{Node}
-use Rattle.lot_machine.specs.Funding.{IsEdge}
-use Rattle.lot_machine.specs.Equations.{HasEquation}
-use Rattle.lot_machine.proofs.EachOnce.{contains-nothing}
-use Rattle.lot_active.specs.Changes.{switched_nodes}
-use Rattle.lot_value.specs.Caches.{Known}
-use Rattle.lot_value.specs.Touched.{IsUser, IsFundedBy, IsSwitchedOrFunded}
+use Rattle.lot_value.proofs.Common.{Contains, HasEquation, IsEdge, IsFundedBy, IsSwitchedOrFunded, IsUser, Known, List, Node, ap, arith, common_steps, contains-nothing, inl, inr, subst, switched_nodes, sym, ◌∙◌, ◌≡◌}
 use Rattle.lot_value.proofs.Touches.{touched-none, touched-then, marked-more, funded-more, next-listed, all-yielded}
 use Rattle.lot_value.proofs.touching.touch_switched.Goals as goal
 

@@ -1,9 +1,4 @@
-use Rattle.std.proofs.Common.{◌≡◌, ◌++◌, Contains}
-use Rattle.lot_machine.specs.declared.funding.Node.{Node}
-use Rattle.lot_machine.specs.Equations.{HasEquation}
-use Rattle.lot_active.specs.Changes.{switched_nodes}
-use Rattle.lot_value.specs.Caches.{IsStale}
-use Rattle.lot_value.specs.Touched.{Touched, IsFundedBy, IsSwitchedOrFunded}
+use Rattle.lot_value.proofs.Common.{Contains, HasEquation, IsFundedBy, IsStale, IsSwitchedOrFunded, Node, Touched, switched_nodes, ◌++◌, ◌≡◌}
 use Rattle.lot_value.proofs.touching.touch_switched.Given as goal
 
 -- the nodes are those that were yielded and those that are left

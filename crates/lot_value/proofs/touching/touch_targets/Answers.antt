@@ -1,11 +1,4 @@
-use Rattle.std.proofs.Common.{◌∙◌, List, Some, ap, sym, subst}
-use Rattle.lot_machine.specs.declared.funding.Node.{Node}
-use Rattle.lot_machine.specs.declared.funding.Edge.{Edge}
-use Rattle.lot_machine.specs.Funding.{IsEdge}
-use Rattle.lot_machine.specs.Equations.{HasEachOnce}
-use Rattle.lot_machine.proofs.EachOnce.{contains-nothing}
-use Rattle.lot_graph.specs.Graphs.{LeadsOutOf, IsNodeOf}
-use Rattle.lot_value.specs.Caches.{Known}
+use Rattle.lot_value.proofs.Common.{Edge, HasEachOnce, IsEdge, IsNodeOf, Known, LeadsOutOf, List, Node, Some, ap, contains-nothing, subst, sym, ◌∙◌}
 use Rattle.lot_value.proofs.Nodes.{within-node}
 use Rattle.lot_value.proofs.Ends.{edge-there, to-is}
 use Rattle.lot_value.proofs.Listed.{each-next, each-here, each-done}

@@ -1,11 +1,4 @@
-use Rattle.std.proofs.Common.{◌≡◌, ◌++◌, Contains, Some}
-use Rattle.lot_machine.specs.declared.funding.Node.{Node}
-use Rattle.lot_machine.specs.declared.funding.Edge.{Edge}
-use Rattle.lot_machine.specs.Funding.{ends_of, IsEdge}
-use Rattle.lot_machine.specs.Equations.{HasEachOnce}
-use Rattle.lot_graph.specs.Graphs.{LeadsOutOf}
-use Rattle.lot_value.specs.Caches.{IsStale}
-use Rattle.lot_value.specs.Touched.{Touched}
+use Rattle.lot_value.proofs.Common.{Contains, Edge, HasEachOnce, IsEdge, IsStale, LeadsOutOf, Node, Some, Touched, ends_of, ◌++◌, ◌≡◌}
 use Rattle.lot_value.proofs.touching.touch_targets.Given as goal
 
 -- the edges are those that were yielded and those that are left

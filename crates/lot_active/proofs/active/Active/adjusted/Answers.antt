@@ -1,8 +1,4 @@
-use Rattle.std.proofs.Common.{◌∙◌, ap, map}
-use Rattle.lot_graph.specs.declared.layout.Layout.{Layout}
-use Rattle.lot_graph.specs.Places.{node_of}
-use Rattle.lot_graph.proofs.WalkLemmas.{walk-short}
-use Rattle.lot_active.specs.Activity.{Activity}
+use Rattle.lot_active.proofs.Common.{Activity, Layout, ap, map, node_of, walk-short, ◌∙◌}
 use Rattle.lot_active.proofs.active.Active.adjusted.Goals as goal
 
 pub returns-clause-nodes : goal.returns-clause-nodes

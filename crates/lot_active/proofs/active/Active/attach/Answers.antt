@@ -1,8 +1,4 @@
-use Rattle.std.proofs.Common.{◌≡◌, ap, sym, ◌∙◌, subst}
-use Rattle.lot_graph.specs.Places.{layout_of, edge_place}
-use Rattle.lot_active.specs.declared.edge_ends.EdgePlaces.{EdgePlaces}
-use Rattle.lot_active.specs.Activity.{Adds, Changes}
-use Rattle.lot_active.specs.Fundings.{graph_net, places_of_ends}
+use Rattle.lot_active.proofs.Common.{Adds, Changes, EdgePlaces, ap, edge_place, graph_net, layout_of, places_of_ends, subst, sym, ◌∙◌, ◌≡◌}
 use Rattle.lot_active.proofs.Edits.{same-ends, adds-net, ends-there}
 use Rattle.lot_active.proofs.Bridge.{graph-net, graph-no_cycle, kept-moves}
 use Rattle.lot_active.proofs.NodeChanges.{changes-nodes}

@@ -1,8 +1,4 @@
-use Rattle.std.proofs.Common.{◌≡◌, ◌<◌, length, ap, sym, ◌∙◌, arith, ℕ, false, true}
-use Rattle.lot_active.specs.Fundings.{graph_net}
-use Rattle.lot_active.specs.Activity.{Activity}
-use Rattle.lot_active.specs.Held.{Adjusts, Held, on_at}
-use Rattle.lot_active.specs.Spread.{Spreading}
+use Rattle.lot_active.proofs.Common.{Activity, Adjusts, Held, Spreading, ap, arith, false, graph_net, length, on_at, sym, true, ℕ, ◌<◌, ◌∙◌, ◌≡◌}
 use Rattle.lot_active.proofs.Local.{IsLocal, kept-local}
 use Rattle.lot_active.proofs.Calls.{attach-spreads, attach-none, attach-may, local-by, end-kept, end-changes_from}
 use Rattle.lot_active.proofs.Steps.{adjust-length}

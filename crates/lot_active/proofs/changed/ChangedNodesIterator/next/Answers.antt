@@ -1,6 +1,4 @@
-use Rattle.std.proofs.Common.{◌<◌}
-use Rattle.lot_graph.specs.Places.{node_count}
-use Rattle.lot_graph.proofs.WalkLemmas.{all-rest}
+use Rattle.lot_active.proofs.Common.{all-rest, node_count, ◌<◌}
 use Rattle.lot_active.proofs.changed.ChangedNodesIterator.next.Goals as goal
 
 pub invariant_of-self-2 : goal.invariant_of-self-2

@@ -1,12 +1,4 @@
-use Rattle.std.proofs.Common.{◌≡◌, ◌∷◌, [], List, ℕ, Some, map, ap, sym, ◌∙◌, subst, arith}
-use Rattle.lot_graph.specs.Places.{layout_of, edge_place}
-use Rattle.std.proofs.lemmas.List.{map-append}
-use Rattle.lot_machine.proofs.Tickets.{some-injective}
-use Rattle.lot_active.specs.declared.edge_ends.EdgePlaces.{EdgePlaces}
-use Rattle.lot_active.specs.declared.edge_ends.EdgeSource.{EdgeSource}
-use Rattle.lot_active.specs.Fundings.{graph_net, places_of_edge}
-use Rattle.lot_active.specs.Held.{MayMove, Adjusts, held_at}
-use Rattle.lot_active.specs.Spread.{Crossing}
+use Rattle.lot_active.proofs.Common.{Adjusts, Crossing, EdgePlaces, EdgeSource, List, MayMove, Some, ap, arith, edge_place, graph_net, held_at, layout_of, map, map-append, places_of_edge, some-injective, subst, sym, ℕ, [], ◌∙◌, ◌∷◌, ◌≡◌}
 use Rattle.lot_active.proofs.Ends.{net-sound}
 use Rattle.lot_active.proofs.Walks.{places-at, next-places, next-to, next-new, next-more, all-done}
 use Rattle.lot_active.proofs.Steps.{adjust-length}

@@ -1,6 +1,4 @@
-use Rattle.std.proofs.lemmas.List.{get_or_read}
-use Rattle.std.proofs.Common.{◌<◌, false, length, refl, subst, sym, ◌∙◌, arith, slice_set}
-use Rattle.lot_active.specs.Held.{Held, SetsAwake}
+use Rattle.lot_active.proofs.Common.{Held, SetsAwake, arith, false, get_or_read, length, refl, slice_set, subst, sym, ◌<◌, ◌∙◌}
 use Rattle.lot_active.proofs.Steps.{awake-switched, awake-kept, mark-read, mark-woken}
 use Rattle.lot_active.proofs.marks.Marks.set_awake.Goals as goal
 

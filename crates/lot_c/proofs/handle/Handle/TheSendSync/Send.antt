@@ -1,22 +1,10 @@
 -- A handle may go to another thread where a kernel may.
-use base.Fraction.{full_share}
-use base.Shift.{Keyless}
-use denote.Exit.{Exit, unchanged, leaves, hidden, under}
-use denote.Memory.{lone}
-use denote.Param.Send.{IsSend, AllSend, Quiet, owning_send, part_keyless, struct_send, sendable}
-use denote.RattleType.{RattleType}
-use denote.RawPtr.{Ptr, block_ptr, null_ptr, lies_at}
-use denote.Struct.Owning.{shape, fields, to}
-use denote.Struct.Struct.{exits_of}
+use Rattle.lot_c.proofs.Common.{AllSend, Exit, Global, IsSend, KernelValue, Keyless, None, Ptr, Quiet, RattleType, Some, block_ptr, exits_of, fields, full_share, handle_owns, hidden, leaves, lies_at, lone, null_ptr, owning_send, part_keyless, sendable, shape, struct_send, the_row, the_type, to, unchanged, under}
 use mir.Raw.{raw}
 use Rattle.std.proofs.Crossing as heap
 use Rattle.std.proofs.alloc.Global.TheSendSync as global
-use Rattle.std.specs.Prelude.{None, Some}
-use Rattle.std.specs.declared.alloc.Global.{Global}
 use Rattle.lot_kernel.specs.contracts.kernel.Kernel as kernel
 use Rattle.lot_kernel.proofs.kernel.Kernel.TheSendSync.{the_send as kernel_send}
-use Rattle.lot_c.specs.Handles.{KernelValue, handle_owns}
-use Rattle.lot_c.specs.contracts.handle.Handle.{the_row, the_type}
 
 lies : (R : RattleType) → IsSend R → (p : Ptr) (x : R.Denot) → Keyless (lies_at R full_share p x)
 lies R s (block_ptr b o) x = part_keyless R s full_share x b o

@@ -1,32 +1,7 @@
 -- `empty` makes a null pointer, at which nothing is owned.
-use mathlib.Core.Path.{refl, sym, subst}
-use mathlib.Core.List.{List, [], ◌∷◌, ◌++◌}
-use seplogic.Ra.Ura.{Ura}
-use mir.Val.{Val}
-use base.Logic.{SProp, ent, emp}
-use base.Fml.{ftrue, fsep}
-use prog.Memory.{Memory}
-use prog.Routine.{Routine}
-use prog.Wp.{WpFn, Tables}
-use types.Logic.{Logic}
-use contract.Monad.{Fun}
-use contract.Running.{tables, tables_of}
-use sound.WpLaws.{WpFn-mono}
-use types.Kit.{Item, ‵, raw, ◌⊛◌, ◌$◌, ◌∵◌, !, qed, by, move, drop, use1, join, split, fsplit, fjoin, suffices, done}
-use types.Part.{agg}
-use types.Run.{lit, no_more, and_then, returns, enter}
-use types.ByLocal.{alloc_all, pass_all, free_all, look_at, get, sets}
-use denote.Exit.{yes}
-use denote.Signature.{Slot, plain, type_at}
-use denote.RawPtr.{null_ptr}
+use Rattle.lot_c.proofs.Common.{Fun, Goes-dropped, Item, List, Logic, Memory, None, P, Routine, SProp, Slot, Stays, Tables, Ura, Val, WpFn, WpFn-mono, agg, alloc_all, and_then, by, done, drop, emp, ends_at, ent, enter, entered, fjoin, free_all, fsep, fsplit, ftrue, get, handle_tells, join, lit, look_at, move, no_more, nothing, null_ptr, pass_all, plain, qed, raw, refl, returns, says, sets, split, stay_dropped, subst, suffices, sym, tables, triple_of, type_at, use1, walk_Meets, walk_of, yes, !, [], ‵, ◌$◌, ◌++◌, ◌∵◌, ◌∷◌, ◌⊛◌}
+use contract.Running.{tables_of}
 use Rattle.std.specs.contracts.alloc.Global as Heap
-use Rattle.std.proofs.alloc.Calls.{handle_tells}
-use denote.Steps.{nothing}
-use denote.Triple.Spec.{triple_of}
-use denote.Triple.Table.{entered}
-use denote.Triple.Walked.{says, Stays, stay_dropped, walk_of, ends_at, Goes-dropped, walk_Meets}
-use Rattle.std.proofs.BoxSteps.Form.{P}
-use Rattle.std.specs.Prelude.{None}
 use Rattle.lot_c.proofs.Handles.{E, held, null_word, null_typed, handle_in}
 use Rattle.lot_c.specs.contracts.handle.Handle.empty as F
 use Rattle.lot_c.specs.contracts.handle.Handle.empty.Key.{name as #self}

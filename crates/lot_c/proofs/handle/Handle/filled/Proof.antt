@@ -1,30 +1,6 @@
 -- `filled` moves two fields, and what they own goes with them.
-use mathlib.Core.Path.{refl, sym, subst}
-use mathlib.Core.List.{List, [], ◌∷◌, ◌++◌}
-use seplogic.Ra.Ura.{Ura}
-use mir.Val.{Val}
-use base.Logic.{SProp, ent, emp, id⊢}
-use base.Fml.{ftrue, fsep}
-use prog.Memory.{Memory}
-use prog.Routine.{Routine}
-use prog.Wp.{WpFn, Tables}
-use types.Logic.{Logic}
-use contract.Monad.{Fun}
-use contract.Running.{tables, tables_of}
-use sound.WpLaws.{WpFn-mono}
-use types.Kit.{Item, ‵, raw, ◌⊛◌, ◌$◌, ◌∵◌, !, qed, by, move, drop, use1, join, split, fsplit, fjoin, suffices, done}
-use types.Part.{whole, sub, agg}
-use types.Run.{stop, fld, no_more, and_then, of_opd, returns, enter}
-use types.ByLocal.{alloc_all, pass_all, free_all, look_at, get, get_in, sets}
-use denote.Exit.{yes}
-use denote.Signature.{type_at}
-use denote.Steps.{nothing}
-use denote.Triple.Spec.{triple_of}
-use denote.Triple.Table.{entered}
-use denote.Triple.Walked.{says, Stays, stay_dropped, walk_of, ends_at, Goes-dropped, walk_Meets}
-use Rattle.std.proofs.BoxSteps.Form.{D, B, word, box_typed}
-use Rattle.std.proofs.BoxSteps.Steps.{box_out, box_in}
-use Rattle.std.specs.Prelude.{Some}
+use Rattle.lot_c.proofs.Common.{B, D, Fun, Goes-dropped, Item, List, Logic, Memory, Routine, SProp, Some, Stays, Tables, Ura, Val, WpFn, WpFn-mono, agg, alloc_all, and_then, box_in, box_out, box_typed, by, done, drop, emp, ends_at, ent, enter, entered, fjoin, fld, free_all, fsep, fsplit, ftrue, get, get_in, id⊢, join, look_at, move, no_more, nothing, of_opd, pass_all, qed, raw, refl, returns, says, sets, split, stay_dropped, stop, sub, subst, suffices, sym, tables, triple_of, type_at, use1, walk_Meets, walk_of, whole, word, yes, !, [], ‵, ◌$◌, ◌++◌, ◌∵◌, ◌∷◌, ◌⊛◌}
+use contract.Running.{tables_of}
 use Rattle.lot_c.proofs.Handles.{E, FromParts as From}
 use Rattle.lot_c.specs.contracts.handle.Handle.filled as F
 use Rattle.lot_c.specs.contracts.handle.Handle.filled.Key.{name as #self}

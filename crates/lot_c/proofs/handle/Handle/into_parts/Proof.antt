@@ -1,41 +1,7 @@
 -- `into_parts` compares the pointer with null: what the handle owns stands there, or nothing does.
-use mathlib.Core.Path.{refl, sym, subst}
-use mathlib.Core.List.{List, [], ◌∷◌, ◌++◌}
-use seplogic.Ra.Ura.{Ura}
-use lib.Dec.{lit<}
-use mir.Val.{Val, vnil, vcons}
-use base.Logic.{SProp, ent, emp, id⊢}
-use base.Fml.{ftrue, fsep}
-use prog.Memory.{Memory}
-use prog.Routine.{Routine}
-use prog.Wp.{WpFn, Tables}
-use types.Logic.{Logic}
-use contract.Monad.{Fun}
-use contract.Running.{tables, tables_of}
-use sound.WpLaws.{WpFn-mono}
-use types.Kit.{Item, at_ret, ‵, raw, ◌⊛◌, ◌$◌, ◌∵◌, !, qed, by, move, drop, use0, use1, join, split, fsplit, fjoin, suffices, done}
-use types.Part.{whole, sub, agg}
-use types.Run.{stop, fld, lit, bin, no_more, and_then, of_opd, first, branches, exec, returns, enter}
-use types.ByLocal.{alloc_all, pass_all, free_all, look_at, get, get_in, sets, sets_last, env}
-use types.Match.{live}
-use denote.Exit.{yes}
-use denote.Param.{layout}
-use denote.RawPtr.{block_ptr, tests_null}
-use denote.Signature.{type_at}
-use denote.Steps.{nothing}
-use denote.Triple.Spec.{triple_of}
-use denote.Triple.Table.{entered}
-use denote.Triple.Walked.{says, Stays, stay_dropped, walk_of, ends_at, Goes-dropped, walk_Meets}
-use Rattle.std.proofs.BoxSteps.Form.{D, P, word, box_typed}
-use Rattle.std.proofs.alloc.Shapes.{after}
-use Rattle.std.proofs.cell.Inside.{Good}
-use Rattle.std.proofs.ResultValues.{and_tt}
-use Rattle.std.specs.Box.Ownership.{box_owns}
-use Rattle.std.specs.contracts.impls.GlobalAllocator.TheImpl.{ghosts}
+use Rattle.lot_c.proofs.Common.{D, Fun, Goes-dropped, Good, Item, List, Logic, Memory, None, P, Routine, SProp, Some, Some-of, Stays, Tables, Ura, Val, WpFn, WpFn-mono, after, agg, alloc_all, and_then, and_tt, at_ret, bin, block_ptr, box_in, box_owns, box_typed, branches, by, done, drop, emp, ends_at, ent, enter, entered, env, exec, first, fjoin, fld, free_all, fsep, fsplit, ftrue, get, get_in, ghosts, id⊢, join, layout, lit, lit<, live, look_at, move, no_more, none_of, nothing, of_opd, pass_all, qed, raw, refl, returns, says, sets, sets_last, split, stay_dropped, stop, sub, subst, suffices, sym, tables, tests_null, triple_of, type_at, use0, use1, vcons, vnil, walk_Meets, walk_of, whole, word, yes, !, [], ‵, ◌$◌, ◌++◌, ◌∵◌, ◌∷◌, ◌⊛◌}
+use contract.Running.{tables_of}
 use Rattle.lot_kernel.specs.contracts.kernel.Kernel as kernel
-use Rattle.std.proofs.option.Made.{Some-of, none_of}
-use Rattle.std.proofs.BoxSteps.Steps.{box_in}
-use Rattle.std.specs.Prelude.{None, Some}
 use Rattle.lot_c.proofs.Handles.{E, FromParts-row, FromHandle as From, held, null_word, null_typed, handle_out}
 use Rattle.lot_c.specs.contracts.handle.Handle as handle
 use Rattle.lot_c.specs.contracts.handle.Handle.into_parts as F

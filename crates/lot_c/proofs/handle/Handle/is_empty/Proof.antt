@@ -1,39 +1,7 @@
 -- `is_empty` compares the pointer with null where it lies, and leaves the handle as it was.
-use mathlib.Core.Path.{◌≡◌, refl, sym}
-use mathlib.Core.Bool.{Bool}
-use mathlib.Core.List.{List, [], ◌∷◌}
-use lib.Dec.{lit<}
-use seplogic.Ra.Ura.{Ura}
-use base.Fraction.{full_share}
-use mir.Syntax.{named}
-use mir.Val.{Val, vptr, vbool}
-use base.Logic.{SProp, ent, sep, emp, id⊢}
-use base.Fml.{ftrue, flft, fobs, fbor}
-use prog.Memory.{Memory}
-use prog.Routine.{Routine}
-use prog.Wp.{WpFn, Tables}
-use types.Logic.{Logic}
+use Rattle.lot_c.proofs.Common.{Bool, Clauses, D, Fun, Goes-ref, List, Logic, Memory, MutRef, Routine, SProp, Some, Stays, Tables, Ura, Val, WpFn, WpFn-mono, alloc_all, bin, block_ptr, box_in, by, cell_at, closes, done, drop, emp, ends_at, ent, enter, entered, false, fbor, feq_i, fjoin, fjoin3, fld, flft, fobs, frame, free_all, fsplit, fsplit3, ftrue, full_share, get, id⊢, is_none, join, keep, lit, lit<, load, look_at, look_in, mem, move, mut_Tells, mut_vals, named, nothing, of_opd, opens, owns, pass_all, plain, qed, raw, refl, returns, rewrite, says, sep, sets, split, stay_ref, stop, sub, suffices, sym, tables, tests_null, through, triple_of, true, use1, vbool, vptr, walk_Meets, walk_of, walked, whole, word, !, [], ‵, ◌$◌, ◌∵◌, ◌∷◌, ◌≡◌, ◌⊛◌}
 use types.SemTy.{Body as Borrowed}
-use contract.Monad.{Fun}
-use contract.Running.{tables, tables_of}
-use sound.WpLaws.{WpFn-mono}
-use types.Kit.{‵, raw, ◌⊛◌, ◌$◌, ◌∵◌, !, qed, by, move, keep, drop, use1, join, split, rewrite, fsplit, fsplit3, fjoin, fjoin3, feq_i, frame, suffices, done}
-use types.Part.{whole, sub, look_in}
-use types.Run.{stop, fld, lit, bin, load, of_opd, returns, enter}
-use types.ByLocal.{alloc_all, pass_all, free_all, look_at, get, through, sets}
-use denote.RattleType.{owns}
-use denote.Memory.{mem, cell_at}
-use denote.RawPtr.{block_ptr, tests_null}
-use denote.Ref.{MutRef, mut_vals, mut_Tells}
-use denote.Signature.{plain}
-use denote.Steps.{nothing, opens, closes}
-use denote.Triple.Clauses.{Clauses}
-use denote.Triple.Spec.{triple_of}
-use denote.Triple.Table.{entered}
-use denote.Triple.Walked.{says, Stays, stay_ref, walk_of, ends_at, walked, walk_Meets, Goes-ref}
-use Rattle.std.proofs.BoxSteps.Form.{D, word}
-use Rattle.std.proofs.BoxSteps.Steps.{box_in}
-use Rattle.std.specs.Prelude.{Some, is_none, true, false}
+use contract.Running.{tables_of}
 use Rattle.lot_c.proofs.Handles.{E, held, null_word, handle_in, handle_out}
 use Rattle.lot_c.specs.contracts.handle.Handle as handle
 use Rattle.lot_c.specs.contracts.handle.Handle.is_empty as F

@@ -1,44 +1,10 @@
 -- `kernel` lends the kernel where it is, and the handle follows it.
-use mathlib.Core.Path.{◌≡◌, refl}
-use mathlib.Core.List.{List, [], ◌∷◌}
-use Prim.Native.Nat.{ℕ}
-use seplogic.Ra.Ura.{Ura}
-use base.Fraction.{full_share}
-use mir.Syntax.{Body, named, seq, assign, return, place, copy, rv_opd}
+use Rattle.lot_c.proofs.Common.{Body, Clauses, D, Env, Fml, Fun, GName, Goes-spent_ref, List, Logic, Memory, MutBor, MutRef, P, Part, Routine, SProp, Some, Stays, Tables, Ura, Val, WpFn, WpFn-mono, addr, alloc_all, assign, at_ret, await, block_ptr, blocks, box_in, by, cell_at, copy, done, drop, ends_at, ent, enter, entered, env, exec, fact, false, first, fjoin, fld, flft, follows, fpack, frame, free_all, fsep, fsplit, fsplit3, ftrue, full_share, get, ghosts, group, heard, id⊢, is_none, join, keep, later, lends_Part, load, lone, look_at, look_in, mem, move, mut_Tells, mut_ref_to, mut_vals, named, no, nothing, of_opd, opens, owns, part_at, pass_all, pick, place, plain, qed, raw, refl, return, returns, rewrite, rv_opd, says, sem, sep, seq, sets, sets_last, some, split, stay_dropped, stop, sub, suffices, tables, through, triple_of, use1, vptr, walk_Meets, walk_of, walked, whole, with_kernel, word, ℕ, !, [], ‵, ◌$◌, ◌∵◌, ◌∷◌, ◌≡◌, ◌⊛◌}
 use mir.Raw.{raw as bare}
-use mir.Val.{Val, vptr}
-use base.Logic.{SProp, ent, sep, id⊢}
-use base.Fml.{GName, Fml, ftrue, fsep, flft}
-use prog.Memory.{Memory}
-use prog.Routine.{Routine}
-use prog.Wp.{Env, WpFn, Tables}
-use types.Logic.{Logic, sem}
-use contract.Monad.{Fun, fact}
-use contract.Running.{tables, tables_of}
-use sound.WpLaws.{WpFn-mono}
-use types.Kit.{‵, raw, ◌⊛◌, some, later, at_ret, ◌$◌, ◌∵◌, !, qed, by, move, keep, drop, use1, join, split, group, pick, rewrite, fsplit, fsplit3, fjoin, fpack, frame, suffices, await, done}
-use types.Part.{whole, sub, look_in}
-use types.Run.{stop, fld, addr, load, of_opd, first, blocks, exec, returns, enter}
-use types.ByLocal.{alloc_all, pass_all, free_all, look_at, get, through, sets, sets_last, env}
-use denote.RattleType.{owns}
-use denote.Exit.{no}
-use denote.Memory.{part_at, part_of, mem, cell_at, lone}
-use denote.RawPtr.{block_ptr}
-use denote.Ref.{MutBor, MutRef, mut_vals, mut_Tells}
-use denote.Signature.{plain, mut_ref_to}
-use denote.Steps.{heard, nothing, opens}
-use denote.Follow.{follows, Part, lends_Part}
-use denote.Triple.Clauses.{Clauses}
-use denote.Triple.Spec.{triple_of}
-use denote.Triple.Table.{entered}
-use denote.Triple.Walked.{says, Stays, stay_dropped, walk_of, ends_at, walked, walk_Meets, Goes-spent_ref}
-use Rattle.std.proofs.BoxSteps.Form.{D, P, word}
-use Rattle.std.proofs.BoxSteps.Steps.{box_in}
-use Rattle.std.specs.contracts.impls.GlobalAllocator.TheImpl.{ghosts}
-use Rattle.std.specs.Prelude.{Some, is_none, false}
+use contract.Running.{tables_of}
+use denote.Memory.{part_of}
 use Rattle.lot_kernel.specs.contracts.kernel.Kernel as kernel
 use Rattle.lot_c.proofs.Handles.{E, handle_out, is-filled}
-use Rattle.lot_c.specs.Lending.{with_kernel}
 use Rattle.lot_c.specs.contracts.handle.Handle as handle
 use Rattle.lot_c.specs.contracts.handle.Handle.kernel as F
 use Rattle.lot_c.specs.contracts.handle.Handle.kernel.Key.{name as #self}

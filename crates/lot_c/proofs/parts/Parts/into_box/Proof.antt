@@ -1,40 +1,6 @@
 -- `into_box` hands what the parts own to `from_raw`.
-use mathlib.Core.Path.{◌≡◌, refl, sym, subst, ap}
-use mathlib.Core.List.{List, [], ◌∷◌, ◌++◌}
-use lib.Dec.{T}
-use seplogic.Ra.Ura.{Ura}
-use mir.Syntax.{Fn, Body, place, copy, assign, rv_opd, seq, return}
-use mir.MapTy.{inst_fn}
-use mir.Val.{Val, vptr, has_ty, WT}
-use base.Logic.{SProp, ent, id⊢}
-use base.Fml.{ftrue, fsep, flft}
-use contract.BorrowLft.{◌⊑◌}
-use prog.Memory.{Memory}
-use prog.Routine.{Routine}
-use prog.Wp.{WpFn, Tables}
-use types.Logic.{Logic}
-use contract.Monad.{Fun, fact}
-use contract.Running.{tables, tables_of}
-use sound.WpLaws.{fm_of, WpFn-mono}
-use types.Kit.{Item, at_ret, ‵, raw, ◌⊛◌, some, later, ◌$◌, ◌∵◌, !, qed, by, move, drop, use1, join, split, split3, pick, rewrite, fsplit, fjoin, feq_i, suffices, await, done}
-use types.Part.{whole, sub}
-use types.Run.{stop, fld, no_more, and_then, of_opd, returns, enter, first, blocks, exec}
-use types.ByLocal.{alloc_all, pass_all, free_all, look_at, get, get_in, sets, lands_last, env}
-use denote.RattleType.{RattleType}
-use denote.Exit.{no}
-use denote.RawPtr.{block_ptr}
-use denote.Signature.{plain}
-use denote.Steps.{heard, nothing, only}
-use denote.Triple.Call.{calls_at_last}
-use denote.Triple.Clauses.{Ended, Clauses}
-use denote.Triple.Spec.{triple_of}
-use denote.Triple.Statement.{Triple, Contract}
-use denote.Triple.Table.{entered}
-use denote.Triple.Walked.{says, Stays, stay_dropped, walk_of, ends_at, walk_Meets}
-use Rattle.std.proofs.alloc.Calls.{token, Goes-blank}
-use Rattle.std.specs.Box.Ownership.{box_owns}
-use Rattle.std.proofs.BoxSteps.Form.{Bx, D, R, P, B, args, box_ty, word, box_typed}
-use Rattle.std.proofs.BoxSteps.Steps.{box_out, box_in}
+use Rattle.lot_c.proofs.Common.{B, Body, Bx, Clauses, Contract, D, Ended, Fn, Fun, Goes-blank, Item, List, Logic, Memory, P, R, RattleType, Routine, SProp, Stays, T, Tables, Triple, Ura, Val, WT, WpFn, WpFn-mono, alloc_all, and_then, ap, args, assign, at_ret, await, block_ptr, blocks, box_in, box_out, box_owns, box_ty, box_typed, by, calls_at_last, copy, done, drop, ends_at, ent, enter, entered, env, exec, fact, feq_i, first, fjoin, fld, flft, fm_of, free_all, fsep, fsplit, ftrue, get, get_in, has_ty, heard, id⊢, inst_fn, join, lands_last, later, look_at, move, no, no_more, nothing, of_opd, only, pass_all, pick, place, plain, qed, raw, refl, return, returns, rewrite, rv_opd, says, seq, sets, some, split, split3, stay_dropped, stop, sub, subst, suffices, sym, tables, token, triple_of, use1, vptr, walk_Meets, walk_of, whole, word, !, [], ‵, ◌$◌, ◌++◌, ◌∵◌, ◌∷◌, ◌≡◌, ◌⊑◌, ◌⊛◌}
+use contract.Running.{tables_of}
 use Rattle.lot_c.specs.contracts.parts.Parts as parts
 use Rattle.std.specs.contracts.boxed.Box.from_raw as Fr
 use Rattle.std.proofs.boxed.Box.from_raw.Symbol as raw_sym

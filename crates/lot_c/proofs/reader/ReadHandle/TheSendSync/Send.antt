@@ -1,15 +1,6 @@
 -- A reader's handle may go to another thread where several threads may read a kernel.
-use mathlib.Core.List.{[], ◌∷◌}
-use base.Fml.{ftrue}
-use base.Shift.{Keyless}
-use denote.Exit.{Exit, unchanged, leaves, hidden, under}
-use denote.Param.Send.{IsSend, AllSend, Quiet, Common, owning_send, struct_send, sendable}
-use denote.RawPtr.{Ptr, block_ptr, null_ptr, block_of, count_of, in_block}
-use denote.Struct.Owning.{shape, fields, to}
-use denote.Struct.Struct.{exits_of}
-use Rattle.std.specs.Prelude.{None, Some}
+use Rattle.lot_c.proofs.Common.{AllSend, Common, Exit, IsSend, KernelValue, Keyless, None, Ptr, Quiet, Some, block_of, block_ptr, count_of, exits_of, fields, ftrue, handle_shares, hidden, in_block, leaves, null_ptr, owning_send, sendable, shape, struct_send, to, unchanged, under, [], ◌∷◌}
 use Rattle.lot_kernel.proofs.kernel.Kernel.TheSendSync.{the_sync as kernel_sync}
-use Rattle.lot_c.specs.Handles.{KernelValue, handle_shares}
 use Rattle.lot_c.specs.contracts.reader.ReadHandle.{the_row, the_type}
 
 quiet : {D X : Type 0} (along : D → X) (e : Exit X) → Quiet e → Quiet (hidden (under along e))

@@ -1,35 +1,7 @@
 -- `reader` sees the handle where it lies as a reader.
-use mathlib.Core.List.{List, [], ◌∷◌}
-use Prim.Native.Nat.{ℕ}
-use seplogic.Ra.Ura.{Ura}
-use base.Fraction.{full_share}
-use mir.Syntax.{Body, named, seq, assign, return, place, copy, rv_opd}
-use mir.Val.{Val, vptr}
-use mathlib.Core.Path.{refl}
-use base.Logic.{SProp, ent, sep, emp, id⊢}
-use base.Fml.{GName, ftrue, fsep, flft}
-use prog.Memory.{Memory}
-use prog.Routine.{Routine}
-use prog.Wp.{Env, WpFn, Tables}
-use types.Logic.{Logic, sem}
-use contract.Monad.{Fun}
-use contract.Running.{tables, tables_of}
-use sound.WpLaws.{WpFn-mono}
-use types.Kit.{‵, raw, ◌⊛◌, some, later, at_ret, ◌$◌, ◌∵◌, !, qed, by, move, keep, drop, use1, join, split, group, pick, fsplit, fsplit3, fjoin, fpack, frame, suffices, await, done}
-use types.Run.{stop, addr, of_opd, first, blocks, exec, returns, enter}
-use types.ByLocal.{alloc_all, pass_all, free_all, look_at, get, through, sets, sets_last, env}
-use denote.RattleType.{owns}
-use denote.Exit.{no}
-use denote.Memory.{part_at, part_of, mem, cell_at}
-use denote.Ref.{MutBor, MutRef, mut_vals, mut_Tells}
-use denote.Signature.{plain, mut_ref_to}
-use denote.Steps.{nothing, opens}
-use denote.Follow.{follows, Part, lends_Part}
-use denote.Triple.Clauses.{Clauses}
-use denote.Triple.Spec.{triple_of}
-use denote.Triple.Table.{entered}
-use denote.Triple.Walked.{says, Stays, stay_dropped, walk_of, ends_at, walked, walk_Meets, Goes-spent_ref}
-use Rattle.lot_c.specs.Readers.{reader_of, handle_of}
+use Rattle.lot_c.proofs.Common.{Body, Clauses, Env, Fun, GName, Goes-spent_ref, List, Logic, Memory, MutBor, MutRef, Part, Routine, SProp, Stays, Tables, Ura, Val, WpFn, WpFn-mono, addr, alloc_all, assign, at_ret, await, blocks, by, cell_at, copy, done, drop, emp, ends_at, ent, enter, entered, env, exec, first, fjoin, flft, follows, fpack, frame, free_all, fsep, fsplit, fsplit3, ftrue, full_share, get, group, handle_of, id⊢, join, keep, later, lends_Part, look_at, mem, move, mut_Tells, mut_ref_to, mut_vals, named, no, nothing, of_opd, opens, owns, part_at, pass_all, pick, place, plain, qed, raw, reader_of, refl, return, returns, rv_opd, says, sem, sep, seq, sets, sets_last, some, split, stay_dropped, stop, suffices, tables, through, triple_of, use1, vptr, walk_Meets, walk_of, walked, ℕ, !, [], ‵, ◌$◌, ◌∵◌, ◌∷◌, ◌⊛◌}
+use contract.Running.{tables_of}
+use denote.Memory.{part_of}
 use Rattle.lot_c.specs.contracts.reader.ReadHandle as handle
 use Rattle.lot_c.specs.contracts.reader.Reader as reader
 use Rattle.lot_c.specs.contracts.reader.ReadHandle.reader as F

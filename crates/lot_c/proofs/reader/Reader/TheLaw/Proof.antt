@@ -1,9 +1,5 @@
 -- A `&` to a reader is made of a borrow of its share of the token. Assumes `Logic`.
-use denote.Param.Shared.{copy_shared}
-use denote.Struct.Field.{RawPtr-field}
-use denote.Struct.Laws.{RawPtr-copy}
-use denote.Struct.Lending.{of_Lends}
-use Rattle.lot_c.specs.Handles.{handle_shares}
+use Rattle.lot_c.proofs.Common.{RawPtr-copy, RawPtr-field, copy_shared, handle_shares, of_Lends}
 use Rattle.lot_c.specs.contracts.reader.Reader as reader
 use Rattle.lot_c.proofs.Shared.{Lends-loan, handle-shares_laws}
 use Rattle.lot_c.proofs.reader.Reader.TheLaw.Statement.{statement}

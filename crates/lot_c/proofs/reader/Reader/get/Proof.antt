@@ -1,50 +1,7 @@
 -- `get` reads the pointer through the reference, and what the reference shares lies there, or nothing does.
-use mathlib.Core.Path.{◌≡◌, refl}
-use mathlib.Core.List.{List, [], ◌∷◌}
-use Prim.Native.Nat.{ℕ, ◌+◌}
-use lib.Dec.{lit<}
-use seplogic.Ra.Ura.{Ura}
-use mir.Syntax.{Body, named, seq, assign, place, copy, rv_opd, aggregate, int, w8, ty_ptr}
-use mir.Val.{Val, vptr, vnil, vcons}
-use base.Logic.{SProp, ent, sep, emp}
-use base.Fml.{Lft, ftrue, fhide, flft}
-use prog.Memory.{Memory}
-use prog.Routine.{Routine}
-use prog.Wp.{Env, WpFn, Wp, Tables, after_seq, at_return}
-use types.Logic.{Logic, sem}
-use contract.Monad.{Fun, fact}
-use contract.Running.{tables, tables_of}
-use sound.WpLaws.{WpFn-mono}
-use types.Kit.{‵, raw, ◌⊛◌, at_ret, any_q, ◌$◌, ◌∵◌, !, qed, by, move, keep, drop, use0, use1, join, split, rewrite, fsplit, fjoin, fpick, feq_i, feq_l, suffices, done}
-use types.Match.{live}
-use types.Part.{agg}
-use types.Run.{stop, fld, addr, load, look, lit, bin, no_more, and_then, of_opd, first, blocks, branches, exec, returns, enter}
-use types.ByLocal.{alloc_all, pass_all, free_all, look_at, get, through, sets, sets_last, env}
-use denote.Builtin.{RefOf}
-use denote.Copied.{plain_Copied}
-use denote.Exit.{yes}
-use denote.Memory.{cell_at, hidden_shr}
-use denote.Opens.{unhide, hide}
-use denote.RattleType.{RattleType, owns}
-use denote.Param.{layout}
-use denote.RawPtr.{Ptr, RawPtr, InBlock, block_ptr, null_ptr, ptr_val, ptr_own, coded_ptr, rawptr_pure, tests_null}
-use denote.Ref.{Bor, ShrRef, shr_vals, shr_Tells}
-use denote.Signature.{plain, type_at}
-use denote.Steps.{heard, nothing, looks, shuts}
-use denote.Struct.Laws.{RawPtr-laws}
-use denote.Struct.Lending.{lent_out, in_block_says}
-use denote.Struct.Owning.{shape}
-use denote.Struct.Struct.{Struct}
-use denote.Triple.Clauses.{Clauses}
-use denote.Triple.Spec.{triple_of}
-use denote.Triple.Table.{entered}
-use denote.Triple.Walked.{says, Stays, stay_dropped, walk_of, ends_at, walked, walk_Meets, Goes-dropped}
-use Rattle.std.proofs.alloc.Shapes.{after}
-use Rattle.std.proofs.cell.Inside.{Good}
-use Rattle.std.proofs.option.Made.{Some-of, none_of}
-use Rattle.std.specs.Prelude.{None, Some}
+use Rattle.lot_c.proofs.Common.{Body, Bor, Clauses, Env, Fun, Goes-dropped, Good, InBlock, KernelValue, Lft, List, Logic, Memory, None, Ptr, RattleType, RawPtr, RawPtr-laws, RefOf, Routine, SProp, ShrRef, Some, Some-of, Stays, Struct, Tables, Ura, Val, Wp, WpFn, WpFn-mono, addr, after, after_seq, agg, aggregate, alloc_all, and_then, any_q, assign, at_ret, at_return, bin, block_ptr, blocks, branches, by, cell_at, coded_ptr, copy, done, drop, emp, ends_at, ent, enter, entered, env, exec, fact, feq_i, feq_l, fhide, first, fjoin, fld, flft, fpick, free_all, fsplit, ftrue, get, handle_shares, heard, hidden_shr, hide, in_block_says, int, join, keep, layout, lent_out, lit, lit<, live, load, look, look_at, looks, move, named, no_more, none_of, nothing, null_ptr, of_opd, owns, pass_all, place, plain, plain_Copied, ptr_own, ptr_val, qed, raw, rawptr_pure, refl, returns, rewrite, rv_opd, says, sem, sep, seq, sets, sets_last, shape, shr_Tells, shr_vals, shuts, split, stay_dropped, stop, suffices, tables, tests_null, through, triple_of, ty_ptr, type_at, unhide, use0, use1, vcons, vnil, vptr, w8, walk_Meets, walk_of, walked, yes, ℕ, !, [], ‵, ◌$◌, ◌+◌, ◌∵◌, ◌∷◌, ◌≡◌, ◌⊛◌}
+use contract.Running.{tables_of}
 use Rattle.lot_kernel.specs.contracts.kernel.Kernel as kernel
-use Rattle.lot_c.specs.Handles.{KernelValue, handle_shares}
 use Rattle.lot_c.specs.contracts.reader.Reader as reader
 use Rattle.lot_c.specs.contracts.reader.Reader.get as F
 use Rattle.lot_c.specs.contracts.reader.Reader.get.Key.{name as #self}

@@ -1,8 +1,4 @@
-use Rattle.std.proofs.Common.{[], ◌∷◌, ◌++◌, ◌∙◌, ap, sym, subst, arith, length-append}
-use Rattle.lot_simulation.specs.World.{Program}
-use Rattle.lot_simulation.specs.World.TurnAnswer.{Answered}
-use Rattle.lot_curves.specs.Stretches.{turn_stretches}
-use Rattle.lot_chart.specs.Noted.{HasSearched}
+use Rattle.lot_chart.proofs.Common.{Answered, HasSearched, Program, ap, arith, length-append, subst, sym, turn_stretches, [], ◌++◌, ◌∙◌, ◌∷◌}
 use Rattle.lot_chart.proofs.Notes.{answered-noted, commands-noted, early-noted, ended-commands, ended-noted, turn-ran}
 use Rattle.lot_chart.proofs.gathering.StretchesObserver.after.Goals as goal
 

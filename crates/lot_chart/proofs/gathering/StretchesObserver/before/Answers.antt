@@ -1,9 +1,4 @@
-use Rattle.std.proofs.Common.{◌+◌, ◌≤◌, ◌∙◌, ap, sym, subst, arith}
-use Rattle.lot_graph.specs.declared.layout.Layout.{Layout}
-use Rattle.lot_simulation.specs.World.{Program}
-use Rattle.lot_engine.specs.Searching.{HasLayoutFor}
-use Rattle.lot_engine.specs.Seen.{world_of}
-use Rattle.lot_chart.specs.Noted.{HasSearched}
+use Rattle.lot_chart.proofs.Common.{HasLayoutFor, HasSearched, Layout, Program, ap, arith, subst, sym, world_of, ◌+◌, ◌∙◌, ◌≤◌}
 use Rattle.lot_chart.proofs.gathering.StretchesObserver.before.Goals as goal
 
 pub search-requires : goal.search-requires

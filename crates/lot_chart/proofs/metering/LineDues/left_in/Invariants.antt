@@ -1,6 +1,4 @@
-use Rattle.std.proofs.Common.{◌≡◌, ◌-◌, ◌*◌, sum_by, take}
-use Rattle.lot_simulation.specs.TimedReport.{tick_parts}
-use Rattle.lot_chart.specs.Gauges.{grown_in}
+use Rattle.lot_chart.proofs.Common.{grown_in, sum_by, take, tick_parts, ◌*◌, ◌-◌, ◌≡◌}
 use Rattle.lot_chart.proofs.metering.LineDues.left_in.Given as goal
 
 -- what the gauges passed so far leave

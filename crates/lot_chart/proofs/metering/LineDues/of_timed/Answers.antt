@@ -1,6 +1,4 @@
-use Rattle.std.proofs.Common.{◌≡◌, ℕ, Option, Some, None, refl, arith}
-use Rattle.std.specs.Prelude.{IsSome}
-use Rattle.lot_playback.specs.Turns.{program_turns}
+use Rattle.lot_chart.proofs.Common.{IsSome, None, Option, Some, arith, program_turns, refl, ℕ, ◌≡◌}
 use Rattle.lot_chart.proofs.Notes.{program-few}
 use Rattle.lot_chart.proofs.MeterFacts.{dues-are, meter-within, new-meter}
 use Rattle.lot_chart.proofs.metering.LineDues.of_timed.Goals as goal

@@ -1,13 +1,4 @@
-use Rattle.std.proofs.Common.{◌≡◌, ◌-◌, ◌*◌, ◌<◌, ◌≤◌, cond, ℕ, List, length, get_or, sum_by, ne_eqb, sym, ap, ◌∙◌, subst, arith}
-use Rattle.std.proofs.lemmas.Bool.{eq-eqb}
-use Rattle.lot_simulation.specs.TimedReport.{tick_parts}
-use Rattle.lot_curves.specs.Curves.{Curves, sample_count, sample_tick}
-use Rattle.lot_curves.specs.Stretches.{last_end}
-use Rattle.lot_chart.specs.declared.gauges.Gauge.{Gauge}
-use Rattle.lot_chart.specs.declared.metering.LineDues.{LineDues}
-use Rattle.lot_chart.specs.declared.standings.Standing.{Standing}
-use Rattle.lot_chart.specs.Dues.{Dues, due_share, grown_at, line_parts}
-use Rattle.lot_chart.specs.Gauges.{AreDues, grown_in}
+use Rattle.lot_chart.proofs.Common.{AreDues, Curves, Dues, Gauge, LineDues, List, Standing, ap, arith, cond, due_share, eq-eqb, get_or, grown_at, grown_in, last_end, length, line_parts, ne_eqb, sample_count, sample_tick, subst, sum_by, sym, tick_parts, ℕ, ◌*◌, ◌-◌, ◌<◌, ◌∙◌, ◌≡◌, ◌≤◌}
 use Rattle.lot_chart.proofs.MeterFacts.{sums-same}
 use Rattle.lot_chart.proofs.metering.LineDues.share.Goals.{then-thread-eq0, else-thread-eq0}
 use Rattle.lot_chart.proofs.metering.LineDues.share.Goals as goal

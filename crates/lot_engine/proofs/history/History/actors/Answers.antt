@@ -1,6 +1,4 @@
-use Rattle.std.proofs.Common.{◌≡◌, ◌+◌, ◌∙◌, map, sym, subst}
-use Rattle.std.specs.Prelude.{min}
-use Rattle.lot_engine.specs.Histories.{KeptHistory}
+use Rattle.lot_engine.proofs.Common.{KeptHistory, map, min, subst, sym, ◌+◌, ◌∙◌, ◌≡◌}
 use Rattle.lot_engine.proofs.HistoryFacts.{bytes_are}
 use Rattle.lot_engine.proofs.history.History.actors.Goals as goal
 

@@ -1,5 +1,4 @@
-use Rattle.std.proofs.Common.{length, ap, arith}
-use Rattle.lot_engine.specs.Histories.{KeptHistory}
+use Rattle.lot_engine.proofs.Common.{KeptHistory, ap, arith, length}
 use Rattle.lot_engine.proofs.HistoryFacts.{as_many}
 use Rattle.lot_engine.proofs.history.History.len.Goals as goal
 

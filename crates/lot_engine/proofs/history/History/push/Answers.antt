@@ -1,5 +1,4 @@
-use Rattle.std.proofs.Common.{◌∷◌, ◌++◌, [], ap, ◌∙◌, arith}
-use Rattle.lot_engine.specs.Histories.{KeptHistory, actors_from}
+use Rattle.lot_engine.proofs.Common.{KeptHistory, actors_from, ap, arith, [], ◌++◌, ◌∙◌, ◌∷◌}
 use Rattle.lot_engine.proofs.HistoryFacts.{as_many, own-more}
 use Rattle.lot_engine.proofs.history.History.push.Goals as goal
 

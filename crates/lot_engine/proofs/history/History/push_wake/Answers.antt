@@ -1,7 +1,4 @@
-use Rattle.std.proofs.Common.{◌∷◌, ◌++◌, ◌+◌, [], ap, ap₂, ◌∙◌, arith}
-use Rattle.std.specs.Prelude.{nat_lt}
-use Rattle.std.proofs.lemmas.List.Sums.{count_by-le-length}
-use Rattle.lot_engine.specs.Histories.{KeptHistory, actors_from}
+use Rattle.lot_engine.proofs.Common.{KeptHistory, actors_from, ap, ap₂, arith, count_by-le-length, nat_lt, [], ◌++◌, ◌+◌, ◌∙◌, ◌∷◌}
 use Rattle.lot_engine.proofs.HistoryFacts.{as_many, wake-more}
 use Rattle.lot_engine.proofs.history.History.push_wake.Goals as goal
 

@@ -1,5 +1,4 @@
-use Rattle.std.proofs.Common.{◌≡◌, ◌∙◌, sym, subst}
-use Rattle.lot_engine.specs.Histories.{KeptHistory, woken_in}
+use Rattle.lot_engine.proofs.Common.{KeptHistory, subst, sym, woken_in, ◌∙◌, ◌≡◌}
 use Rattle.lot_engine.proofs.HistoryFacts.{threads_are}
 use Rattle.lot_engine.proofs.history.History.woken.Goals as goal
 

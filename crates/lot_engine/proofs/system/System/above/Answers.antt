@@ -1,6 +1,4 @@
-use Rattle.std.proofs.lemmas.Result.{IfOk-weaker}
-use Rattle.lot_kernel.specs.Searching.{HasLayoutOf}
-use Rattle.lot_engine.specs.Searching.{HasLayoutFor}
+use Rattle.lot_engine.proofs.Common.{HasLayoutFor, HasLayoutOf, IfOk-weaker}
 use Rattle.lot_engine.proofs.Layouts.{layout-for}
 use Rattle.lot_engine.proofs.system.System.above.Goals as goal
 

@@ -1,13 +1,8 @@
 -- The command is the next one, and what is held then is what the world comes to.
-use Rattle.std.proofs.Common.{◌≡◌, length, sym, ap, ◌∙◌, subst, refl, arith}
-use Rattle.lot_simulation.specs.World.{next_name, resolved, system_turn, system_run, tickets_after}
-use Rattle.lot_simulation.specs.World.TurnAnswer.{Answered}
+use Rattle.lot_engine.proofs.Common.{Answered, IsInOrder, Seen, ap, arith, length, next_name, refl, resolved, subst, sym, system_run, system_turn, tickets_after, turns_made, world_of, ◌∙◌, ◌≡◌}
 use Rattle.lot_machine.specs.declared.event.Event.TheVariants as event
-use Rattle.lot_machine.specs.Order.{IsInOrder}
-use Rattle.lot_engine.specs.Seen.{Seen, world_of}
 use Rattle.lot_engine.proofs.InOrder.{run-in-order}
 use Rattle.lot_engine.proofs.OneMore.{console-more}
-use Rattle.lot_simulation.specs.Report.{turns_made}
 use Rattle.lot_engine.proofs.TurnFacts.{command-left, command-next, command-made, command-answer, command-held, kept-made}
 use Rattle.lot_engine.proofs.system.System.console_turn.Goals as goal
 

@@ -1,11 +1,4 @@
-use Rattle.std.proofs.Common.{◌≡◌, ◌≤◌, arith, subst, sym}
-use Rattle.lot_machine.specs.Facts.{base_value}
-use Rattle.lot_machine.specs.Order.{IsInOrder}
-use Rattle.lot_machine.specs.State.{State, funding_of, live_of}
-use Rattle.lot_machine.proofs.CurrencyFlow.{currency-bounded}
-use Rattle.lot_machine.proofs.OrderKept.{order-sound}
-use Rattle.lot_simulation.specs.Below.{worth_of}
-use Rattle.lot_engine.specs.Seen.{Seen, world_of}
+use Rattle.lot_engine.proofs.Common.{IsInOrder, Seen, State, arith, base_value, currency-bounded, funding_of, live_of, order-sound, subst, sym, world_of, worth_of, ◌≡◌, ◌≤◌}
 use Rattle.lot_engine.proofs.InOrder.{run-in-order}
 use Rattle.lot_engine.proofs.system.System.currency_value.Goals as goal
 

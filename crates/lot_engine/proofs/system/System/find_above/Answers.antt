@@ -1,9 +1,4 @@
-use Rattle.std.proofs.Common.{length, subst, sym}
-use Rattle.lot_machine.specs.Bounds.{IsBetween}
-use Rattle.lot_machine.specs.Order.{IsInOrder}
-use Rattle.lot_machine.specs.State.{State}
-use Rattle.lot_engine.specs.Searching.{HasLayoutFor, HasThoseAbove}
-use Rattle.lot_engine.specs.Seen.{Seen, world_of}
+use Rattle.lot_engine.proofs.Common.{HasLayoutFor, HasThoseAbove, IsBetween, IsInOrder, Seen, State, length, subst, sym, world_of}
 use Rattle.lot_engine.proofs.Below.{above-those}
 use Rattle.lot_engine.proofs.InOrder.{run-in-order}
 use Rattle.lot_engine.proofs.Layouts.{layout-of}

@@ -1,7 +1,5 @@
 -- Without a timer the actors are the console and processors, so they are printed as they are.
-use Rattle.std.proofs.Common.{◌+◌, ap, ◌∙◌, map}
-use Rattle.std.specs.Prelude.{min}
-use Rattle.lot_engine.specs.Seen.{Seen, shown_history}
+use Rattle.lot_engine.proofs.Common.{Seen, ap, map, min, shown_history, ◌+◌, ◌∙◌}
 use Rattle.lot_engine.proofs.HistoryFacts.{shown-own}
 use Rattle.lot_engine.proofs.system.System.history.Goals as goal
 

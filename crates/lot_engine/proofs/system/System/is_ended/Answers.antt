@@ -1,5 +1,4 @@
-use Rattle.std.proofs.lemmas.Bool.{leb-true, le-leb}
-use Rattle.lot_simulation.specs.World.{system_run}
+use Rattle.lot_engine.proofs.Common.{le-leb, leb-true, system_run}
 use Rattle.lot_engine.proofs.TurnFacts.{commands-ended}
 use Rattle.lot_engine.proofs.system.System.is_ended.Goals as goal
 

@@ -1,8 +1,5 @@
 -- The thread on a processor is one of those whose places are kept, and it wasn't removed.
-use Rattle.std.proofs.Common.{◌≡◌, ◌≤◌, ◌-◌, is_some, refl, sym, ap, subst, ◌∙◌, arith}
-use Rattle.lot_simulation.specs.World.{system_run}
-use Rattle.lot_script.specs.Drafts.{IsScript}
-use Rattle.lot_engine.specs.Held.{script_lines}
+use Rattle.lot_engine.proofs.Common.{IsScript, ap, arith, is_some, refl, script_lines, subst, sym, system_run, ◌-◌, ◌∙◌, ◌≡◌, ◌≤◌}
 use Rattle.lot_engine.proofs.PlaceFacts.{at-lengths}
 use Rattle.lot_engine.proofs.TurnFacts.{runner-scripted, script-there, work-is}
 use Rattle.lot_engine.proofs.system.System.kept_work.Goals as goal

@@ -1,9 +1,5 @@
 -- Who waits isn't dead, so it wasn't removed.
-use Rattle.std.proofs.Common.{sym, subst}
-use Rattle.std.specs.Prelude.{All}
-use Rattle.lot_machine.specs.Order.{IsInOrder}
-use Rattle.lot_machine.specs.State.{State}
-use Rattle.lot_engine.specs.Seen.{HasRow}
+use Rattle.lot_engine.proofs.Common.{All, HasRow, IsInOrder, State, subst, sym}
 use Rattle.lot_engine.proofs.InOrder.{run-in-order}
 use Rattle.lot_engine.proofs.RowFacts.{waiters-rows}
 use Rattle.lot_engine.proofs.system.System.list_waiters.Goals as goal

@@ -1,12 +1,6 @@
 -- The event is the one of the slice of the work, and what is held then is what the world comes to.
-use Rattle.std.proofs.Common.{◌≡◌, ◌<◌, length, ap, ◌∙◌, subst, unwrap_or, arith}
-use Rattle.std.specs.Prelude.{if◌then◌else◌}
-use Rattle.lot_machine.specs.Numbered.{at_number, set_number}
-use Rattle.lot_simulation.specs.World.{number_from, seed_from, system_turn, system_run, takes_number}
-use Rattle.lot_simulation.specs.World.TurnAnswer.{Answered}
-use Rattle.lot_engine.specs.Seen.{Seen, world_of}
+use Rattle.lot_engine.proofs.Common.{Answered, Seen, ap, arith, at_number, if◌then◌else◌, length, number_from, seed_from, set_number, subst, system_run, system_turn, takes_number, turns_made, unwrap_or, world_of, ◌<◌, ◌∙◌, ◌≡◌}
 use Rattle.lot_engine.proofs.OneMore.{processor-more}
-use Rattle.lot_simulation.specs.Report.{turns_made}
 use Rattle.lot_engine.proofs.TurnFacts.{turn-answer, turn-names, turn-held}
 use Rattle.lot_engine.proofs.RunFacts.{given-event}
 use Rattle.lot_engine.proofs.system.System.make_turn.Goals as goal

@@ -1,9 +1,4 @@
-use Rattle.std.proofs.Common.{None, ap, sym, subst}
-use Rattle.lot_engine.specs.Turns.{IsWorkOf}
-use Rattle.std.specs.Prelude.{option_and_then}
-use Rattle.lot_simulation.specs.World.{slice_on, sleeper_by}
-use Rattle.lot_engine.specs.Seen.{world_of}
-use Rattle.lot_engine.specs.Playing.{IsPlayed}
+use Rattle.lot_engine.proofs.Common.{IsPlayed, IsWorkOf, None, ap, option_and_then, sleeper_by, slice_on, subst, sym, world_of}
 use Rattle.lot_engine.proofs.PlayingFacts.{played-after}
 use Rattle.lot_engine.proofs.system.System.next_turn.Goals as goal
 

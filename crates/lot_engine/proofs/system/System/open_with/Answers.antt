@@ -1,7 +1,4 @@
-use Rattle.std.proofs.Common.{rules, ◌≡◌, ◌∙◌, ◌+◌, ◌≤◌, [], length, is_some, replicate, ap, sym, subst}
-use Rattle.lot_machine.specs.State.{opening, sizes_of}
-use Rattle.lot_simulation.specs.Report.{turns_made}
-use Rattle.lot_engine.specs.Counted.{AreCounts, IsCount}
+use Rattle.lot_engine.proofs.Common.{AreCounts, IsCount, ap, is_some, length, opening, replicate, rules, sizes_of, subst, sym, turns_made, [], ◌+◌, ◌∙◌, ◌≡◌, ◌≤◌}
 use Rattle.lot_engine.proofs.Openings.{nothing-counted, opening-held}
 use Rattle.lot_engine.proofs.system.System.open_with.Goals as goal
 

@@ -1,13 +1,5 @@
 -- The place that moves on is that of the work, and what is held then is what the world comes to.
-use Rattle.std.proofs.Common.{◌≡◌, length, ap, sym, ◌∙◌, subst, unwrap_or, arith}
-use Rattle.std.specs.Prelude.{if◌then◌else◌}
-use Rattle.lot_machine.specs.Numbered.{at_number, set_number}
-use Rattle.lot_simulation.specs.Report.{turns_made}
-use Rattle.lot_simulation.specs.World.{number_from, seed_from, sleeper_by, sleeper_on, system_turn, system_run, takes_number}
-use Rattle.lot_simulation.specs.World.TurnAnswer.{Answered}
-use Rattle.lot_script.specs.Places.{Fits}
-use Rattle.lot_engine.specs.Seen.{Seen, world_of}
-use Rattle.lot_engine.specs.Steps.{place_of}
+use Rattle.lot_engine.proofs.Common.{Answered, Fits, Seen, ap, arith, at_number, if◌then◌else◌, length, number_from, place_of, seed_from, set_number, sleeper_by, sleeper_on, subst, sym, system_run, system_turn, takes_number, turns_made, unwrap_or, world_of, ◌∙◌, ◌≡◌}
 use Rattle.lot_engine.proofs.RunFacts.{run-answer, run-held, run-names, run-sleeper, thread-kept, work-kept}
 use Rattle.lot_engine.proofs.OneMore.{processor-more}
 use Rattle.lot_engine.proofs.system.System.run_turn.Goals as goal

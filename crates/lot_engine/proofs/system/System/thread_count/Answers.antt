@@ -1,7 +1,4 @@
-use Rattle.std.proofs.Common.{◌≡◌, ap, length, arith}
-use Rattle.lot_machine.specs.State.{State}
-use Rattle.lot_simulation.specs.World.{system_run}
-use Rattle.lot_engine.specs.Seen.{Seen, world_of}
+use Rattle.lot_engine.proofs.Common.{Seen, State, ap, arith, length, system_run, world_of, ◌≡◌}
 use Rattle.lot_engine.proofs.PlaceFacts.{at-lengths}
 use Rattle.lot_engine.proofs.system.System.thread_count.Goals as goal
 

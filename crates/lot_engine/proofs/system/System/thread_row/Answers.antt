@@ -1,8 +1,5 @@
 -- Where there is no row, the thread was never made, or it was removed.
-use Rattle.std.proofs.Common.{◌≡◌, false, sym, ◌∙◌, subst}
-use Rattle.lot_machine.specs.Lends.{is_live}
-use Rattle.lot_machine.specs.Order.{IsInOrder}
-use Rattle.lot_machine.specs.State.{State, live_of}
+use Rattle.lot_engine.proofs.Common.{IsInOrder, State, false, is_live, live_of, subst, sym, ◌∙◌, ◌≡◌}
 use Rattle.lot_engine.proofs.GoneFacts.{gone-idle}
 use Rattle.lot_engine.proofs.InOrder.{run-in-order}
 use Rattle.lot_engine.proofs.system.System.thread_row.Goals as goal

@@ -1,7 +1,5 @@
 -- What isn't the slice of the work isn't the slice of any work of the actor: there is one.
-use Rattle.std.proofs.Common.{◌≡◌, true, refl, sym, subst}
-use Rattle.lot_engine.specs.Seen.{Seen}
-use Rattle.lot_engine.specs.Turns.{IsFresh, Matches}
+use Rattle.lot_engine.proofs.Common.{IsFresh, Matches, Seen, refl, subst, sym, true, ◌≡◌}
 use Rattle.lot_engine.proofs.WorkFacts.{fresh-matches}
 use Rattle.lot_engine.proofs.system.System.try_turn.Goals as goal
 

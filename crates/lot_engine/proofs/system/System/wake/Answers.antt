@@ -1,12 +1,6 @@
 -- The timer's turn leaves the threads' places and the counters of the others.
-use Rattle.std.proofs.Common.{◌≡◌, ℕ, ◌+◌, ◌++◌, List, [], ◌∷◌, length, ap, sym, ◌∙◌, subst, arith}
+use Rattle.lot_engine.proofs.Common.{Answered, IsPlayed, List, Seen, State, after_turn, ap, arith, length, step, subst, sym, system_run, timer_for, turn_in, ℕ, [], ◌++◌, ◌+◌, ◌∙◌, ◌∷◌, ◌≡◌}
 use Rattle.lot_machine.specs.declared.event.Event.TheVariants as event
-use Rattle.lot_machine.specs.State.{State}
-use Rattle.lot_machine.specs.Step.{step}
-use Rattle.lot_simulation.specs.World.{system_run}
-use Rattle.lot_simulation.specs.World.TurnAnswer.{Answered}
-use Rattle.lot_engine.specs.Playing.{IsPlayed, turn_in}
-use Rattle.lot_engine.specs.Seen.{Seen, after_turn, timer_for}
 use Rattle.lot_engine.proofs.OneMore.{timer-more}
 use Rattle.lot_engine.proofs.PlayingFacts.{played-after}
 use Rattle.lot_engine.proofs.WakeFacts.{wake-answer}

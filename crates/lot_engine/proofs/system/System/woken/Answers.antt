@@ -1,6 +1,4 @@
-use Rattle.std.proofs.Common.{ap, ◌∙◌}
-use Rattle.lot_engine.specs.Histories.{woken_in}
-use Rattle.lot_engine.specs.Seen.{Seen}
+use Rattle.lot_engine.proofs.Common.{Seen, ap, woken_in, ◌∙◌}
 use Rattle.lot_engine.proofs.system.System.woken.Goals as goal
 
 pub returns : goal.returns

@@ -1,8 +1,6 @@
-use Rattle.std.proofs.Common.{◌≡◌, ℕ, Option, Some, None, List, refl, sym, ap, ◌∙◌}
-use Rattle.lot_machine.specs.declared.command.Command.{Command}
-use Rattle.lot_machine.specs.declared.command.Command.TheVariants.{MakeTicket, RemoveTicket, MakeCurrency, RemoveCurrency, Fund, Unfund, SetTicket, MakeThread, RemoveThread, Kill, MakeFunded, List as Listing}
+use Rattle.lot_engine.proofs.Common.{Command, Fund, Kill, List, MakeCurrency, MakeFunded, MakeThread, MakeTicket, None, Option, RemoveCurrency, RemoveThread, RemoveTicket, SetTicket, Some, Unfund, ap, refl, sym, tickets_after, ℕ, ◌∙◌, ◌≡◌}
+use Rattle.lot_machine.specs.declared.command.Command.TheVariants.{List as Listing}
 use Rattle.lot_machine.specs.declared.reply.Reply.TheVariants.{Done}
-use Rattle.lot_simulation.specs.World.{tickets_after}
 use Rattle.lot_engine.proofs.tickets.NamedTickets.follow.Goals.{in_default-Done-via-in-Some+in-Done, in_default-Done-via-in_default+in-Done}
 use Rattle.lot_engine.proofs.tickets.NamedTickets.follow.Goals as goal
 

@@ -1,10 +1,5 @@
 -- An item is written only if it is the ticket's number.
-use Rattle.std.proofs.Common.{◌≡◌, ℕ, ◌+◌, ◌==◌, ◌++◌, drop, take, set, get_or, length, refl, sym, ◌∙◌, arith, false, ne_eqb}
-use Rattle.std.specs.Prelude.{if◌then◌else◌}
-use Rattle.std.proofs.lemmas.Bool.{eq-eqb}
-use Rattle.std.proofs.lemmas.List.Edits.{map_over_more}
-use Rattle.std.proofs.lemmas.Option.{get_or_from_slice_get, slice_get-get_or}
-use Rattle.lot_simulation.specs.World.{without_ticket}
+use Rattle.lot_engine.proofs.Common.{arith, drop, eq-eqb, false, get_or, get_or_from_slice_get, if◌then◌else◌, length, map_over_more, ne_eqb, refl, set, slice_get-get_or, sym, take, without_ticket, ℕ, ◌++◌, ◌+◌, ◌==◌, ◌∙◌, ◌≡◌}
 use Rattle.lot_engine.proofs.tickets.NamedTickets.forget.Goals.{then-from-ticket, else-from-ticket}
 use Rattle.lot_engine.proofs.tickets.NamedTickets.forget.Goals as goal
 

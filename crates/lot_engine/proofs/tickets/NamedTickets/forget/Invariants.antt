@@ -1,5 +1,4 @@
-use Rattle.std.proofs.Common.{◌≡◌, ◌++◌, drop, take}
-use Rattle.lot_simulation.specs.World.{without_ticket}
+use Rattle.lot_engine.proofs.Common.{drop, take, without_ticket, ◌++◌, ◌≡◌}
 use Rattle.lot_engine.proofs.tickets.NamedTickets.forget.Given as goal
 
 abbrev pub invariant-loop-number : goal.invariant-loop-number

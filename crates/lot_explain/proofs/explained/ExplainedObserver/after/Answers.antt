@@ -1,7 +1,4 @@
-use Rattle.std.proofs.Common.{◌++◌, ◌∙◌, subst}
-use Rattle.lot_io.specs.Writing.{Begins, IsPut}
-use Rattle.lot_system.proofs.LineFacts.{put-err, put-ok, texts-more, texts-stop}
-use Rattle.lot_explain.specs.MadeTurns.{IsExplained, explained_made}
+use Rattle.lot_explain.proofs.Common.{Begins, IsExplained, IsPut, explained_made, put-err, put-ok, subst, texts-more, texts-stop, ◌++◌, ◌∙◌}
 use Rattle.lot_explain.proofs.TurnFacts.{just-explained}
 use Rattle.lot_explain.proofs.explained.ExplainedObserver.after.Goals as goal
 

@@ -1,6 +1,4 @@
-use Rattle.std.proofs.Common.{◌∙◌, ap}
-use Rattle.lot_simulation.specs.World.{Program, system_turn}
-use Rattle.lot_engine.specs.Seen.{world_of}
+use Rattle.lot_explain.proofs.Common.{Program, ap, system_turn, world_of, ◌∙◌}
 use Rattle.lot_explain.proofs.explained.ExplainedObserver.before.Goals as goal
 
 pub gather-requires-clause-room : goal.gather-requires-clause-room

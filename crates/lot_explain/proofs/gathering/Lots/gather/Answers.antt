@@ -1,8 +1,4 @@
-use Rattle.std.proofs.Common.{map, sym, ◌∙◌, ap, subst}
-use Rattle.std.specs.Prelude.{All}
-use Rattle.lot_engine.specs.Seen.{HasRow, Seen, world_of}
-use Rattle.lot_explain.specs.Loans.{all_loans}
-use Rattle.lot_explain.specs.Lots.{loans_among, lots_among, waiter_lot}
+use Rattle.lot_explain.proofs.Common.{All, HasRow, Seen, all_loans, ap, loans_among, lots_among, map, subst, sym, waiter_lot, world_of, ◌∙◌}
 use Rattle.lot_explain.proofs.gathering.Lots.gather.Goals as goal
 
 pub push_waiters-requires-clause-there : goal.push_waiters-requires-clause-there

@@ -1,7 +1,4 @@
-use Rattle.std.proofs.Common.{ap, subst, sym, ◌∙◌}
-use Rattle.lot_graph.specs.Found.{FoundNodes, IsAbove}
-use Rattle.lot_graph.specs.Places.{IsNodeWithin, layout_of}
-use Rattle.lot_graph.specs.Spread.{Finds, IsBack, IsFoundList, found_nodes}
+use Rattle.lot_graph.proofs.Common.{Finds, FoundNodes, IsAbove, IsBack, IsFoundList, IsNodeWithin, ap, found_nodes, layout_of, subst, sym, ◌∙◌}
 use Rattle.lot_graph.proofs.AboveLemmas.{finds-above, limits-within}
 use Rattle.lot_graph.proofs.above.Above.find.Goals as goal
 

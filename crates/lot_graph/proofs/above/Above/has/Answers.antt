@@ -1,6 +1,4 @@
-use Rattle.std.proofs.Common.{◌≤◌, ◌∙◌, sym, subst}
-use Rattle.lot_machine.specs.declared.funding.Node.TheVariants.{Currency}
-use Rattle.lot_graph.specs.Found.{FoundNodes, HasFound}
+use Rattle.lot_graph.proofs.Common.{Currency, FoundNodes, HasFound, subst, sym, ◌∙◌, ◌≤◌}
 use Rattle.lot_graph.proofs.AboveLemmas.{found-test}
 use Rattle.lot_graph.proofs.above.Above.has.Goals as goal
 

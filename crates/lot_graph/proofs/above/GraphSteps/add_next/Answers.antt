@@ -1,10 +1,4 @@
-use Rattle.std.proofs.Common.{◌++◌, List, [], sym, ◌∙◌, subst}
-use Rattle.std.specs.Option.{IfSome}
-use Rattle.lot_machine.specs.declared.funding.Edge.{Edge}
-use Rattle.lot_machine.proofs.EachOnce.{contains-nothing}
-use Rattle.lot_graph.specs.Graphs.{HasEachOnce, LeadsInto}
-use Rattle.lot_graph.specs.Places.{IsNodeWithin, layout_of}
-use Rattle.lot_graph.specs.Spread.{tail_of}
+use Rattle.lot_graph.proofs.Common.{Edge, HasEachOnce, IfSome, IsNodeWithin, LeadsInto, List, contains-nothing, layout_of, subst, sym, tail_of, [], ◌++◌, ◌∙◌}
 use Rattle.lot_graph.proofs.AboveLemmas.{into-within, next-contained, tail-within, tails-all, walk-end, walk-more, within-limits}
 use Rattle.lot_graph.proofs.SpreadLemmas.{IsOfSome, some-more, spread-none}
 use Rattle.lot_graph.proofs.above.GraphSteps.add_next.Goals as goal

@@ -1,6 +1,4 @@
-use Rattle.std.proofs.Common.{◌++◌}
-use Rattle.lot_graph.specs.Graphs.{HasEachOnce, LeadsInto}
-use Rattle.lot_graph.specs.Spread.{IsFoundList, Spreads, tail_of}
+use Rattle.lot_graph.proofs.Common.{HasEachOnce, IsFoundList, LeadsInto, Spreads, tail_of, ◌++◌}
 use Rattle.lot_graph.proofs.SpreadLemmas.{IsOfSome}
 use Rattle.lot_graph.proofs.above.GraphSteps.add_next.Given as goal
 

@@ -1,10 +1,4 @@
-use Rattle.std.proofs.Common.{◌<◌, ◌^◌, length, sym, subst, ◌∙◌, ap}
-use Rattle.std.proofs.lemmas.List.{append-nil}
-use Rattle.lot_machine.specs.declared.funding.Node.{Node}
-use Rattle.lot_machine.specs.declared.funding.Node.TheVariants.{Currency}
-use Rattle.lot_graph.specs.Graphs.{LimitedFunding, HasEachOnce, LeadsOutOf}
-use Rattle.lot_graph.specs.Places.{FitsLimits}
-use Rattle.lot_graph.specs.Walks.{funding_edges, own_edges}
+use Rattle.lot_graph.proofs.Common.{Currency, FitsLimits, HasEachOnce, LeadsOutOf, LimitedFunding, Node, ap, append-nil, funding_edges, length, own_edges, subst, sym, ◌<◌, ◌^◌, ◌∙◌}
 use Rattle.lot_graph.proofs.WalkLemmas.{out-once, out-short, own-once, own-short}
 use Rattle.lot_graph.proofs.LimitLemmas.{graph-fits}
 use Rattle.lot_graph.proofs.graph.Graph.edges_out_of.Goals as goal

@@ -1,15 +1,8 @@
-use Rattle.std.proofs.Common.{◌≡◌, ◌<◌, Some, ◌∙◌, ap₂, sym, subst, length, ap, is_some, refl}
-use Rattle.lot_machine.specs.declared.ticket.Target.TheVariants.{Unfunded, Currency, Thread}
-use Rattle.lot_machine.specs.declared.funding.Edge.TheVariants.{OfTicket}
-use Rattle.lot_machine.specs.Funding.{target_of, Funding, target_node, with_target, ticket_in}
-use Rattle.lot_lists.specs.NodeLists.{IsFree, with_pushed}
-use Rattle.lot_graph.specs.Graphs.{LimitedFunding, IsTarget, IsCycle}
+use Rattle.lot_graph.proofs.Common.{Funding, IsCycle, IsFree, IsSome, IsTarget, LimitedFunding, OfTicket, Some, Target, Unfunded, ap, ap₂, is_some, length, refl, subst, sym, target_node, target_of, ticket_in, with_pushed, with_target, with_tickets, ◌<◌, ◌∙◌, ◌≡◌}
+use Rattle.lot_machine.specs.declared.ticket.Target.TheVariants.{Currency, Thread}
 use Rattle.lot_graph.proofs.FieldLemmas.{unfunded-within, unfunded-free, place-low, target-ticket}
 use Rattle.lot_graph.proofs.CycleLemmas.{target-low, fund-kept}
 use Rattle.lot_graph.proofs.LimitLemmas.{graph-fits}
-use Rattle.std.specs.Option.{IsSome}
-use Rattle.lot_machine.specs.declared.ticket.Target.{Target}
-use Rattle.lot_graph.specs.Changes.{with_tickets}
 use Rattle.lot_graph.proofs.graph.Graph.give.Goals as goal
 
 -- an existing target is a node

@@ -1,14 +1,6 @@
-use Rattle.std.proofs.Common.{◌≡◌, None, Some, ap, arith, subst, sym, ◌∙◌, ◌≤◌}
-use Rattle.lot_machine.specs.Numbered.{at_number, set_number}
-use Rattle.lot_lists.specs.NodeLists.{with_pushed}
-use Rattle.lot_graph.specs.Graphs.{LimitedFunding, IsCurrency}
+use Rattle.lot_graph.proofs.Common.{Currency, IsCurrency, LimitedFunding, None, Some, Ticket, Unfunded, ap, arith, at_number, number-within, set_number, subst, sym, with_pushed, with_tickets, ◌∙◌, ◌≡◌, ◌≤◌}
 use Rattle.lot_graph.proofs.FieldLemmas.{again-free, again-held, node-within}
 use Rattle.lot_graph.proofs.LimitLemmas.{graph-fits}
-use Rattle.lot_machine.proofs.LendSums.{number-within}
-use Rattle.lot_machine.specs.declared.funding.Node.TheVariants.{Currency}
-use Rattle.lot_machine.specs.declared.ticket.Target.TheVariants.{Unfunded}
-use Rattle.lot_machine.specs.declared.ticket.Ticket.{Ticket}
-use Rattle.lot_graph.specs.Changes.{with_tickets}
 use Rattle.lot_graph.proofs.graph.Graph.issue_again.Goals as goal
 
 pub push_back-requires-clause-free : goal.push_back-requires-clause-free

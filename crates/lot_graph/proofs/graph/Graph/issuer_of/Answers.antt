@@ -1,9 +1,4 @@
-use Rattle.std.proofs.Common.{◌≡◌, ◌∙◌, ℕ, ◌+◌, Option, Contains, ap, sym, subst, arith}
-use Rattle.std.specs.Option.{IfSome, IfNone}
-use Rattle.lot_lists.specs.NodeLists.{nodes_of, IsFree}
-use Rattle.lot_machine.specs.Funding.{issuer_of}
-use Rattle.lot_graph.specs.Graphs.{LimitedFunding}
-use Rattle.lot_graph.specs.Fields.{Fields, IsGraph, funding_in}
+use Rattle.lot_graph.proofs.Common.{Contains, Fields, IfNone, IfSome, IsFree, IsGraph, LimitedFunding, Option, ap, arith, funding_in, issuer_of, nodes_of, subst, sym, ℕ, ◌+◌, ◌∙◌, ◌≡◌}
 use Rattle.lot_graph.proofs.MirrorLemmas.{mirror-found}
 use Rattle.lot_graph.proofs.graph.Graph.issuer_of.Goals as goal
 use Rattle.lot_graph.proofs.graph.Graph.issuer_of.Goals.{After-list_of}

@@ -1,9 +1,6 @@
-use Rattle.std.proofs.Common.{refl, ◌≡◌, Some, ap, arith, false, slice_get, slice_set, subst, sym, true}
+use Rattle.lot_graph.proofs.Common.{LimitedFunding, Some, ap, arith, false, refl, slice_get, slice_get_within, slice_set, subst, sym, true, with_currencies, ◌≡◌}
 use Rattle.lot_graph.proofs.FieldLemmas.{again_currency-held}
 use Rattle.lot_graph.proofs.LimitLemmas.{graph-fits}
-use Rattle.std.proofs.lemmas.Option.{slice_get_within}
-use Rattle.lot_graph.specs.Graphs.{LimitedFunding}
-use Rattle.lot_graph.specs.Changes.{with_currencies}
 use Rattle.lot_graph.proofs.graph.Graph.make_currency_again.Goals as goal
 
 pub invariant_of-self : goal.invariant_of-self

@@ -1,7 +1,4 @@
-use Rattle.std.proofs.Common.{◌≡◌, Some, arith, subst, sym}
-use Rattle.lot_machine.specs.declared.ticket.Target.TheVariants.{Unfunded}
-use Rattle.lot_machine.specs.Funding.{target_of}
-use Rattle.lot_graph.specs.Graphs.{LimitedFunding}
+use Rattle.lot_graph.proofs.Common.{LimitedFunding, Some, Unfunded, arith, subst, sym, target_of, ◌≡◌}
 use Rattle.lot_graph.proofs.FieldLemmas.{set_amount-held}
 use Rattle.lot_graph.proofs.LimitLemmas.{graph-fits}
 use Rattle.lot_graph.proofs.graph.Graph.set_amount.Goals as goal

@@ -1,7 +1,4 @@
-use Rattle.std.proofs.Common.{sym, subst}
-use Rattle.lot_machine.specs.declared.funding.Edge.TheVariants.{OfLender, OfMutex}
-use Rattle.lot_machine.specs.Funding.{IsEdge}
-use Rattle.lot_graph.specs.Spread.{Spreads, IsNext, funding_of}
+use Rattle.lot_graph.proofs.Common.{IsEdge, IsNext, OfLender, OfMutex, Spreads, funding_of, subst, sym}
 use Rattle.lot_graph.proofs.SpreadLemmas.{head-within, thread-spread, mutex-spread}
 use Rattle.lot_graph.proofs.reach.EdgesSteps.add_next.Goals as goal
 

@@ -1,7 +1,4 @@
-use Rattle.std.proofs.Common.{ℕ, ◌+◌, ◌%◌, ap, sym, ◌∙◌, arith}
-use Rattle.std.specs.Option.{option_copied, option_flatten}
-use Rattle.lot_machine.specs.Funding.{ticket_in}
-use Rattle.lot_graph.specs.Tickets.{TicketTable}
+use Rattle.lot_graph.proofs.Common.{TicketTable, ap, arith, option_copied, option_flatten, sym, ticket_in, ℕ, ◌%◌, ◌+◌, ◌∙◌}
 use Rattle.lot_graph.proofs.TicketLemmas.{ticket-found}
 use Rattle.lot_graph.proofs.tickets.Tickets.get.Goals as goal
 

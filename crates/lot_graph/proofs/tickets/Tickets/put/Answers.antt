@@ -1,6 +1,4 @@
-use Rattle.std.proofs.Common.{◌≡◌, ◌-◌, None, Some, ap, sym, subst, ◌∙◌, arith}
-use Rattle.lot_machine.specs.Numbered.{at_number, set_number}
-use Rattle.lot_graph.specs.Tickets.{TicketTable}
+use Rattle.lot_graph.proofs.Common.{None, Some, TicketTable, ap, arith, at_number, set_number, subst, sym, ◌-◌, ◌∙◌, ◌≡◌}
 use Rattle.lot_graph.proofs.TicketLemmas.{slots-set, gap-made, filled-after}
 use Rattle.lot_graph.proofs.tickets.Tickets.put.Goals as goal
 

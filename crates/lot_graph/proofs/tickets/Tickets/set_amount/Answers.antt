@@ -1,8 +1,4 @@
-use Rattle.std.proofs.Common.{◌-◌, Option, ap, sym, ◌∙◌, map, take, subst, option_map, slice_set, arith}
-use Rattle.std.specs.Option.{IsSome, option_flatten}
-use Rattle.lot_machine.specs.declared.ticket.Ticket.{Ticket}
-use Rattle.lot_machine.specs.Funding.{ticket_in, with_amount, reissued}
-use Rattle.lot_graph.specs.Tickets.{TicketTable}
+use Rattle.lot_graph.proofs.Common.{IsSome, Option, Ticket, TicketTable, ap, arith, map, option_flatten, option_map, reissued, slice_set, subst, sym, take, ticket_in, with_amount, ◌-◌, ◌∙◌}
 use Rattle.lot_graph.proofs.TicketLemmas.{slots-set, there-made, ticket-seen, filled-after}
 use Rattle.lot_graph.proofs.tickets.Tickets.set_amount.Goals as goal
 

@@ -1,6 +1,4 @@
-use Rattle.std.proofs.Common.{◌++◌, ◌∙◌, length, ap, sym, arith}
-use Rattle.lot_machine.specs.declared.funding.Edge.{Edge}
-use Rattle.lot_graph.specs.Walks.{own_edges, issued_edges}
+use Rattle.lot_graph.proofs.Common.{Edge, ap, arith, issued_edges, length, own_edges, sym, ◌++◌, ◌∙◌}
 use Rattle.lot_graph.proofs.walks.EdgesOutOfIterator.next.Goals as goal
 
 pub invariant_of-self : goal.invariant_of-self

@@ -1,5 +1,4 @@
-use Rattle.std.proofs.Common.{◌≡◌, ◌∙◌, ℕ, Option, IfNone, [], ap, ap₂, subst, drop, length, slice_get}
-use Rattle.lot_kernel.specs.FreeStacks.{FreeStack}
+use Rattle.lot_kernel.proofs.Common.{FreeStack, IfNone, Option, ap, ap₂, drop, length, slice_get, subst, ℕ, [], ◌∙◌, ◌≡◌}
 use Rattle.lot_kernel.proofs.Stacks.{popped, popped-none}
 use Rattle.lot_kernel.proofs.free_places.FreePlaces.pop.Goals as goal
 

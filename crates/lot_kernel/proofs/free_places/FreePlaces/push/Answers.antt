@@ -1,6 +1,4 @@
-use Rattle.std.proofs.Common.{◌∷◌, ◌∙◌, ap, ap₂, reverse, length, arith}
-use Rattle.std.proofs.lemmas.List.{length-reverse}
-use Rattle.lot_kernel.specs.FreeStacks.{FreeStack}
+use Rattle.lot_kernel.proofs.Common.{FreeStack, ap, ap₂, arith, length, length-reverse, reverse, ◌∙◌, ◌∷◌}
 use Rattle.lot_kernel.proofs.Stacks.{pushed-first}
 use Rattle.lot_kernel.proofs.free_places.FreePlaces.push.Goals as goal
 

@@ -1,7 +1,4 @@
-use Rattle.std.proofs.Common.{◌*◌, ap, ◌∙◌}
-use Rattle.lot_machine.specs.Activity.{active_amount}
-use Rattle.lot_machine.specs.State.{live_in}
-use Rattle.lot_threads.specs.Threaded.{Threaded, funding_in}
+use Rattle.lot_kernel.proofs.Common.{Threaded, active_amount, ap, funding_in, live_in, ◌*◌, ◌∙◌}
 use Rattle.lot_kernel.proofs.Shown.{tables-shown}
 use Rattle.lot_kernel.proofs.kernel.Kernel.base_value.Goals as goal
 

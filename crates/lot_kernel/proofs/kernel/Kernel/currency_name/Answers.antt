@@ -1,6 +1,4 @@
-use Rattle.std.proofs.Common.{Some, None, ap, sym, ◌∙◌}
-use Rattle.std.specs.Option.{option_flatten}
-use Rattle.lot_kernel.specs.Snapshots.{Snapshot}
+use Rattle.lot_kernel.proofs.Common.{None, Snapshot, Some, ap, option_flatten, sym, ◌∙◌}
 use Rattle.lot_kernel.proofs.Looking.{entry-of, entry-missing}
 use Rattle.lot_kernel.proofs.Shown.{tables-shown}
 use Rattle.lot_kernel.proofs.kernel.Kernel.currency_name.Goals as goal

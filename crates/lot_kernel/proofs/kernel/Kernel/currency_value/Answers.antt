@@ -1,10 +1,4 @@
-use Rattle.std.proofs.Common.{ap, arith, ne_eqb, ◌∙◌}
-use Rattle.std.specs.Prelude.{if◌then◌else◌}
-use Rattle.lot_machine.specs.declared.funding.Node.TheVariants.{Currency}
-use Rattle.lot_machine.specs.Activity.{active_amount}
-use Rattle.lot_machine.specs.State.{funding_of, live_of}
-use Rattle.lot_machine.specs.Value.{currency_value, node_value}
-use Rattle.lot_kernel.specs.Snapshots.{Snapshot}
+use Rattle.lot_kernel.proofs.Common.{Currency, Snapshot, active_amount, ap, arith, currency_value, funding_of, if◌then◌else◌, live_of, ne_eqb, node_value, ◌∙◌}
 use Rattle.lot_kernel.proofs.kernel.Kernel.currency_value.Goals as goal
 
 pub returns-clause-value : goal.returns-clause-value

@@ -1,9 +1,5 @@
-use Rattle.std.proofs.Common.{◌↔◌, ◌∙◌, ap, subst}
-use Rattle.lot_machine.specs.declared.funding.Node.TheVariants.{Currency, Thread}
-use Rattle.lot_machine.specs.Funding.{Funding}
-use Rattle.lot_graph.specs.Graphs.{LimitedFunding, Reaches}
-use Rattle.lot_graph.specs.Found.{HasFound}
-use Rattle.lot_threads.specs.Threaded.{funding_in}
+use Rattle.lot_kernel.proofs.Common.{Currency, Funding, HasFound, LimitedFunding, Reaches, ap, funding_in, subst, ◌↔◌, ◌∙◌}
+use Rattle.lot_machine.specs.declared.funding.Node.TheVariants.{Thread}
 use Rattle.lot_kernel.proofs.Shown.{threads-shown}
 use Rattle.lot_kernel.proofs.kernel.Kernel.find_above.Goals as goal
 

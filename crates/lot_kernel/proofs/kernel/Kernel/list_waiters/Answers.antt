@@ -1,15 +1,4 @@
-use Rattle.std.proofs.Common.{◌≡◌, ℕ, ◌∙◌, Option, Some, None, List, [], length, slice_index_or, unwrap_or, ap, refl, subst, sym, arith}
-use Rattle.std.specs.List.{All}
-use Rattle.std.proofs.lemmas.Option.{slice_get-get_or}
-use Rattle.lot_machine.specs.declared.record.Status.TheVariants.{Waiting}
-use Rattle.lot_machine.specs.Bounds.{IsBetween}
-use Rattle.lot_machine.specs.Mutexes.{mutex_at}
-use Rattle.lot_machine.specs.Numbered.{at_number}
-use Rattle.lot_machine.specs.Order.{IsInOrder}
-use Rattle.lot_machine.specs.State.{State, Mutex}
-use Rattle.lot_machine.proofs.LendSums.{number-within}
-use Rattle.lot_machine.proofs.Queues.{record-of}
-use Rattle.lot_kernel.specs.Snapshots.{Snapshot}
+use Rattle.lot_kernel.proofs.Common.{All, IsBetween, IsInOrder, List, Mutex, None, Option, Snapshot, Some, State, Waiting, ap, arith, at_number, length, mutex_at, number-within, record-of, refl, slice_get-get_or, slice_index_or, subst, sym, unwrap_or, ℕ, [], ◌∙◌, ◌≡◌}
 use Rattle.lot_kernel.proofs.Shown.{tables-shown}
 use Rattle.lot_kernel.proofs.kernel.Kernel.list_waiters.Goals as goal
 

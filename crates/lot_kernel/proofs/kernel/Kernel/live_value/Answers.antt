@@ -1,7 +1,4 @@
-use Rattle.std.proofs.Common.{ap, sym, ◌∙◌}
-use Rattle.std.specs.Prelude.{if◌then◌else◌}
-use Rattle.lot_machine.specs.State.{value_of}
-use Rattle.lot_kernel.specs.Snapshots.{Snapshot}
+use Rattle.lot_kernel.proofs.Common.{Snapshot, ap, if◌then◌else◌, sym, value_of, ◌∙◌}
 use Rattle.lot_kernel.proofs.kernel.Kernel.live_value.Goals as goal
 
 pub returns-then-is_live-clause-value : goal.returns-then-is_live-clause-value

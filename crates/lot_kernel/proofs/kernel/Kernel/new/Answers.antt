@@ -1,5 +1,4 @@
-use Rattle.lot_machine.specs.State.{sizes_of}
-use Rattle.lot_machine.proofs.OrderKept.{opening-order}
+use Rattle.lot_kernel.proofs.Common.{opening-order, sizes_of}
 use Rattle.lot_kernel.proofs.kernel.Kernel.new.Goals as goal
 
 pub invariant_of-result : goal.invariant_of-result

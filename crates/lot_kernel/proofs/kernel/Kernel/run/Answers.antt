@@ -1,7 +1,4 @@
-use Rattle.std.proofs.Common.{refl, subst}
-use Rattle.lot_machine.proofs.OrderKept.{order-sound}
-use Rattle.lot_machine.specs.Facts.{IsSound}
-use Rattle.lot_kernel.specs.Snapshots.{Snapshot}
+use Rattle.lot_kernel.proofs.Common.{IsSound, Snapshot, order-sound, refl, subst}
 use Rattle.lot_kernel.proofs.kernel.Kernel.run.Goals as goal
 
 pub loop-i-init : goal.loop-i-init

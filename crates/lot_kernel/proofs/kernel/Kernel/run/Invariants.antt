@@ -1,9 +1,5 @@
-use Rattle.std.proofs.Common.{◌≡◌, ◌++◌, List, length, take, drop}
+use Rattle.lot_kernel.proofs.Common.{AreDone, IsSound, List, Snapshot, drop, length, replies, state_after, take, ◌++◌, ◌≡◌}
 use Rattle.lot_machine.specs.declared.reply.Reply.{Reply}
-use Rattle.lot_machine.specs.Facts.{IsSound}
-use Rattle.lot_machine.specs.Step.{replies, state_after}
-use Rattle.lot_kernel.specs.Counted.{AreDone}
-use Rattle.lot_kernel.specs.Snapshots.{Snapshot}
 use Rattle.lot_kernel.proofs.kernel.Kernel.run.Given as goal
 
 -- the replies so far and those to what is left are the replies to all, and what is done with what is left is done with all

@@ -1,9 +1,7 @@
 use Rattle.lot_machine.specs.declared.record.Thread.{Thread as AThread}
-use Rattle.std.specs.Option.{option_flatten}
-use Rattle.lot_threads.specs.Threaded.{Threaded}
+use Rattle.lot_kernel.proofs.Common.{None, Option, Some, Threaded, ap, option_flatten, option_map, refl, sym, ◌∙◌}
 use Rattle.lot_kernel.proofs.Shown.{threads-shown}
 use Rattle.lot_kernel.proofs.Looking.{entry-of, entry-missing, numbered}
-use Rattle.std.proofs.Common.{Some, None, Option, ap, sym, refl, option_map, ◌∙◌}
 use Rattle.lot_kernel.proofs.kernel.Kernel.thread_name.Goals as goal
 
 pub returns-then-thread-eq0 : goal.returns-then-thread-eq0

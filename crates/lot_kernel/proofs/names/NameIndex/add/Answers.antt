@@ -1,6 +1,4 @@
-use Rattle.std.proofs.Common.{◌≡◌, ◌∙◌, ◌<◌, ◌++◌, ◌∷◌, [], None, Some, length, rules, slice_set, sym, ap, subst}
-use Rattle.lot_lists.specs.NodeLists.{NodeLists, with_pushed}
-use Rattle.lot_kernel.specs.Names.{IsIndexOf, bucket_of}
+use Rattle.lot_kernel.proofs.Common.{IsIndexOf, NodeLists, None, Some, ap, bucket_of, length, rules, slice_set, subst, sym, with_pushed, [], ◌++◌, ◌<◌, ◌∙◌, ◌∷◌, ◌≡◌}
 use Rattle.lot_kernel.proofs.Indexed.{index-added, index-again, index-nameless, index-nameless_again}
 use Rattle.lot_kernel.proofs.names.NameIndex.add.Goals as goal
 

@@ -1,6 +1,4 @@
-use Rattle.std.proofs.Common.{◌∙◌, None, slice_set, sym, subst}
-use Rattle.lot_lists.specs.NodeLists.{NodeLists}
-use Rattle.lot_kernel.specs.Names.{IsIndexOf}
+use Rattle.lot_kernel.proofs.Common.{IsIndexOf, NodeLists, None, slice_set, subst, sym, ◌∙◌}
 use Rattle.lot_kernel.proofs.Indexed.{index-removed, index-unlisted, when-none, when-some}
 use Rattle.lot_kernel.proofs.names.NameIndex.remove.Goals as goal
 

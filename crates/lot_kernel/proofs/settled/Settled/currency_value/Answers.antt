@@ -1,12 +1,5 @@
-use Rattle.std.proofs.Common.{Contains, List, ap, subst, ◌∙◌}
-use Rattle.std.proofs.lemmas.Bool.{eq-eqb}
-use Rattle.lot_machine.specs.declared.funding.Node.{Node}
+use Rattle.lot_kernel.proofs.Common.{Contains, List, Node, Threaded, active_amount, ap, contains-nothing, eq-eqb, funding_in, live_in, node_value, subst, ◌∙◌}
 use Rattle.lot_machine.specs.declared.funding.Node.TheVariants as node
-use Rattle.lot_machine.specs.Activity.{active_amount}
-use Rattle.lot_machine.specs.State.{live_in}
-use Rattle.lot_machine.specs.Value.{node_value}
-use Rattle.lot_machine.proofs.EachOnce.{contains-nothing}
-use Rattle.lot_threads.specs.Threaded.{Threaded, funding_in}
 use Rattle.lot_kernel.proofs.Shown.{threads-shown}
 use Rattle.lot_kernel.proofs.settled.Settled.currency_value.Goals as goal
 

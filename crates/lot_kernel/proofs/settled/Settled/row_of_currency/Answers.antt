@@ -1,9 +1,4 @@
-use Rattle.std.proofs.Common.{ap, length, ◌∙◌}
-use Rattle.lot_machine.specs.Activity.{active_amount}
-use Rattle.lot_machine.specs.Funding.{backing_currency, issued_in}
-use Rattle.lot_machine.specs.State.{live_in}
-use Rattle.lot_graph.specs.Graphs.{LimitedFunding}
-use Rattle.lot_threads.specs.Threaded.{Threaded, funding_in}
+use Rattle.lot_kernel.proofs.Common.{LimitedFunding, Threaded, active_amount, ap, backing_currency, funding_in, issued_in, length, live_in, ◌∙◌}
 use Rattle.lot_kernel.proofs.SettledRows.{currency-row-of}
 use Rattle.lot_kernel.proofs.Shown.{threads-shown}
 use Rattle.lot_kernel.proofs.settled.Settled.row_of_currency.Goals as goal

@@ -1,6 +1,4 @@
-use Rattle.std.proofs.Common.{ap, ◌∙◌}
-use Rattle.lot_machine.specs.declared.sizes.Sizes.{Sizes}
-use Rattle.lot_machine.specs.Lottery.{weight}
+use Rattle.lot_kernel.proofs.Common.{Sizes, ap, weight, ◌∙◌}
 use Rattle.lot_kernel.proofs.Rows.{thread-row-of}
 use Rattle.lot_kernel.proofs.settled.Settled.row_of_thread.Goals as goal
 

@@ -1,7 +1,4 @@
-use Rattle.std.proofs.Common.{[], rules, subst, unwrap_or, ◌≡◌}
-use Rattle.lot_machine.specs.Order.{IsInOrder}
-use Rattle.lot_machine.specs.Rows.{currency_name}
-use Rattle.lot_kernel.specs.Snapshots.{Snapshot}
+use Rattle.lot_kernel.proofs.Common.{IsInOrder, Snapshot, currency_name, rules, subst, unwrap_or, [], ◌≡◌}
 use Rattle.lot_kernel.proofs.Rows.{ticket-row-of}
 use Rattle.lot_kernel.proofs.SettledRows.{active-is}
 use Rattle.lot_kernel.proofs.Shown.{threads-shown}

@@ -1,5 +1,4 @@
-use Rattle.std.proofs.Common.{ap, ◌∙◌}
-use Rattle.lot_threads.specs.Threaded.{Threaded, worth_in}
+use Rattle.lot_kernel.proofs.Common.{Threaded, ap, worth_in, ◌∙◌}
 use Rattle.lot_kernel.proofs.Shown.{threads-shown}
 use Rattle.lot_kernel.proofs.settled.Settled.worth_of.Goals as goal
 

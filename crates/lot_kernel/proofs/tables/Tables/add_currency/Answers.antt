@@ -1,6 +1,4 @@
-use Rattle.std.proofs.Common.{◌∙◌, ◌≤◌, ◌++◌, ◌∷◌, [], Some, SomeIff, ap, length, subst, sym}
-use Rattle.lot_machine.specs.State.{free_currencies}
-use Rattle.lot_kernel.specs.Snapshots.{Snapshot}
+use Rattle.lot_kernel.proofs.Common.{Snapshot, Some, SomeIff, ap, free_currencies, length, subst, sym, [], ◌++◌, ◌∙◌, ◌∷◌, ◌≤◌}
 use Rattle.lot_kernel.proofs.Freeing.{no-first}
 use Rattle.lot_kernel.proofs.Reusing.{currency-last, first-currency, last-currency, on-some}
 use Rattle.lot_kernel.proofs.tables.Tables.add_currency.Goals as goal

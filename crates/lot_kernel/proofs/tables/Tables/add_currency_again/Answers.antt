@@ -1,13 +1,4 @@
-use Rattle.std.proofs.Common.{◌∙◌, ℕ, List, Some, ap, arith, is_some, length, length-set, option_map, subst, sym, slice_get, slice_set}
-use Rattle.std.proofs.lemmas.Option.{slice_get_within, slice_get-map}
-use Rattle.lot_machine.specs.State.{sizes_of}
-use Rattle.lot_machine.specs.Order.{IsInOrder}
-use Rattle.lot_machine.specs.Commands.{with_currency}
-use Rattle.lot_threads.specs.Threaded.{Threaded}
-use Rattle.lot_kernel.specs.Names.{IsIndexOf, names_of}
-use Rattle.lot_kernel.specs.FreeStacks.{FreeStack}
-use Rattle.lot_kernel.specs.FreePlaces.{freed_in}
-use Rattle.lot_kernel.specs.Snapshots.{held}
+use Rattle.lot_kernel.proofs.Common.{FreeStack, IsInOrder, IsIndexOf, List, Some, Threaded, ap, arith, freed_in, held, is_some, length, length-set, names_of, option_map, sizes_of, slice_get, slice_get-map, slice_get_within, slice_set, subst, sym, with_currency, ℕ, ◌∙◌}
 use Rattle.lot_kernel.proofs.Holding.{snapshot_of}
 use Rattle.lot_kernel.proofs.Indexed.{gap-free}
 use Rattle.lot_kernel.proofs.Reusing.{first-currency_gap, popped-currencies, room-currencies}

@@ -1,5 +1,4 @@
-use Rattle.std.proofs.Common.{subst, sym}
-use Rattle.lot_lists.specs.NodeLists.{IsFree}
+use Rattle.lot_kernel.proofs.Common.{IsFree, subst, sym}
 use Rattle.lot_kernel.proofs.Indexed.{next-free}
 use Rattle.lot_kernel.proofs.tables.Tables.add_currency_last.Goals as goal
 

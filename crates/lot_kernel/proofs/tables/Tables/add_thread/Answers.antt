@@ -1,9 +1,4 @@
-use Rattle.std.proofs.Common.{◌∙◌, ◌+◌, ◌<◌, ◌++◌, ◌∷◌, [], Some, ap, length, subst, sym}
-use Rattle.lot_machine.specs.declared.record.Thread.{Thread}
-use Rattle.lot_machine.specs.State.{free_threads}
-use Rattle.lot_machine.specs.Commands.{newborn}
-use Rattle.lot_kernel.specs.Counted.{KeepsStale}
-use Rattle.lot_kernel.specs.Snapshots.{MakesStale, Snapshot}
+use Rattle.lot_kernel.proofs.Common.{KeepsStale, MakesStale, Snapshot, Some, Thread, ap, free_threads, length, newborn, subst, sym, [], ◌++◌, ◌+◌, ◌<◌, ◌∙◌, ◌∷◌}
 use Rattle.lot_kernel.proofs.Reusing.{first-thread, last-thread, none-first, thread-last, thread-room}
 use Rattle.lot_kernel.proofs.tables.Tables.add_thread.Goals as goal
 

@@ -1,15 +1,4 @@
-use Rattle.std.specs.List.{Contains}
-use Rattle.lot_machine.specs.declared.funding.Node.{Node}
-use Rattle.lot_threads.specs.Threaded.{Threaded}
-use Rattle.std.proofs.Common.{List, None, Option, Some, ap, arith, inl, option_map, slice_get, slice_set, subst, sym, ℕ, ◌+◌, ◌∙◌}
-use Rattle.std.proofs.lemmas.Option.{slice_get_within}
-use Rattle.lot_machine.specs.declared.record.Thread.{Thread}
-use Rattle.lot_machine.specs.Commands.{with_thread}
-use Rattle.lot_machine.specs.State.{sizes_of}
-use Rattle.lot_kernel.specs.FreePlaces.{HasIdlePlace, freed_in}
-use Rattle.lot_kernel.specs.FreeStacks.{FreeStack}
-use Rattle.lot_kernel.specs.Names.{IsIndexOf, names_of}
-use Rattle.lot_kernel.specs.Snapshots.{Snapshot, held}
+use Rattle.lot_kernel.proofs.Common.{Contains, FreeStack, HasIdlePlace, IsIndexOf, List, Node, None, Option, Snapshot, Some, Thread, Threaded, ap, arith, freed_in, held, inl, names_of, option_map, sizes_of, slice_get, slice_get_within, slice_set, subst, sym, with_thread, ℕ, ◌+◌, ◌∙◌}
 use Rattle.lot_kernel.proofs.Holding.{held-threads, makes-held}
 use Rattle.lot_kernel.proofs.Indexed.{gap-free}
 use Rattle.lot_kernel.proofs.Reusing.{first-thread_gap, given-threads, popped-threads, room-threads}

@@ -1,14 +1,6 @@
-use Rattle.lot_kernel.specs.Snapshots.{Snapshot}
-use Rattle.lot_threads.specs.Threaded.{Threaded}
-use Rattle.std.proofs.Common.{List, Option, ap, length, option_map, rules, subst, sym, ◌∙◌, ◌≡◌}
-use Rattle.std.proofs.lemmas.List.{length-map}
-use Rattle.lot_machine.specs.declared.record.Thread.{Thread}
-use Rattle.lot_lists.specs.NodeLists.{IsFree}
-use Rattle.lot_kernel.specs.Names.{names_of}
+use Rattle.lot_kernel.proofs.Common.{IsFree, List, Option, Snapshot, Thread, Threaded, ap, freed_in, length, length-map, names_of, option_map, rules, sizes_of, subst, sym, ◌∙◌, ◌≡◌}
 use Rattle.lot_kernel.proofs.Indexed.{next-free}
 use Rattle.lot_kernel.proofs.Holding.{IsHeld, held-threads, makes-held}
-use Rattle.lot_machine.specs.State.{sizes_of}
-use Rattle.lot_kernel.specs.FreePlaces.{freed_in}
 use Rattle.lot_kernel.proofs.tables.Tables.add_thread_last.Goals as goal
 
 pub add-requires-clause-free : goal.add-requires-clause-free

@@ -1,10 +1,4 @@
-use Rattle.std.proofs.Common.{◌≡◌, ◌∙◌, ◌&&◌, true, false, Option, List, ap, length, nat_le, sym}
-use Rattle.lot_machine.specs.declared.record.Thread.{Thread}
-use Rattle.lot_machine.specs.Commands.{are_threads_full}
-use Rattle.lot_machine.specs.Places.{is_none_free}
-use Rattle.lot_machine.specs.State.{sizes_of, free_threads}
-use Rattle.lot_kernel.specs.FreePlaces.{freed_in}
-use Rattle.lot_kernel.specs.Snapshots.{Snapshot, held}
+use Rattle.lot_kernel.proofs.Common.{List, Option, Snapshot, Thread, ap, are_threads_full, false, free_threads, freed_in, held, is_none_free, length, nat_le, sizes_of, sym, true, ◌&&◌, ◌∙◌, ◌≡◌}
 use Rattle.lot_kernel.proofs.Reusing.{given-threads}
 use Rattle.lot_kernel.proofs.tables.Tables.are_threads_full.Goals as goal
 

@@ -1,18 +1,5 @@
-use Rattle.std.proofs.Common.{◌∙◌, List, ap, arith, length, not, refl, subst, sym}
-use Rattle.std.specs.Option.{IfSome}
+use Rattle.lot_kernel.proofs.Common.{HasNoCycle, IfSome, IsLive, List, NoPort, Outcome, QueueLists, Record, State, Threaded, ap, arith, call, freed_in, funding_of, length, live_in, not, refl, sizes_of, subst, sym, taker, the_view, ◌∙◌}
 use Rattle.lot_machine.specs.declared.action.Action.TheVariants as action
-use Rattle.lot_machine.specs.declared.record.Record.{Record}
-use Rattle.lot_machine.specs.declared.refusal.TrapRefusal.TheVariants.{NoPort}
-use Rattle.lot_machine.specs.Facts.{HasNoCycle}
-use Rattle.lot_machine.specs.declared.reply.Outcome.{Outcome}
-use Rattle.lot_machine.specs.Lends.{IsLive}
-use Rattle.lot_machine.specs.Ports.{call}
-use Rattle.lot_machine.specs.State.{State, funding_of, live_in, sizes_of}
-use Rattle.lot_queues.specs.QueueLists.{QueueLists}
-use Rattle.lot_threads.specs.Threaded.{Threaded}
-use Rattle.lot_kernel.specs.contracts.tables.Tables.{the_view}
-use Rattle.lot_kernel.specs.FreePlaces.{freed_in}
-use Rattle.lot_kernel.specs.Trapped.{taker}
 use Rattle.lot_kernel.proofs.Keeping.{keeps-both}
 use Rattle.lot_kernel.proofs.PortTraps.{call-idle, call-takes, port-leaves, runner-nowhere, served-shows, untied-still}
 use Rattle.lot_kernel.proofs.Refusing.{refused-shows}

@@ -1,9 +1,5 @@
-use Rattle.lot_machine.specs.declared.funding.Node.{Node}
-use Rattle.std.specs.List.{Contains}
+use Rattle.lot_kernel.proofs.Common.{Contains, List, MakeCurrency, MakeFunded, MakeThread, Node, ap, command_step, inl, refl, subst, sym, ◌∙◌}
 use Rattle.lot_kernel.proofs.Holding.{makes-none}
-use Rattle.lot_machine.specs.declared.command.Command.TheVariants.{MakeCurrency, MakeThread, MakeFunded}
-use Rattle.lot_machine.specs.Commands.{command_step}
-use Rattle.std.proofs.Common.{inl, refl, ap, sym, subst, List, ◌∙◌}
 use Rattle.lot_kernel.proofs.tables.Tables.command.Goals as goal
 
 pub returns-in-MakeTicket : goal.returns-in-MakeTicket

@@ -1,6 +1,4 @@
-use Rattle.std.proofs.Common.{◌≡◌, ◌∙◌, ap, rules}
-use Rattle.lot_machine.specs.Commands.{currency_meant, currency_named}
-use Rattle.lot_machine.specs.declared.reference.CurrencyRef.TheVariants.{Named}
+use Rattle.lot_kernel.proofs.Common.{Named, ap, currency_meant, currency_named, rules, ◌∙◌, ◌≡◌}
 use Rattle.lot_kernel.proofs.tables.Tables.currency_meant.Goals as goal
 
 pub returns-in-Named-clause-meant : goal.returns-in-Named-clause-meant

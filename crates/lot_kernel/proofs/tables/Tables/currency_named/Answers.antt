@@ -1,5 +1,4 @@
-use Rattle.std.proofs.Common.{rules}
-use Rattle.lot_machine.proofs.CommandsKept.{named-there}
+use Rattle.lot_kernel.proofs.Common.{named-there, rules}
 use Rattle.lot_kernel.proofs.tables.Tables.currency_named.Goals as goal
 
 pub returns-in-Some-clause-there : goal.returns-in-Some-clause-there

@@ -1,7 +1,5 @@
-use Rattle.std.specs.Option.{option_flatten}
-use Rattle.lot_kernel.specs.Snapshots.{Snapshot}
+use Rattle.lot_kernel.proofs.Common.{List, None, Option, Snapshot, Some, ap, option_flatten, option_map, sym, ℕ, ◌∙◌}
 use Rattle.lot_kernel.proofs.Looking.{entry-of, entry-missing}
-use Rattle.std.proofs.Common.{Some, None, Option, List, ℕ, ap, sym, option_map, ◌∙◌}
 use Rattle.lot_kernel.proofs.tables.Tables.currency_numbered.Goals as goal
 
 pub returns-in-Some-clause-meant : goal.returns-in-Some-clause-meant

@@ -1,16 +1,4 @@
-use Rattle.std.proofs.Common.{◌≡◌, ◌∙◌, List, false, ap, arith, inl, length, refl, subst, sym}
-use Rattle.lot_machine.specs.Facts.{HasNoCycle}
-use Rattle.lot_machine.specs.Funding.{Funding}
-use Rattle.lot_machine.specs.Lends.{lends_lead}
-use Rattle.lot_machine.specs.Mutexes.{mutex_at}
-use Rattle.lot_machine.specs.Numbered.{option_any}
-use Rattle.lot_machine.specs.Servers.{port_holders, unserved}
-use Rattle.lot_machine.specs.State.{Mutex, funding_of, sizes_of}
-use Rattle.lot_machine.proofs.Unserved.{locks-off}
-use Rattle.lot_threads.specs.Threaded.{Threaded, funding_in}
-use Rattle.lot_kernel.specs.contracts.tables.Tables.{the_view}
-use Rattle.lot_kernel.specs.FreePlaces.{freed_in}
-use Rattle.lot_kernel.specs.Snapshots.{MakesStale, Snapshot, held}
+use Rattle.lot_kernel.proofs.Common.{Funding, HasNoCycle, List, MakesStale, Mutex, Snapshot, Threaded, ap, arith, false, freed_in, funding_in, funding_of, held, inl, lends_lead, length, locks-off, mutex_at, option_any, port_holders, refl, sizes_of, subst, sym, the_view, unserved, ◌∙◌, ◌≡◌}
 use Rattle.lot_kernel.proofs.Cutting.{cut-fails, cut-passes}
 use Rattle.lot_kernel.proofs.Holding.{snapshot_of}
 use Rattle.lot_kernel.proofs.Trapping.{running-there}

@@ -1,17 +1,4 @@
-use Rattle.std.proofs.Common.{◌∙◌, ℕ, Bool, List, ap, length, subst, sym}
-use Rattle.std.proofs.lemmas.List.{length-map}
-use Rattle.lot_machine.specs.Facts.{HasNoCycle}
-use Rattle.lot_machine.specs.Funding.{Funding, owner_of}
-use Rattle.lot_machine.specs.Lends.{lends_lead}
-use Rattle.lot_machine.specs.Mutexes.{mutex_at}
-use Rattle.lot_machine.specs.Servers.{port_holders, unserved}
-use Rattle.lot_machine.specs.State.{Mutex, State, funding_of, sizes_of}
-use Rattle.lot_mutex.specs.Listed.{owners_of}
-use Rattle.lot_queues.specs.QueueLists.{QueueLists}
-use Rattle.lot_threads.specs.Threaded.{MakesStaleIn, Threaded, funding_in}
-use Rattle.lot_kernel.specs.contracts.tables.Tables.{the_view}
-use Rattle.lot_kernel.specs.FreePlaces.{freed_in}
-use Rattle.lot_kernel.specs.Snapshots.{HasHolders, Snapshot}
+use Rattle.lot_kernel.proofs.Common.{Bool, Funding, HasHolders, HasNoCycle, List, MakesStaleIn, Mutex, QueueLists, Snapshot, State, Threaded, ap, freed_in, funding_in, funding_of, lends_lead, length, length-map, mutex_at, owner_of, owners_of, port_holders, sizes_of, subst, sym, the_view, unserved, ℕ, ◌∙◌}
 use Rattle.lot_kernel.proofs.Cutting.{cut-held, cut-state, holders-unserved, owners-left}
 use Rattle.lot_kernel.proofs.Holding.{makes-held}
 use Rattle.lot_kernel.proofs.Keeping.{keeps-both}

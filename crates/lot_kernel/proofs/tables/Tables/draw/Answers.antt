@@ -1,32 +1,12 @@
 use Rattle.lot_kernel.proofs.Holding.{held-records, held-stale}
 use Rattle.lot_kernel.proofs.Keeping.{keeps-threads}
 use Rattle.lot_machine.specs.declared.event.Event.TheVariants as event
-use Rattle.lot_threads.specs.declared.runners.Runner.{Runner}
-use Rattle.lot_machine.specs.declared.refusal.Refusal.TheVariants.{BadProcessor, Busy}
+use Rattle.lot_kernel.proofs.Common.{BadProcessor, Busy, Contains, CountsReads, List, MakesStaleIn, Meter, Node, Ready, Record, Runner, Snapshot, Some, Step, Threaded, ap, arith, at_number, change_record, contains-nothing, counted_up, drawn_in, edges_into_all, event_refusal, freed_in, funding_in, held, inl, is_bad_processor, is_some, length, option_and_then, refl, settled, sizes_of, started, status_of, subst, sym, the_view, thread_on, true, with_records, ℕ, [], ◌∙◌, ◌≡◌}
 use Rattle.lot_kernel.proofs.Refusing.{busy-on, refused-event-reply, refused-event-state}
-use Rattle.std.proofs.Common.{List, Some, [], ap, arith, inl, is_some, length, option_and_then, refl, subst, sym, true, ℕ, ◌∙◌, ◌≡◌}
-use Rattle.std.specs.List.{Contains}
-use Rattle.lot_tree.specs.Visits.{CountsReads}
-use Rattle.lot_threads.specs.Threaded.{MakesStaleIn, Threaded, drawn_in, funding_in, with_records}
-use Rattle.lot_machine.specs.declared.funding.Node.{Node}
-use Rattle.lot_machine.specs.declared.record.Status.TheVariants.{Ready}
-use Rattle.lot_machine.specs.declared.record.Record.{Record}
-use Rattle.lot_machine.specs.Commands.{Step}
-use Rattle.lot_machine.specs.Numbered.{at_number}
-use Rattle.lot_machine.specs.State.{change_record, sizes_of, status_of, thread_on}
-use Rattle.lot_machine.proofs.EachOnce.{contains-nothing}
-use Rattle.lot_value.specs.Counts.{counted_up}
-use Rattle.lot_value.specs.declared.meter.Meter.{Meter}
 use Rattle.lot_kernel.proofs.Drawing.{start-fresh, step-idle, step-won}
-use Rattle.lot_value.specs.Caches.{edges_into_all}
-use Rattle.lot_kernel.specs.Snapshots.{Snapshot, held}
-use Rattle.lot_machine.specs.Step.{event_refusal, is_bad_processor, started}
-use Rattle.lot_kernel.specs.Counted.{settled}
 use Rattle.lot_kernel.proofs.Trapping.{change-count, status-there}
-use Rattle.lot_kernel.specs.contracts.tables.Tables.{the_view}
 use Rattle.lot_machine.specs.declared.reply.Reply.TheVariants as answer
 use Rattle.lot_kernel.proofs.tables.Tables.draw.Goals as goal
-use Rattle.lot_kernel.specs.FreePlaces.{freed_in}
 
 pub returns-in_default-clause-reply : goal.returns-in_default-clause-reply
 returns-in_default-clause-reply c =

@@ -1,10 +1,4 @@
-use Rattle.std.proofs.Common.{◌∙◌, ℕ, Option, List, ap, arith, length, subst, sym}
-use Rattle.lot_machine.specs.State.{sizes_of}
-use Rattle.lot_queues.specs.QueueLists.{QueueLists}
-use Rattle.lot_threads.specs.Threaded.{Threaded}
-use Rattle.lot_kernel.specs.Names.{IsIndexOf, names_of}
-use Rattle.lot_kernel.specs.FreePlaces.{freed_in}
-use Rattle.lot_kernel.specs.Snapshots.{HasHolders}
+use Rattle.lot_kernel.proofs.Common.{HasHolders, IsIndexOf, List, Option, QueueLists, Threaded, ap, arith, freed_in, length, names_of, sizes_of, subst, sym, ℕ, ◌∙◌}
 use Rattle.lot_kernel.proofs.Holding.{makes-held}
 use Rattle.lot_kernel.proofs.Serving.{holders-killed}
 use Rattle.lot_kernel.proofs.Killing.{held-killed, state-killed, records-count, clients-count, out-there, out-count, pass-nowhere, pass-count, pass-owners, end-there, all-queues, all-threads, all-meter, all-stale}

@@ -1,11 +1,6 @@
-use Rattle.lot_machine.specs.Commands.{Step}
+use Rattle.lot_kernel.proofs.Common.{BadProcessor, None, NotRunning, Snapshot, Some, Step, ap, event_refusal, inl, refl, stopped, sym, thread_on, used_by, ◌-◌, ◌∙◌, ◌≡◌}
 use Rattle.lot_machine.specs.declared.event.Event.TheVariants as event
-use Rattle.lot_machine.specs.declared.refusal.Refusal.TheVariants.{BadProcessor, NotRunning}
-use Rattle.lot_machine.specs.State.{thread_on, used_by}
-use Rattle.lot_machine.specs.Step.{event_refusal, stopped}
-use Rattle.lot_kernel.specs.Snapshots.{Snapshot}
 use Rattle.lot_kernel.proofs.Refusing.{expires, refused-event-reply, refused-event-state}
-use Rattle.std.proofs.Common.{None, Some, ap, inl, refl, sym, ◌-◌, ◌∙◌, ◌≡◌}
 use Rattle.lot_kernel.proofs.tables.Tables.expire.Goals as goal
 
 pub returns-then-is_bad_processor : goal.returns-then-is_bad_processor

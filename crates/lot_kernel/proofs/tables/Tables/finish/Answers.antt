@@ -1,20 +1,9 @@
-use Rattle.lot_machine.specs.Numbered.{set_number}
-use Rattle.lot_machine.specs.Traps.{after_trap, with_ticks}
-use Rattle.std.proofs.Math.ListN.{length-set}
+use Rattle.lot_kernel.proofs.Common.{CanChange, IsTimely, List, Record, Snapshot, Threaded, after_trap, ap, arith, change_record, freed_in, held, length, length-set, refl, rules, set_number, sizes_of, subst, sym, the_view, threads_of, with_ticks, ◌-◌, ◌∙◌, ◌≡◌}
 use Rattle.lot_kernel.proofs.Keeping.{keeps-threads}
-use Rattle.std.proofs.Common.{List, ap, arith, length, refl, rules, subst, sym, ◌-◌, ◌∙◌, ◌≡◌}
-use Rattle.lot_threads.specs.Threaded.{CanChange, Threaded}
-use Rattle.lot_threads.specs.Timely.{IsTimely}
-use Rattle.lot_machine.specs.declared.record.Record.{Record}
 use Rattle.lot_kernel.proofs.Finishing.{can-finish}
 use Rattle.lot_kernel.proofs.Holding.{held-records, makes-held}
-use Rattle.lot_machine.specs.State.{change_record, sizes_of}
 use Rattle.lot_kernel.proofs.Trapping.{status-there}
-use Rattle.lot_kernel.specs.contracts.tables.Tables.{the_view}
-use Rattle.lot_kernel.specs.Snapshots.{Snapshot, held, threads_of}
 use Rattle.lot_kernel.proofs.tables.Tables.finish.Goals as goal
-use Rattle.lot_kernel.specs.FreePlaces.{freed_in}
-use Rattle.lot_kernel.specs.contracts.tables.Tables.{the_view}
 
 pub change-requires : goal.change-requires
 change-requires c =

@@ -1,14 +1,7 @@
-use Rattle.lot_machine.specs.declared.ticket.Target.TheVariants.{Unfunded}
-use Rattle.lot_machine.specs.declared.ticket.Target.{Target}
-use Rattle.lot_machine.specs.declared.refusal.Refusal.{Refusal}
-use Rattle.std.specs.Prelude.{unwrap_or, if◌then◌else◌}
+use Rattle.lot_kernel.proofs.Common.{BaseFixed, Cycle, DeadThread, Fund, NoTarget, NoTicket, Option, Refusal, Some, Target, Unfunded, ap, command_effect, command_refusal, first_failing, if◌then◌else◌, inl, is_cycle, refl, sym, target_meant, unless_refused, unwrap_or, with_target, [], ◌∙◌, ◌∷◌, ◌≡◌}
 use Rattle.lot_kernel.proofs.Commanding.{target-funded}
-use Rattle.lot_machine.specs.Funding.{with_target}
-use Rattle.lot_machine.specs.declared.refusal.Refusal.TheVariants.{BaseFixed, Cycle, DeadThread, Funding, NoTarget, NoTicket}
-use Rattle.lot_machine.specs.Commands.{command_effect, command_refusal, first_failing, is_cycle, target_meant, unless_refused}
-use Rattle.lot_machine.specs.declared.command.Command.TheVariants.{Fund}
+use Rattle.lot_machine.specs.declared.refusal.Refusal.TheVariants.{Funding}
 use Rattle.lot_kernel.proofs.Refusing.{last-reply, last-state, no-target, refused-reply, refused-state}
-use Rattle.std.proofs.Common.{Option, Some, [], ap, inl, refl, sym, ◌∙◌, ◌∷◌, ◌≡◌}
 use Rattle.lot_kernel.proofs.tables.Tables.fund.Goals as goal
 
 pub returns-in_default : goal.returns-in_default

@@ -1,10 +1,4 @@
-use Rattle.lot_kernel.specs.Counted.{KeepsStale}
-use Rattle.lot_machine.specs.Funding.{with_target}
-use Rattle.lot_machine.specs.Commands.{is_cycle}
-use Rattle.std.proofs.Common.{ap, inl, refl, subst, true, ◌∙◌, ◌≡◌}
-use Rattle.lot_machine.specs.State.{funding_of}
-use Rattle.lot_kernel.specs.Snapshots.{Snapshot, MakesStale}
-use Rattle.lot_value.proofs.Applied.{target-may}
+use Rattle.lot_kernel.proofs.Common.{KeepsStale, MakesStale, Snapshot, ap, funding_of, inl, is_cycle, refl, subst, target-may, true, with_target, ◌∙◌, ◌≡◌}
 use Rattle.lot_kernel.proofs.tables.Tables.fund_target.Goals as goal
 
 pub put_target-requires-clause-target : goal.put_target-requires-clause-target

@@ -1,6 +1,4 @@
-use Rattle.std.proofs.Common.{◌≤◌, ap, arith, length, subst}
-use Rattle.lot_machine.specs.State.{sizes_of}
-use Rattle.lot_kernel.specs.Snapshots.{Snapshot}
+use Rattle.lot_kernel.proofs.Common.{Snapshot, ap, arith, length, sizes_of, subst, ◌≤◌}
 use Rattle.lot_kernel.proofs.Refusing.{le-of, mutex-zero, tested-mutex}
 use Rattle.lot_kernel.proofs.Serving.{mutexes-enough}
 use Rattle.lot_kernel.proofs.tables.Tables.has_mutex.Goals as goal

@@ -1,12 +1,4 @@
-use Rattle.std.proofs.Common.{◌≡◌, ◌∙◌, false, not, ap, arith, subst, sym}
-use Rattle.lot_machine.specs.Facts.{HasNoCycle}
-use Rattle.lot_machine.specs.Funding.{Funding}
-use Rattle.lot_machine.specs.Lends.{lends_lead}
-use Rattle.lot_machine.specs.Servers.{without_servers}
-use Rattle.lot_machine.specs.State.{funding_of, sizes_of}
-use Rattle.lot_threads.specs.Threaded.{Threaded, funding_in}
-use Rattle.lot_kernel.specs.FreePlaces.{freed_in}
-use Rattle.lot_kernel.specs.Snapshots.{Snapshot}
+use Rattle.lot_kernel.proofs.Common.{Funding, HasNoCycle, Snapshot, Threaded, ap, arith, false, freed_in, funding_in, funding_of, lends_lead, not, sizes_of, subst, sym, without_servers, ◌∙◌, ◌≡◌}
 use Rattle.lot_kernel.proofs.Holding.{snapshot_of}
 use Rattle.lot_kernel.proofs.PastPorts.{cycle-none, cycle-off, cycle-past}
 use Rattle.lot_kernel.proofs.Trapping.{running-there}

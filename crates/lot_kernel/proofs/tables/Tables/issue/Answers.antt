@@ -1,6 +1,4 @@
-use Rattle.std.proofs.Common.{◌∙◌, ◌+◌, ◌<◌, ◌++◌, ◌∷◌, [], Some, SomeIff, ap, length, subst, sym}
-use Rattle.lot_machine.specs.State.{free_tickets}
-use Rattle.lot_kernel.specs.Snapshots.{Snapshot}
+use Rattle.lot_kernel.proofs.Common.{Snapshot, Some, SomeIff, ap, free_tickets, length, subst, sym, [], ◌++◌, ◌+◌, ◌<◌, ◌∙◌, ◌∷◌}
 use Rattle.lot_kernel.proofs.Reusing.{first-ticket, last-ticket, none-first, on-some, ticket-last}
 use Rattle.lot_kernel.proofs.tables.Tables.issue.Goals as goal
 

@@ -1,12 +1,4 @@
-use Rattle.std.proofs.Common.{◌∙◌, ◌+◌, Some, ap, arith, length, refl, subst, sym, slice_get}
-use Rattle.std.proofs.lemmas.Option.{slice_get_within}
-use Rattle.lot_machine.specs.State.{sizes_of}
-use Rattle.lot_machine.specs.Order.{IsInOrder}
-use Rattle.lot_threads.specs.Threaded.{Threaded}
-use Rattle.lot_kernel.specs.Names.{IsIndexOf, names_of}
-use Rattle.lot_kernel.specs.FreeStacks.{FreeStack}
-use Rattle.lot_kernel.specs.FreePlaces.{freed_in}
-use Rattle.lot_kernel.specs.Snapshots.{held}
+use Rattle.lot_kernel.proofs.Common.{FreeStack, IsInOrder, IsIndexOf, Some, Threaded, ap, arith, freed_in, held, length, names_of, refl, sizes_of, slice_get, slice_get_within, subst, sym, ◌+◌, ◌∙◌}
 use Rattle.lot_kernel.proofs.Freeing.{gap-number}
 use Rattle.lot_kernel.proofs.Holding.{held-tickets}
 use Rattle.lot_kernel.proofs.Reusing.{first-ticket_gap, popped-tickets, room-tickets}

@@ -1,8 +1,5 @@
 use Rattle.lot_kernel.proofs.Holding.{held-tickets}
-use Rattle.lot_kernel.specs.FreePlaces.{freed_in}
-use Rattle.lot_machine.specs.State.{sizes_of}
-use Rattle.lot_threads.specs.Threaded.{Threaded}
-use Rattle.std.proofs.Common.{ap, length}
+use Rattle.lot_kernel.proofs.Common.{Threaded, ap, freed_in, length, sizes_of}
 use Rattle.lot_kernel.proofs.Keeping.{keeps-threads}
 use Rattle.lot_kernel.proofs.tables.Tables.issue_last.Goals as goal
 

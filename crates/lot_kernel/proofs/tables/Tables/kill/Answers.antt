@@ -1,11 +1,5 @@
-use Rattle.lot_machine.specs.Kill.{killed}
-use Rattle.lot_machine.specs.declared.refusal.Refusal.TheVariants.{DeadThread, NoThread}
-use Rattle.lot_machine.specs.Commands.{Step, command_refusal, thread_meant}
-use Rattle.lot_machine.specs.declared.command.Command.TheVariants.{Kill}
+use Rattle.lot_kernel.proofs.Common.{DeadThread, Kill, NoThread, None, Option, Some, Step, ap, command_refusal, inl, killed, meant-within, refl, sym, thread_meant, unwrap_or, ℕ, ◌∙◌, ◌≡◌}
 use Rattle.lot_kernel.proofs.Refusing.{done, refused-reply, refused-state}
-use Rattle.std.specs.Prelude.{unwrap_or}
-use Rattle.std.proofs.Common.{None, Option, Some, ap, inl, refl, sym, ℕ, ◌∙◌, ◌≡◌}
-use Rattle.lot_machine.proofs.OrderKept.{meant-within}
 use Rattle.lot_kernel.proofs.tables.Tables.kill.Goals as goal
 
 pub end-requires-clause-there : goal.end-requires-clause-there

@@ -1,11 +1,4 @@
-use Rattle.std.proofs.Common.{◌≡◌, ◌<◌, ◌-◌, ◌+◌, ◌∙◌, suc, ap, arith, length, sym}
-use Rattle.lot_machine.specs.Funding.{Funding}
-use Rattle.lot_machine.specs.Lends.{lends_lead_within}
-use Rattle.lot_machine.specs.Servers.{without_servers}
-use Rattle.lot_machine.specs.State.{funding_of}
-use Rattle.lot_graph.specs.Graphs.{LimitedFunding}
-use Rattle.lot_threads.specs.Threaded.{funding_in}
-use Rattle.lot_kernel.specs.Snapshots.{Snapshot}
+use Rattle.lot_kernel.proofs.Common.{Funding, LimitedFunding, Snapshot, ap, arith, funding_in, funding_of, lends_lead_within, length, suc, sym, without_servers, ◌+◌, ◌-◌, ◌<◌, ◌∙◌, ◌≡◌}
 use Rattle.lot_kernel.proofs.PastPorts.{walk-ends, walk-goes, walk-stops}
 use Rattle.lot_kernel.proofs.tables.Tables.leads_past_ports.Goals as goal
 

@@ -1,7 +1,5 @@
 -- what the lends that are left lead to is what those of the lender do
-use Rattle.std.proofs.Common.{◌≡◌, ◌-◌, length}
-use Rattle.lot_machine.specs.Lends.{lends_lead, lends_lead_within}
-use Rattle.lot_machine.specs.Servers.{without_servers}
+use Rattle.lot_kernel.proofs.Common.{lends_lead, lends_lead_within, length, without_servers, ◌-◌, ◌≡◌}
 use Rattle.lot_kernel.proofs.tables.Tables.leads_past_ports.Given as goal
 
 abbrev pub invariant-loop : goal.invariant-loop

@@ -1,7 +1,4 @@
-use Rattle.std.proofs.Common.{◌≡◌, ◌<◌, ◌+◌, ◌∙◌, ◌==◌, ap, arith, length, subst, sym}
-use Rattle.lot_machine.specs.Servers.{left_by, port_holders}
-use Rattle.lot_machine.specs.State.{State, holders, sizes_of}
-use Rattle.lot_kernel.specs.Snapshots.{Snapshot}
+use Rattle.lot_kernel.proofs.Common.{Snapshot, State, ap, arith, holders, left_by, length, port_holders, sizes_of, subst, sym, ◌+◌, ◌<◌, ◌==◌, ◌∙◌, ◌≡◌}
 use Rattle.lot_kernel.proofs.Serving.{AreGone, gone-all, gone-count, gone-next, gone-ports, holders-next, holders-none, holders_from, mutexes-enough, unserved-count}
 use Rattle.lot_kernel.proofs.tables.Tables.leave_ports.Goals as goal
 

@@ -1,6 +1,5 @@
 -- the ports from the place on are to be left, and nothing but servers has changed
-use Rattle.std.proofs.Common.{◌≤◌, ◌==◌, length}
-use Rattle.lot_machine.specs.Servers.{left_by}
+use Rattle.lot_kernel.proofs.Common.{left_by, length, ◌==◌, ◌≤◌}
 use Rattle.lot_kernel.proofs.Serving.{AreGone, holders_from}
 use Rattle.lot_kernel.proofs.tables.Tables.leave_ports.Given as goal
 

@@ -1,16 +1,5 @@
-use Rattle.std.proofs.Common.{◌≡◌, ◌∙◌, None, ap, length, subst, sym}
-use Rattle.std.specs.List.{Contains}
+use Rattle.lot_kernel.proofs.Common.{Contains, HasHolders, MakesStale, None, QueueLists, Snapshot, State, Threaded, ap, before_lock, freed_in, length, lock, nowhere-running, sizes_of, subst, sym, the_view, trap_refusal, ◌∙◌, ◌≡◌}
 use Rattle.lot_machine.specs.declared.action.Action.TheVariants as action
-use Rattle.lot_machine.specs.Mutexes.{lock}
-use Rattle.lot_machine.specs.Servers.{before_lock}
-use Rattle.lot_machine.specs.State.{State, sizes_of}
-use Rattle.lot_machine.specs.Step.{trap_refusal}
-use Rattle.lot_queues.specs.QueueLists.{QueueLists}
-use Rattle.lot_queues.proofs.Callers.{nowhere-running}
-use Rattle.lot_threads.specs.Threaded.{Threaded}
-use Rattle.lot_kernel.specs.contracts.tables.Tables.{the_view}
-use Rattle.lot_kernel.specs.FreePlaces.{freed_in}
-use Rattle.lot_kernel.specs.Snapshots.{HasHolders, MakesStale, Snapshot}
 use Rattle.lot_kernel.proofs.Cutting.{cut-queues, cut-runs, cut-there, makes-locked}
 use Rattle.lot_kernel.proofs.Holding.{held-mutexes, makes-held, snapshot_of}
 use Rattle.lot_kernel.proofs.Keeping.{keeps-both}

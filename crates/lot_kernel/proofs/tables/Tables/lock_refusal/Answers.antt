@@ -1,8 +1,5 @@
 use Rattle.lot_kernel.proofs.Trapping.{lock-checked}
-use Rattle.std.proofs.lemmas.Bool.{eq-eqb}
-use Rattle.lot_machine.specs.Mutexes.{mutex_at}
-use Rattle.lot_kernel.specs.Snapshots.{Snapshot}
-use Rattle.std.proofs.Common.{Some, ap, false, not, refl, sym, true, ◌∙◌}
+use Rattle.lot_kernel.proofs.Common.{Snapshot, Some, ap, eq-eqb, false, mutex_at, not, refl, sym, true, ◌∙◌}
 use Rattle.lot_kernel.proofs.tables.Tables.lock_refusal.Goals as goal
 
 pub returns-then-not-has_mutex : goal.returns-then-not-has_mutex

@@ -1,12 +1,6 @@
 use Rattle.lot_machine.specs.declared.reply.Reply.TheVariants.{Currency}
-use Rattle.lot_machine.specs.declared.refusal.Refusal.TheVariants.{BadName, Full, NameTaken}
-use Rattle.lot_machine.specs.declared.sizes.Sizes.{Sizes}
-use Rattle.lot_machine.specs.State.{sizes_of}
-use Rattle.lot_kernel.specs.Snapshots.{Snapshot}
-use Rattle.lot_machine.specs.Commands.{Step, are_currencies_full, command_refusal, is_name}
-use Rattle.lot_machine.specs.declared.command.Command.TheVariants.{MakeCurrency}
+use Rattle.lot_kernel.proofs.Common.{BadName, Full, MakeCurrency, NameTaken, None, Sizes, Snapshot, Some, Step, ap, are_currencies_full, command_refusal, is_name, refl, sizes_of, sym, ◌∙◌, ◌≡◌}
 use Rattle.lot_kernel.proofs.Refusing.{done, full-alone, refused-reply, refused-state, taken}
-use Rattle.std.proofs.Common.{None, Some, ap, refl, sym, ◌∙◌, ◌≡◌}
 use Rattle.lot_kernel.proofs.tables.Tables.make_currency.Goals as goal
 
 pub returns-then-not-allow_name : goal.returns-then-not-allow_name

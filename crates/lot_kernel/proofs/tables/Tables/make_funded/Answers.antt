@@ -1,18 +1,5 @@
-use Rattle.std.specs.Prelude.{unwrap_or}
-use Rattle.std.proofs.Common.{Contains, List, None, Option, Some, [], ap, arith, inl, length, not, refl, subst, sym, ℕ, ◌∙◌, ◌≡◌, ◌||◌, ◌∷◌}
-use Rattle.lot_kernel.specs.Snapshots.{Snapshot}
-use Rattle.lot_machine.specs.declared.command.Command.TheVariants.{MakeFunded}
-use Rattle.lot_machine.specs.declared.refusal.Refusal.TheVariants.{BadAmount, BadName, Full, NameTaken, NoCurrency, NoScript}
-use Rattle.lot_machine.specs.declared.reply.Reply.TheVariants.{Funded}
-use Rattle.lot_machine.specs.declared.ticket.Target.TheVariants.{Thread, Unfunded}
-use Rattle.lot_machine.specs.declared.ticket.Ticket.{Ticket}
-use Rattle.lot_machine.specs.State.{State, free_tickets, funding_of, next_thread, next_ticket}
-use Rattle.lot_machine.specs.Commands.{Step, are_threads_full, are_tickets_full, command_refusal, currency_meant, is_no_script, is_taken, is_thread_name, with_thread, with_ticket}
-use Rattle.lot_machine.specs.Funding.{retargeted, ticket_at, with_target}
-use Rattle.lot_machine.specs.Order.{IsInOrder}
-use Rattle.lot_machine.specs.Places.{placed}
-use Rattle.std.specs.Option.{option_flatten}
-use Rattle.lot_kernel.specs.FreePlaces.{HasIdlePlace}
+use Rattle.lot_kernel.proofs.Common.{BadAmount, BadName, Contains, Full, Funded, HasIdlePlace, IsInOrder, List, MakeFunded, NameTaken, NoCurrency, NoScript, None, Option, Snapshot, Some, State, Step, Ticket, Unfunded, ap, are_threads_full, are_tickets_full, arith, command_refusal, currency_meant, free_tickets, funding_of, inl, is_no_script, is_taken, is_thread_name, length, next_thread, next_ticket, not, option_flatten, placed, refl, retargeted, subst, sym, ticket_at, unwrap_or, with_target, with_thread, with_ticket, ℕ, [], ◌||◌, ◌∙◌, ◌∷◌, ◌≡◌}
+use Rattle.lot_machine.specs.declared.ticket.Target.TheVariants.{Thread}
 use Rattle.lot_kernel.proofs.Commanding.{funded-placed, good-amount, makes-funded, next-there, target-funded, thread-no-cycle}
 use Rattle.lot_kernel.proofs.Freeing.{idle-place, ticket-gap}
 use Rattle.lot_kernel.proofs.Refusing.{done, first-full, refused-reply, refused-state, second-full, three-fail, three-pass}

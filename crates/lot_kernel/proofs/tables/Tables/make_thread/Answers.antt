@@ -1,8 +1,5 @@
-use Rattle.std.proofs.Common.{None, Some, [], ap, inl, not, refl, sym, ◌∙◌, ◌≡◌, ◌∷◌}
-use Rattle.lot_machine.specs.declared.command.Command.TheVariants.{MakeThread}
-use Rattle.lot_machine.specs.declared.refusal.Refusal.TheVariants.{BadName, Full, NameTaken, NoScript}
+use Rattle.lot_kernel.proofs.Common.{BadName, Full, MakeThread, NameTaken, NoScript, None, Some, Step, ap, are_threads_full, command_refusal, inl, is_no_script, is_taken, is_thread_name, not, refl, sym, [], ◌∙◌, ◌∷◌, ◌≡◌}
 use Rattle.lot_machine.specs.declared.reply.Reply.TheVariants as reply
-use Rattle.lot_machine.specs.Commands.{Step, are_threads_full, command_refusal, is_no_script, is_taken, is_thread_name}
 use Rattle.lot_kernel.proofs.Freeing.{idle-place}
 use Rattle.lot_kernel.proofs.Refusing.{done, refused-reply, refused-state, three-fail, three-pass}
 use Rattle.lot_kernel.proofs.tables.Tables.make_thread.Goals as goal

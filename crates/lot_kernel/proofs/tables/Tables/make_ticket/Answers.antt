@@ -1,13 +1,7 @@
 use Rattle.lot_kernel.proofs.Commanding.{good-amount}
 use Rattle.lot_machine.specs.declared.reply.Reply.TheVariants as reply
-use Rattle.lot_machine.specs.declared.ticket.Target.TheVariants.{Unfunded}
-use Rattle.lot_machine.specs.declared.refusal.Refusal.TheVariants.{BadAmount, Full, NoCurrency}
-use Rattle.lot_kernel.specs.Snapshots.{Snapshot}
-use Rattle.lot_machine.specs.Commands.{Step, are_tickets_full, command_refusal, currency_meant, with_ticket}
-use Rattle.lot_machine.specs.declared.command.Command.TheVariants.{MakeTicket}
+use Rattle.lot_kernel.proofs.Common.{BadAmount, Full, MakeTicket, NoCurrency, None, Option, Snapshot, Some, Step, Unfunded, ap, are_tickets_full, command_refusal, currency_meant, refl, sym, unwrap_or, with_ticket, ℕ, ◌∙◌, ◌≡◌}
 use Rattle.lot_kernel.proofs.Refusing.{done, full-alone, refused-reply, refused-state}
-use Rattle.std.specs.Prelude.{Some, unwrap_or}
-use Rattle.std.proofs.Common.{None, Option, Some, ap, refl, sym, ℕ, ◌∙◌, ◌≡◌}
 use Rattle.lot_kernel.proofs.tables.Tables.make_ticket.Goals as goal
 
 pub issue-requires-clause-issuer : goal.issue-requires-clause-issuer

@@ -1,22 +1,8 @@
 use Rattle.lot_kernel.proofs.Metering.{trap-then}
-use Rattle.std.proofs.Common.{ap, length, option_map, refl, subst, sym, ℕ, ◌∙◌, ◌≡◌}
-use Rattle.lot_machine.specs.declared.action.Action.{Action}
-use Rattle.lot_value.specs.Changing.{CanLend}
-use Rattle.lot_machine.specs.Bounds.{IsBetween}
-use Rattle.lot_machine.specs.Order.{IsInOrder}
-use Rattle.lot_machine.specs.declared.record.Record.{Record}
-use Rattle.lot_machine.specs.declared.record.Status.TheVariants.{Running}
-use Rattle.lot_machine.proofs.RecordsKept.{RunsAlone, StopsIfLeaves}
-use Rattle.lot_kernel.specs.Trapped.{RunsOn, effect_of}
-use Rattle.lot_kernel.specs.Snapshots.{Snapshot}
-use Rattle.lot_machine.specs.declared.sizes.Sizes.{Sizes}
-use Rattle.lot_machine.specs.Step.{ends_quantum}
-use Rattle.lot_machine.specs.State.{State, funding_of, holders, lend_of, status_of}
-use Rattle.lot_machine.specs.Numbered.{at_number}
+use Rattle.lot_kernel.proofs.Common.{Action, CanLend, IsBetween, IsInOrder, Record, Running, RunsAlone, RunsOn, Sizes, Snapshot, State, StopsIfLeaves, ap, at_number, effect_of, ends_quantum, funding_of, holders, lend_of, length, option_map, record-of, refl, status_of, subst, sym, ℕ, ◌∙◌, ◌≡◌}
 use Rattle.lot_kernel.proofs.Leaving.{effect-leaves}
 use Rattle.lot_kernel.proofs.TrapEnds.{effect-limits, effect-runs, finished-reply, finished-state, lends-there, makes-trap}
 use Rattle.lot_kernel.proofs.Finishing.{may-leave}
-use Rattle.lot_machine.proofs.Queues.{record-of}
 use Rattle.lot_kernel.proofs.tables.Tables.make_trap.Goals as goal
 
 -- the thread's record is as it was before the trap

@@ -1,13 +1,5 @@
-use Rattle.std.proofs.Common.{◌+◌, ◌∙◌, None, ap, subst, sym}
-use Rattle.lot_machine.specs.declared.reply.Outcome.{Outcome}
+use Rattle.lot_kernel.proofs.Common.{HasNoCycle, MakesStale, None, Outcome, Snapshot, Threaded, ap, freed_in, funding_in, held, held_by, served_at, set_number, sizes_of, subst, sym, ◌+◌, ◌∙◌}
 use Rattle.lot_machine.specs.declared.reply.Outcome.TheVariants as outcomes
-use Rattle.lot_machine.specs.Facts.{HasNoCycle}
-use Rattle.lot_machine.specs.Numbered.{set_number}
-use Rattle.lot_machine.specs.Servers.{held_by, served_at}
-use Rattle.lot_machine.specs.State.{sizes_of}
-use Rattle.lot_threads.specs.Threaded.{Threaded, funding_in}
-use Rattle.lot_kernel.specs.FreePlaces.{freed_in}
-use Rattle.lot_kernel.specs.Snapshots.{MakesStale, Snapshot, held}
 use Rattle.lot_kernel.proofs.Holding.{snapshot_of}
 use Rattle.lot_kernel.proofs.Serving.{served-back, served-kept}
 use Rattle.lot_kernel.proofs.tables.Tables.move_server.Goals as goal

@@ -1,7 +1,5 @@
-use Rattle.std.proofs.Common.{arith, refl}
-use Rattle.lot_kernel.specs.FreePlaces.{freed_in}
+use Rattle.lot_kernel.proofs.Common.{arith, freed_in, refl, sizes_of}
 use Rattle.lot_kernel.proofs.Opening.{opening-held, opening-holders, opening-starts}
-use Rattle.lot_machine.specs.State.{sizes_of}
 use Rattle.lot_kernel.proofs.tables.Tables.new.Goals as goal
 
 pub invariant_of-result : goal.invariant_of-result

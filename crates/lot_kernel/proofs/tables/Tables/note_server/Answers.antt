@@ -1,6 +1,4 @@
-use Rattle.std.proofs.Common.{◌≡◌, ◌∙◌, false, ap, inl, refl, sym}
-use Rattle.lot_machine.proofs.Unserved.{served-off}
-use Rattle.lot_kernel.specs.Snapshots.{Snapshot}
+use Rattle.lot_kernel.proofs.Common.{Snapshot, ap, false, inl, refl, served-off, sym, ◌∙◌, ◌≡◌}
 use Rattle.lot_kernel.proofs.tables.Tables.note_server.Goals as goal
 
 pub returns-then-not-self : goal.returns-then-not-self

@@ -1,14 +1,6 @@
-use Rattle.std.specs.Prelude.{◌^◌}
-use Rattle.lot_machine.specs.Traps.{compensation_for}
-use Rattle.lot_threads.specs.Threaded.{Threaded}
-use Rattle.lot_machine.specs.Commands.{Step}
+use Rattle.lot_kernel.proofs.Common.{BadProcessor, BadTicks, None, NotRunning, Snapshot, Some, Step, Threaded, ap, arith, compensation_for, event_refusal, inl, refl, stopped, subst, sym, thread_on, used_by, ◌+◌, ◌-◌, ◌<◌, ◌^◌, ◌∙◌, ◌≡◌}
 use Rattle.lot_machine.specs.declared.event.Event.TheVariants as event
-use Rattle.lot_machine.specs.declared.refusal.Refusal.TheVariants.{BadProcessor, BadTicks, NotRunning}
-use Rattle.lot_machine.specs.State.{thread_on, used_by}
-use Rattle.lot_machine.specs.Step.{event_refusal, stopped}
-use Rattle.lot_kernel.specs.Snapshots.{Snapshot}
 use Rattle.lot_kernel.proofs.Refusing.{over-overrun, overruns, refused-event-reply, refused-event-state}
-use Rattle.std.proofs.Common.{None, Some, ap, arith, inl, refl, subst, sym, ◌+◌, ◌-◌, ◌<◌, ◌∙◌, ◌≡◌}
 use Rattle.lot_kernel.proofs.tables.Tables.overrun.Goals as goal
 
 pub returns-then-is_bad_processor : goal.returns-then-is_bad_processor

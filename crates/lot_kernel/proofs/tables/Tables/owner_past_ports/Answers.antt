@@ -1,8 +1,4 @@
-use Rattle.std.proofs.Common.{◌∙◌, ap, arith, sym}
-use Rattle.lot_machine.specs.Funding.{Funding, owner_of}
-use Rattle.lot_graph.specs.Graphs.{LimitedFunding}
-use Rattle.lot_threads.specs.Threaded.{funding_in}
-use Rattle.lot_kernel.specs.contracts.tables.Tables.{the_view}
+use Rattle.lot_kernel.proofs.Common.{Funding, LimitedFunding, ap, arith, funding_in, owner_of, sym, the_view, ◌∙◌}
 use Rattle.lot_kernel.proofs.PastPorts.{holder-free, mutex-kept}
 use Rattle.lot_kernel.proofs.tables.Tables.owner_past_ports.Goals as goal
 

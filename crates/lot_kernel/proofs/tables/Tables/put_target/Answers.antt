@@ -1,14 +1,6 @@
 use Rattle.lot_kernel.proofs.Keeping.{keeps-threads}
-use Rattle.std.proofs.Common.{Option, Some, ap, length, option_map, refl, subst, sym, ◌∙◌, ◌≡◌}
-use Rattle.lot_machine.specs.Funding.{Funding, retargeted, with_target}
-use Rattle.lot_machine.specs.Numbered.{set_number}
-use Rattle.lot_machine.specs.State.{sizes_of}
-use Rattle.lot_machine.specs.declared.ticket.Ticket.{Ticket}
-use Rattle.lot_value.specs.Changing.{CanTarget}
-use Rattle.lot_threads.specs.Threaded.{Threaded, funding_in}
-use Rattle.lot_kernel.specs.Snapshots.{Snapshot, held}
+use Rattle.lot_kernel.proofs.Common.{CanTarget, Funding, Option, Snapshot, Some, Threaded, Ticket, ap, freed_in, funding_in, held, length, option_map, refl, retargeted, set_number, sizes_of, subst, sym, with_target, ◌∙◌, ◌≡◌}
 use Rattle.lot_kernel.proofs.Holding.{held-tickets, makes-held}
-use Rattle.lot_kernel.specs.FreePlaces.{freed_in}
 use Rattle.lot_kernel.proofs.tables.Tables.put_target.Goals as goal
 
 pub apply-requires-clause-allowed : goal.apply-requires-clause-allowed

@@ -1,16 +1,4 @@
-use Rattle.std.proofs.Common.{Bool, Some, [], ap, false, if◌then◌else◌, rules, sym, true, ℕ, refl, ◌∙◌, ◌≡◌}
-use Rattle.lot_graph.specs.Graphs.{IsFunding, LimitedFunding}
-use Rattle.lot_machine.specs.Commands.{is_funding}
-use Rattle.lot_machine.specs.Funding.{ticket_at, ticket_in}
-use Rattle.lot_machine.specs.Numbered.{option_any}
-use Rattle.lot_machine.specs.State.{live_in, sizes_of}
-use Rattle.lot_machine.specs.Value.{ticket_value}
-use Rattle.lot_machine.specs.declared.ticket.Ticket.{Ticket}
-use Rattle.lot_threads.specs.Threaded.{Threaded, funding_in, settled_in}
-use Rattle.lot_value.specs.Counts.{counted_up}
-use Rattle.lot_kernel.specs.Counted.{with_ticket_read}
-use Rattle.lot_kernel.specs.FreePlaces.{freed_in}
-use Rattle.lot_kernel.specs.Snapshots.{Snapshot}
+use Rattle.lot_kernel.proofs.Common.{Bool, IsFunding, LimitedFunding, Snapshot, Some, Threaded, Ticket, ap, counted_up, false, freed_in, funding_in, if◌then◌else◌, is_funding, live_in, option_any, refl, rules, settled_in, sizes_of, sym, ticket_at, ticket_in, ticket_value, true, with_ticket_read, ℕ, [], ◌∙◌, ◌≡◌}
 use Rattle.lot_kernel.proofs.Holding.{held-stale, settles-held, snapshot_of}
 use Rattle.lot_kernel.proofs.tables.Tables.read_ticket.Goals as goal
 

@@ -1,20 +1,6 @@
-use Rattle.std.proofs.Common.{◌∙◌, List, ap, arith, length, not, refl, subst, sym}
-use Rattle.std.specs.Option.{IfSome}
+use Rattle.lot_kernel.proofs.Common.{IfSome, IsLive, List, NoPort, Outcome, QueueLists, Record, Running, Threaded, ap, arith, freed_in, length, live-status, live_in, not, receive, refl, sizes_of, subst, sym, taker, the_view, ◌∙◌}
 use Rattle.lot_machine.specs.declared.action.Action.TheVariants as action
-use Rattle.lot_machine.specs.declared.record.Record.{Record}
-use Rattle.lot_machine.specs.declared.record.Status.TheVariants.{Running}
-use Rattle.lot_machine.specs.declared.refusal.TrapRefusal.TheVariants.{NoPort}
-use Rattle.lot_machine.specs.declared.reply.Outcome.{Outcome}
-use Rattle.lot_machine.specs.Lends.{IsLive}
-use Rattle.lot_machine.specs.Ports.{receive}
-use Rattle.lot_machine.specs.State.{live_in, sizes_of}
-use Rattle.lot_queues.specs.QueueLists.{QueueLists}
-use Rattle.lot_threads.specs.Threaded.{Threaded}
-use Rattle.lot_kernel.specs.contracts.tables.Tables.{the_view}
-use Rattle.lot_kernel.specs.FreePlaces.{freed_in}
-use Rattle.lot_kernel.specs.Trapped.{taker}
 use Rattle.lot_kernel.proofs.Keeping.{keeps-both}
-use Rattle.lot_threads.proofs.Ways.{live-status}
 use Rattle.lot_kernel.proofs.PortTraps.{port-leaves, receive-queues, receive-takes, runner-nowhere, runs-still, served-shows}
 use Rattle.lot_kernel.proofs.Refusing.{refused-shows}
 use Rattle.lot_kernel.proofs.Trapping.{receive-done, receive-keeps, running-there}

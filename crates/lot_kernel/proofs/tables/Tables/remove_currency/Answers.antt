@@ -1,18 +1,5 @@
-use Rattle.lot_machine.specs.declared.refusal.Refusal.TheVariants.{NoCurrency, BaseFixed}
-use Rattle.lot_machine.specs.Commands.{Step, command_refusal, is_in_use}
-use Rattle.lot_machine.specs.declared.command.Command.TheVariants.{RemoveCurrency}
+use Rattle.lot_kernel.proofs.Common.{BaseFixed, FreeStack, Funding, IsInOrder, LimitedFunding, NoCurrency, None, RemoveCurrency, Snapshot, Some, Step, Threaded, ap, arith, backing_currency, command_refusal, false, freed_in, funding_in, funding_of, held, is_in_use, is_some, issued_in, length-map, map, ne_eqb, refl, rules, sizes_of, slice_get, slice_get_within, subst, sym, true, [], ◌∙◌, ◌≡◌}
 use Rattle.lot_kernel.proofs.Refusing.{done, refused-reply, refused-state}
-use Rattle.std.proofs.Common.{None, Some, [], ap, arith, false, is_some, map, ne_eqb, refl, rules, slice_get, subst, sym, true, ◌∙◌, ◌≡◌}
-use Rattle.lot_machine.specs.Funding.{Funding, backing_currency, issued_in}
-use Rattle.lot_machine.specs.State.{funding_of, sizes_of}
-use Rattle.lot_graph.specs.Graphs.{LimitedFunding}
-use Rattle.lot_threads.specs.Threaded.{Threaded, funding_in}
-use Rattle.std.proofs.lemmas.List.{length-map}
-use Rattle.std.proofs.lemmas.Option.{slice_get_within}
-use Rattle.lot_machine.specs.Order.{IsInOrder}
-use Rattle.lot_kernel.specs.FreeStacks.{FreeStack}
-use Rattle.lot_kernel.specs.FreePlaces.{freed_in}
-use Rattle.lot_kernel.specs.Snapshots.{Snapshot, held}
 use Rattle.lot_kernel.proofs.Reusing.{currency-fits, currency-left, none-currencies, room-currencies, room-on}
 use Rattle.lot_kernel.proofs.Holding.{held-removed}
 use Rattle.lot_kernel.proofs.tables.Tables.remove_currency.Goals as goal

@@ -1,23 +1,8 @@
-use Rattle.lot_machine.specs.declared.refusal.Refusal.TheVariants.{Alive, InUse, NoThread}
-use Rattle.lot_machine.specs.declared.command.Command.TheVariants.{RemoveThread}
+use Rattle.lot_kernel.proofs.Common.{Alive, Contains, FreeStack, InUse, IsInOrder, IsIndexOf, List, NoThread, Node, None, Option, RemoveThread, Snapshot, Some, Step, Thread, Threaded, ap, arith, command_refusal, cond, false, freed_in, held, inl, is_dead_in, is_thread_in_use, map-set, names_of, option_map, refl, rules, sizes_of, slice_get, slice_get_within, slice_set, subst, sym, thread_meant, true, ℕ, ◌-◌, ◌∙◌, ◌∷◌, ◌≡◌}
 use Rattle.lot_kernel.proofs.Refusing.{done, refused-reply, refused-state}
-use Rattle.std.proofs.Common.{List, None, Option, Some, ap, arith, cond, false, inl, option_map, refl, rules, slice_get, slice_set, subst, sym, true, ℕ, ◌-◌, ◌∙◌, ◌∷◌, ◌≡◌}
-use Rattle.std.proofs.lemmas.List.{map-set}
-use Rattle.std.proofs.lemmas.Option.{slice_get_within}
-use Rattle.lot_machine.specs.declared.record.Thread.{Thread}
-use Rattle.lot_kernel.specs.Names.{IsIndexOf, names_of}
-use Rattle.lot_machine.specs.Order.{IsInOrder}
-use Rattle.lot_kernel.specs.FreeStacks.{FreeStack}
-use Rattle.lot_kernel.specs.FreePlaces.{freed_in}
-use Rattle.lot_kernel.specs.Snapshots.{Snapshot, held}
 use Rattle.lot_kernel.proofs.Reusing.{none-threads, room-threads, room-on, thread-fits}
 use Rattle.lot_kernel.proofs.ThreadsAgain.{removes-thread, thread-gone}
-use Rattle.lot_machine.specs.State.{sizes_of}
 use Rattle.lot_kernel.proofs.Indexed.{meant-place}
-use Rattle.std.specs.List.{Contains}
-use Rattle.lot_machine.specs.declared.funding.Node.{Node}
-use Rattle.lot_machine.specs.Commands.{Step, command_refusal, is_dead_in, is_thread_in_use, thread_meant}
-use Rattle.lot_threads.specs.Threaded.{Threaded}
 use Rattle.lot_kernel.proofs.tables.Tables.remove_thread.Goals as goal
 
 pub remove-requires : goal.remove-requires

@@ -1,14 +1,6 @@
-use Rattle.lot_threads.specs.Threaded.{Threaded}
-use Rattle.lot_machine.specs.declared.refusal.Refusal.TheVariants.{Funding, NoTicket}
-use Rattle.lot_machine.specs.Commands.{Step, command_refusal}
-use Rattle.lot_machine.specs.declared.command.Command.TheVariants.{RemoveTicket}
+use Rattle.lot_kernel.proofs.Common.{FreeStack, IsInOrder, NoTicket, None, RemoveTicket, Snapshot, Some, Step, Threaded, ap, arith, command_refusal, freed_in, held, refl, rules, sizes_of, sym, ◌∙◌, ◌≡◌}
+use Rattle.lot_machine.specs.declared.refusal.Refusal.TheVariants.{Funding}
 use Rattle.lot_kernel.proofs.Refusing.{done, refused-reply, refused-state}
-use Rattle.std.proofs.Common.{None, Some, ap, arith, refl, rules, sym, ◌∙◌, ◌≡◌}
-use Rattle.lot_machine.specs.State.{sizes_of}
-use Rattle.lot_machine.specs.Order.{IsInOrder}
-use Rattle.lot_kernel.specs.FreeStacks.{FreeStack}
-use Rattle.lot_kernel.specs.FreePlaces.{freed_in}
-use Rattle.lot_kernel.specs.Snapshots.{Snapshot, held}
 use Rattle.lot_kernel.proofs.Holding.{held-tickets}
 use Rattle.lot_kernel.proofs.Reusing.{none-tickets, room-tickets, room-on, ticket-fits, ticket-left, ticket-some}
 use Rattle.lot_kernel.proofs.tables.Tables.remove_ticket.Goals as goal

@@ -1,15 +1,9 @@
-use Rattle.lot_queues.specs.QueueLists.{QueueLists}
-use Rattle.lot_threads.specs.Threaded.{Threaded}
+use Rattle.lot_kernel.proofs.Common.{NothingToReply, QueueLists, Threaded, ap, arith, freed_in, refl, sizes_of, sym, the_view}
 use Rattle.lot_kernel.proofs.Keeping.{keeps-both}
 use Rattle.lot_machine.specs.declared.action.Action.TheVariants as action
-use Rattle.lot_machine.specs.declared.refusal.TrapRefusal.TheVariants.{NothingToReply}
 use Rattle.lot_kernel.proofs.Refusing.{refused-shows}
-use Rattle.std.proofs.Common.{ap, arith, refl, sym}
-use Rattle.lot_machine.specs.State.{sizes_of}
 use Rattle.lot_kernel.proofs.PortTraps.{port-leaves, port-shows}
 use Rattle.lot_kernel.proofs.Trapping.{reply-done, reply-keeps, running-there}
-use Rattle.lot_kernel.specs.contracts.tables.Tables.{the_view}
-use Rattle.lot_kernel.specs.FreePlaces.{freed_in}
 use Rattle.lot_kernel.proofs.tables.Tables.reply.Goals as goal
 
 pub reply-requires-clause-server : goal.reply-requires-clause-server

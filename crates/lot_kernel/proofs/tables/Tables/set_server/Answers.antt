@@ -1,10 +1,4 @@
-use Rattle.std.proofs.Common.{◌<◌, ◌∙◌, List, ap, inl, length, refl, sym}
-use Rattle.lot_machine.specs.State.{Mutex, sizes_of}
-use Rattle.lot_queues.specs.QueueLists.{QueueLists, IsThere}
-use Rattle.lot_threads.specs.Threaded.{Threaded}
-use Rattle.lot_mutex.proofs.PassedOn.{hand-mutex}
-use Rattle.lot_kernel.specs.contracts.tables.Tables.{the_view}
-use Rattle.lot_kernel.specs.FreePlaces.{freed_in}
+use Rattle.lot_kernel.proofs.Common.{IsThere, List, Mutex, QueueLists, Threaded, ap, freed_in, hand-mutex, inl, length, refl, sizes_of, sym, the_view, ◌<◌, ◌∙◌}
 use Rattle.lot_kernel.proofs.Holding.{makes-held}
 use Rattle.lot_kernel.proofs.Keeping.{keeps-both}
 use Rattle.lot_kernel.proofs.Serving.{options-differ, options-same, owner-seen, server-held, server-holders, server-same, server-state}

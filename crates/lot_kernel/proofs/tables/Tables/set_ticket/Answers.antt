@@ -1,16 +1,8 @@
 use Rattle.lot_kernel.proofs.Keeping.{keeps-threads}
-use Rattle.lot_kernel.specs.Snapshots.{Snapshot, held}
-use Rattle.lot_machine.specs.declared.refusal.Refusal.TheVariants.{BadAmount, NoTicket}
-use Rattle.lot_machine.specs.Commands.{Step, command_refusal}
-use Rattle.lot_machine.specs.declared.command.Command.TheVariants.{SetTicket}
+use Rattle.lot_kernel.proofs.Common.{BadAmount, NoTicket, None, SetTicket, Snapshot, Some, Step, Threaded, ap, command_refusal, freed_in, funding_in, held, inl, is_none, is_some, length, refl, sizes_of, sym, ticket_in, with_amount, ◌∙◌, ◌≡◌}
 use Rattle.lot_kernel.proofs.Refusing.{done, missing, present, refused-reply, refused-state}
-use Rattle.std.proofs.Common.{None, Some, ap, inl, is_none, is_some, length, refl, sym, ◌∙◌, ◌≡◌}
-use Rattle.lot_machine.specs.Funding.{ticket_in, with_amount}
-use Rattle.lot_machine.specs.State.{sizes_of}
-use Rattle.lot_threads.specs.Threaded.{Threaded, funding_in}
 use Rattle.lot_kernel.proofs.Commanding.{good-amount, ticket-found}
 use Rattle.lot_kernel.proofs.Holding.{held-tickets, makes-held}
-use Rattle.lot_kernel.specs.FreePlaces.{freed_in}
 use Rattle.lot_kernel.proofs.tables.Tables.set_ticket.Goals as goal
 
 pub apply-requires-clause-allowed : goal.apply-requires-clause-allowed

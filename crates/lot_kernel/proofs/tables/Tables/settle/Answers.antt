@@ -1,12 +1,5 @@
 use Rattle.lot_kernel.proofs.Keeping.{keeps-settled}
-use Rattle.std.proofs.Common.{ap, ◌∙◌, []}
-use Rattle.lot_machine.specs.Funding.{Funding}
-use Rattle.lot_machine.specs.State.{sizes_of}
-use Rattle.lot_value.specs.Caches.{edges_into_all}
-use Rattle.lot_value.specs.Counts.{counted_up}
-use Rattle.lot_threads.specs.Threaded.{Threaded, funding_in}
-use Rattle.lot_kernel.specs.FreePlaces.{freed_in}
-use Rattle.lot_kernel.specs.Snapshots.{Snapshot, held}
+use Rattle.lot_kernel.proofs.Common.{Funding, Snapshot, Threaded, ap, counted_up, edges_into_all, freed_in, funding_in, held, sizes_of, [], ◌∙◌}
 use Rattle.lot_kernel.proofs.tables.Tables.settle.Goals as goal
 
 pub returns-clause-settled : goal.returns-clause-settled

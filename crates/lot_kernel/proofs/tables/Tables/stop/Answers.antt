@@ -1,13 +1,7 @@
 use Rattle.lot_machine.specs.declared.record.Thread.{Thread as AThread}
-use Rattle.lot_kernel.specs.Names.{IsIndexOf, names_of}
+use Rattle.lot_kernel.proofs.Common.{IsIndexOf, List, Option, Snapshot, Threaded, ap, arith, freed_in, held, length, names_of, refl, sizes_of, stopped, subst, sym, ◌∙◌}
 use Rattle.lot_kernel.proofs.Trapping.{change-count}
-use Rattle.lot_machine.specs.Step.{stopped}
-use Rattle.lot_kernel.specs.Snapshots.{Snapshot, held}
-use Rattle.lot_threads.specs.Threaded.{Threaded}
-use Rattle.std.proofs.Common.{refl, ap, sym, subst, arith, length, List, Option, ◌∙◌}
 use Rattle.lot_kernel.proofs.Holding.{held-records, makes-held}
-use Rattle.lot_machine.specs.State.{sizes_of}
-use Rattle.lot_kernel.specs.FreePlaces.{freed_in}
 use Rattle.lot_kernel.proofs.tables.Tables.stop.Goals as goal
 
 pub returns-clause-stale : goal.returns-clause-stale

@@ -1,5 +1,4 @@
-use Rattle.std.proofs.Common.{◌≡◌, ◌∙◌, ap, rules}
-use Rattle.lot_machine.specs.Commands.{target_meant, target_named}
+use Rattle.lot_kernel.proofs.Common.{ap, rules, target_meant, target_named, ◌∙◌, ◌≡◌}
 use Rattle.lot_machine.specs.declared.reference.TargetRef.TheVariants.{Named}
 use Rattle.lot_kernel.proofs.tables.Tables.target_meant.Goals as goal
 

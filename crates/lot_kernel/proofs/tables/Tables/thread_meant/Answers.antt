@@ -1,5 +1,4 @@
-use Rattle.std.proofs.Common.{◌≡◌, ◌∙◌, ap, rules}
-use Rattle.lot_machine.specs.Commands.{thread_meant, thread_named}
+use Rattle.lot_kernel.proofs.Common.{ap, rules, thread_meant, thread_named, ◌∙◌, ◌≡◌}
 use Rattle.lot_machine.specs.declared.reference.ThreadRef.TheVariants.{Named}
 use Rattle.lot_kernel.proofs.tables.Tables.thread_meant.Goals as goal
 

@@ -1,8 +1,6 @@
 use Rattle.lot_machine.specs.declared.record.Thread.{Thread as AThread}
-use Rattle.std.specs.Option.{option_flatten}
-use Rattle.lot_kernel.specs.Snapshots.{Snapshot}
+use Rattle.lot_kernel.proofs.Common.{None, Option, Snapshot, Some, ap, option_flatten, option_map, refl, sym, ◌∙◌}
 use Rattle.lot_kernel.proofs.Looking.{entry-of, entry-missing, numbered}
-use Rattle.std.proofs.Common.{Some, None, Option, ap, sym, refl, option_map, ◌∙◌}
 use Rattle.lot_kernel.proofs.tables.Tables.thread_numbered.Goals as goal
 
 pub returns-then-number-eq0-clause-meant : goal.returns-then-number-eq0-clause-meant

@@ -1,11 +1,6 @@
-use Rattle.lot_machine.specs.Commands.{Step}
+use Rattle.lot_kernel.proofs.Common.{BadProcessor, BadTicks, None, NotRunning, Snapshot, Some, Step, ap, arith, event_refusal, inl, refl, sym, thread_on, used_by, ◌∙◌, ◌≡◌}
 use Rattle.lot_machine.specs.declared.event.Event.TheVariants as event
-use Rattle.lot_machine.specs.declared.refusal.Refusal.TheVariants.{BadProcessor, BadTicks, NotRunning}
-use Rattle.lot_machine.specs.State.{thread_on, used_by}
-use Rattle.lot_machine.specs.Step.{event_refusal}
-use Rattle.lot_kernel.specs.Snapshots.{Snapshot}
 use Rattle.lot_kernel.proofs.Refusing.{over-trapped, refused-event-reply, refused-event-state, traps}
-use Rattle.std.proofs.Common.{None, Some, ap, arith, inl, refl, sym, ◌∙◌, ◌≡◌}
 use Rattle.lot_kernel.proofs.tables.Tables.trap.Goals as goal
 
 pub returns-then-is_bad_processor : goal.returns-then-is_bad_processor

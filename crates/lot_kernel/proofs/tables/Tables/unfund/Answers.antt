@@ -1,8 +1,5 @@
-use Rattle.lot_machine.specs.declared.refusal.Refusal.TheVariants.{NoTicket, NotFunding}
-use Rattle.lot_machine.specs.Commands.{Step, command_refusal}
-use Rattle.lot_machine.specs.declared.command.Command.TheVariants.{Unfund}
+use Rattle.lot_kernel.proofs.Common.{NoTicket, None, NotFunding, Some, Step, Unfund, ap, command_refusal, inl, refl, sym, ◌∙◌, ◌≡◌}
 use Rattle.lot_kernel.proofs.Refusing.{done, refused-reply, refused-state}
-use Rattle.std.proofs.Common.{None, Some, ap, inl, refl, sym, ◌∙◌, ◌≡◌}
 use Rattle.lot_kernel.proofs.tables.Tables.unfund.Goals as goal
 
 pub returns-in_default : goal.returns-in_default

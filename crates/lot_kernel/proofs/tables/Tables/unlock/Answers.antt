@@ -1,23 +1,13 @@
 use Rattle.lot_kernel.proofs.Keeping.{keeps-both}
 use Rattle.lot_machine.specs.declared.action.Action.TheVariants as action
-use Rattle.lot_machine.specs.declared.refusal.TrapRefusal.TheVariants.{NoMutex, NotOwner}
+use Rattle.lot_kernel.proofs.Common.{Effect, HasHolders, IsThere, MutexTrap, NoMutex, NotOwner, QueueLists, Snapshot, Some, Threaded, ap, false, freed_in, held, is_no_mutex, length, mutex_at, nat_eq, not, of_mutexes, option_eq, owns, refl, rules, settled_in, sizes_of, subst, sym, the_view, unlock, worth_in, ◌∙◌, ◌≡◌, ◌≤◌}
 use Rattle.lot_kernel.proofs.Refusing.{not-owner, refused-shows}
-use Rattle.std.specs.Option.{option_eq}
-use Rattle.std.proofs.Common.{Some, ◌≤◌, ap, false, length, nat_eq, not, refl, rules, subst, sym, ◌∙◌, ◌≡◌}
-use Rattle.lot_machine.specs.Step.{Effect, is_no_mutex, of_mutexes, owns}
-use Rattle.lot_queues.specs.QueueLists.{IsThere, QueueLists}
-use Rattle.lot_machine.specs.Mutexes.{MutexTrap, mutex_at, unlock}
-use Rattle.lot_threads.specs.Threaded.{Threaded, settled_in, worth_in}
 use Rattle.lot_kernel.proofs.Holding.{held-mutexes, makes-held}
 use Rattle.lot_kernel.proofs.Trapping.{mutexes-state, unlock-count, unlock-done, unlock-same}
 use Rattle.lot_kernel.proofs.Leaving.{waiters-queue}
 use Rattle.lot_kernel.proofs.Metering.{unlock-counts}
 use Rattle.lot_kernel.proofs.Serving.{holders-unlock}
-use Rattle.lot_kernel.specs.Snapshots.{HasHolders, Snapshot, held}
-use Rattle.lot_machine.specs.State.{sizes_of}
-use Rattle.lot_kernel.specs.contracts.tables.Tables.{the_view}
 use Rattle.lot_kernel.proofs.tables.Tables.unlock.Goals as goal
-use Rattle.lot_kernel.specs.FreePlaces.{freed_in}
 
 pub invariant_of-self : goal.invariant_of-self
 invariant_of-self c =

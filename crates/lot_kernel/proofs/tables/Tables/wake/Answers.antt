@@ -1,17 +1,10 @@
 use Rattle.lot_kernel.proofs.Trapping.{change-count}
 use Rattle.lot_kernel.proofs.Keeping.{keeps-threads}
-use Rattle.lot_kernel.specs.Snapshots.{Snapshot, held}
-use Rattle.lot_threads.specs.Threaded.{Threaded}
+use Rattle.lot_kernel.proofs.Common.{NoThread, None, NotAsleep, Snapshot, Some, Step, Threaded, ap, event_refusal, freed_in, held, inl, is_some, length, refl, sizes_of, sym, thread_at, wake, ◌∙◌, ◌≡◌}
 use Rattle.lot_machine.specs.declared.record.Thread.{Thread as AThread}
-use Rattle.lot_machine.specs.Commands.{Step}
 use Rattle.lot_machine.specs.declared.event.Event.TheVariants as event
-use Rattle.lot_machine.specs.declared.refusal.Refusal.TheVariants.{NoThread, NotAsleep}
-use Rattle.lot_machine.specs.Step.{event_refusal, wake}
 use Rattle.lot_kernel.proofs.Refusing.{event-done, missing-of, present-of, refused-event-reply, refused-event-state}
-use Rattle.std.proofs.Common.{None, Some, ap, inl, is_some, length, refl, sym, ◌∙◌, ◌≡◌}
 use Rattle.lot_kernel.proofs.Holding.{held-records, makes-held}
-use Rattle.lot_machine.specs.State.{sizes_of, thread_at}
-use Rattle.lot_kernel.specs.FreePlaces.{freed_in}
 use Rattle.lot_kernel.proofs.tables.Tables.wake.Goals as goal
 
 pub returns-clause-stale : goal.returns-clause-stale

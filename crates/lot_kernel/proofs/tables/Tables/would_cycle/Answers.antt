@@ -1,11 +1,5 @@
-use Rattle.std.proofs.Common.{ap, subst, ◌↔◌}
-use Rattle.std.specs.Prelude.{IsTrue}
-use Rattle.lot_machine.specs.Funding.{Funding}
-use Rattle.lot_machine.specs.State.{funding_of}
-use Rattle.lot_graph.specs.Graphs.{IsCycle}
-use Rattle.lot_threads.specs.Threaded.{funding_in}
+use Rattle.lot_kernel.proofs.Common.{Funding, IsCycle, IsTrue, ap, funding_in, funding_of, subst, the_view, ◌↔◌}
 use Rattle.lot_kernel.proofs.Commanding.{cycle-tested, ticket-with}
-use Rattle.lot_kernel.specs.contracts.tables.Tables.{the_view}
 use Rattle.lot_kernel.proofs.tables.Tables.would_cycle.Goals as goal
 
 pub returns-clause-cycle : goal.returns-clause-cycle

@@ -1,5 +1,4 @@
-use Rattle.std.proofs.Common.{◌<◌, ◌≡◌, ◌≢◌, ◌+◌, ◌∙◌, None, is_some, false, true, suc, ap, arith, length, refl, subst, sym}
-use Rattle.lot_machine.specs.Mutexes.{mutex_at}
+use Rattle.lot_kernel.proofs.Common.{None, ap, arith, false, is_some, length, mutex_at, refl, subst, suc, sym, true, ◌+◌, ◌<◌, ◌∙◌, ◌≡◌, ◌≢◌}
 use Rattle.lot_kernel.proofs.Cutting.{DoFollow, follow-freed, follow-other, follow-start, followed}
 use Rattle.lot_kernel.proofs.Refusing.{no-record}
 use Rattle.lot_kernel.proofs.tables.cycles.follow_owners.Goals as goal

@@ -1,10 +1,4 @@
-use Rattle.std.proofs.Common.{◌≡◌, ◌<◌, ◌+◌, ◌-◌, ◌∙◌, ℕ, Bool, ap, arith, length, subst, sym}
-use Rattle.std.specs.List.{range_with_len}
-use Rattle.lot_machine.specs.Lends.{lends_lead}
-use Rattle.lot_machine.specs.Mutexes.{mutex_at}
-use Rattle.lot_machine.specs.Numbered.{option_any}
-use Rattle.lot_machine.specs.Servers.{unserved}
-use Rattle.lot_threads.specs.Threaded.{Threaded, funding_in}
+use Rattle.lot_kernel.proofs.Common.{Bool, Threaded, ap, arith, funding_in, lends_lead, length, mutex_at, option_any, range_with_len, subst, sym, unserved, ℕ, ◌+◌, ◌-◌, ◌<◌, ◌∙◌, ◌≡◌}
 use Rattle.lot_kernel.proofs.Cutting.{AreFreed, freed-mine, freed-other}
 use Rattle.lot_kernel.proofs.Serving.{holders-next, holders_from}
 use Rattle.lot_kernel.proofs.tables.cycles.free_leading.Goals as goal

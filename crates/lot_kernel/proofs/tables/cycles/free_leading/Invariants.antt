@@ -1,9 +1,5 @@
 -- the owners from the place on are to be looked at, and nothing but owners has changed
-use Rattle.std.proofs.Common.{◌≡◌, ◌≤◌, ◌+◌, ◌-◌, length}
-use Rattle.std.specs.List.{range_with_len}
-use Rattle.lot_machine.specs.Lends.{lends_lead}
-use Rattle.lot_machine.specs.Servers.{unserved}
-use Rattle.lot_threads.specs.Threaded.{funding_in}
+use Rattle.lot_kernel.proofs.Common.{funding_in, lends_lead, length, range_with_len, unserved, ◌+◌, ◌-◌, ◌≡◌, ◌≤◌}
 use Rattle.lot_kernel.proofs.Cutting.{AreFreed}
 use Rattle.lot_kernel.proofs.Serving.{holders_from}
 use Rattle.lot_kernel.proofs.tables.cycles.free_leading.Given as goal

@@ -1,7 +1,4 @@
-use Rattle.std.proofs.Common.{◌∙◌, ℕ, Option, ap, subst, sym}
-use Rattle.std.specs.Option.{IfSome}
-use Rattle.lot_machine.specs.Numbered.{set_number}
-use Rattle.lot_threads.specs.Threaded.{IsLiveIn}
+use Rattle.lot_kernel.proofs.Common.{IfSome, IsLiveIn, Option, ap, set_number, subst, sym, ℕ, ◌∙◌}
 use Rattle.lot_kernel.proofs.Serving.{may-own, replaced, replaced-stale}
 use Rattle.lot_kernel.proofs.tables.servers.replace_owner.Goals as goal
 

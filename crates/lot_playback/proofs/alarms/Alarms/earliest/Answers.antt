@@ -1,7 +1,4 @@
-use Rattle.std.proofs.Common.{◌≡◌, [], ◌∙◌, ap, arith}
-use Rattle.std.specs.List.{flat_map, range_with_len}
-use Rattle.lot_simulation.specs.Timed.{earliest}
-use Rattle.lot_playback.specs.InTime.{alarm_at, alarms_in, sooner_of}
+use Rattle.lot_playback.proofs.Common.{alarm_at, alarms_in, ap, arith, earliest, flat_map, range_with_len, sooner_of, [], ◌∙◌, ◌≡◌}
 use Rattle.lot_playback.proofs.TimeFacts.{earliest-more}
 use Rattle.lot_playback.proofs.alarms.Alarms.earliest.Goals as goal
 

@@ -1,7 +1,4 @@
-use Rattle.std.proofs.Common.{◌≡◌}
-use Rattle.std.specs.List.{flat_map, range_with_len}
-use Rattle.lot_simulation.specs.Timed.{earliest}
-use Rattle.lot_playback.specs.InTime.{alarm_at, alarms_in}
+use Rattle.lot_playback.proofs.Common.{alarm_at, alarms_in, earliest, flat_map, range_with_len, ◌≡◌}
 use Rattle.lot_playback.proofs.alarms.Alarms.earliest.Given as goal
 
 -- it is the first of the turns for the threads passed so far

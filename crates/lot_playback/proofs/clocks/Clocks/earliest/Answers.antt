@@ -1,8 +1,4 @@
-use Rattle.std.proofs.Common.{◌≡◌, ◌++◌, ◌∙◌, sym, ap, arith, append-nil, append_assoc}
-use Rattle.std.specs.List.{flat_map, range_with_len}
-use Rattle.lot_machine.specs.declared.sizes.Sizes.{Sizes}
-use Rattle.lot_simulation.specs.Timed.{console_due, earliest, processor_due, processors_due, timer_due}
-use Rattle.lot_playback.specs.InTime.{alarms_in, moment_of, sooner_of}
+use Rattle.lot_playback.proofs.Common.{Sizes, alarms_in, ap, append-nil, append_assoc, arith, console_due, earliest, flat_map, moment_of, processor_due, processors_due, range_with_len, sooner_of, sym, timer_due, ◌++◌, ◌∙◌, ◌≡◌}
 use Rattle.lot_playback.proofs.TimeFacts.{earliest-both, earliest-more}
 use Rattle.lot_playback.proofs.clocks.Clocks.earliest.Goals as goal
 

@@ -1,7 +1,4 @@
-use Rattle.std.proofs.Common.{◌≡◌, ◌++◌}
-use Rattle.std.specs.List.{flat_map, range_with_len}
-use Rattle.lot_simulation.specs.Timed.{console_due, earliest, processor_due, timer_due}
-use Rattle.lot_playback.specs.InTime.{alarms_in, moment_of}
+use Rattle.lot_playback.proofs.Common.{alarms_in, console_due, earliest, flat_map, moment_of, processor_due, range_with_len, timer_due, ◌++◌, ◌≡◌}
 use Rattle.lot_playback.proofs.clocks.Clocks.earliest.Given as goal
 
 -- it is the first of the console's turn, the timer's and those of the processors passed so far

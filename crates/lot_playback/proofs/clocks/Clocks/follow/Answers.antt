@@ -1,7 +1,4 @@
-use Rattle.std.proofs.Common.{◌≡◌, ◌+◌, ap, subst, sym, arith}
-use Rattle.lot_simulation.specs.declared.timed.Clock.{Clock}
-use Rattle.lot_simulation.specs.Timed.{clock_of}
-use Rattle.lot_playback.specs.InTime.{HaveIdled}
+use Rattle.lot_playback.proofs.Common.{Clock, HaveIdled, ap, arith, clock_of, subst, sym, ◌+◌, ◌≡◌}
 use Rattle.lot_playback.proofs.TimeFacts.{all-set, clock-idled, idled-longer}
 use Rattle.lot_playback.proofs.clocks.Clocks.follow.Goals as goal
 use Rattle.lot_playback.proofs.clocks.Clocks.follow.Goals.{then-not-waits-2, else-not-waits-2}

@@ -1,12 +1,5 @@
-use Rattle.std.proofs.Common.{◌≡◌, ◌+◌, ◌<◌, ◌++◌, List, get_or, set, drop, length, ap, subst, sym, ◌∙◌, arith}
-use Rattle.std.specs.Prelude.{Bool, ◌||◌, is_none, map, if◌then◌else◌}
-use Rattle.std.specs.List.{range_with_len}
-use Rattle.lot_machine.specs.State.{State, thread_on}
-use Rattle.lot_simulation.specs.declared.timed.Clock.{Clock}
-use Rattle.lot_simulation.specs.Timed.{clock_after_console, clock_of, clocks_after_console, idle_to}
-use Rattle.lot_engine.specs.Seen.{world_of}
+use Rattle.lot_playback.proofs.Common.{Bool, Clock, HaveIdled, List, State, ap, arith, clock_after_console, clock_of, clocks_after_console, drop, get_or, idle_to, if◌then◌else◌, is_none, length, map, range_with_len, set, subst, sym, thread_on, world_of, ◌++◌, ◌+◌, ◌<◌, ◌||◌, ◌∙◌, ◌≡◌}
 use Rattle.lot_playback.proofs.TimeFacts.{clock-at, console-idled, set-all, set-at, set-length, set-more}
-use Rattle.lot_playback.specs.InTime.{HaveIdled}
 use Rattle.lot_playback.proofs.clocks.Clocks.follow_console.Goals as goal
 
 pub after_console-requires : goal.after_console-requires

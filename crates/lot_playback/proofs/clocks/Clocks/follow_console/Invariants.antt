@@ -1,8 +1,4 @@
-use Rattle.std.proofs.Common.{◌≡◌, ◌++◌, drop}
-use Rattle.std.specs.Prelude.{map}
-use Rattle.std.specs.List.{range_with_len}
-use Rattle.lot_simulation.specs.Timed.{clock_after_console}
-use Rattle.lot_engine.specs.Seen.{world_of}
+use Rattle.lot_playback.proofs.Common.{clock_after_console, drop, map, range_with_len, world_of, ◌++◌, ◌≡◌}
 use Rattle.lot_playback.proofs.clocks.Clocks.follow_console.Given as goal
 
 -- the clocks passed so far are those after the turn

@@ -1,5 +1,4 @@
-use Rattle.std.proofs.Common.{◌∙◌, Some, ap}
-use Rattle.lot_playback.specs.InTime.{moment_of}
+use Rattle.lot_playback.proofs.Common.{Some, ap, moment_of, ◌∙◌}
 use Rattle.lot_playback.proofs.TimeFacts.{processor-first}
 use Rattle.lot_playback.proofs.clocks.Clocks.processor_due.Goals as goal
 

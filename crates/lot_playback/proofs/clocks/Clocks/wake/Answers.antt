@@ -1,9 +1,5 @@
-use Rattle.std.proofs.Common.{◌≡◌, ◌+◌, ◌++◌, List, get_or, set, take, drop, length, ap, subst, sym, ◌∙◌, arith}
-use Rattle.std.specs.Prelude.{map}
-use Rattle.lot_simulation.specs.declared.timed.Clock.{Clock}
-use Rattle.lot_simulation.specs.Timed.{woken}
+use Rattle.lot_playback.proofs.Common.{Clock, HaveIdled, List, ap, arith, drop, get_or, length, map, set, subst, sym, take, woken, ◌++◌, ◌+◌, ◌∙◌, ◌≡◌}
 use Rattle.lot_playback.proofs.TimeFacts.{all-woken, turned-at, turned-more, turned-all, turned-length}
-use Rattle.lot_playback.specs.InTime.{HaveIdled}
 use Rattle.lot_playback.proofs.clocks.Clocks.wake.Goals as goal
 
 pub woken-requires : goal.woken-requires

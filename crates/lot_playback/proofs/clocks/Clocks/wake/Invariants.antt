@@ -1,6 +1,4 @@
-use Rattle.std.proofs.Common.{◌≡◌, ◌++◌, take, drop}
-use Rattle.std.specs.Prelude.{map}
-use Rattle.lot_simulation.specs.Timed.{woken}
+use Rattle.lot_playback.proofs.Common.{drop, map, take, woken, ◌++◌, ◌≡◌}
 use Rattle.lot_playback.proofs.clocks.Clocks.wake.Given as goal
 
 -- the clocks passed so far are woken

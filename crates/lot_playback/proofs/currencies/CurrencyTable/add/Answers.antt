@@ -1,8 +1,4 @@
-use Rattle.std.proofs.Common.{◌≡◌, ◌+◌, ◌<◌, ◌∙◌, false, true, length, set, sym, subst, arith}
-use Rattle.std.specs.Prelude.{slice_index}
-use Rattle.std.proofs.lemmas.List.{get_or_default}
-use Rattle.lot_graph.specs.Found.{FoundNodes, HasFound}
-use Rattle.lot_playback.specs.TicksBelow.{HaveAdded}
+use Rattle.lot_playback.proofs.Common.{FoundNodes, HasFound, HaveAdded, arith, false, get_or_default, length, set, slice_index, subst, sym, true, ◌+◌, ◌<◌, ◌∙◌, ◌≡◌}
 use Rattle.lot_playback.proofs.TickFacts.{one-added, one-passed}
 use Rattle.lot_playback.proofs.currencies.CurrencyTable.add.Goals as goal
 use Rattle.lot_playback.proofs.currencies.CurrencyTable.add.Goals.{then-has, else-has}

@@ -1,5 +1,4 @@
-use Rattle.std.proofs.Common.{◌≡◌}
-use Rattle.lot_playback.specs.TicksBelow.{HaveAdded}
+use Rattle.lot_playback.proofs.Common.{HaveAdded, ◌≡◌}
 use Rattle.lot_playback.proofs.currencies.CurrencyTable.add.Given as goal
 
 -- the currencies passed so far have the ticks more if they were found

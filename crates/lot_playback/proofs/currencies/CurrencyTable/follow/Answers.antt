@@ -1,11 +1,4 @@
-use Rattle.std.proofs.Common.{◌≡◌, ◌+◌, ◌-◌, ◌∙◌, ◌++◌, ◌∷◌, [], ap, length, sym, subst, arith}
-use Rattle.lot_simulation.specs.Report.{ticks_in}
-use Rattle.lot_engine.specs.Seen.{Seen, world_of}
-use Rattle.lot_playback.specs.declared.currencies.CurrencyTable.{CurrencyTable}
-use Rattle.lot_playback.specs.declared.dues.DueTable.{DueTable}
-use Rattle.lot_playback.specs.declared.sharers.Sharers.TheVariants.{Currencies}
-use Rattle.lot_playback.specs.Owed.{AreDue}
-use Rattle.lot_playback.specs.TicksBelow.{HaveAdded}
+use Rattle.lot_playback.proofs.Common.{AreDue, Currencies, CurrencyTable, DueTable, HaveAdded, Seen, ap, arith, length, subst, sym, ticks_in, world_of, [], ◌++◌, ◌+◌, ◌-◌, ◌∙◌, ◌∷◌, ◌≡◌}
 use Rattle.lot_playback.proofs.TickFacts.{currencies-more, have-run}
 use Rattle.lot_playback.proofs.currencies.CurrencyTable.follow.Goals as goal
 

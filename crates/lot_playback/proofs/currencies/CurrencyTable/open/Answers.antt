@@ -1,6 +1,4 @@
-use Rattle.std.proofs.Common.{◌≡◌, ℕ, ◌<◌, ◌∙◌, ap, length, arith, rules}
-use Rattle.std.specs.Prelude.{replicate, slice_index}
-use Rattle.std.proofs.lemmas.List.{get_or-replicate, length-replicate}
+use Rattle.lot_playback.proofs.Common.{ap, arith, get_or-replicate, length, length-replicate, replicate, rules, slice_index, ℕ, ◌<◌, ◌∙◌, ◌≡◌}
 use Rattle.lot_playback.proofs.currencies.CurrencyTable.open.Goals as goal
 
 pub returns-clause-none : goal.returns-clause-none

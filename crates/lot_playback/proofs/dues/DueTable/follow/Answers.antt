@@ -1,13 +1,4 @@
-use Rattle.std.proofs.Common.{◌≡◌, ℕ, ◌+◌, ◌-◌, ◌<◌, ◌^◌, ◌∙◌, List, ap, length, sym, subst, arith}
-use Rattle.lot_simulation.specs.TimedReport.{rate_in}
-use Rattle.lot_simulation.specs.World.{World}
-use Rattle.lot_simulation.specs.World.TurnAnswer.{Answered}
-use Rattle.lot_engine.specs.Seen.{world_of}
-use Rattle.lot_playback.specs.declared.dues.DueTable.{DueTable}
-use Rattle.lot_playback.specs.declared.dues.Owing.{Owing}
-use Rattle.lot_playback.specs.declared.sharers.Sharers.{Sharers}
-use Rattle.lot_playback.specs.Owed.{AreOwed, HaveValues, parts_before}
-use Rattle.lot_playback.specs.Sharing.{value_in, whole_in}
+use Rattle.lot_playback.proofs.Common.{Answered, AreOwed, DueTable, HaveValues, List, Owing, Sharers, World, ap, arith, length, parts_before, rate_in, subst, sym, value_in, whole_in, world_of, ℕ, ◌+◌, ◌-◌, ◌<◌, ◌^◌, ◌∙◌, ◌≡◌}
 use Rattle.lot_playback.proofs.DueFacts.{HasPassed, dues-changed, dues-kept, few-values, owed-then, then_due}
 use Rattle.lot_playback.proofs.WorthFacts.{run-sound}
 use Rattle.lot_playback.proofs.dues.DueTable.follow.Goals as goal

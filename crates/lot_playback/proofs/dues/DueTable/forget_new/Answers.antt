@@ -1,6 +1,4 @@
-use Rattle.std.proofs.Common.{◌+◌, ◌∙◌, ap, sym, subst}
-use Rattle.std.specs.Prelude.{slice_index_or, if◌then◌else◌}
-use Rattle.lot_playback.specs.Owed.{IsOwed, is_number}
+use Rattle.lot_playback.proofs.Common.{IsOwed, ap, if◌then◌else◌, is_number, slice_index_or, subst, sym, ◌+◌, ◌∙◌}
 use Rattle.lot_playback.proofs.dues.DueTable.forget_new.Goals as goal
 
 pub returns-in-Some-clause-owed : goal.returns-in-Some-clause-owed

@@ -1,5 +1,4 @@
-use Rattle.std.proofs.Common.{arith}
-use Rattle.lot_playback.specs.Sharing.{due_to}
+use Rattle.lot_playback.proofs.Common.{arith, due_to}
 use Rattle.lot_playback.proofs.DueFacts.{owed-at}
 use Rattle.lot_playback.proofs.dues.DueTable.of.Goals as goal
 

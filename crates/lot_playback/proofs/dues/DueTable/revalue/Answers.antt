@@ -1,7 +1,4 @@
-use Rattle.std.proofs.Common.{◌≡◌, ◌+◌, ◌<◌, ◌∙◌, ap, length, set, sym, subst, arith}
-use Rattle.lot_engine.specs.Seen.{Seen, world_of}
-use Rattle.lot_playback.specs.Owed.{IsOwed}
-use Rattle.lot_playback.specs.Sharing.{value_in}
+use Rattle.lot_playback.proofs.Common.{IsOwed, Seen, ap, arith, length, set, subst, sym, value_in, world_of, ◌+◌, ◌<◌, ◌∙◌, ◌≡◌}
 use Rattle.lot_playback.proofs.DueFacts.{HaveTaken, one-taken}
 use Rattle.lot_playback.proofs.dues.DueTable.revalue.Goals as goal
 

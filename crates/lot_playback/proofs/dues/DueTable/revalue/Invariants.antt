@@ -1,6 +1,4 @@
-use Rattle.std.proofs.Common.{◌≡◌}
-use Rattle.lot_engine.specs.Seen.{world_of}
-use Rattle.lot_playback.specs.Sharing.{value_in, whole_in}
+use Rattle.lot_playback.proofs.Common.{value_in, whole_in, world_of, ◌≡◌}
 use Rattle.lot_playback.proofs.DueFacts.{HaveTaken}
 use Rattle.lot_playback.proofs.dues.DueTable.revalue.Given as goal
 

@@ -1,7 +1,4 @@
-use Rattle.std.proofs.Common.{ap, sym, subst}
-use Rattle.std.specs.Option.{IsSome}
-use Rattle.lot_playback.specs.InTime.{IsFollowed}
-use Rattle.lot_engine.specs.Seen.{Seen}
+use Rattle.lot_playback.proofs.Common.{IsFollowed, IsSome, Seen, ap, subst, sym}
 use Rattle.lot_playback.proofs.FollowFacts.{opened-followed}
 use Rattle.lot_playback.proofs.playback.Playback.open_timed.Goals as goal
 

@@ -1,6 +1,4 @@
-use Rattle.std.proofs.Common.{sym, subst}
-use Rattle.lot_simulation.specs.World.TurnAnswer.{Answered}
-use Rattle.lot_playback.specs.InTime.{HaveCounted}
+use Rattle.lot_playback.proofs.Common.{Answered, HaveCounted, subst, sym}
 use Rattle.lot_playback.proofs.refused_traps.RefusedTraps.follow.Goals as goal
 
 pub returns-in-Trapped : goal.returns-in-Trapped

@@ -1,7 +1,4 @@
-use Rattle.std.proofs.Common.{arith}
-use Rattle.std.proofs.lemmas.Grind.{common_steps}
-use Rattle.lot_playback.specs.InTime.{HaveFollowed}
-use Rattle.lot_simulation.specs.declared.timed.SpanChange.TheVariants.{Anew}
+use Rattle.lot_playback.proofs.Common.{Anew, HaveFollowed, arith, common_steps}
 use Rattle.lot_playback.proofs.spans.SpanTable.follow.Goals as goal
 
 pub returns-in-Anew-clause-exact : goal.returns-in-Anew-clause-exact

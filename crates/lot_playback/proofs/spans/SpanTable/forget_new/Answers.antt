@@ -1,7 +1,4 @@
-use Rattle.std.proofs.Common.{◌+◌, ◌∙◌, ap, sym, if◌then◌else◌}
-use Rattle.std.specs.Prelude.{slice_index_or}
-use Rattle.lot_simulation.specs.TimedReport.{no_spans}
-use Rattle.lot_playback.specs.Owed.{is_number}
+use Rattle.lot_playback.proofs.Common.{ap, if◌then◌else◌, is_number, no_spans, slice_index_or, sym, ◌+◌, ◌∙◌}
 use Rattle.lot_playback.proofs.spans.SpanTable.forget_new.Goals as goal
 
 pub returns-in-Some-clause-count : goal.returns-in-Some-clause-count

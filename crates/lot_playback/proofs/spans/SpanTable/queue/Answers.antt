@@ -1,6 +1,4 @@
-use Rattle.std.proofs.Common.{◌∙◌, sym}
-use Rattle.lot_simulation.specs.World.TurnAnswer.{Answered}
-use Rattle.lot_engine.specs.Seen.{world_of}
+use Rattle.lot_playback.proofs.Common.{Answered, sym, world_of, ◌∙◌}
 use Rattle.lot_playback.proofs.DueFacts.{all-queued, dispatch-none, dispatch-one, few-at, few-forgotten, none-beyond}
 use Rattle.lot_playback.proofs.spans.SpanTable.queue.Goals as goal
 

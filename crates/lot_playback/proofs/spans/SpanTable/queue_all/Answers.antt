@@ -1,9 +1,4 @@
-use Rattle.std.proofs.Common.{◌≡◌, ◌⊎◌, ◌+◌, ◌<◌, ◌≤◌, ◌∙◌, inl, inr, length, sym, arith}
-use Rattle.std.specs.Prelude.{slice_index_or}
-use Rattle.std.proofs.lemmas.Bool.{cases_lt}
-use Rattle.lot_machine.specs.State.{status_of}
-use Rattle.lot_simulation.specs.TimedReport.{queued}
-use Rattle.lot_engine.specs.Seen.{world_of}
+use Rattle.lot_playback.proofs.Common.{arith, cases_lt, inl, inr, length, queued, slice_index_or, status_of, sym, world_of, ◌+◌, ◌<◌, ◌∙◌, ◌≡◌, ◌≤◌, ◌⊎◌}
 use Rattle.lot_playback.proofs.DueFacts.{beyond-stays, none-passed, one-passed}
 use Rattle.lot_playback.proofs.spans.SpanTable.queue_all.Goals as goal
 

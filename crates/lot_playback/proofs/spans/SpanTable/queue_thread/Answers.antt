@@ -1,6 +1,4 @@
-use Rattle.std.proofs.Common.{arith, ap, ◌∙◌}
-use Rattle.lot_engine.specs.Seen.{world_of}
-use Rattle.lot_simulation.specs.TimedReport.{queued}
+use Rattle.lot_playback.proofs.Common.{ap, arith, queued, world_of, ◌∙◌}
 use Rattle.lot_playback.proofs.DueFacts.{one-queued}
 use Rattle.lot_playback.proofs.spans.SpanTable.queue_thread.Goals as goal
 

@@ -1,16 +1,5 @@
-use Rattle.std.proofs.Common.{◌≡◌, ◌≤◌, ◌||◌, length, vec_len, ◌+◌, ◌++◌, ◌∷◌, [], ◌∙◌, ap, sym, subst, arith}
-use Rattle.std.proofs.lemmas.List.{get_or_default}
-use Rattle.lot_simulation.specs.TimedReport.{life, life_change, mutex_change, mutex_wait, reply_change, reply_wait}
-use Rattle.lot_engine.specs.Searching.{HasLayoutFor}
-use Rattle.lot_engine.specs.Seen.{Seen, world_of}
-use Rattle.lot_simulation.specs.Timed.{clocks_after, is_idle_draw}
-use Rattle.lot_playback.specs.declared.sharers.Sharers.TheVariants.{Threads}
-use Rattle.lot_playback.specs.InTime.{AreAlarms, CanFollow}
-use Rattle.lot_playback.specs.Owed.{Answers}
-use Rattle.lot_playback.specs.TicksBelow.{AreCurrencies}
+use Rattle.lot_playback.proofs.Common.{Answered, Answers, AreAlarms, AreCurrencies, CanFollow, HasLayoutFor, Seen, Threads, World, ap, arith, clocks_after, get_or_default, is_idle_draw, length, life, life_change, mutex_change, mutex_wait, reply_change, reply_wait, subst, sym, vec_len, world_of, [], ◌++◌, ◌+◌, ◌||◌, ◌∙◌, ◌∷◌, ◌≡◌, ◌≤◌}
 use Rattle.lot_playback.proofs.DueFacts.{few-waits, waits-more}
-use Rattle.lot_simulation.specs.World.{World}
-use Rattle.lot_simulation.specs.World.TurnAnswer.{Answered}
 use Rattle.lot_playback.proofs.FollowFacts.{refusals-more}
 use Rattle.lot_playback.proofs.RefusedTrapFacts.{traps-more}
 use Rattle.lot_playback.proofs.timekeeper.Timekeeper.follow.Goals as goal

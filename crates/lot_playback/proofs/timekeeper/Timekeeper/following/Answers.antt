@@ -1,6 +1,4 @@
-use Rattle.std.proofs.Common.{ap, subst, arith}
-use Rattle.lot_simulation.specs.World.{Program}
-use Rattle.lot_playback.specs.InTime.{IsNextAlarm}
+use Rattle.lot_playback.proofs.Common.{IsNextAlarm, Program, ap, arith, subst}
 use Rattle.lot_playback.proofs.AlarmFacts.{next-alarm}
 use Rattle.lot_playback.proofs.timekeeper.Timekeeper.following.Goals as goal
 

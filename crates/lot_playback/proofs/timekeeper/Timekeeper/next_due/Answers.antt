@@ -1,6 +1,4 @@
-use Rattle.std.proofs.Common.{Bool, None, ap, cond, ◌∙◌}
-use Rattle.lot_simulation.specs.Timed.{following}
-use Rattle.lot_playback.specs.InTime.{moment_in}
+use Rattle.lot_playback.proofs.Common.{Bool, None, ap, cond, following, moment_in, ◌∙◌}
 use Rattle.lot_playback.proofs.timekeeper.Timekeeper.next_due.Goals as goal
 
 pub returns-then-is_stopped-clause-due : goal.returns-then-is_stopped-clause-due

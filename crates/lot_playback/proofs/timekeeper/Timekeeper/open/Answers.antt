@@ -1,12 +1,4 @@
-use Rattle.std.proofs.Common.{◌≡◌, None, length, refl, subst, ap, sym, ◌∙◌, arith, false}
-use Rattle.std.specs.Prelude.{replicate}
-use Rattle.std.proofs.lemmas.List.{length-replicate}
-use Rattle.lot_machine.specs.declared.sizes.Sizes.{Sizes}
-use Rattle.lot_engine.specs.Searching.{HasLayoutFor}
-use Rattle.lot_simulation.specs.declared.timed.Clock.{Clock}
-use Rattle.lot_simulation.specs.TimedReport.{life_change, mutex_change, reply_change}
-use Rattle.lot_simulation.specs.World.{Program}
-use Rattle.lot_playback.specs.InTime.{HaveIdled}
+use Rattle.lot_playback.proofs.Common.{Clock, HasLayoutFor, HaveIdled, None, Program, Sizes, ap, arith, false, length, length-replicate, life_change, mutex_change, refl, replicate, reply_change, subst, sym, ◌∙◌, ◌≡◌}
 use Rattle.lot_playback.proofs.AlarmFacts.{none-sleeping}
 use Rattle.lot_playback.proofs.FollowFacts.{if-ok-none}
 use Rattle.lot_playback.proofs.TimeFacts.{none-idled}

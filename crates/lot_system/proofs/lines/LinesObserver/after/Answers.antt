@@ -1,11 +1,5 @@
-use Rattle.std.proofs.Common.{◌≡◌, ◌∙◌}
-use Rattle.lot_simulation.specs.World.{opening_world}
-use Rattle.lot_engine.specs.Seen.{world_of}
-use Rattle.lot_playback.specs.Stages.{Reports}
-use Rattle.lot_system.specs.Texts.{made_text}
-use Rattle.lot_playback.specs.Turns.{MadeTurn}
+use Rattle.lot_system.proofs.Common.{MadeTurn, Reports, made_text, opening_world, world-one_more, world_of, ◌∙◌, ◌≡◌}
 use Rattle.lot_system.proofs.LineFacts.{put-err, put-ok, texts-more, texts-stop}
-use Rattle.lot_playback.proofs.MadeFacts.{world-one_more}
 use Rattle.lot_system.proofs.lines.LinesObserver.after.Goals as goal
 
 pub returns-clause-ok : goal.returns-clause-ok

@@ -1,5 +1,4 @@
-use Rattle.std.proofs.Common.{◌<◌, length, sym, arith}
-use Rattle.lot_text.specs.ReadingFields.{reading_of}
+use Rattle.lot_text.proofs.Common.{arith, length, reading_of, sym, ◌<◌}
 use Rattle.lot_text.proofs.FaultLemmas.{Gives-memory}
 use Rattle.lot_text.proofs.ReadingLemmas.{naming-full, naming-read, with_command}
 use Rattle.lot_text.proofs.reading.Reading.add_naming.Goals as goal

@@ -1,6 +1,4 @@
-use Rattle.std.proofs.Common.{ap, arith, refl}
-use Rattle.lot_simulation.specs.Reading.{Reading}
-use Rattle.lot_text.specs.ReadingFields.{reading_of}
+use Rattle.lot_text.proofs.Common.{Reading, ap, arith, reading_of, refl}
 use Rattle.lot_text.proofs.FaultLemmas.{Gives-memory}
 use Rattle.lot_text.proofs.ReadingLemmas.{with_schedule}
 use Rattle.lot_text.proofs.reading.Reading.add_runs.Goals as goal

@@ -1,9 +1,5 @@
 -- What was reserved or refused leaves the state as it was.
-use Rattle.std.proofs.Common.{refl, sym, subst}
-use Rattle.std.specs.Prelude.{IsTrue}
-use Rattle.std.proofs.Common.{◌<◌, length}
-use Rattle.lot_simulation.specs.Reading.{Reading}
-use Rattle.lot_text.specs.ReadingFields.{reading_of}
+use Rattle.lot_text.proofs.Common.{IsTrue, Reading, length, reading_of, refl, subst, sym, ◌<◌}
 use Rattle.lot_text.proofs.FaultLemmas.{Gives-memory}
 use Rattle.lot_text.proofs.ReadingLemmas.{timed-read, with_timed}
 use Rattle.lot_text.proofs.reading.Reading.add_timed_command.Goals as goal

@@ -1,10 +1,5 @@
 -- What the program shares are the tables that were read.
-use Rattle.std.proofs.Common.{rules, arith, ◌∙◌, ap, sym, length, []}
-use Rattle.std.proofs.lemmas.List.{length-map}
-use Rattle.std.proofs.lemmas.Result.{IfOk-from_err}
-use Rattle.lot_machine.specs.declared.sizes.Sizes.{Sizes}
-use Rattle.lot_simulation.specs.Reading.{Reading}
-use Rattle.lot_text.specs.ReadingFields.{reading_of}
+use Rattle.lot_text.proofs.Common.{IfOk-from_err, Reading, Sizes, ap, arith, length, length-map, reading_of, rules, sym, [], ◌∙◌}
 use Rattle.lot_text.specs.declared.reading.NamedScript.{NamedScript}
 use Rattle.lot_text.proofs.ReadingLemmas.{without_seeds}
 use Rattle.lot_text.proofs.reading.Reading.take_program.Goals as goal

@@ -1,6 +1,4 @@
-use Rattle.std.proofs.Common.{ap, []}
-use Rattle.lot_simulation.specs.Reading.{Reading}
-use Rattle.lot_text.specs.ReadingFields.{reading_of}
+use Rattle.lot_text.proofs.Common.{Reading, ap, reading_of, []}
 use Rattle.lot_text.proofs.ReadingLemmas.{without_tables}
 use Rattle.lot_text.proofs.reading.Reading.take_tables.Goals as goal
 

@@ -1,8 +1,5 @@
 -- Each token takes a byte, and all but the last a separator.
-use Rattle.std.proofs.Common.{◌≡◌, ◌+◌, ◌<◌, ◌≤◌, ℕ, suc, Bool, true, false, cond, List, [], ◌∷◌, length, filter, refl, sym, ap, arith, lt-ltb}
-use Rattle.std.specs.Prelude.{nat_le, nat_lt}
-use Rattle.std.specs.List.{onto_first, slice_split}
-use Rattle.std.proofs.lemmas.Grind.{div_ceil_times}
+use Rattle.lot_text.proofs.Common.{Bool, List, ap, arith, cond, div_ceil_times, false, filter, length, lt-ltb, nat_le, nat_lt, onto_first, refl, slice_split, suc, sym, true, ℕ, [], ◌+◌, ◌<◌, ◌∷◌, ◌≡◌, ◌≤◌}
 use Rattle.lot_text.proofs.tokens.Tokens.most.Goals as goal
 
 -- the number of parts that aren't empty

@@ -1,5 +1,4 @@
-use Rattle.std.proofs.Common.{nat_le, ◌∙◌, sym, arith, refl}
-use Rattle.std.proofs.lemmas.Bool.{eqb-true, eqb-false}
+use Rattle.lot_text.proofs.Common.{arith, eqb-false, eqb-true, nat_le, refl, sym, ◌∙◌}
 use Rattle.lot_text.proofs.TokenLemmas.{parts-end, parts-next, parts-alone}
 use Rattle.lot_text.proofs.tokens.Tokens.next_token.Goals as goal
 

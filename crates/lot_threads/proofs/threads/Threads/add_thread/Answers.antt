@@ -1,16 +1,4 @@
-use Rattle.lot_machine.specs.State.{sizes_of}
-use Rattle.std.proofs.Common.{◌≡◌, ◌∙◌, ◌+◌, ◌<◌, ◌++◌, ◌∷◌, [], List, Option, Some, ap, sym, subst, length, arith, Contains}
-use Rattle.lot_machine.specs.declared.record.Record.{Record}
-use Rattle.lot_machine.specs.declared.record.Thread.{Thread}
-use Rattle.lot_machine.specs.State.{live_in}
-use Rattle.lot_graph.specs.Changes.{with_lends}
-use Rattle.lot_machine.specs.Numbered.{set_number}
-use Rattle.lot_draw.specs.Competing.{HasTicks}
-use Rattle.lot_draw.specs.declared.competing.Competitor.{Competitor}
-use Rattle.lot_graph.specs.Graphs.{LimitedFunding}
-use Rattle.lot_value.specs.Caches.{Known}
-use Rattle.lot_machine.specs.Commands.{newborn}
-use Rattle.lot_threads.specs.Threaded.{Threaded, AreOf, lends_in}
+use Rattle.lot_threads.proofs.Common.{AreOf, Competitor, Contains, HasTicks, Known, LimitedFunding, List, Option, Record, Some, Thread, Threaded, ap, arith, lends_in, length, live_in, newborn, set_number, sizes_of, subst, sym, with_lends, [], ◌++◌, ◌+◌, ◌<◌, ◌∙◌, ◌∷◌, ◌≡◌}
 use Rattle.lot_threads.proofs.Adding.{added-of, made-stale, number-made}
 use Rattle.lot_threads.proofs.Together.{graph-is, stale-of}
 use Rattle.lot_threads.proofs.threads.Threads.add_thread.Goals as goal

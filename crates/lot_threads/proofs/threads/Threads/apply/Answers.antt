@@ -1,9 +1,4 @@
-use Rattle.std.proofs.Common.{◌∙◌, Bool, List, ap, sym, subst}
-use Rattle.lot_machine.specs.State.{live_in}
-use Rattle.lot_graph.specs.Graphs.{LimitedFunding}
-use Rattle.lot_value.specs.Caches.{Known}
-use Rattle.lot_value.specs.Changing.{CanApply}
-use Rattle.lot_threads.specs.Threaded.{Threaded, limited_in}
+use Rattle.lot_threads.proofs.Common.{Bool, CanApply, Known, LimitedFunding, List, Threaded, ap, limited_in, live_in, subst, sym, ◌∙◌}
 use Rattle.lot_threads.proofs.Applying.{together-then, room-then, reached-then}
 use Rattle.lot_threads.proofs.Together.{graph-is}
 use Rattle.lot_threads.proofs.threads.Threads.apply.Goals as goal

@@ -1,7 +1,4 @@
-use Rattle.std.proofs.Common.{◌≡◌, ◌∙◌, ap, refl, sym}
-use Rattle.lot_machine.specs.State.{lend_of}
-use Rattle.lot_graph.specs.Graphs.{LimitedFunding}
-use Rattle.lot_threads.specs.Threaded.{Threaded, funding_in}
+use Rattle.lot_threads.proofs.Common.{LimitedFunding, Threaded, ap, funding_in, lend_of, refl, sym, ◌∙◌, ◌≡◌}
 use Rattle.lot_threads.proofs.Together.{graph-is, lend-same}
 use Rattle.lot_threads.proofs.threads.Threads.can_change.Goals as goal
 

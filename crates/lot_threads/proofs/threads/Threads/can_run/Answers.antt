@@ -1,8 +1,4 @@
-use Rattle.std.proofs.Common.{◌≡◌, ◌∙◌, Some, ap, sym, subst}
-use Rattle.std.proofs.lemmas.Bool.{eqb-true, eq-eqb}
-use Rattle.lot_machine.specs.Bounds.{IsBetween}
-use Rattle.lot_threads.specs.Runners.{runner_at}
-use Rattle.lot_threads.specs.Threaded.{Threaded}
+use Rattle.lot_threads.proofs.Common.{IsBetween, Some, Threaded, ap, eq-eqb, eqb-true, runner_at, subst, sym, ◌∙◌, ◌≡◌}
 use Rattle.lot_threads.proofs.Running.{only-runner, runner-within}
 use Rattle.lot_threads.proofs.threads.Threads.can_run.Goals as goal
 

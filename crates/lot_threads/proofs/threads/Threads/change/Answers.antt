@@ -1,26 +1,6 @@
-use Rattle.lot_machine.specs.State.{sizes_of}
-use Rattle.std.proofs.Common.{◌≡◌, ◌∙◌, ℕ, Bool, List, Option, Some, option_map, ap, sym, subst, length, arith, Contains}
-use Rattle.std.proofs.lemmas.List.{length-map}
-use Rattle.lot_machine.specs.declared.record.Record.{Record}
-use Rattle.lot_machine.specs.declared.funding.Lend.{Lend}
-use Rattle.lot_machine.specs.declared.record.Status.TheVariants.{Running}
-use Rattle.lot_machine.specs.declared.record.Status.{Status}
-use Rattle.lot_machine.specs.Bounds.{IsBetween}
-use Rattle.lot_machine.specs.State.{is_live_status, lend_of, live_in, status_of}
-use Rattle.lot_machine.specs.Numbered.{at_number, set_number}
-use Rattle.lot_draw.specs.declared.competing.Competitor.{Competitor}
-use Rattle.lot_graph.specs.Changes.{with_lends}
-use Rattle.lot_graph.specs.Graphs.{LimitedFunding}
-use Rattle.lot_machine.specs.Funding.{Funding}
-use Rattle.lot_machine.proofs.TrapCycles.{at_number-map}
-use Rattle.lot_value.specs.Changing.{CanLend}
-use Rattle.lot_threads.specs.Threaded.{Threaded, AreOf, IsThreadOf, CanRun, lends_in}
-use Rattle.lot_threads.specs.Runners.{with_runner, without_runner}
-use Rattle.lot_threads.specs.Timely.{IsTimely}
-use Rattle.lot_value.proofs.Lending.{number-read}
+use Rattle.lot_threads.proofs.Common.{AreOf, Bool, CanLend, CanRun, Competitor, Contains, Funding, IsBetween, IsThreadOf, IsTimely, Lend, LimitedFunding, List, Option, Record, Running, Some, Status, Threaded, ap, arith, at_number, at_number-map, funding_in, is_live_status, lend_of, lends_in, length, length-map, live_in, number-read, option_map, set_number, sizes_of, status_of, subst, sym, with_lends, with_runner, without_runner, ℕ, ◌∙◌, ◌≡◌}
 use Rattle.lot_threads.proofs.Running.{runner-within}
 use Rattle.lot_threads.proofs.Together.{changed-of, graph-is, stale-of}
-use Rattle.lot_threads.specs.Threaded.{funding_in}
 use Rattle.lot_threads.proofs.threads.Threads.change.Goals as goal
 use Rattle.lot_threads.proofs.threads.Threads.change.Goals.{After-set_competitor}
 

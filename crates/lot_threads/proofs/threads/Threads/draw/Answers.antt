@@ -1,14 +1,4 @@
-use Rattle.lot_machine.specs.State.{sizes_of}
-use Rattle.std.proofs.Common.{◌≡◌, ◌∙◌, Bool, List, ap, sym, subst}
-use Rattle.lot_machine.specs.State.{live_in}
-use Rattle.lot_machine.specs.Value.{thread_value}
-use Rattle.lot_graph.specs.Changes.{with_lends}
-use Rattle.lot_graph.specs.Graphs.{LimitedFunding}
-use Rattle.lot_value.specs.Caches.{edges_into_all}
-use Rattle.lot_value.specs.Counts.{counted_up}
-use Rattle.lot_threads.specs.Threaded.{lends_in}
-use Rattle.lot_draw.specs.Competing.{drawn_among}
-use Rattle.lot_draw.proofs.Ready.{ready-drawn}
+use Rattle.lot_threads.proofs.Common.{Bool, LimitedFunding, List, ap, counted_up, drawn_among, edges_into_all, lends_in, live_in, ready-drawn, sizes_of, subst, sym, thread_value, with_lends, ◌∙◌, ◌≡◌}
 use Rattle.lot_threads.proofs.Together.{drawn-of, graph-is}
 use Rattle.lot_threads.proofs.threads.Threads.draw.Goals as goal
 

@@ -1,10 +1,4 @@
-use Rattle.std.proofs.Common.{◌≡◌, ◌∙◌, ◌↔◌, Bool, List, ap, subst}
-use Rattle.std.specs.Bool.{IsTrue}
-use Rattle.lot_machine.specs.Funding.{Funding}
-use Rattle.lot_machine.specs.Activity.{IsActive}
-use Rattle.lot_machine.specs.State.{live_in}
-use Rattle.lot_graph.specs.Graphs.{LimitedFunding}
-use Rattle.lot_threads.specs.Threaded.{Threaded, funding_in}
+use Rattle.lot_threads.proofs.Common.{Bool, Funding, IsActive, IsTrue, LimitedFunding, List, Threaded, ap, funding_in, live_in, subst, ◌↔◌, ◌∙◌, ◌≡◌}
 use Rattle.lot_threads.proofs.Together.{graph-is}
 use Rattle.lot_threads.proofs.threads.Threads.is_active.Goals as goal
 

@@ -1,6 +1,4 @@
-use Rattle.std.proofs.Common.{ap, arith}
-use Rattle.lot_graph.specs.Graphs.{LimitedFunding}
-use Rattle.lot_draw.specs.Queued.{Queued}
+use Rattle.lot_threads.proofs.Common.{LimitedFunding, Queued, ap, arith}
 use Rattle.lot_threads.proofs.Together.{opened-of}
 use Rattle.lot_threads.proofs.threads.Threads.new.Goals as goal
 

@@ -1,8 +1,4 @@
-use Rattle.std.proofs.Common.{◌≡◌, ◌∙◌, ◌↔◌, ap, subst}
-use Rattle.std.specs.Bool.{IsTrue}
-use Rattle.lot_machine.specs.Funding.{Funding}
-use Rattle.lot_graph.specs.Graphs.{LimitedFunding, Reaches}
-use Rattle.lot_threads.specs.Threaded.{funding_in}
+use Rattle.lot_threads.proofs.Common.{Funding, IsTrue, LimitedFunding, Reaches, ap, funding_in, subst, ◌↔◌, ◌∙◌, ◌≡◌}
 use Rattle.lot_threads.proofs.Together.{graph-is}
 use Rattle.lot_threads.proofs.threads.Threads.reaches.Goals as goal
 

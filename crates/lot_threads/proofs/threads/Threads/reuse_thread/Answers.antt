@@ -1,5 +1,4 @@
-use Rattle.std.proofs.Common.{Contains, subst, sym}
-use Rattle.lot_threads.specs.Threaded.{Threaded, MakesStaleIn}
+use Rattle.lot_threads.proofs.Common.{Contains, MakesStaleIn, Threaded, subst, sym}
 use Rattle.lot_threads.proofs.threads.Threads.reuse_thread.Goals as goal
 
 pub returns-clause-kept : goal.returns-clause-kept

@@ -1,7 +1,4 @@
-use Rattle.std.proofs.Common.{◌≡◌, ◌∙◌, ◌-◌, None, Some, ap, sym, subst, arith}
-use Rattle.lot_threads.specs.Runners.{runner_at}
-use Rattle.lot_threads.specs.Timely.{IsBelowQuantum, IsTimely}
-use Rattle.lot_value.proofs.Lending.{number-read}
+use Rattle.lot_threads.proofs.Common.{IsBelowQuantum, IsTimely, None, Some, ap, arith, number-read, runner_at, subst, sym, ◌-◌, ◌∙◌, ◌≡◌}
 use Rattle.lot_threads.proofs.Running.{runner-runs, runner-found, found-record, run-used}
 use Rattle.lot_threads.proofs.threads.Threads.runner.Goals as goal
 

@@ -1,5 +1,4 @@
-use Rattle.std.proofs.Common.{◌≡◌, sym, subst}
-use Rattle.lot_graph.specs.Graphs.{LimitedFunding}
+use Rattle.lot_threads.proofs.Common.{LimitedFunding, subst, sym, ◌≡◌}
 use Rattle.lot_threads.proofs.Together.{settled-of}
 use Rattle.lot_threads.proofs.threads.Threads.settle.Goals as goal
 

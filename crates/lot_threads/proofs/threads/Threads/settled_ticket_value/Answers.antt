@@ -1,7 +1,4 @@
-use Rattle.std.proofs.Common.{◌∙◌, Bool, List, ap}
-use Rattle.lot_machine.specs.Value.{ticket_value}
-use Rattle.lot_machine.specs.State.{live_in}
-use Rattle.lot_graph.specs.Graphs.{LimitedFunding}
+use Rattle.lot_threads.proofs.Common.{Bool, LimitedFunding, List, ap, live_in, ticket_value, ◌∙◌}
 use Rattle.lot_threads.proofs.Together.{graph-is}
 use Rattle.lot_threads.proofs.threads.Threads.settled_ticket_value.Goals as goal
 

@@ -1,14 +1,4 @@
-use Rattle.lot_machine.specs.State.{sizes_of}
-use Rattle.std.proofs.Common.{◌≡◌, ◌∙◌, ℕ, Bool, true, false, List, ap, refl, sym, subst}
-use Rattle.lot_machine.specs.Commands.{is_funding}
-use Rattle.lot_machine.specs.Funding.{ticket_at}
-use Rattle.lot_machine.specs.Numbered.{option_any}
-use Rattle.lot_machine.specs.Value.{ticket_value}
-use Rattle.lot_machine.specs.State.{live_in}
-use Rattle.lot_graph.specs.Graphs.{LimitedFunding, IsFunding}
-use Rattle.lot_value.specs.Counts.{counted_up}
-use Rattle.lot_value.specs.Valued.{Valued}
-use Rattle.lot_threads.specs.Threaded.{AreOf}
+use Rattle.lot_threads.proofs.Common.{AreOf, Bool, IsFunding, LimitedFunding, List, Valued, ap, counted_up, false, is_funding, live_in, option_any, refl, sizes_of, subst, sym, ticket_at, ticket_value, true, ℕ, ◌∙◌, ◌≡◌}
 use Rattle.lot_threads.proofs.Together.{graph-is}
 use Rattle.lot_threads.proofs.threads.Threads.ticket_value.Goals as goal
 

@@ -1,8 +1,4 @@
-use Rattle.std.proofs.Common.{◌∙◌, Bool, List, ap, subst, sym}
-use Rattle.lot_machine.specs.Value.{node_value}
-use Rattle.lot_machine.specs.Equations.{HasEquation}
-use Rattle.lot_machine.specs.State.{live_in}
-use Rattle.lot_graph.specs.Graphs.{LimitedFunding}
+use Rattle.lot_threads.proofs.Common.{Bool, HasEquation, LimitedFunding, List, ap, live_in, node_value, subst, sym, ◌∙◌}
 use Rattle.lot_threads.proofs.Together.{graph-is}
 use Rattle.lot_threads.proofs.threads.Threads.value_of.Goals as goal
 

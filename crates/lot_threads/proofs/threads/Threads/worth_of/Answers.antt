@@ -1,11 +1,4 @@
-use Rattle.lot_machine.specs.State.{sizes_of}
-use Rattle.std.proofs.Common.{◌∙◌, Bool, List, length, arith, ap, subst, sym}
-use Rattle.std.proofs.lemmas.List.{length-map}
-use Rattle.lot_machine.specs.declared.record.Record.{Record}
-use Rattle.lot_machine.specs.State.{lend_of, live_in}
-use Rattle.lot_machine.specs.Value.{thread_value}
-use Rattle.lot_graph.specs.Graphs.{LimitedFunding}
-use Rattle.lot_threads.specs.Threaded.{Threaded, IsThreadOf}
+use Rattle.lot_threads.proofs.Common.{Bool, IsThreadOf, LimitedFunding, List, Record, Threaded, ap, arith, lend_of, length, length-map, live_in, sizes_of, subst, sym, thread_value, ◌∙◌}
 use Rattle.lot_threads.proofs.Together.{graph-is}
 use Rattle.lot_threads.proofs.threads.Threads.worth_of.Goals as goal
 

@@ -1,6 +1,4 @@
-use Rattle.std.proofs.Common.{false, refl, slice_set}
-use Rattle.lot_value.specs.declared.change.GraphChange.TheVariants.{DropCurrency}
-use Rattle.lot_value.specs.Valued.{live_of}
+use Rattle.lot_value.proofs.Common.{DropCurrency, false, live_of, refl, slice_set}
 use Rattle.lot_value.proofs.Applied.{Done, done-stays, seen}
 use Rattle.lot_value.proofs.Unchanged.{Stays, stays-currencies}
 use Rattle.lot_value.proofs.valued_graph.ValuedGraph.drop_currency.Goals as goal

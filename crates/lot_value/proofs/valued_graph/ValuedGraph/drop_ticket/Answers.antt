@@ -1,7 +1,4 @@
-use Rattle.std.proofs.Common.{sym, subst, refl}
-use Rattle.lot_value.specs.declared.change.GraphChange.TheVariants.{DropTicket}
-use Rattle.lot_value.specs.Changing.{CanApply}
-use Rattle.lot_value.specs.Valued.{Valued, live_of}
+use Rattle.lot_value.proofs.Common.{CanApply, DropTicket, Valued, live_of, refl, subst, sym}
 use Rattle.lot_value.proofs.Applied.{Done, done-stays, seen}
 use Rattle.lot_value.proofs.Unchanged.{Stays, stays-destroy}
 use Rattle.lot_value.proofs.valued_graph.ValuedGraph.drop_ticket.Goals as goal

@@ -1,11 +1,4 @@
-use Rattle.std.proofs.Common.{◌≡◌, Some, sym, subst}
-use Rattle.lot_machine.specs.declared.ticket.Target.TheVariants.{Unfunded}
-use Rattle.lot_machine.specs.declared.funding.Edge.TheVariants.{OfTicket}
-use Rattle.lot_machine.specs.Funding.{target_of}
-use Rattle.lot_graph.specs.Graphs.{IsTarget}
-use Rattle.lot_active.specs.declared.edge_ends.EdgeEnds.{EdgeEnds}
-use Rattle.lot_active.specs.Fundings.{AddsEdge}
-use Rattle.lot_value.specs.Valued.{Valued, StandsFor}
+use Rattle.lot_value.proofs.Common.{AddsEdge, EdgeEnds, IsTarget, OfTicket, Some, StandsFor, Unfunded, Valued, subst, sym, target_of, ◌≡◌}
 use Rattle.lot_value.proofs.Applied.{becomes}
 use Rattle.lot_value.proofs.GraphCalls.{fund-came}
 use Rattle.lot_value.proofs.valued_graph.ValuedGraph.give.Goals as goal

@@ -1,8 +1,4 @@
-use Rattle.std.proofs.Common.{◌∙◌, sym, subst}
-use Rattle.lot_machine.specs.declared.funding.Edge.TheVariants.{OfMutex}
-use Rattle.lot_graph.specs.Graphs.{IsMutex}
-use Rattle.lot_active.specs.Fundings.{AddsEdge}
-use Rattle.lot_value.specs.Valued.{Valued, StandsFor}
+use Rattle.lot_value.proofs.Common.{AddsEdge, IsMutex, OfMutex, StandsFor, Valued, subst, sym, ◌∙◌}
 use Rattle.lot_value.proofs.Applied.{becomes, follows-none, seen}
 use Rattle.lot_value.proofs.GraphCalls.{disown-went, free-same}
 use Rattle.lot_value.proofs.valued_graph.ValuedGraph.give_up_mutex.Goals as goal

@@ -1,6 +1,4 @@
-use Rattle.std.proofs.Common.{◌≡◌, None, Some, sym, ◌∙◌}
-use Rattle.lot_active.proofs.Bridge.{active-there}
-use Rattle.lot_value.specs.Valued.{live_of}
+use Rattle.lot_value.proofs.Common.{None, Some, active-there, live_of, sym, ◌∙◌, ◌≡◌}
 use Rattle.lot_value.proofs.Shares.{ticket-target}
 use Rattle.lot_value.proofs.valued_graph.ValuedGraph.is_active.Goals as goal
 

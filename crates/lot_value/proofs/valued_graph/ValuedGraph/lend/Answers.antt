@@ -1,11 +1,4 @@
-use Rattle.std.proofs.Common.{◌≡◌, Some, sym, subst}
-use Rattle.lot_machine.specs.declared.funding.Edge.TheVariants.{OfLender}
-use Rattle.lot_machine.specs.declared.funding.Lend.TheVariants.{Nobody}
-use Rattle.lot_machine.specs.Numbered.{at_number}
-use Rattle.lot_graph.specs.Graphs.{IsBorrower}
-use Rattle.lot_active.specs.declared.edge_ends.EdgeEnds.{EdgeEnds}
-use Rattle.lot_active.specs.Fundings.{AddsEdge}
-use Rattle.lot_value.specs.Valued.{Valued, StandsFor}
+use Rattle.lot_value.proofs.Common.{AddsEdge, EdgeEnds, IsBorrower, Nobody, OfLender, Some, StandsFor, Valued, at_number, subst, sym, ◌≡◌}
 use Rattle.lot_value.proofs.Applied.{becomes}
 use Rattle.lot_value.proofs.GraphCalls.{lend-came}
 use Rattle.lot_value.proofs.valued_graph.ValuedGraph.lend.Goals as goal

@@ -1,14 +1,4 @@
-use Rattle.std.proofs.Common.{◌≡◌, ◌⊎◌, inl, inr, None, Some, ap, refl, subst, sym, ◌∙◌}
-use Rattle.lot_machine.specs.declared.funding.Node.{Node}
-use Rattle.lot_machine.specs.declared.funding.Node.TheVariants.{Thread}
-use Rattle.lot_machine.specs.Funding.{owner_of}
-use Rattle.lot_machine.specs.Lends.{IsLive}
-use Rattle.lot_machine.specs.Numbered.{set_number}
-use Rattle.lot_graph.specs.Graphs.{LimitedFunding, IsMutex, IsThread}
-use Rattle.lot_graph.specs.Changes.{with_owners}
-use Rattle.lot_graph.proofs.FieldLemmas.{set-twice}
-use Rattle.lot_value.specs.Caches.{Known, IsStale}
-use Rattle.lot_value.specs.Valued.{Follows, Valued, live_of}
+use Rattle.lot_value.proofs.Common.{Follows, IsLive, IsMutex, IsStale, IsThread, Known, LimitedFunding, Node, None, Some, Thread, Valued, ap, inl, inr, live_of, owner_of, refl, set-twice, set_number, subst, sym, with_owners, ◌∙◌, ◌≡◌, ◌⊎◌}
 use Rattle.lot_value.proofs.Applied.{becomes}
 use Rattle.lot_value.proofs.Moving.{follows-move, freed-mutex, freed-free, freed-thread, freed-apart, have-s, have-t, layout, within-s, within-t}
 use Rattle.lot_value.proofs.Touches.{touched-one, touched-then}

@@ -1,6 +1,4 @@
-use Rattle.lot_machine.specs.State.{holders, sizes_of}
-use Rattle.std.proofs.Common.{ap, arith}
-use Rattle.lot_graph.specs.Graphs.{LimitedFunding}
+use Rattle.lot_value.proofs.Common.{LimitedFunding, ap, arith, holders, sizes_of}
 use Rattle.lot_value.proofs.Following.{together-new}
 use Rattle.lot_value.proofs.valued_graph.ValuedGraph.new.Goals as goal
 

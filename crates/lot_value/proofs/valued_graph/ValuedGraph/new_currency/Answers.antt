@@ -1,8 +1,4 @@
-use Rattle.std.proofs.Common.{◌≡◌, ◌∷◌, ◌++◌, true, [], sym, subst, refl}
-use Rattle.lot_graph.specs.Changes.{with_currencies}
-use Rattle.lot_value.specs.declared.change.GraphChange.TheVariants.{NewCurrency}
-use Rattle.lot_value.specs.Changing.{CanApply}
-use Rattle.lot_value.specs.Valued.{Valued, live_of}
+use Rattle.lot_value.proofs.Common.{CanApply, NewCurrency, Valued, live_of, refl, subst, sym, true, with_currencies, [], ◌++◌, ◌∷◌, ◌≡◌}
 use Rattle.lot_value.proofs.Applied.{Done, done-stays, made-in, seen}
 use Rattle.lot_value.proofs.Unchanged.{Stays, stays-currencies}
 use Rattle.lot_value.proofs.valued_graph.ValuedGraph.new_currency.Goals as goal

@@ -1,8 +1,4 @@
-use Rattle.std.proofs.Common.{◌≡◌, ◌∙◌, ◌∷◌, ◌++◌, Some, [], ap, sym, subst, refl}
-use Rattle.lot_value.specs.declared.change.GraphChange.TheVariants.{NewTicket}
-use Rattle.lot_value.specs.Changing.{CanApply, graph_after}
-use Rattle.lot_value.specs.Valued.{Valued, live_of}
-use Rattle.lot_graph.specs.Changes.{with_tickets}
+use Rattle.lot_value.proofs.Common.{CanApply, NewTicket, Some, Valued, ap, graph_after, live_of, refl, subst, sym, with_tickets, [], ◌++◌, ◌∙◌, ◌∷◌, ◌≡◌}
 use Rattle.lot_value.proofs.Applied.{Done, done-stays, made-in, seen}
 use Rattle.lot_value.proofs.Unchanged.{Stays, stays-issue}
 use Rattle.lot_value.proofs.valued_graph.ValuedGraph.new_ticket.Goals as goal

@@ -1,7 +1,4 @@
-use Rattle.std.proofs.Common.{◌≡◌, Some, sym, subst}
-use Rattle.lot_machine.specs.declared.ticket.Target.TheVariants.{Unfunded}
-use Rattle.lot_machine.specs.Funding.{target_of}
-use Rattle.lot_value.specs.Valued.{Valued, live_of}
+use Rattle.lot_value.proofs.Common.{Some, Unfunded, Valued, live_of, subst, sym, target_of, ◌≡◌}
 use Rattle.lot_value.proofs.Applied.{follows-stays}
 use Rattle.lot_value.proofs.Unchanged.{Stays, stays-amount}
 use Rattle.lot_value.proofs.valued_graph.ValuedGraph.reissue.Goals as goal

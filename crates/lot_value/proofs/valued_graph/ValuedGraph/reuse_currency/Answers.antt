@@ -1,6 +1,4 @@
-use Rattle.std.proofs.Common.{true, refl, slice_set}
-use Rattle.lot_value.specs.declared.change.GraphChange.TheVariants.{ReuseCurrency}
-use Rattle.lot_value.specs.Valued.{live_of}
+use Rattle.lot_value.proofs.Common.{ReuseCurrency, live_of, refl, slice_set, true}
 use Rattle.lot_value.proofs.Applied.{Done, done-stays, seen}
 use Rattle.lot_value.proofs.Unchanged.{Stays, stays-currencies}
 use Rattle.lot_value.proofs.valued_graph.ValuedGraph.reuse_currency.Goals as goal

@@ -1,9 +1,4 @@
-use Rattle.std.proofs.Common.{◌≡◌, ◌∙◌, Some, ap, sym, subst, refl}
-use Rattle.lot_machine.specs.Numbered.{set_number}
-use Rattle.lot_value.specs.declared.change.GraphChange.TheVariants.{ReuseTicket}
-use Rattle.lot_value.specs.Changing.{CanApply, graph_after}
-use Rattle.lot_value.specs.Valued.{Valued, live_of}
-use Rattle.lot_graph.specs.Changes.{with_tickets}
+use Rattle.lot_value.proofs.Common.{CanApply, ReuseTicket, Some, Valued, ap, graph_after, live_of, refl, set_number, subst, sym, with_tickets, ◌∙◌, ◌≡◌}
 use Rattle.lot_value.proofs.Applied.{Done, done-stays, seen}
 use Rattle.lot_value.proofs.Unchanged.{Stays, stays-again}
 use Rattle.lot_value.proofs.valued_graph.ValuedGraph.reuse_ticket.Goals as goal

@@ -1,10 +1,4 @@
-use Rattle.std.proofs.Common.{refl, sym, subst}
-use Rattle.lot_machine.specs.declared.funding.Node.TheVariants.{Thread}
-use Rattle.lot_machine.specs.Numbered.{set_number}
-use Rattle.lot_graph.specs.Graphs.{IsThread}
-use Rattle.lot_active.specs.Changes.{ChangesNodes}
-use Rattle.lot_active.specs.Fundings.{IsKeptFor}
-use Rattle.lot_value.specs.Valued.{Valued, live_of}
+use Rattle.lot_value.proofs.Common.{ChangesNodes, IsKeptFor, IsThread, Thread, Valued, live_of, refl, set_number, subst, sym}
 use Rattle.lot_value.proofs.Applied.{becomes}
 use Rattle.lot_value.proofs.Following.{low, follows-set}
 use Rattle.lot_value.proofs.valued_graph.ValuedGraph.set_live.Goals as goal

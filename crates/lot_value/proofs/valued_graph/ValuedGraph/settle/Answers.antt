@@ -1,6 +1,4 @@
-use Rattle.std.proofs.Common.{subst, sym}
-use Rattle.lot_machine.specs.Bounds.{IsUnit}
-use Rattle.lot_value.specs.Valued.{live_of}
+use Rattle.lot_value.proofs.Common.{IsUnit, live_of, subst, sym}
 use Rattle.lot_value.proofs.Following.{stays-small}
 use Rattle.lot_value.proofs.valued_graph.ValuedGraph.settle.Goals as goal
 

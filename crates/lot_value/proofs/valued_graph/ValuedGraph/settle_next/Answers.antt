@@ -1,17 +1,7 @@
-use Rattle.std.proofs.Common.{◌≡◌, [], Option, Some, None, IfSome, IfNone, ap, subst, sym}
-use Rattle.lot_machine.specs.declared.funding.Node.{Node}
-use Rattle.lot_machine.specs.Bounds.{IsUnit}
-use Rattle.lot_graph.specs.declared.layout.Layout.{Layout}
-use Rattle.lot_graph.specs.Graphs.{LimitedFunding, IsNodeOf}
-use Rattle.lot_graph.specs.Places.{IsNodeWithin, layout_of}
-use Rattle.lot_value.specs.Caches.{Known, Settles, IsOnce}
-use Rattle.lot_value.specs.Valued.{Valued, live_of}
+use Rattle.lot_value.proofs.Common.{HasEquation, IfNone, IfSome, IsNodeOf, IsNodeWithin, IsOnce, IsUnit, Known, Layout, LimitedFunding, Node, None, Option, Settles, Some, Valued, ap, counted_up, edge_count_into, layout_of, live_of, subst, sym, [], ◌≡◌}
 use Rattle.lot_value.proofs.Following.{stays-small}
 use Rattle.lot_value.proofs.Nodes.{node-within, within-node}
 use Rattle.lot_value.proofs.Rightness.{right-worth}
-use Rattle.lot_machine.specs.Funding.{edge_count_into}
-use Rattle.lot_machine.specs.Equations.{HasEquation}
-use Rattle.lot_value.specs.Counts.{counted_up}
 use Rattle.lot_value.proofs.valued_graph.ValuedGraph.settle_next.Goals as goal
 
 unit-stays : (old new : Known) (o : Option Node) → IfSome o (Settles old new) → IfNone o ((old.stale ≡ []) × (new ≡ old)) → new.unit ≡ old.unit

@@ -1,5 +1,4 @@
-use Rattle.std.proofs.Common.{◌≡◌, [], subst, sym}
-use Rattle.lot_value.specs.Valued.{Valued, live_of}
+use Rattle.lot_value.proofs.Common.{Valued, live_of, subst, sym, [], ◌≡◌}
 use Rattle.lot_value.proofs.Following.{stays-small}
 use Rattle.lot_value.proofs.valued_graph.ValuedGraph.settled_ticket_value.Goals as goal
 

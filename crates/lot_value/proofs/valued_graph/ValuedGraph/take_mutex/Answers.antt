@@ -1,10 +1,4 @@
-use Rattle.std.proofs.Common.{◌≡◌, None, sym, subst}
-use Rattle.lot_machine.specs.declared.funding.Edge.TheVariants.{OfMutex}
-use Rattle.lot_machine.specs.Funding.{owner_of}
-use Rattle.lot_graph.specs.Graphs.{IsMutex, IsThread}
-use Rattle.lot_active.specs.declared.edge_ends.EdgeEnds.{EdgeEnds}
-use Rattle.lot_active.specs.Fundings.{AddsEdge}
-use Rattle.lot_value.specs.Valued.{Valued, StandsFor}
+use Rattle.lot_value.proofs.Common.{AddsEdge, EdgeEnds, IsMutex, IsThread, None, OfMutex, StandsFor, Valued, owner_of, subst, sym, ◌≡◌}
 use Rattle.lot_value.proofs.Applied.{becomes}
 use Rattle.lot_value.proofs.GraphCalls.{own-came}
 use Rattle.lot_value.proofs.valued_graph.ValuedGraph.take_mutex.Goals as goal

@@ -1,10 +1,4 @@
-use Rattle.std.proofs.Common.{◌≡◌, Some, subst, sym}
-use Rattle.lot_machine.specs.Bounds.{IsUnit}
-use Rattle.lot_machine.specs.declared.funding.Node.TheVariants.{Currency}
-use Rattle.lot_machine.specs.declared.ticket.Ticket.{Ticket}
-use Rattle.lot_machine.specs.Funding.{ticket_at}
-use Rattle.lot_value.specs.Caches.{IsStale}
-use Rattle.lot_value.specs.Valued.{Valued, live_of}
+use Rattle.lot_value.proofs.Common.{Currency, IsStale, IsUnit, Some, Ticket, Valued, live_of, subst, sym, ticket_at, ◌≡◌}
 use Rattle.lot_value.proofs.Following.{stays-small}
 use Rattle.lot_value.proofs.valued_graph.ValuedGraph.ticket_value.Goals as goal
 

@@ -1,7 +1,4 @@
-use Rattle.std.proofs.Common.{◌∙◌, sym}
-use Rattle.lot_machine.specs.declared.funding.Edge.TheVariants.{OfLender}
-use Rattle.lot_active.specs.Fundings.{AddsEdge}
-use Rattle.lot_value.specs.Valued.{StandsFor}
+use Rattle.lot_value.proofs.Common.{AddsEdge, OfLender, StandsFor, sym, ◌∙◌}
 use Rattle.lot_value.proofs.Applied.{becomes}
 use Rattle.lot_value.proofs.GraphCalls.{unlend-went}
 use Rattle.lot_value.proofs.valued_graph.ValuedGraph.unlend.Goals as goal

@@ -1,8 +1,4 @@
-use Rattle.std.proofs.Common.{subst, sym}
-use Rattle.lot_graph.specs.declared.layout.Layout.{Layout}
-use Rattle.lot_graph.specs.Graphs.{IsNodeOf}
-use Rattle.lot_graph.specs.Places.{IsNodeWithin}
-use Rattle.lot_value.specs.Valued.{Valued, live_of}
+use Rattle.lot_value.proofs.Common.{IsNodeOf, IsNodeWithin, Layout, Valued, live_of, subst, sym}
 use Rattle.lot_value.proofs.Nodes.{node-within}
 use Rattle.lot_value.proofs.valued_graph.ValuedGraph.value_of.Goals as goal
 

@@ -1,7 +1,4 @@
-use Rattle.std.proofs.Common.{Contains, sym, subst}
-use Rattle.lot_lists.specs.NodeLists.{nodes_of}
-use Rattle.lot_graph.specs.Places.{node_count, IsNodeWithin}
-use Rattle.lot_value.specs.Caches.{Known}
+use Rattle.lot_value.proofs.Common.{Contains, IsNodeWithin, Known, node_count, nodes_of, subst, sym}
 use Rattle.lot_value.proofs.Listed.{list-within}
 use Rattle.lot_value.proofs.Mapped.{place-mapped}
 use Rattle.lot_value.proofs.Spreading.{list-test}

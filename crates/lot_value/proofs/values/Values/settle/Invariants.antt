@@ -1,7 +1,4 @@
-use Rattle.std.proofs.Common.{◌≡◌, ◌+◌, ℕ, Bool, List, length}
-use Rattle.lot_active.specs.Fundings.{IsKeptFor}
-use Rattle.lot_value.specs.Counts.{counted_up}
-use Rattle.lot_value.specs.Caches.{IsRight, edges_into_all}
+use Rattle.lot_value.proofs.Common.{Bool, IsKeptFor, IsRight, List, counted_up, edges_into_all, length, ℕ, ◌+◌, ◌≡◌}
 use Rattle.lot_value.proofs.values.Values.settle.Given as goal
 
 -- what was counted, and with the edges into the nodes that are stale yet it is all of them

@@ -1,12 +1,4 @@
-use Rattle.std.proofs.Common.{◌≡◌, ◌∙◌, ◌<◌, ℕ, List, map, ap, sym, subst, refl}
-use Rattle.std.proofs.lemmas.Bool.{OnFalse_at}
-use Rattle.lot_lists.specs.NodeLists.{nodes_of}
-use Rattle.lot_graph.specs.declared.layout.Layout.{Layout}
-use Rattle.lot_graph.specs.Places.{IsNodeWithin, node_of, node_count, layout_of}
-use Rattle.lot_graph.proofs.SpreadLemmas.{list-back}
-use Rattle.lot_graph.specs.Graphs.{IsNodeOf}
-use Rattle.lot_value.specs.Caches.{Known}
-use Rattle.lot_value.specs.Marking.{IsFreshPlace, stale_places}
+use Rattle.lot_value.proofs.Common.{IsFreshPlace, IsNodeOf, IsNodeWithin, Known, Layout, List, OnFalse_at, ap, layout_of, list-back, map, node_count, node_of, nodes_of, refl, stale_places, subst, sym, ℕ, ◌<◌, ◌∙◌, ◌≡◌}
 use Rattle.lot_value.proofs.Listed.{listed-low, list-within}
 use Rattle.lot_value.proofs.Nodes.{within-node}
 use Rattle.lot_value.proofs.Settled.{first-none, fresh-place, once-mapped, places-back}

@@ -1,12 +1,4 @@
-use Rattle.std.proofs.Common.{◌≡◌, ◌∙◌, ℕ, Bool, List, Some, length, map, ap, sym, subst, refl, arith}
-use Rattle.lot_lists.specs.NodeLists.{nodes_of, node_at}
-use Rattle.lot_machine.specs.Equations.{shares_into}
-use Rattle.lot_machine.proofs.EachOnce.{place-in, mapped-contains}
-use Rattle.lot_graph.specs.declared.layout.Layout.{Layout}
-use Rattle.lot_graph.specs.Places.{node_of, node_count, layout_of}
-use Rattle.lot_value.specs.Caches.{Known, IsRight, IsSmall, kept_worth}
-use Rattle.lot_value.specs.Sources.{AreSources}
-use Rattle.lot_value.specs.Marking.{IsFreshPlace, stale_places}
+use Rattle.lot_value.proofs.Common.{AreSources, Bool, IsFreshPlace, IsRight, IsSmall, Known, Layout, List, Some, ap, arith, kept_worth, layout_of, length, map, mapped-contains, node_at, node_count, node_of, nodes_of, place-in, refl, shares_into, stale_places, subst, sym, ℕ, ◌∙◌, ◌≡◌}
 use Rattle.lot_value.proofs.Listed.{list-within, reordered-same}
 use Rattle.lot_value.proofs.Rightness.{sources-small}
 use Rattle.lot_value.proofs.Settled.{places-back, settle-right, settle-settles, source-fresh, shares-at}

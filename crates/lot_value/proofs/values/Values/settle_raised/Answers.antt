@@ -1,13 +1,4 @@
-use Rattle.std.proofs.Common.{◌≡◌, ◌∙◌, ◌<◌, ℕ, Bool, List, map, ap, sym, subst, refl}
-use Rattle.lot_lists.specs.NodeLists.{nodes_of}
-use Rattle.lot_machine.specs.declared.funding.Node.{Node}
-use Rattle.lot_graph.specs.declared.layout.Layout.{Layout}
-use Rattle.lot_machine.specs.Funding.{edge_count_into}
-use Rattle.lot_graph.specs.Places.{IsNodeWithin, node_of, node_count, layout_of}
-use Rattle.lot_graph.proofs.SpreadLemmas.{list-back}
-use Rattle.lot_value.specs.Counts.{counted_up}
-use Rattle.lot_value.specs.Caches.{Known, IsRight, IsSmall, Settles}
-use Rattle.lot_value.specs.Marking.{IsStaleList, IsReordered, IsFreshPlace}
+use Rattle.lot_value.proofs.Common.{Bool, IsFreshPlace, IsNodeWithin, IsReordered, IsRight, IsSmall, IsStaleList, Known, Layout, List, Node, Settles, ap, counted_up, edge_count_into, layout_of, list-back, map, node_count, node_of, nodes_of, refl, subst, sym, ℕ, ◌<◌, ◌∙◌, ◌≡◌}
 use Rattle.lot_value.proofs.Listed.{list-within}
 use Rattle.lot_value.proofs.Mapped.{reordered-mapped}
 use Rattle.lot_value.proofs.Settled.{reordered-right, reordered-settles, nothing-stale, known-same, places-back}

@@ -1,15 +1,4 @@
-use Rattle.std.proofs.Common.{◌≡◌, ◌∙◌, ℕ, length, ap, sym, subst, arith}
-use Rattle.std.proofs.lemmas.Bool.{true≢false}
-use Rattle.std.specs.Prelude.{[], Contains, List}
-use Rattle.lot_machine.proofs.EachOnce.{contains-nothing}
-use Rattle.lot_machine.specs.declared.funding.Node.{Node}
-use Rattle.lot_machine.specs.declared.funding.Node.TheVariants.{Currency}
-use Rattle.lot_machine.specs.declared.funding.Edge.TheVariants.{OfTicket}
-use Rattle.lot_graph.specs.Graphs.{IsFunding}
-use Rattle.lot_graph.specs.Places.{layout_of, node_count}
-use Rattle.lot_graph.proofs.EndLemmas.{ends-ticket}
-use Rattle.lot_graph.proofs.FieldLemmas.{funding-ticket}
-use Rattle.lot_value.specs.Caches.{Known, IsStale}
+use Rattle.lot_value.proofs.Common.{Contains, Currency, IsFunding, IsStale, Known, List, Node, OfTicket, ap, arith, contains-nothing, ends-ticket, funding-ticket, layout_of, length, node_count, subst, sym, true≢false, ℕ, [], ◌∙◌, ◌≡◌}
 use Rattle.lot_value.proofs.TicketWorth.{share-at, kept-share, ticket-small, unfunded-nothing}
 use Rattle.lot_value.proofs.values.Values.settled_ticket_value.Goals as goal
 

@@ -1,14 +1,4 @@
-use Rattle.std.proofs.Common.{◌∙◌, length, ap, refl, sym, subst, arith}
-use Rattle.std.proofs.lemmas.Bool.{true≢false}
-use Rattle.lot_machine.specs.declared.funding.Node.TheVariants.{Currency}
-use Rattle.lot_machine.specs.declared.funding.Edge.TheVariants.{OfTicket}
-use Rattle.lot_graph.specs.Graphs.{IsFunding}
-use Rattle.lot_graph.specs.Places.{layout_of, node_count}
-use Rattle.lot_graph.proofs.EndLemmas.{ends-ticket}
-use Rattle.lot_graph.proofs.FieldLemmas.{funding-ticket}
-use Rattle.lot_value.specs.Counts.{counted_up}
-use Rattle.lot_value.specs.Caches.{Known, IsRight}
-use Rattle.lot_value.specs.contracts.values.Values.{the_view}
+use Rattle.lot_value.proofs.Common.{Currency, IsFunding, IsRight, Known, OfTicket, ap, arith, counted_up, ends-ticket, funding-ticket, layout_of, length, node_count, refl, subst, sym, the_view, true≢false, ◌∙◌}
 use Rattle.lot_value.proofs.Settled.{reads-right}
 use Rattle.lot_value.proofs.TicketWorth.{share-at, kept-share, ticket-small, unfunded-nothing}
 use Rattle.lot_value.proofs.values.Values.ticket_value.Goals as goal

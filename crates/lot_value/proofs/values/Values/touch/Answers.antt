@@ -1,9 +1,4 @@
-use Rattle.std.proofs.Common.{◌∙◌, map, ap, sym, subst, refl}
-use Rattle.lot_lists.specs.NodeLists.{nodes_of}
-use Rattle.lot_graph.specs.declared.layout.Layout.{Layout}
-use Rattle.lot_graph.specs.Places.{node_of, layout_of}
-use Rattle.lot_value.specs.Caches.{Known}
-use Rattle.lot_value.specs.Marking.{MarksNodes}
+use Rattle.lot_value.proofs.Common.{Known, Layout, MarksNodes, ap, layout_of, map, node_of, nodes_of, refl, subst, sym, ◌∙◌}
 use Rattle.lot_value.proofs.Nodes.{node-within}
 use Rattle.lot_value.proofs.Rightness.{marks-nodes, touch-right, touch-exact}
 use Rattle.lot_value.proofs.values.Values.touch.Goals as goal

@@ -1,9 +1,4 @@
-use Rattle.std.proofs.Common.{◌∙◌, ◌<◌, ap, sym, subst, arith, length, slice_index}
-use Rattle.std.proofs.lemmas.List.{get_or_read}
-use Rattle.lot_graph.specs.declared.layout.Layout.{Layout}
-use Rattle.lot_graph.specs.Places.{IsNodeWithin}
-use Rattle.lot_graph.proofs.SpreadLemmas.{list-low}
-use Rattle.lot_value.specs.Caches.{Known, value_in}
+use Rattle.lot_value.proofs.Common.{IsNodeWithin, Known, Layout, ap, arith, get_or_read, length, list-low, slice_index, subst, sym, value_in, ◌<◌, ◌∙◌}
 use Rattle.lot_value.proofs.Rightness.{right-worth}
 use Rattle.lot_value.proofs.values.Values.value_of.Goals as goal
 

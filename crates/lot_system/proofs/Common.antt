@@ -1,0 +1,94 @@
+-- The names that this crate's proofs cite, passed on from one place. Declares nothing.
+pub use Rattle.std.proofs.Common.{Bool, Err, List, None, Ok, Option, Result, Some, ap, append-nil, append_assoc, arith, codes, drop, false, filter, inl, inr, length, length-append, ne_eqb, option_map, refl, replicate, rules, subst, suc, sym, true, zero, ℕ, [], ◌%◌, ◌*◌, ◌++◌, ◌+◌, ◌-◌, ◌/◌, ◌<◌, ◌^◌, ◌||◌, ◌∙◌, ◌∷◌, ◌≡◌, ◌≢◌, ◌≤◌, ◌⊎◌}
+pub use Rattle.std.proofs.Math.Nat.{add-mul, add-mul-div_right, div-add-mod', mul_assoc, mul_comm}
+pub use Rattle.std.proofs.lemmas.Bool.{cases_eq}
+pub use Rattle.std.proofs.lemmas.Grind.{flat_map-append}
+pub use Rattle.std.proofs.lemmas.List.{get_or-set_other, get_or-set_same, length-drop, length-map, length-set}
+pub use Rattle.std.proofs.lemmas.List.Elements.{filter-append}
+pub use Rattle.std.proofs.lemmas.List.Sums.{fold_push}
+pub use Rattle.std.specs.Fmt.{decimal}
+pub use Rattle.std.specs.Io.KnownBytes.{Appends}
+pub use Rattle.std.specs.List.{flat_map, fold, list_any, range_with_len, slice_get}
+pub use Rattle.std.specs.Option.{option_flatten, option_map_or}
+pub use Rattle.std.specs.Prelude.{IfErr, IfOk, IsSome, OnOk, if◌then◌else◌, is_some, map, option_and_then, slice_index_or, slice_set, unwrap_or, ⊤, ◌&&◌}
+pub use Rattle.std.specs.Result.{IsErrAnd}
+pub use Rattle.lot_machine.specs.Facts.{live_value}
+pub use Rattle.lot_machine.specs.Numbered.{at_number, numbers}
+pub use Rattle.lot_machine.specs.Rows.{currency_name, currency_row, row_of_thread, thread_name, thread_row, ticket_row}
+pub use Rattle.lot_machine.specs.State.{State, opening, value_of}
+pub use Rattle.lot_machine.specs.declared.command.Kind.{Kind}
+pub use Rattle.lot_machine.specs.declared.command.Kind.TheVariants.{Currencies, Tickets}
+pub use Rattle.lot_machine.specs.declared.event.Event.{Event}
+pub use Rattle.lot_machine.specs.declared.record.Record.{Record}
+pub use Rattle.lot_machine.specs.declared.reply.Reply.{Reply}
+pub use Rattle.lot_machine.specs.declared.row.ThreadRow.{ThreadRow}
+pub use Rattle.lot_machine.specs.declared.sizes.Sizes.{Sizes}
+pub use Rattle.lot_simulation.proofs.ClocksAddUp.{turn-limits}
+pub use Rattle.lot_simulation.proofs.TimedRuns.{room-small, timed-made}
+pub use Rattle.lot_simulation.specs.Below.{currency_numbers}
+pub use Rattle.lot_simulation.specs.Formats.{unit_of}
+pub use Rattle.lot_simulation.specs.Output.{end_text, played_output, timed_text, turn_text, turn_texts}
+pub use Rattle.lot_simulation.specs.Report.{ActorTurn, history_lines, processor_total, report, thread_total, ticks_in, total_of, turns_made, turns_of, whole_total}
+pub use Rattle.lot_simulation.specs.Seeded.{with_seed}
+pub use Rattle.lot_simulation.specs.Texts.{currency_line, fault_line, front, lines_for, listing_text, newline, plain_text, reply_text, thread_line, ticket_line}
+pub use Rattle.lot_simulation.specs.Timed.{Moment, TimedTurn, clock_of, end_of, ended_at, following, is_stopped, last_moment, moment_after_all, opening_moment, timed_turns}
+pub use Rattle.lot_simulation.specs.TimedReport.{actor_turns, base_time, currency_due_in, currency_ticks_in, due_in, early_end, early_text, idle_until, life_change, live_part, live_time, mutex_change, no_lives, past_lives, ready_in, refusals_in, refused_traps_in, reply_change, report_at, spans_in, tick_parts, timed_currency_lines, timed_processor_total, timed_report, timed_report_of, timed_thread_lines, timed_whole_total, with_lives}
+pub use Rattle.lot_simulation.specs.World.{Program, World, opening_world, system_after, system_turn}
+pub use Rattle.lot_simulation.specs.declared.style.LineStyle.{LineStyle}
+pub use Rattle.lot_simulation.specs.declared.style.LineStyle.TheVariants.{Whole}
+pub use Rattle.lot_simulation.specs.declared.timed.Due.{Due}
+pub use Rattle.lot_simulation.specs.declared.timed.EarlyEnd.{EarlyEnd}
+pub use Rattle.lot_simulation.specs.declared.timed.PastLives.{PastLives}
+pub use Rattle.lot_simulation.specs.declared.timed.Spans.{Spans}
+pub use Rattle.lot_io.proofs.WritingFacts.{appends-both, begins-after, begins-front, writes-after, writes-flushed}
+pub use Rattle.lot_io.specs.Writing.{Begins, IsPut, Put, Written}
+pub use Rattle.lot_io.specs.declared.fault.IoFault.{IoFault}
+pub use Rattle.lot_io.specs.declared.fault.IoFault.TheVariants.{Write}
+pub use Rattle.lot_program.proofs.SeedLemmas.{range_with_len-push}
+pub use Rattle.lot_print.proofs.PageFacts.{put-all, put-begun, puts-both, puts-stop}
+pub use Rattle.lot_print.specs.Listings.{listing_line}
+pub use Rattle.lot_print.specs.TableRows.{header_row, timed_thread_record}
+pub use Rattle.lot_print.specs.Totals.{timed_currency_line, timed_processor_line, timed_thread_line, timed_total_line}
+pub use Rattle.lot_print.specs.declared.figures.Figures.{Figures}
+pub use Rattle.lot_print.specs.declared.figures.ProcessorFigures.{ProcessorFigures}
+pub use Rattle.lot_print.specs.declared.figures.Subject.{Subject}
+pub use Rattle.lot_print.specs.declared.figures.Subject.TheVariants.{Currency, Thread}
+pub use Rattle.lot_print.specs.declared.figures.WholeFigures.{WholeFigures}
+pub use Rattle.lot_print.specs.declared.table_rows.Columns.TheVariants.{TimedTotals, Totals}
+pub use Rattle.lot_print.specs.declared.table_rows.FiguresTable.{FiguresTable}
+pub use Rattle.lot_print.specs.declared.timed_totals.CurrencyShares.{CurrencyShares}
+pub use Rattle.lot_print.specs.declared.timed_totals.ThreadShares.{ThreadShares}
+pub use Rattle.lot_print.specs.declared.timed_totals.TimedProcessorTotal.{TimedProcessorTotal}
+pub use Rattle.lot_print.specs.declared.timed_totals.TimedWholeTotal.{TimedWholeTotal}
+pub use Rattle.lot_engine.proofs.PlayingFacts.{report-is}
+pub use Rattle.lot_engine.specs.Counted.{counted}
+pub use Rattle.lot_engine.specs.Seen.{Seen, given_count, shown_history, world_of}
+pub use Rattle.lot_engine.specs.declared.counts.Counts.{Counts}
+pub use Rattle.lot_playback.proofs.ClockFacts.{time-end}
+pub use Rattle.lot_playback.proofs.FollowFacts.{room-few, within-room}
+pub use Rattle.lot_playback.proofs.MadeFacts.{world-one_more}
+pub use Rattle.lot_playback.proofs.PlaceFacts.{place-end}
+pub use Rattle.lot_playback.proofs.TimeFacts.{range-push}
+pub use Rattle.lot_playback.specs.InTime.{AreRefusedTraps, AreSpans, IsAtEnd, moment_in}
+pub use Rattle.lot_playback.specs.Orders.{IsInOrder, made_in}
+pub use Rattle.lot_playback.specs.Owed.{AreDue, AreReadyFor}
+pub use Rattle.lot_playback.specs.Stages.{HasMade, Reports, Stage, turns_left}
+pub use Rattle.lot_playback.specs.TicksBelow.{AreCurrencies}
+pub use Rattle.lot_playback.specs.Turns.{MadeTurn, program_turns, scheduled_turns, turns_by, turns_in_time}
+pub use Rattle.lot_playback.specs.declared.playback.Order.{Order}
+pub use Rattle.lot_playback.specs.declared.playback.Order.TheVariants.{InTime, Scheduled}
+pub use Rattle.lot_playback.specs.declared.sharers.Sharers.TheVariants.{Threads}
+pub use Rattle.lot_playback.specs.declared.timekeeper.Timekeeper.{Timekeeper}
+pub use Rattle.lot_system.specs.Endings.{shown_end}
+pub use Rattle.lot_system.specs.Last.{all_ticks, last_world}
+pub use Rattle.lot_system.specs.Leaving.{any_ends_refused, ends_refused, stopped_in}
+pub use Rattle.lot_system.specs.Listing.{first_number, is_there, row_line, rows_among}
+pub use Rattle.lot_system.specs.Played.{EndsPlay}
+pub use Rattle.lot_system.specs.ReportTable.{currency_shares_in, last_table, processor_in, report_text, scheduled_table, shares_in, table_in, thread_text, timed_currency_text, timed_thread_text, whole_in}
+pub use Rattle.lot_system.specs.Seeds.{AreAllFigures, AreChanged, AreEach, AreOverOneMore, IsChangedAt, IsOver, count_of, currency_added, currency_after, currency_at_end, currency_played, figures_over, figures_text, no_figures, no_processor_figures, no_whole_figures, others_text, over, percent_of, processor_added, processor_at_end, processor_over, processor_played, processor_text, processors_text, row_added, seeds_between, seeds_heading, seeds_report, shares_added, shares_after, subjects_text, table_of, thread_after, thread_played, thread_told, told_at_end, totals_text, whole_added, whole_at_end, whole_over, whole_played, whole_text}
+pub use Rattle.lot_system.specs.Texts.{last_report, made_text, made_texts}
+pub use Rattle.lot_system.specs.declared.figures.AllFigures.{AllFigures}
+pub use Rattle.lot_system.specs.declared.form.ReportForm.{ReportForm}
+pub use Rattle.lot_system.specs.declared.form.ReportForm.TheVariants.{CurrencyTable, Lines, Table}
+pub use Rattle.lot_system.specs.declared.inputs.Played.{Played}
+pub use Rattle.lot_system.specs.declared.inputs.Played.TheVariants.{Done}
