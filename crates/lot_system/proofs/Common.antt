@@ -27,13 +27,15 @@ pub use Rattle.lot_simulation.proofs.ClocksAddUp.{turn-limits}
 pub use Rattle.lot_simulation.proofs.TimedRuns.{room-small, timed-made}
 pub use Rattle.lot_simulation.specs.Below.{currency_numbers}
 pub use Rattle.lot_simulation.specs.Formats.{unit_of}
-pub use Rattle.lot_simulation.specs.Output.{end_text, played_output, timed_text, turn_text, turn_texts}
+pub use Rattle.lot_simulation.specs.Grammar.{program_in}
+pub use Rattle.lot_simulation.specs.Output.{end_text, output_of, played_output, timed_text, turn_text, turn_texts}
 pub use Rattle.lot_simulation.specs.Report.{ActorTurn, history_lines, processor_total, report, thread_total, ticks_in, total_of, turns_made, turns_of, whole_total}
 pub use Rattle.lot_simulation.specs.Seeded.{with_seed}
 pub use Rattle.lot_simulation.specs.Texts.{currency_line, fault_line, front, lines_for, listing_text, newline, plain_text, reply_text, thread_line, ticket_line}
 pub use Rattle.lot_simulation.specs.Timed.{Moment, TimedTurn, clock_of, end_of, ended_at, following, is_stopped, last_moment, moment_after_all, opening_moment, timed_turns}
 pub use Rattle.lot_simulation.specs.TimedReport.{actor_turns, base_time, currency_due_in, currency_ticks_in, due_in, early_end, early_text, idle_until, life_change, live_part, live_time, mutex_change, no_lives, past_lives, ready_in, refusals_in, refused_traps_in, reply_change, report_at, spans_in, tick_parts, timed_currency_lines, timed_processor_total, timed_report, timed_report_of, timed_thread_lines, timed_whole_total, with_lives}
 pub use Rattle.lot_simulation.specs.World.{Program, World, opening_world, system_after, system_turn}
+pub use Rattle.lot_simulation.specs.declared.input.InputFault.{InputFault}
 pub use Rattle.lot_simulation.specs.declared.style.LineStyle.{LineStyle}
 pub use Rattle.lot_simulation.specs.declared.style.LineStyle.TheVariants.{Whole}
 pub use Rattle.lot_simulation.specs.declared.timed.Due.{Due}
@@ -83,7 +85,7 @@ pub use Rattle.lot_system.specs.Endings.{shown_end}
 pub use Rattle.lot_system.specs.Last.{all_ticks, last_world}
 pub use Rattle.lot_system.specs.Leaving.{any_ends_refused, ends_refused, stopped_in}
 pub use Rattle.lot_system.specs.Listing.{first_number, is_there, row_line, rows_among}
-pub use Rattle.lot_system.specs.Played.{EndsPlay}
+pub use Rattle.lot_system.specs.Played.{EndsPlay, came_of}
 pub use Rattle.lot_system.specs.ReportTable.{currency_shares_in, last_table, processor_in, report_text, scheduled_table, shares_in, table_in, thread_text, timed_currency_text, timed_thread_text, whole_in}
 pub use Rattle.lot_system.specs.Seeds.{AreAllFigures, AreChanged, AreEach, AreOverOneMore, IsChangedAt, IsOver, count_of, currency_added, currency_after, currency_at_end, currency_played, figures_over, figures_text, no_figures, no_processor_figures, no_whole_figures, others_text, over, percent_of, processor_added, processor_at_end, processor_over, processor_played, processor_text, processors_text, row_added, seeds_between, seeds_heading, seeds_report, shares_added, shares_after, subjects_text, table_of, thread_after, thread_played, thread_told, told_at_end, totals_text, whole_added, whole_at_end, whole_over, whole_played, whole_text}
 pub use Rattle.lot_system.specs.Texts.{last_report, made_text, made_texts}
@@ -92,3 +94,4 @@ pub use Rattle.lot_system.specs.declared.form.ReportForm.{ReportForm}
 pub use Rattle.lot_system.specs.declared.form.ReportForm.TheVariants.{CurrencyTable, Lines, Table}
 pub use Rattle.lot_system.specs.declared.inputs.Played.{Played}
 pub use Rattle.lot_system.specs.declared.inputs.Played.TheVariants.{Done}
+pub use Rattle.lot_system.specs.declared.warnings.Warnings.{Warnings}
