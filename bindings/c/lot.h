@@ -81,7 +81,7 @@
 //
 // WITHOUT AN OPERATING SYSTEM. On x86-64 the library uses the 128 bytes below the stack pointer (the red zone). So an
 // interrupt's handler must not run on the stack of a call: mask interrupts meanwhile, or give handlers a stack of their
-// own (IST). SSE must be on: CR4.OSFXSR set, CR0.EM clear. docs/EMBEDDING.md says what aarch64 needs.
+// own (IST). SSE must be on: CR4.OSFXSR set, CR0.EM clear. docs/embedding/BARE_METAL.md says what aarch64 needs.
 //
 // NUMBERS. Tickets, threads, processors, ports, mutexes and scripts are numbered from 1. Currencies are numbered from
 // 0, which is base. Without `reuse` numbers follow the order of making, and no removed number is used again. A removed
