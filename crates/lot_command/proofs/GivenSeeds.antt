@@ -10,7 +10,7 @@ use Rattle.lot_simulation.specs.World.{Program}
 use Rattle.lot_system.specs.declared.inputs.Played.{Played}
 use Rattle.lot_system.specs.declared.inputs.Played.TheVariants.{Refused}
 use Rattle.lot_system.specs.Played.{Plays, came_of}
-use Rattle.lot_command.specs.declared.request.View.{View}
+use Rattle.lot_command.specs.declared.command_line.request.View.{View}
 use Rattle.lot_command.specs.Views.{shown_of, text_of}
 
 pub came_seeded : (seed : Option ℕ) (input : Result Program InputFault) → came_of (seeded seed input) ≡ came_of input

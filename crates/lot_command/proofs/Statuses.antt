@@ -15,13 +15,13 @@ use Rattle.lot_system.specs.declared.inputs.Played.TheVariants as played
 use Rattle.lot_system.specs.Leaving.{any_ends_refused, ends_refused}
 use Rattle.lot_system.specs.Played.{Plays, came_of}
 use Rattle.lot_system.specs.Seeds.{seeds_between}
-use Rattle.lot_command.specs.declared.request.Request.{Request}
-use Rattle.lot_command.specs.declared.request.Request.TheVariants as requests
+use Rattle.lot_command.specs.declared.command_line.request.Request.{Request}
+use Rattle.lot_command.specs.declared.command_line.request.Request.TheVariants as requests
 use Rattle.lot_command.specs.declared.exit_status.ExitStatus.{ExitStatus}
 use Rattle.lot_command.specs.declared.exit_status.ExitStatus.TheVariants as status
-use Rattle.lot_command.specs.declared.request.Showing.{Showing}
-use Rattle.lot_command.specs.declared.request.View.{View}
-use Rattle.lot_command.specs.declared.request.View.TheVariants as views
+use Rattle.lot_command.specs.declared.command_line.request.Showing.{Showing}
+use Rattle.lot_command.specs.declared.command_line.request.View.{View}
+use Rattle.lot_command.specs.declared.command_line.request.View.TheVariants as views
 use Rattle.lot_command.specs.Statuses.{HasCome, IsStatusFor, status_of, status_of_input}
 use Rattle.lot_command.specs.Views.{ends_refused_in, input_ends_refused, view_ends_refused}
 

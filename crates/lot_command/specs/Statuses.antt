@@ -7,7 +7,7 @@ use Rattle.lot_system.specs.declared.inputs.Played.{Played}
 use Rattle.lot_system.specs.declared.inputs.Played.TheVariants as played
 use Rattle.lot_command.specs.declared.exit_status.ExitStatus.{ExitStatus}
 use Rattle.lot_command.specs.declared.exit_status.ExitStatus.TheVariants as status
-use Rattle.lot_command.specs.declared.request.View.{View}
+use Rattle.lot_command.specs.declared.command_line.request.View.{View}
 use Rattle.lot_command.specs.Views.{input_ends_refused}
 
 -- the number of a status

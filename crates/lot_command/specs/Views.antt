@@ -15,8 +15,8 @@ use Rattle.lot_explain.specs.Explained.{explained_program}
 use Rattle.lot_chart.specs.Charts.{chart}
 use Rattle.lot_chart.specs.Dues.{dues_by}
 use Rattle.lot_chart.specs.Tables.{table}
-use Rattle.lot_command.specs.declared.request.View.{View}
-use Rattle.lot_command.specs.declared.request.View.TheVariants as views
+use Rattle.lot_command.specs.declared.command_line.request.View.{View}
+use Rattle.lot_command.specs.declared.command_line.request.View.TheVariants as views
 
 -- the output for a program, where a picture has this title; a table and a picture may be those of an interval of the
 -- time, and of the shares in a window, and a picture by thread or by currency

@@ -3,7 +3,7 @@ ghost use Rattle.std.specs.Prelude.{◌≡◌, ◌≢◌, ◌≤◌, false, IfOk
 ghost use Rattle.std.specs.Result.{result_ok};
 ghost use Rattle.lot_command.specs.Statuses as statuses;
 ghost use Rattle.lot_command.specs.Statuses.{HasCome, IsStatusFor};
-ghost use Rattle.lot_command.specs.declared.request.Showing.{Showing};
+ghost use Rattle.lot_command.specs.declared.command_line.request.Showing.{Showing};
 
 use crate::command_line::{CommandLine, Request, View, command_line_of};
 use crate::diagnostics::{Diagnostics, say_failure, say_no_memory};

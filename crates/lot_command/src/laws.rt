@@ -11,8 +11,8 @@ ghost use Rattle.lot_explain.specs.declared.detail.Detail.{Detail};
 ghost use Rattle.lot_explain.specs.Explained.{explained_output};
 ghost use Rattle.lot_chart.specs.Shown.{chart_output, shares_output};
 ghost use Rattle.lot_command.specs.declared.exit_status.ExitStatus.TheVariants.{Done, Refused};
-ghost use Rattle.lot_command.specs.declared.request.View.{View};
-ghost use Rattle.lot_command.specs.declared.request.View.TheVariants as views;
+ghost use Rattle.lot_command.specs.declared.command_line.request.View.{View};
+ghost use Rattle.lot_command.specs.declared.command_line.request.View.TheVariants as views;
 ghost use Rattle.lot_command.specs.Statuses.{status_of_input};
 ghost use Rattle.lot_command.specs.Views.{text_of, view_ends_refused, view_of};
 

@@ -14,7 +14,7 @@ use Rattle.lot_chart.specs.Charts.{chart}
 use Rattle.lot_chart.specs.Dues.{dues_by}
 use Rattle.lot_chart.specs.Shown as charts
 use Rattle.lot_chart.specs.Tables.{table}
-use Rattle.lot_command.specs.declared.request.View.TheVariants as views
+use Rattle.lot_command.specs.declared.command_line.request.View.TheVariants as views
 use Rattle.lot_command.specs.Views.{shown_of, view_of}
 use Rattle.lot_command.proofs.laws.texts_without_a_seed.Goals as goal
 
